@@ -97,7 +97,7 @@ use anyhow::{Result, bail};
 use arrival_journal::Record;
 use batch_codec::decode;
 use jaeger_model::TraceId;
-use read_side::{Keeper, Opened, Pass, StoreName, open};
+use read_side::{Keeper, EmptyHistory, Pass, StoreName, open};
 use sent_batches::BatchKeys;
 use span_store::SpanStore;
 use std::alloc::Global;
@@ -397,7 +397,7 @@ fn timed_named<N: StoreName + Send + Sync, R: Threads + Wait + Clock + Sync>(
     rt: &R,
     alloc: Global,
     keys: RandomState,
-    name: Opened,
+    name: EmptyHistory,
     limits: Limits,
     readers: bool,
     load: Load<'_>,
@@ -423,7 +423,7 @@ fn timed_copies<R: Threads + Wait + Clock + Sync>(
     readers: bool,
     load: Load<'_>,
 ) -> Result<Times, Refusal> {
-    timed_named::<Brand, R>(rt, alloc, keys, Opened::new(), limits, readers, load)
+    timed_named::<Brand, R>(rt, alloc, keys, EmptyHistory::new(), limits, readers, load)
 }
 
 fn main(rt: HostRuntime) -> Result<()> {

@@ -1,4 +1,4 @@
--- What an entry that may follow leaves true.
+-- What stays true after an entry that may be appended.
 use Rattle.std.proofs.Common.{◌≡◌, ℕ, ◌+◌, ◌<◌, Bool, true, false, max, subst, get_or, List, [], ◌∷◌, ◌++◌, length, refl, sym, ap, ◌∙◌, arith, eqb-true, Some}
 use Rattle.std.specs.Prelude.{◌==◌, Ok, if◌then◌else◌, slice_get, option_map}
 use Rattle.trace_model.specs.declared.entry.Entry.{Entry}

@@ -1,4 +1,4 @@
--- How the texts of values begin that are no text.
+-- The first bytes of the texts of values that are no text.
 use Rattle.std.proofs.Common.{◌≡◌, ℕ, ℤ, zero, suc, ◌+◌, ◌*◌, ◌<◌, ◌≤◌, ◌/◌, ◌%◌, Bool, true, false, ◌&&◌, ◌||◌, List, [], ◌∷◌, refl, sym, ap, arith, le-leb, get_or}
 use Rattle.std.specs.Prelude.{nat_lt, nat_le, if◌then◌else◌, pos, negsuc, ◌==◌}
 use Rattle.std.specs.Fmt.{decimal, digits, digits_onto, digit_glyph, signed_decimal}

@@ -1,4 +1,4 @@
--- What holds of a journal's fields.
+-- The invariant of a journal's fields.
 use Rattle.std.specs.Prelude.{◌≡◌, ◌≤◌, ℕ, Bool, List, get_or}
 use Rattle.trace_model.specs.declared.entry.Entry.{Entry}
 use Rattle.trace_model.specs.declared.limits.Limits.{Limits}
@@ -7,7 +7,8 @@ use Rattle.sent_batches.specs.Sent.{Sent, IsKept as SentKept}
 use Rattle.arrival_journal.specs.declared.outline.Outline.{Outline}
 use Rattle.arrival_journal.specs.Outlines.{outlines_kept}
 
--- the entries are legal, what is kept beside them is what they say, and there is room for all entries and for every seat
+-- the entries are legal, what is kept beside them is computed of them, and there is room for all entries and for
+-- every seat
 pub record IsKept (limits : Limits) (entries : List Entry) (most : ℕ) (keeps : Bool) (outlines : List Outline) (most_outlines spans : ℕ) (last_numbers : List ℕ) (seats : ℕ) (sent : Sent) : Type 0 where
   pub legal : IsLegal limits entries
   pub room : limits.batches ≤ most

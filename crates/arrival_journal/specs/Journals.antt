@@ -1,4 +1,4 @@
--- What a journal keeps, and how it answers.
+-- What a journal has, and how it answers.
 use Rattle.std.specs.Prelude.{Option, ℕ, Result}
 use Rattle.trace_model.specs.declared.admission.Admission.{Admission}
 use Rattle.trace_model.specs.declared.entry.Entry.{Entry}
@@ -17,14 +17,14 @@ pub record Journaled : Type 0 where
 abbrev pub admission_by : Held → Entry → Result Admission Refusal
 admission_by held e = admission held.limits held.entries e
 
--- where it stands then, or the one that answers for it
+-- the place of this entry, or of the one that answers for it
 abbrev pub place_by : Held → Entry → Result ℕ Refusal
 place_by held e = result_map_both (place_of held.entries) (λ why. why) (admission_by held e)
 
--- what the history answers to this entry; None where it takes it or has it already
+-- the refusal of this entry by the history; None if the history accepts it or has it already
 abbrev pub refusal_by : Held → Entry → Option Refusal
 refusal_by held e = refusal_of held.limits held.entries e
 
--- why the entry was turned away: by the history, or, only where the history takes it, because memory ran out
+-- why the entry was refused: by the history, or, only if the history accepts it, because memory ran out
 abbrev pub turned_away_by : Held → Entry → Refusal
 turned_away_by held e = unwrap_or (refusal_by held e) NoMemory

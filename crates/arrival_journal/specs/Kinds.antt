@@ -19,6 +19,6 @@ kind_text Internal = codes "internal"
 abbrev pub first_kinds : List Span → List (List ℕ)
 first_kinds ss = map kind_of (take 32 ss)
 
--- those that go along with an entry
+-- those that an entry's record has
 abbrev pub kinds_in : Entry → List (List ℕ)
 kinds_in e = first_kinds (spans_brought e.work)

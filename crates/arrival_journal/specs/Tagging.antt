@@ -1,4 +1,4 @@
--- Bits that tell which tags an entry can't have, without a look at its spans.
+-- A bitmap of the tags that an entry may have.
 use Rattle.std.specs.Prelude.{ℕ, ◌+◌, ◌*◌, ◌/◌, ◌%◌, ◌-◌, ◌^◌, ◌==◌, Bool, true, ◌||◌, ◌&&◌, List, [], ◌∷◌, ◌++◌, length, get_or, flat_map, nat_le, if◌then◌else◌}
 use Rattle.std.specs.Int.Bits.{bit_or}
 use Rattle.std.specs.List.{fold}
@@ -19,7 +19,7 @@ text_hash w = length w % 128 + 3 * get_or w 0 0 + 5 * get_or w (length w / 2) 0 
 abbrev pub begins_number : ℕ → Bool
 begins_number c = (nat_le 48 c && nat_le c 57) || (nat_le 97 c && nat_le c 102) || (c == 116) || (c == 45)
 
--- a value that is no text may be written so: a number, a flag, or bytes
+-- the text may be that of a value that is no text: a number, a flag, or bytes
 abbrev pub may_be_number : List ℕ → Bool
 may_be_number [] = true
 may_be_number (c ∷ w) = begins_number c
@@ -28,7 +28,7 @@ may_be_number (c ∷ w) = begins_number c
 abbrev pub text_part : List ℕ → ℕ
 text_part w = if may_be_number w then 0 else 41 + 11 * text_hash w
 
--- which of 128 bits stands for the tags with this key and this text
+-- which of 128 bits represents the tags with this key and this text
 abbrev pub tag_place : List ℕ → List ℕ → ℕ
 tag_place key text = (text_hash key + text_part text) % 128
 

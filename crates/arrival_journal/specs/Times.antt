@@ -1,4 +1,4 @@
--- When the spans of an entry start, and how long they last.
+-- Bounds of the starts and durations of an entry's spans.
 use Rattle.std.specs.Prelude.{ℤ, pos, negsuc, List, map}
 use Rattle.std.specs.List.{fold}
 use Rattle.std.specs.Int.{int_min, int_max}

@@ -10,7 +10,7 @@ ghost use Rattle.arrival_journal.specs.Outlines.{outline_in, with_outline};
 
 use crate::outline::Outline;
 use crate::record::Record;
-use crate::seats::{SEATS, note};
+use crate::seats::{SEATS, set_last_number};
 use sent_batches::{BatchKeys, SentBatches};
 use std::alloc::{AllocError, Global};
 use std::hash::RandomState;
@@ -18,17 +18,17 @@ use std::marker::Model;
 use std::sync::Arc;
 use trace_model::{Admission, Entry, Limits, Refusal};
 
-/// The accepted entries, in the order of their arrival and within their limits.
+/// The accepted entries, in the order of their arrival and within the limits.
 #[derive(Drop)]
 pub struct Journal {
     limits: Limits,
     entries: Vec<Arc<Entry>>,
-    /// The outline of each entry is kept. Else it is made when it is asked for.
+    /// Whether the outline of each entry is kept. Else it is computed when it is needed.
     keeps_outlines: bool,
-    /// By entry, where they are kept.
+    /// The outline of each entry, if they are kept.
     outlines: Vec<Outline>,
     spans: u64,
-    /// By seat the number of its last entry, 0 where it has none, up to the last seat that has one.
+    /// For each seat the number of its last entry, 0 if it has none, up to the last seat that has one.
     last_numbers: Vec<u64>,
     /// Finds batches that were sent before.
     sent: SentBatches,
@@ -51,8 +51,8 @@ impl Model for Journal {
         j.last_numbers.items (vec_capacity j.last_numbers) j.sent };
 }
 
-/// Puts an outline behind the others where they are kept.
-fn note_outline(outlines: &mut Vec<Outline>, keeps: bool, outline: Outline)
+/// Appends an outline, if outlines are kept.
+fn push_outline(outlines: &mut Vec<Outline>, keeps: bool, outline: Outline)
     requires { keeps ≡ true → length outlines.old.items < vec_capacity outlines.old }
     ensures items { outlines.new.items ≡ with_outline keeps outlines.old.items outline }
     ensures capacity { vec_capacity outlines.new ≡ vec_capacity outlines.old }
@@ -63,8 +63,8 @@ fn note_outline(outlines: &mut Vec<Outline>, keeps: bool, outline: Outline)
 }
 
 impl Journal {
-    /// A journal with no entry, and the room for all that its limits let it hold. Nothing takes memory
-    /// from then on. The keys decide where batches stand in the table that they are found in.
+    /// Makes an empty journal, with room for all that its limits allow; nothing allocates from then on. The keys
+    /// are those of the hash by which batches are found.
     ///
     /// # Errors
     ///
@@ -75,8 +75,8 @@ impl Journal {
         Journal::with_outlines(alloc, keys, limits, true)
     }
 
-    /// The same for whom asks for no outlines: none is kept, so an entry takes less memory, and [`outline`](Self::outline)
-    /// looks at an entry's spans.
+    /// Makes a journal that keeps no outlines. An entry takes less memory, and [`outline`](Self::outline) reads the
+    /// entry's spans.
     ///
     /// # Errors
     ///
@@ -114,14 +114,14 @@ impl Journal {
         })
     }
 
-    /// How much it may hold.
+    /// Returns the limits.
     pub fn limits(&self) -> Limits
         ensures { result ≡ self.now.held.limits }
     {
         self.limits
     }
 
-    /// How many entries it holds. They are legal.
+    /// Returns the number of entries. They are legal.
     pub fn len(&self) -> u64
         ensures length { result ≡ length self.now.held.entries }
         ensures legal { IsLegal self.now.held.limits self.now.held.entries }
@@ -129,28 +129,28 @@ impl Journal {
         self.entries.len() as u64
     }
 
-    /// It holds no entry.
+    /// Whether there is no entry.
     pub fn is_empty(&self) -> bool
         ensures { result ≡ (length self.now.held.entries == 0) }
     {
         self.entries.is_empty()
     }
 
-    /// How many spans its entries hold.
+    /// Returns the number of spans of all entries.
     pub fn span_count(&self) -> u64
         ensures { result ≡ span_count self.now.held.entries }
     {
         self.spans
     }
 
-    /// The entries, oldest first.
+    /// Returns the entries, oldest first.
     pub fn entries(&self) -> &[Arc<Entry>]
         ensures { map arc_value result.now ≡ self.now.held.entries }
     {
         &self.entries
     }
 
-    /// The entry at a place. The oldest one stands at place 1; there is none at 0.
+    /// Returns the entry at a place. The oldest one is at place 1; there is none at 0.
     pub fn entry(&self, place: u64) -> Option<&Arc<Entry>>
         ensures { option_map arc_value (option_copied result) ≡
             entry_at self.now.held.entries place }
@@ -159,7 +159,7 @@ impl Journal {
         self.entries.get(before)
     }
 
-    /// What is known of the entry at a place. Where outlines are kept, no span is looked at.
+    /// Returns the outline of the entry at a place. If outlines are kept, no span is read.
     pub fn outline(&self, place: u64) -> Option<Outline>
         ensures { result ≡ option_map outline_in (entry_at self.now.held.entries place) }
     {
@@ -170,7 +170,7 @@ impl Journal {
         }
     }
 
-    /// The number of the seat's last entry, 0 if it has none.
+    /// Returns the number of the seat's last entry, or 0 if it has none.
     fn last_number(&self, seat: u16) -> u64
         ensures { result ≡ last_number seat self.now.held.entries }
     {
@@ -187,9 +187,9 @@ impl Journal {
         Record::new(self.sent.keys(), entry)
     }
 
-    /// An entry whose batch was sent before and stands behind so many entries: the one there answers for it,
-    /// unless it has other spans.
-    fn judge_again(&self, entry: &Entry, before: u32) -> Result<Admission, Refusal>
+    /// Judges an entry whose batch was sent before, with `before` entries before that one: that entry answers for
+    /// it, unless it has other spans.
+    fn judge_resent(&self, entry: &Entry, before: u32) -> Result<Admission, Refusal>
         requires { before < length self.now.held.entries }
         ensures { result ≡ repeated self.now.held.entries entry.now before }
     {
@@ -201,8 +201,8 @@ impl Journal {
         }
     }
 
-    /// An entry whose batch was not sent before.
-    fn judge_anew(&self, entry: &Entry) -> Result<Admission, Refusal>
+    /// Judges an entry whose batch was not sent before.
+    fn judge_new(&self, entry: &Entry) -> Result<Admission, Refusal>
         ensures { result ≡
             admitted_anew self.now.held.limits self.now.held.entries entry.now }
     {
@@ -221,14 +221,14 @@ impl Journal {
         Ok(Admission::Added)
     }
 
-    /// Says whether the entry may follow, or was sent before.
+    /// Judges an entry: it may be appended, or was sent before.
     ///
     /// # Errors
     ///
-    /// First [`Refusal::Conflict`], where an entry has the batch's number and process already, with its place,
-    /// and other spans; then [`Refusal::Stale`], where the entry's number is not above the last one of its seat;
-    /// then [`Refusal::JournalFull`], with the counts now held, where it or its spans would pass the limits.
-    /// Nothing else.
+    /// First [`Refusal::Conflict`], with the place of an earlier entry, if that has the batch's number and process
+    /// but other spans; then [`Refusal::Stale`], if the entry's number is not above the last one of its seat; then
+    /// [`Refusal::JournalFull`], with the current counts, if the entry or its spans would pass the limits. Nothing
+    /// else.
     pub fn judge(&self, entry: &Record) -> Result<Admission, Refusal>
         ensures answer { result ≡ admission_by self.now.held entry.now }
         ensures legal { IsLegal self.now.held.limits self.now.held.entries }
@@ -236,12 +236,12 @@ impl Journal {
         let hash = entry.hash(self.sent.keys());
         let entry = entry.entry();
         match self.sent.find(&self.entries, entry, hash) {
-            Some(before) => self.judge_again(entry, before),
-            None => self.judge_anew(entry),
+            Some(before) => self.judge_resent(entry, before),
+            None => self.judge_new(entry),
         }
     }
 
-    /// Appends an entry that may follow.
+    /// Appends an entry that was judged to be added.
     pub fn append(&mut self, entry: Record)
         requires { admission_by self.old.held entry ≡ Ok Added }
         ensures appended { self.new.held ≡ followed_by self.old.held entry }
@@ -251,18 +251,18 @@ impl Journal {
         let outline = entry.outline();
         let entry = entry.into_entry();
         self.spans += entry.work.spans().len() as u64;
-        note(&mut self.last_numbers, entry.seat, entry.number);
-        note_outline(&mut self.outlines, self.keeps_outlines, outline);
+        set_last_number(&mut self.last_numbers, entry.seat, entry.number);
+        push_outline(&mut self.outlines, self.keeps_outlines, outline);
         self.entries.push_reserved(entry);
         self.sent.add(&self.entries, hash);
     }
 
-    /// Adds an entry at the end and gives its place, the first one being 1; where its batch was sent before
-    /// with the same spans, nothing is added, and the place is that of the entry that has it.
+    /// Adds an entry at the end and returns its place; the first one is 1. If its batch was sent before with the
+    /// same spans, nothing is added, and the place is that of the entry that has it.
     ///
     /// # Errors
     ///
-    /// Those of [`judge`](Self::judge), and no others. Any of them leaves the entries as they were.
+    /// Those of [`judge`](Self::judge), and no others. The entries are then unchanged.
     pub fn admit(&mut self, entry: Arc<Entry>) -> Result<u64, Refusal>
         ensures place { result ≡ place_by self.old.held (arc_value entry) }
         ensures admitted { self.new.held ≡ with_admitted self.old.held (arc_value entry)

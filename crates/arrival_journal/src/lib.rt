@@ -1,16 +1,15 @@
-//! The journal of one store: the batches that were accepted, in the order of their arrival.
+//! The journal of one store: the accepted batches, in the order of their arrival.
 //!
-//! The list of entries is legal at every moment: each entry's number is above every earlier number
-//! of its seat, and the counts of entries and of spans are within the limits. An entry that would
-//! break this is turned away, and nothing has changed then. Judging and adding an entry costs the
-//! same however long the list is. All room is taken when a journal is made, so that adding an entry
-//! never fails because memory ran out.
+//! The list of entries is always legal: each entry's number is above every earlier number of its seat, and the
+//! counts of entries and of spans are within the limits. An entry that would break this is refused, and changes
+//! nothing. The cost of judging and adding an entry doesn't depend on the length of the list. All memory is
+//! allocated when a journal is made, so adding an entry never fails because memory ran out.
 //!
 //! * `journal`: the [`Journal`].
-//! * `outline`: what is known of an entry without a look at its spans, its [`Outline`]. `kind`, `span_kinds`: the kinds of its
-//!   first spans. `record`: an entry with both and with the hash of its batch, a [`Record`].
+//! * `outline`: what is known of an entry without reading its spans, its [`Outline`]. `kind`, `span_kinds`: the
+//!   kinds of its first spans. `record`: an entry with both and with the hash of its batch, a [`Record`].
 //! * `times`: bounds of the starts and durations of an entry's spans.
-//! * `tagging`: bits that tell which tags an entry can't have.
+//! * `tagging`: a bitmap of the tags that an entry may have.
 //! * `seats`: the last numbers of seats.
 #![tactic(auto)]
 

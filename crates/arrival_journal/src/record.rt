@@ -1,4 +1,4 @@
-//! An entry with everything that a store needs of it beside its spans.
+//! An entry with everything that a store needs of it besides its spans.
 
 ghost use Rattle.std.specs.Prelude.{◌≡◌, true, IfOk};
 ghost use Rattle.std.specs.Arc.{arc_value};
@@ -16,8 +16,8 @@ use trace_model::Entry;
 
 /// An entry with the hash of its batch, its outline and the kinds of its first spans.
 ///
-/// It is made once, before the entry is queued, and passed on to the journal and to both copies of the store, so that
-/// none of them looks at the spans for it. Contracts see the entry.
+/// It is computed once, before the entry is queued, and passed to the journal and to both copies of the store, so
+/// that none of them reads the spans for it. Contracts see the entry.
 #[derive(Drop)]
 pub struct Record {
     entry: Arc<Entry>,
@@ -63,14 +63,14 @@ impl Record {
         }
     }
 
-    /// The entry.
+    /// Returns the entry.
     pub fn entry(&self) -> &Arc<Entry>
         ensures { arc_value result.now ≡ self.now }
     {
         &self.entry
     }
 
-    /// The entry alone.
+    /// Returns the entry alone.
     pub fn into_entry(self) -> Arc<Entry>
         ensures { arc_value result ≡ self }
     {
@@ -89,14 +89,14 @@ impl Record {
         }
     }
 
-    /// The entry's outline.
+    /// Returns the entry's outline.
     pub fn outline(&self) -> Outline
         ensures { result ≡ outline_in self.now }
     {
         self.outline
     }
 
-    /// The kinds of the entry's first spans.
+    /// Returns the kinds of the entry's first spans.
     pub fn kinds(&self) -> &SpanKinds
         ensures { result.now ≡ kinds_in self.now }
     {

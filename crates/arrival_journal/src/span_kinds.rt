@@ -7,11 +7,11 @@ use crate::kind::Kind;
 use jaeger_model::Span;
 use std::marker::Model;
 
-/// The kinds of the first spans of an entry, which are found once and go along with it, so that none of the spans' tags is
-/// looked at where the entry is applied. Contracts see the kinds as texts.
+/// The kinds of the first spans of an entry. They are computed once and stored in its record, so that applying the
+/// entry reads no tags of these spans. Contracts see the kinds as texts.
 #[derive(Drop)]
 pub struct SpanKinds {
-    kinds: [Kind; SpanKinds::MOST],
+    kinds: [Kind; SpanKinds::MAX_KINDS],
     len: u8,
 }
 
@@ -27,20 +27,20 @@ impl Model for SpanKinds {
 }
 
 impl SpanKinds {
-    /// The most spans of an entry whose kinds go along.
-    const MOST: usize = 32;
+    /// The greatest number of spans whose kinds are stored.
+    const MAX_KINDS: usize = 32;
 
-    /// The kinds of no span.
+    /// Returns the kinds of no span.
     fn none() -> Self
         ensures { result ≡ [] }
     {
         SpanKinds {
-            kinds: [Kind::Unset; SpanKinds::MOST],
+            kinds: [Kind::Unset; SpanKinds::MAX_KINDS],
             len: 0,
         }
     }
 
-    /// One more kind.
+    /// Appends a kind.
     fn push(&mut self, kind: Kind)
         requires { length self.old < 32 }
         ensures { self.new ≡ self.old ++ kind_text kind ∷ [] }
@@ -49,19 +49,19 @@ impl SpanKinds {
         self.len += 1;
     }
 
-    /// The kinds of the first spans of these.
+    /// Computes the kinds of the first of these spans.
     pub(crate) fn of(spans: &[Span]) -> Self
         ensures { result ≡ first_kinds spans.now }
     {
         let mut kinds = SpanKinds::none();
-        let first = &spans[..SpanKinds::MOST.min(spans.len())];
+        let first = &spans[..SpanKinds::MAX_KINDS.min(spans.len())];
         for span in first {
             kinds.push(Kind::of(span));
         }
         kinds
     }
 
-    /// The same kinds once more.
+    /// Returns a copy.
     pub fn again(&self) -> Self
         ensures { result ≡ self.now }
     {
@@ -71,7 +71,7 @@ impl SpanKinds {
         }
     }
 
-    /// The kinds, in the order of the spans.
+    /// Returns the kinds, in the order of the spans.
     pub fn as_slice(&self) -> &[Kind]
         ensures { map kind_text result.now ≡ self.now }
     {

@@ -1,4 +1,4 @@
-//! Bits that tell which tags an entry can't have, without a look at its spans.
+//! A bitmap of the tags that an entry may have, so that its spans needn't be read.
 
 ghost use Rattle.std.specs.Prelude.{◌≡◌, ◌<◌, get_or, flat_map};
 ghost use Rattle.std.specs.List.{fold};
@@ -8,14 +8,14 @@ ghost use Rattle.arrival_journal.specs.Tagging.{text_hash, begins_number, may_be
 use jaeger_model::{Batch, Log, Span, Tag, TagValue, ValueRef};
 use trace_model::Work;
 
-/// The byte at an index, 0 behind the end.
+/// Returns the byte at an index, or 0 past the end.
 fn byte_at(bytes: &[u8], at: usize) -> u8
     ensures { result ≡ get_or bytes.now at 0 }
 {
     bytes.get(at).copied().unwrap_or(0)
 }
 
-/// A number for a text, by its length and by its first, middle and last byte. It reads no other.
+/// Returns a number for a text, by its length and by its first, middle and last byte. Reads no other byte.
 fn text_hash(text: &str) -> u32
     ensures exact { result ≡ text_hash text.now }
     ensures within { result < 4096 }
@@ -28,14 +28,14 @@ fn text_hash(text: &str) -> u32
     (length % 128) as u32 + 3 * first + 5 * middle + 7 * last
 }
 
-/// Whether numbers, flags or bytes may begin so as text.
+/// Whether the text of a number, flag or bytes may begin with this byte.
 fn begins_number(byte: u8) -> bool
     ensures { result ≡ begins_number byte }
 {
     (b'0' <= byte && byte <= b'9') || (b'a' <= byte && byte <= b'f') || byte == b't' || byte == b'-'
 }
 
-/// Whether a value that is no text may be written so.
+/// Whether the text may be that of a value that is no text.
 fn may_be_number(text: &str) -> bool
     ensures { result ≡ may_be_number text.now }
 {
@@ -45,7 +45,7 @@ fn may_be_number(text: &str) -> bool
     }
 }
 
-/// What a tag's text adds to its place: the same for all that may be the text of a number.
+/// Returns what a tag's text adds to its place: one number for all texts that may be that of a number.
 fn text_part(text: &str) -> u32
     ensures exact { result ≡ text_part text.now }
     ensures within { result < 65536 }
@@ -57,18 +57,19 @@ fn text_part(text: &str) -> u32
     }
 }
 
-/// The same for the text of bytes, which isn't made: it may be that of a number.
+/// Returns what the text of bytes adds to the place, without making that text: it may be that of a number.
 fn hex_part(bytes: &[u8]) -> u32
     ensures exact { result ≡ text_part (hex_text bytes.now) }
     ensures within { result < 65536 }
 {
     if let Some(first) = bytes.first() {
+        // For the prover: the range of the bytes, which this read opens, is used for the clause `exact`.
         let _first = *first;
     }
     0
 }
 
-/// The same for a value, whose text isn't made.
+/// Returns what a value's text adds to the place, without making that text.
 fn value_part(value: &TagValue) -> u32
     ensures exact { result ≡ text_part (tag_text value.now) }
     ensures within { result < 65536 }
@@ -82,7 +83,7 @@ fn value_part(value: &TagValue) -> u32
     }
 }
 
-/// Which of 128 bits stands for the tags with this key and this text.
+/// Returns which of 128 bits represents the tags with this key and this text.
 pub fn tag_place(key: &str, text: &str) -> u32
     ensures exact { result ≡ tag_place key.now text.now }
     ensures within { result < 128 }
@@ -90,14 +91,14 @@ pub fn tag_place(key: &str, text: &str) -> u32
     (text_hash(key) + text_part(text)) % 128
 }
 
-/// The bit of a tag.
+/// Returns the bit of a tag.
 fn bit_of(tag: &Tag) -> u128
     ensures { result ≡ bit_of tag.now }
 {
     1u128 << ((text_hash(tag.key.as_str()) + value_part(&tag.value)) % 128)
 }
 
-/// The bits with those of more tags.
+/// Adds the bits of these tags.
 fn with_tags(before: u128, tags: &[Tag]) -> u128
     ensures { result ≡ fold with_tag before tags.now }
 {
@@ -108,7 +109,7 @@ fn with_tags(before: u128, tags: &[Tag]) -> u128
     bits
 }
 
-/// The bits with those of the fields of more logs.
+/// Adds the bits of the fields of these logs.
 fn with_logs(before: u128, logs: &[Log]) -> u128
     ensures { result ≡ fold with_tag before (fields_of logs.now) }
 {
@@ -119,7 +120,7 @@ fn with_logs(before: u128, logs: &[Log]) -> u128
     bits
 }
 
-/// The bits with those of the tags of more spans and of their logs.
+/// Adds the bits of the tags of these spans and of their logs.
 fn with_spans(before: u128, spans: &[Span]) -> u128
     ensures { result ≡ fold with_tag before (flat_map own_tags spans.now) }
 {
@@ -130,7 +131,7 @@ fn with_spans(before: u128, spans: &[Span]) -> u128
     bits
 }
 
-/// The bits of the tags of the process, of its spans and of their logs.
+/// Returns the bits of the tags of the process, of its spans and of their logs.
 fn bits_of(batch: &Batch) -> u128
     ensures { result ≡ bits_of batch.now }
 {
@@ -140,7 +141,7 @@ fn bits_of(batch: &Batch) -> u128
     )
 }
 
-/// The bits of what an entry brings: those of its batch, and none of a limit.
+/// Returns the bits of an entry: those of its batch, or none for a limit.
 pub(crate) fn bits_brought(work: &Work) -> u128
     ensures { result ≡ bits_brought work.now }
 {

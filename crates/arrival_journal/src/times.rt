@@ -1,12 +1,12 @@
-//! When the spans of an entry start and how long they last, without looking at them.
+//! Bounds of the starts and durations of an entry's spans, so that they needn't be read.
 
 ghost use Rattle.std.specs.Prelude.{◌≡◌, []};
 ghost use Rattle.arrival_journal.specs.Times.{times_of, times_with};
 
 use jaeger_model::Span;
 
-/// Bounds of the starts and durations of an entry's spans, in microseconds. Where it has no span, each least
-/// bound is above each greatest one.
+/// Bounds of the starts and durations of an entry's spans, in microseconds. If it has no span, each lower bound is
+/// above its upper bound.
 #[derive(Clone, Copy, Debug, PartialEq, Eq)]
 pub struct Times {
     /// The earliest start.
@@ -20,7 +20,7 @@ pub struct Times {
 }
 
 impl Times {
-    /// The bounds of no span.
+    /// Returns the bounds of no span.
     fn none() -> Self
         ensures { result ≡ times_of [] }
     {
@@ -32,7 +32,7 @@ impl Times {
         }
     }
 
-    /// The bounds with one span more.
+    /// Widens the bounds to one more span.
     fn with(self, span: &Span) -> Self
         ensures { result ≡ times_with self span.now }
     {
@@ -44,7 +44,7 @@ impl Times {
         }
     }
 
-    /// The bounds of the spans.
+    /// Returns the bounds of the spans.
     pub(crate) fn of(spans: &[Span]) -> Self
         ensures { result ≡ times_of spans.now }
     {

@@ -1,4 +1,4 @@
--- The kinds of arrivals, kept in a byte each.
+-- The kinds of arrivals, in a byte each.
 use Rattle.std.proofs.Common.{◌≡◌, ℕ, ◌<◌, ◌≤◌, List, [], ◌∷◌, ◌++◌, map, length, take, drop, min, get_or, refl, sym, ap, ◌∙◌, arith}
 use Rattle.std.proofs.lemmas.List.{length-map, length-take, get_or-map, map-append, append_assoc, take_min, take-append-drop}
 use Rattle.jaeger_model.specs.declared.batch.Batch.{Batch}
@@ -43,7 +43,7 @@ kind_is h kinds n k are below =
     sym (get_or-map kind_text kinds n k [] below) ∙ ap (λ (ts : List (List ℕ)). get_or ts n []) are
     ∙ get_or-map (λ (l : Listed). l.operation.kind) (reports h) n (service_alone []) [] (omega arith)
 
--- ---- the kinds of the first spans are given, and those of the others are found
+-- ---- the kinds of the first spans are known, and those of the others are found
 pub fewer_kinds : (known : List Kind) (ss : List Span) → map kind_text known ≡ map kind_of (take 32 ss) → length known ≤ length ss
 fewer_kinds known ss are =
     let many : length known ≡ length (take 32 ss) = sym (length-map known kind_text) ∙ ap (λ (ts : List (List ℕ)). length ts) are ∙ length-map (take 32 ss) kind_of in

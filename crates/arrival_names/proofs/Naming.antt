@@ -127,7 +127,7 @@ service_reported h entry_of firsts n a below =
     ap (λ (l : Listed). l.service) (get_or-map listed (arrivals h) n d (service_alone []) (omega arith)) ∙ ap (λ (p : Placed). p.process.service) (at.is e there d)
     ∙ service_came e.work i d (at.within e there) ∙ ap (λ (x : Entry). service_brought x.work) there ∙ sym (get_or-map (λ (x : Entry). service_brought x.work) h k e [] at.entry)
 
--- ---- what an entry says of the arrival that came in it
+-- ---- what an entry implies for the arrival that came in it
 module _ (h : List Entry) (entry_of firsts : List ℕ) (n : ℕ) (a : AreOf h entry_of firsts) (below : n < length entry_of) (e : Entry) (there : e ≡ get_or h (get_or entry_of n 0) e) where
   abbrev index : ℕ
   index = n - get_or firsts (get_or entry_of n 0) 0
@@ -165,7 +165,7 @@ listed_before h index first some indexed so_far is =
 pub services_reported : (s : List ℕ) (ps : List Placed) → has_service s (listed_in ps) ≡ reports_service s ps
 services_reported s ps = any_set listed_exact (λ (l : Listed). same_text s l.service) (map listed ps) ∙ any_map (λ (l : Listed). same_text s l.service) listed ps
 
--- ---- the number of a service that is asked for
+-- ---- the number of a requested service
 pub groups_asked : (h : List Entry) (s : List ℕ) → IsGroupOf (names_of h) s (group_of h s)
 groups_asked h s = elim (nat_lt (group_in h s) (length (reporters h))) as (λ b. nat_lt (group_in h s) (length (reporters h)) ≡ b → IsGroupOf (names_of h) s (cond b (Some (group_in h s)) None)) [
   | true ↦ λ e n below. numbers_keyed h s (reported_at h n).service (ltb-true (group_in h s) (length (reporters h)) e) (arrival_number h n below)

@@ -62,7 +62,7 @@ arrival_number h n below =
     has_number h s (any_arrived (same_text s) h (sym (any_map (λ (l : Listed). same_text s l.service) listed (arrivals h))
     ∙ list_any_at (λ (l : Listed). same_text s l.service) (reports h) n (service_alone []) (omega arith) (text_self s)))
 
--- services that entries have are the same where their numbers are
+-- services that entries have are equal if their numbers are
 pub numbers_keyed : (h : List Entry) (s t : List ℕ) → group_in h s < length (reporters h) → group_in h t < length (reporters h) → (group_in h s == group_in h t) ≡ same_text s t
 numbers_keyed h s t a b =
     same_where (group_in h s) (group_in h t) s t (λ one. service_of_number h s a ∙ ap (service_at h) one ∙ sym (service_of_number h t b)) (ap (group_in h))

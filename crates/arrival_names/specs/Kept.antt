@@ -1,4 +1,4 @@
--- What an index keeps of the arrivals of a list of entries.
+-- The index of the arrivals of a list of entries.
 use Rattle.std.specs.Prelude.{◌≡◌, ℕ, Bool, ◌&&◌, List, [], map, filter, length, get_or}
 use Rattle.std.specs.List.{list_any}
 use Rattle.jaeger_model.specs.declared.placed.Placed.{Placed}
@@ -8,7 +8,7 @@ use Rattle.trace_model.specs.declared.answer.Operation.{Operation}
 use Rattle.trace_model.specs.Histories.{arrivals}
 use Rattle.trace_model.specs.Names.{operation_names, operations, operation_cmp, is_asked_kind}
 use Rattle.service_index.specs.Listing.{Listed, listed, listed_in}
-use Rattle.service_index.specs.Listing.{names_of as names_in_order}
+use Rattle.service_index.specs.Listing.{names_of as sorted_names}
 use Rattle.service_index.specs.Naming.{Names, service_alone}
 use Rattle.service_index.specs.Indexes.{Index, IsIndexed, listing_by}
 use Rattle.service_places.specs.Reported.{group_in}
@@ -20,7 +20,7 @@ use Rattle.arrival_names.specs.Numbers.{Numbered, AreOf}
 abbrev pub reports : List Entry → List Listed
 reports h = map listed (arrivals h)
 
--- what the arrival of a number reports
+-- what the arrival with a number reports
 abbrev pub reported_at : List Entry → ℕ → Listed
 reported_at h n = get_or (reports h) n (service_alone [])
 
@@ -28,16 +28,16 @@ reported_at h n = get_or (reports h) n (service_alone [])
 abbrev pub AreKinds : List Entry → List Kind → Type 0
 AreKinds h kinds = map kind_text kinds ≡ map (λ (l : Listed). l.operation.kind) (reports h)
 
--- the names of the arrivals, each under its arrival number, and the numbers of their services
+-- the names of the arrivals by their arrival numbers, and the numbers of their services
 abbrev pub names_of : List Entry → Names
 names_of h = record { count = length (arrivals h); at = reported_at h; group = λ n. group_in h (reported_at h n).service }
 
--- what is seen of the names that are kept
+-- the value of the index
 pub record Kept : Type 0 where
   pub numbers : Numbered
   pub index : Index
 
--- they are those of the arrivals of these entries
+-- the index is that of the arrivals of these entries
 pub record IsKept (h : List Entry) (kept : Kept) : Type 0 where
   pub numbers : AreOf h kept.numbers.entry_of kept.numbers.firsts
   pub kinds : AreKinds h kept.numbers.kinds
@@ -53,7 +53,7 @@ reports_service service ps = list_any (λ (p : Placed). same_text service p.proc
 abbrev pub reports_operation : List ℕ → List ℕ → List Placed → Bool
 reports_operation service name ps = list_any (λ (p : Placed). same_text service p.process.service && same_text name p.span.operation) ps
 
--- in order these are the operations of the service, of whatever kind, and their names
+-- sorted, these are the operations of the service, of any kind, and their names
 pub record AreOperations (service : List ℕ) (ps : List Placed) (found : List Operation) : Type 0 where
-  pub names : names_in_order found ≡ operation_names service ps
+  pub names : sorted_names found ≡ operation_names service ps
   pub operations : (kind : List ℕ) → filter (is_asked_kind kind) (sorted_set operation_cmp found) ≡ operations service kind ps

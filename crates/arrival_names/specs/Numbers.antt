@@ -1,4 +1,4 @@
--- The spans of entries by their arrival numbers, the first of all being 0.
+-- The spans of entries by their arrival numbers, which count from 0.
 use Rattle.std.specs.Prelude.{◌≡◌, ℕ, ◌-◌, ◌<◌, ◌≤◌, List, length, get_or}
 use Rattle.jaeger_model.specs.declared.placed.Placed.{Placed}
 use Rattle.trace_model.specs.declared.entry.Entry.{Entry}
@@ -6,8 +6,8 @@ use Rattle.arrival_journal.specs.declared.kind.Kind.{Kind}
 use Rattle.trace_model.specs.Works.{spans_brought, placed_brought}
 use Rattle.trace_model.specs.Histories.{arrivals}
 
--- what is seen of the numbers: for each arrival which entry it came in, for each entry the number of its
--- first span, for each arrival its kind, and how many of both there is room for
+-- the value of the numbers: for each arrival its entry, for each entry the number of its first span, for each
+-- arrival its kind, and the number of both that there is room for
 pub record Numbered : Type 0 where
   pub entry_of : List ℕ
   pub firsts : List ℕ
@@ -15,7 +15,8 @@ pub record Numbered : Type 0 where
   pub batches : ℕ
   pub spans : ℕ
 
--- the span of this number is in the entry with so many before it, whose first span has the other number
+-- the span with this number is in the entry that has `before` entries before it, whose first span has the number
+-- `first`
 pub record IsAt (h : List Entry) (before first n : ℕ) : Type 0 where
   pub entry : before < length h
   pub from : first ≤ n

@@ -25,7 +25,7 @@ use trace_model::{Entry, ServiceName, Work};
 pub struct ArrivalNumbers {
     batches: u32,
     spans: u32,
-    /// For each arrival how many entries stand before its own.
+    /// For each arrival the number of entries before its own.
     entry_of: Vec<u32>,
     /// For each entry the number of its first span.
     firsts: Vec<u32>,
@@ -46,7 +46,7 @@ impl Model for ArrivalNumbers {
         × (a.spans < 2 ^ 32) × (a.spans ≤ vec_capacity a.kinds) };
 }
 
-/// The arrivals of a list of entries under their numbers, where they stand.
+/// The arrivals of a list of entries, by their numbers.
 #[derive(Drop)]
 pub struct Arrivals<'a> {
     entries: &'a [Arc<Entry>],
@@ -109,7 +109,7 @@ impl<'a> Texts for Arrivals<'a> {
 }
 
 impl<'a> Arrivals<'a> {
-    /// The service of the arrival with this number, named by its entry.
+    /// Returns the service of the arrival with this number. The name refers to its entry.
     ///
     /// # Errors
     ///
@@ -122,7 +122,7 @@ impl<'a> Arrivals<'a> {
         ServiceName::kept(&self.entries[before as usize])
     }
 
-    /// The operation of the arrival with this number, named by its entry.
+    /// Returns the operation of the arrival with this number. The name refers to its entry.
     ///
     /// # Errors
     ///
@@ -139,7 +139,7 @@ impl<'a> Arrivals<'a> {
 }
 
 impl ArrivalNumbers {
-    /// The numbers of no entry, with room for so many entries and spans.
+    /// Makes the numbers of no entry, with room for this number of entries and spans.
     ///
     /// # Errors
     ///
@@ -162,7 +162,7 @@ impl ArrivalNumbers {
         })
     }
 
-    /// How many spans have numbers.
+    /// Returns the number of spans that have numbers.
     pub fn len(&self) -> u32
         ensures numbers { result ≡ length self.now.entry_of }
         ensures within { result ≤ self.now.spans }
@@ -170,14 +170,14 @@ impl ArrivalNumbers {
         self.entry_of.len() as u32
     }
 
-    /// For each entry the number of its first span.
+    /// Returns for each entry the number of its first span.
     pub fn firsts(&self) -> &[u32]
         ensures { result.now ≡ self.now.firsts }
     {
         &self.firsts
     }
 
-    /// The spans of the last entry get numbers. Its first kinds are given. It takes no memory.
+    /// Numbers the spans of the last entry. `first` has the kinds of its first spans. Allocates nothing.
     pub fn add(&mut self, entries: &[Arc<Entry>], first: &SpanKinds)
         requires some { 0 < length entries.now }
         requires numbers { AreOf (before_last (map arc_value entries.now)) self.old.entry_of
@@ -201,8 +201,7 @@ impl ArrivalNumbers {
         add_kinds(&mut self.kinds, first, entries[before].work.spans());
     }
 
-    /// The arrivals of these entries under their numbers, with the numbers of the services of these
-    /// entries.
+    /// Returns the arrivals of these entries by their numbers, with the numbers of their services.
     pub fn arrivals<'a>(
         &'a self,
         entries: &'a [Arc<Entry>],
@@ -223,7 +222,7 @@ impl ArrivalNumbers {
     }
 }
 
-/// Puts kinds that are known behind the others.
+/// Appends kinds that are known.
 fn add_known(kinds: &mut Vec<Kind>, known: &[Kind])
     requires { length kinds.old.items + length known.now ≤ vec_capacity kinds.old }
     ensures kinds { kinds.new.items ≡ kinds.old.items ++ known.now }
@@ -234,7 +233,7 @@ fn add_known(kinds: &mut Vec<Kind>, known: &[Kind])
     }
 }
 
-/// Finds the kinds of the spans and puts them behind the others.
+/// Finds the kinds of the spans, and appends them.
 fn find_kinds(kinds: &mut Vec<Kind>, spans: &[Span])
     requires { length kinds.old.items + length spans.now ≤ vec_capacity kinds.old }
     ensures kinds { map kind_text kinds.new.items ≡
@@ -246,7 +245,7 @@ fn find_kinds(kinds: &mut Vec<Kind>, spans: &[Span])
     }
 }
 
-/// Puts the kinds of the spans behind the others. Those of the first spans are given: no tag of these is looked at.
+/// Appends the kinds of the spans. Those of the first spans are known, so no tag of these is read.
 fn add_kinds(kinds: &mut Vec<Kind>, first: &SpanKinds, spans: &[Span])
     requires room { length kinds.old.items + length spans.now ≤ vec_capacity kinds.old }
     requires first { first.now ≡ first_kinds spans.now }

@@ -1,4 +1,4 @@
-//! An operation of a service, where an entry keeps its name.
+//! An operation of a service, whose name is in its entry.
 ghost use Rattle.std.specs.Prelude.{◌≡◌, IfOk};
 ghost use Rattle.std.specs.Arc.{arc_value};
 ghost use Rattle.arrival_journal.specs.Kinds.{kind_text};
@@ -11,8 +11,8 @@ use std::marker::Model;
 use std::sync::Arc;
 use trace_model::{Entry, Operation};
 
-/// The operation of a span with its kind, whose name is read where the span's entry keeps it. The entry is shared, so that
-/// no name is copied before the store is left. Contracts see the operation.
+/// The operation of a span with its kind. The name is read from the span's entry, which is shared, so that no name
+/// is copied before the store is left. Contracts see the operation.
 #[derive(Drop)]
 pub struct TakenOperation {
     entry: Arc<Entry>,
@@ -32,8 +32,8 @@ impl Model for TakenOperation {
 }
 
 impl TakenOperation {
-    /// The operation of the entry's span at an index, the first being 0, with this kind; its name is empty where the entry
-    /// has no such span.
+    /// Refers to the operation of the entry's span at an index, which counts from 0, with this kind. Its name is
+    /// empty if the entry has no such span.
     ///
     /// # Errors
     ///
@@ -48,7 +48,7 @@ impl TakenOperation {
         Ok(TakenOperation { entry, index, kind })
     }
 
-    /// The name of the operation.
+    /// Returns the name of the operation.
     pub fn name(&self) -> &str
         ensures { result.now ≡ self.now.name }
     {
@@ -58,7 +58,7 @@ impl TakenOperation {
         }
     }
 
-    /// The operation, copied.
+    /// Copies the operation.
     ///
     /// # Errors
     ///

@@ -1,4 +1,4 @@
--- At the stop byte of a struct nothing is wrong but that a field is missing.
+-- The only fault at the stop byte of a struct is a missing field.
 use Rattle.std.proofs.Common.{◌≡◌, ℕ, Bool, true, false, Option, Some, None, Result, Ok, Err, refl, ap, ◌∙◌}
 use Rattle.thrift_binary.specs.declared.fault.WireError.TheVariants.{Truncated}
 use Rattle.thrift_binary.specs.Reading.{◌>>=◌}

@@ -1,17 +1,17 @@
--- A batch that is read is spelled so, and one that is spelled so is read.
+-- The bytes of a batch that is read spell it, and every spelling of a batch is read.
 use Rattle.std.proofs.Common.{◌≡◌, ℕ, ℤ, pos, eqb, ◌&&◌, List, [], ◌++◌, length, Some, Result, Ok, Err, refl, sym, ap, subst, ◌∙◌, ◌⊎◌, inl, inr}
 use Rattle.std.specs.Ordering.{int_eq}
 use Rattle.std.specs.Prelude.{IfOk}
 use Rattle.std.proofs.lemmas.Bool.{eqb-true}
 use Rattle.std.proofs.lemmas.List.{append-nil, nil_from_length}
 use Rattle.jaeger_model.specs.declared.batch.Batch.{Batch}
-use Rattle.thrift_binary.proofs.Found.{bind_ok, pass_ok, ok_is}
+use Rattle.thrift_binary.proofs.ReadBytesSpell.{bind_ok, pass_ok, ok_is}
 use Rattle.batch_codec.specs.declared.fault.DecodeError.{DecodeError}
 use Rattle.batch_codec.specs.declared.fault.DecodeError.TheVariants.{Memory, Wire, Missing, BadEnum, Trailing}
 use Rattle.batch_codec.specs.declared.fault.Part.TheVariants as parts
 use Rattle.batch_codec.specs.declared.batch.BatchSlots.{BatchSlots}
 use Rattle.batch_codec.specs.Decoding.{Gives}
-use Rattle.batch_codec.specs.Gathered.{no_batch}
+use Rattle.batch_codec.specs.EmptySlots.{no_batch}
 use Rattle.batch_codec.specs.BatchReading.{take_batch, batch_from, batch_at, at_end, decoded}
 use Rattle.batch_codec.specs.Batches.{BatchField, whole_batch, IsBatch, Answers}
 use Rattle.batch_codec.specs.SpelledBatches.{DecodesWhatIsSpelled}
@@ -78,7 +78,7 @@ decoded_found w (Err d) e = tt
 abbrev ok_batch : Batch → Result Batch DecodeError
 ok_batch b = Ok b
 
--- the answer of a call whose reading gives a batch
+-- the result of a call whose reading yields a batch
 decoded_so : (read : Result Batch DecodeError) (b : Batch) (result : Result Batch DecodeError) → read ≡ ok_batch b → Gives result read → (result ≡ ok_batch b) ⊎ (result ≡ Err Memory)
 decoded_so read b (Ok x) e g = inl (sym g ∙ e)
 decoded_so read b (Err Memory) e g = inr refl

@@ -20,7 +20,7 @@ use Rattle.batch_codec.specs.declared.tag.TagType.{TagType}
 use Rattle.batch_codec.specs.declared.tag.TagType.TheVariants as types
 use Rattle.batch_codec.specs.declared.span.SpanSlots.{SpanSlots}
 use Rattle.batch_codec.specs.declared.batch.BatchSlots.{BatchSlots}
-use Rattle.batch_codec.specs.Gathered.{no_tag, no_log, no_reference, no_process, no_span, no_batch, value_named}
+use Rattle.batch_codec.specs.EmptySlots.{no_tag, no_log, no_reference, no_process, no_span, no_batch, value_named}
 use Rattle.batch_codec.specs.Batches.{IsId, type_number, kind_number, IsTagType, IsRefKind, Gathers, IsStructList, TagField, IsTag, LogField, IsLog, ReferenceField, IsReference, ProcessField, IsProcess, SpanField, IsSpan, BatchField, IsBatch, whole_log, whole_reference, whole_process, whole_span, whole_batch}
 use Rattle.batch_codec.specs.Canon.{list_field, list_if_any, number_if_any, value_type, value_field, tag_fields, canon_tag, log_fields, canon_log, reference_fields, canon_reference, process_fields, canon_process, span_front, span_middle, span_fields, canon_span, batch_fields, canon}
 use Rattle.batch_codec.specs.Proper.{AreProper, IsProperValue, IsProperTag, IsProperLog, IsProperReference, IsProperProcess, IsProperFront, IsProperMiddle, IsProperSpan, IsProperNumber, IsProper}
@@ -49,13 +49,13 @@ kind_written : (k : RefKind) → IsRefKind (i32_text (kind_number k)) k
 kind_written ChildOf = i32_written (pos 0) (sfits_lit tt)
 kind_written FollowsFrom = i32_written (pos 1) (sfits_lit tt)
 
--- ---- fields one after the other
+-- ---- sequences of fields
 
 gathers-append : {S : Type 0} (Does : S → Field → S → Type 0) (s t u : S) (fs gs : List Field) → Gathers Does s fs t → Gathers Does t gs u → Gathers Does s (fs ++ gs) u
 gathers-append Does s t u [] gs e g = subst (λ (x : _). Gathers Does x gs u) e g
 gathers-append Does s t u (f ∷ fs) gs (v, d, more) g = (v, d, gathers-append Does v t u fs gs more g)
 
--- a list that is left out where it is empty
+-- a list that is left out if it is empty
 gathers_if_any : {A S : Type 0} (Does : S → Field → S → Type 0) (i : ℤ) (one : A → List ℕ) (set : List A → S) (xs : List A) → Does (set []) (list_field i one xs) (set xs) → Gathers Does (set []) (list_if_any i one xs) (set xs)
 gathers_if_any Does i one set [] d = refl
 gathers_if_any Does i one set (x ∷ xs) d = (set (x ∷ xs), d, refl)
@@ -178,7 +178,7 @@ process_spelled p q =
 
 -- ---- Span
 
--- what is gathered of a span behind its beginning, and so on
+-- the state of a span after each of its parts
 front_slots : Span → List SpanRef → SpanSlots
 front_slots s xs = record no_span { trace_low = Some s.trace.low; trace_high = Some s.trace.high; id = Some s.id.0; parent = Some s.parent.0; operation = Some s.operation; references = xs }
 

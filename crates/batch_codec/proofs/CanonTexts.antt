@@ -55,7 +55,7 @@ span_front_parts s =
     regroup : (a b c d e : List ℕ) → a ++ (b ++ (c ++ (d ++ e))) ≡ (((a ++ b) ++ c) ++ d) ++ e
     regroup a b c d e = simp append_assoc
 
--- the stop byte behind fields that were written
+-- the stop byte after fields that were written
 pub ends : (front whole : List ℕ) (fits : Bool) (old mid new : List ℕ) (r : Result (Unit {0}) WriteError) → fits ≡ true → mid ≡ old ++ front → whole ≡ front ++ stop_text → Writes stop_text mid r new → Encodes whole fits old r new
 ends front whole fits old mid new (Ok x) f m w h = (f, h ∙ ap (λ (t : List ℕ). t ++ stop_text) m ∙ append_assoc old front stop_text ∙ ap (λ (t : List ℕ). old ++ t) (sym w))
 ends front whole fits old mid new (Err BadLength) f m w h = absurd (other h.0)

@@ -1,4 +1,4 @@
--- The readings of the structs of `jaeger.thrift`, and of a whole batch, have places for their faults, and none is Trailing.
+-- The faults in the structs of `jaeger.thrift`, and in a batch, have places, and none is Trailing.
 use Rattle.std.proofs.Common.{◌≡◌, ℕ, ℤ, pos, Bool, cond, eqb, ◌&&◌, List, Some, Result, Ok, Err}
 use Rattle.std.specs.Ordering.{int_eq}
 use Rattle.thrift_binary.specs.Reading.{◌>>=◌}
@@ -13,7 +13,7 @@ use Rattle.batch_codec.specs.declared.process.ProcessSlots.{ProcessSlots}
 use Rattle.batch_codec.specs.declared.span.SpanSlots.{SpanSlots}
 use Rattle.batch_codec.specs.declared.batch.BatchSlots.{BatchSlots}
 use Rattle.batch_codec.specs.Decoding.{Reading, wire, skipped, bool_at, double_at, i32_at, i64_at, id_at, text_at, binary_at}
-use Rattle.batch_codec.specs.Gathered.{no_tag, no_log, no_reference, no_process, no_span, no_batch}
+use Rattle.batch_codec.specs.EmptySlots.{no_tag, no_log, no_reference, no_process, no_span, no_batch}
 use Rattle.batch_codec.specs.TagReading.{take_tag, tag_from, tag_at, type_at}
 use Rattle.batch_codec.specs.LogReading.{take_log, log_from, log_at}
 use Rattle.batch_codec.specs.ReferenceReading.{take_reference, reference_from, reference_at, kind_at}
@@ -28,7 +28,7 @@ use Rattle.batch_codec.proofs.NeverTrailing.{Not, Never, bool_never, double_neve
 abbrev Sound : {A : Type 0} → Reading A → Type 0
 Sound read = Safe read × Never read
 
--- the same at these bytes
+-- the faults have places at these bytes, and none is Trailing
 abbrev SoundAt : {A : Type 0} → Reading A → List ℕ → Type 0
 SoundAt read w = SafeAt read w × Not (read w)
 

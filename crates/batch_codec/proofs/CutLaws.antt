@@ -1,4 +1,4 @@
--- The law of cuts for whole batches.
+-- The law of cuts for batches.
 use Rattle.std.proofs.Common.{◌≡◌, ℕ, ◌≤◌, ◌<◌, false, eqb, List, [], ◌∷◌, ◌++◌, length, take, Result, Ok, Err, refl, sym, ap, subst, ◌∙◌, append-nil, length-append, arith}
 use Rattle.std.proofs.Math.Seq.{take-append_seam}
 use Rattle.std.proofs.lemmas.Bool.{ne_eqb}
@@ -6,14 +6,14 @@ use Rattle.std.proofs.lemmas.List.{take-append-le}
 use Rattle.jaeger_model.specs.declared.batch.Batch.{Batch}
 use Rattle.thrift_binary.specs.declared.fault.WireError.TheVariants.{Truncated}
 use Rattle.thrift_binary.proofs.Cuts as readings
-use Rattle.thrift_binary.proofs.Found.{failed, err_is, ok_is_no_err}
+use Rattle.thrift_binary.proofs.ReadBytesSpell.{failed, err_is, ok_is_no_err}
 use Rattle.batch_codec.specs.declared.fault.DecodeError.{DecodeError}
 use Rattle.batch_codec.specs.declared.fault.DecodeError.TheVariants.{Wire, Trailing}
 use Rattle.batch_codec.specs.BatchReading.{batch_at, at_end, decoded}
 use Rattle.batch_codec.specs.Cuts.{IsTruncated, IsPlace, FaultsHavePlaces, TrailingHasAPlace, TruncatedBeginsTruncated, BatchesEnd}
 use Rattle.batch_codec.proofs.CutBatches.{batch_safe, batch_never}
 
--- ---- from a batch at the beginning to all of the bytes
+-- ---- from a batch at the front to all of the bytes
 
 of_err : (v : List ℕ) (e : DecodeError) → batch_at v ≡ Err e → decoded v ≡ Err e
 unfolding decoded

@@ -1,4 +1,4 @@
--- The readings of single values have places for their faults, as those of structs have whose fields' have.
+-- The faults of single values have places, and so do those of a struct if those of its fields have.
 use Rattle.std.proofs.Common.{ℕ, ℤ, Bool, cond, List, Result, Ok, Err, refl, w32, w64}
 use Rattle.std.specs.Int.{cast_unsigned}
 use Rattle.std.specs.Str.{is_utf8}
@@ -24,7 +24,7 @@ use Rattle.batch_codec.specs.ReferenceReading.{kind_at, kind_of_number}
 abbrev pub Safe : {A : Type 0} → Reading A → Type 0
 Safe read = IsCutSafe (Wire Truncated) read
 
--- the same at these bytes
+-- the faults have places at these bytes
 abbrev pub SafeAt : {A : Type 0} → Reading A → List ℕ → Type 0
 SafeAt read w = Cut (Wire Truncated) read w
 
@@ -54,7 +54,7 @@ pub binary_safe : Safe binary_at
 unfolding binary_at
 binary_safe w = cut_lift wire Truncated string_at w (string_cut w)
 
--- a value, or what the others give
+-- a value, or the result of the other readings
 choice_safe : {A : Type 0} (b : Bool) (x : A) (others : Reading A) (w : List ℕ) → SafeAt others w → SafeAt (λ v. cond b (Ok (x, v)) (others v)) w
 choice_safe {A = A} b x others w more = let one : Reading A = λ v. Ok (x, v) in cut_if (Wire Truncated) b one others w (cut_ok (Wire Truncated) one x (λ v. refl) w) more
 
@@ -100,7 +100,7 @@ skipped_safe {S = S} s c w =
 pub list_safe : {A : Type 0} (read : Reading A) → Safe read → Safe (list_of wire 12 read)
 list_safe read safe = list_cut wire 12 read safe
 
--- the fault of a required field that is missing stands at the stop byte
+-- the place of a missing required field's fault is the stop byte
 pub struct_safe : {S X : Type 0} (take : Take S DecodeError) (none : S) (from : S → Result X DecodeError) → ((s : S) (c : ℕ) (i : ℤ) (w : List ℕ) → SafeAt (take s c i) w) → Safe (λ w. fields_at wire take none w >>= λ y. from y.0 >>= λ z. Ok (z, y.1))
 struct_safe {S = S} {X = X} take none from safe = cut_then (Wire Truncated) (fields_at wire take none) made (fields_cut wire take safe none) (λ s w. by s (from s) w)
   where

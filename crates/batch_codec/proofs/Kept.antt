@@ -1,11 +1,11 @@
--- A field whose value was read and kept in its place.
+-- A field whose value was read and stored in its slot.
 use Rattle.std.proofs.Common.{◌≡◌, ℕ, ℤ, List, Result, Ok, Err, IsOk, OnOk, false, true, refl}
 use Rattle.thrift_binary.specs.Reading.{◌>>=◌}
 use Rattle.thrift_binary.specs.Fields.{Take}
 use Rattle.batch_codec.specs.declared.fault.DecodeError.{DecodeError}
 use Rattle.batch_codec.specs.Decoding.{Reading, Decodes, Takes, Fails-whole}
 
--- The value is what the field reads, in the place that the field fills.
+-- The slot of the field has the value that the field reads.
 pub takes-kept : {A S : Type 0} (take : Take S DecodeError) (s : S) (c : ℕ) (i : ℤ) (w left : List ℕ) (reads : Reading A) (into : A → S) (read : Result A DecodeError) (result : Result (Unit {0}) DecodeError) (slot : A) → take s c i w ≡ (reads w >>= λ x. Ok (into x.0, x.1)) → Decodes (λ x. x) reads w read left → ((x : A) → read ≡ Ok x → slot ≡ x) → ((x : A) → read ≡ Ok x → IsOk result) → ((e : DecodeError) → read ≡ Err e → result ≡ Err e) → Takes take s c i w result (into slot) left
 takes-kept take s c i w left reads into (Ok x) (Ok u) slot is d kept same refused = rw (is, d, kept x refl) refl
 takes-kept take s c i w left reads into (Ok x) (Err f) slot is d kept same refused = let bad : false ≡ true = same x refl in absurd cc

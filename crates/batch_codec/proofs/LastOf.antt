@@ -1,4 +1,4 @@
--- Of several fields with one id and the declared type the last counts.
+-- The last of several fields with one id and the declared type counts.
 use Rattle.std.proofs.Common.{◌≡◌, ℕ, ℤ, pos, Bool, true, false, eqb, ◌&&◌, ◌||◌, List, [], ◌∷◌, Some, refl, sym, subst}
 use Rattle.std.specs.Prelude.{MatchBool}
 use Rattle.std.specs.Ordering.{int_eq}

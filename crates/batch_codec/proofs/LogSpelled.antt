@@ -1,11 +1,11 @@
--- A log that is read is spelled so, and one that is spelled so is read.
+-- The bytes of a log that is read spell it, and every spelling of a log is read.
 use Rattle.std.proofs.Common.{◌≡◌, ℕ, ℤ, pos, eqb, ◌&&◌, Some, Ok, refl, ap, ◌∙◌}
 use Rattle.std.specs.Ordering.{int_eq}
 use Rattle.jaeger_model.specs.declared.span.Log.{Log}
-use Rattle.thrift_binary.proofs.Found.{ok_is}
+use Rattle.thrift_binary.proofs.ReadBytesSpell.{ok_is}
 use Rattle.batch_codec.specs.declared.fault.Part.TheVariants as parts
 use Rattle.batch_codec.specs.declared.log.LogSlots.{LogSlots}
-use Rattle.batch_codec.specs.Gathered.{no_log}
+use Rattle.batch_codec.specs.EmptySlots.{no_log}
 use Rattle.batch_codec.specs.LogReading.{take_log, log_from, log_at}
 use Rattle.batch_codec.specs.Batches.{LogField, whole_log, IsLog}
 use Rattle.batch_codec.proofs.ValuesSpelled.{Agrees, is_i64}

@@ -1,4 +1,4 @@
--- No reading of a value gives Trailing, nor does one of a struct whose fields' don't.
+-- No reading of a value yields Trailing, nor does that of a struct if those of its fields don't.
 use Rattle.std.proofs.Common.{◌≡◌, ℕ, ℤ, zero, suc, pos, Bool, true, false, cond, eqb, ◌||◌, List, length, Option, Some, None, Result, Ok, Err, refl, ap, w32, w64}
 use Rattle.std.specs.Ordering.{int_eq}
 use Rattle.std.specs.Str.{is_utf8}
@@ -15,7 +15,7 @@ use Rattle.batch_codec.specs.Decoding.{Reading, wire, skipped, bool_at, double_a
 use Rattle.batch_codec.specs.TagReading.{type_at, type_of_number}
 use Rattle.batch_codec.specs.ReferenceReading.{kind_at, kind_of_number}
 use Rattle.batch_codec.proofs.AtStop.{OnlyMissing}
-use Rattle.thrift_binary.proofs.Found.{failed, err_is}
+use Rattle.thrift_binary.proofs.ReadBytesSpell.{failed, err_is}
 
 -- the result isn't Trailing
 pub record Not {A : Type 0} (r : Result A DecodeError) : Type 0 where

@@ -4,8 +4,8 @@ use Rattle.std.proofs.lemmas.List.{append_cancel_right}
 use Rattle.thrift_binary.specs.Reading.{field_at}
 use Rattle.thrift_binary.specs.Fields.{Take}
 use Rattle.thrift_binary.specs.Spelling.{Field, IsHead, IsFields}
-use Rattle.thrift_binary.proofs.Found.{ok_is, both_are}
-use Rattle.thrift_binary.proofs.Again.{field_again, stop_again}
+use Rattle.thrift_binary.proofs.ReadBytesSpell.{ok_is, both_are}
+use Rattle.thrift_binary.proofs.SpellingsAreRead.{field_again, stop_again}
 use Rattle.batch_codec.specs.declared.fault.DecodeError.{DecodeError}
 use Rattle.batch_codec.specs.Decoding.{Reading}
 use Rattle.batch_codec.specs.Batches.{Gathers}

@@ -1,11 +1,11 @@
--- A process that is read is spelled so, and one that is spelled so is read.
+-- The bytes of a process that is read spell it, and every spelling of a process is read.
 use Rattle.std.proofs.Common.{◌≡◌, ℕ, ℤ, pos, eqb, ◌&&◌, Some, Ok, refl, ap, ◌∙◌}
 use Rattle.std.specs.Ordering.{int_eq}
 use Rattle.jaeger_model.specs.declared.batch.Process.{Process}
-use Rattle.thrift_binary.proofs.Found.{ok_is}
+use Rattle.thrift_binary.proofs.ReadBytesSpell.{ok_is}
 use Rattle.batch_codec.specs.declared.fault.Part.TheVariants as parts
 use Rattle.batch_codec.specs.declared.process.ProcessSlots.{ProcessSlots}
-use Rattle.batch_codec.specs.Gathered.{no_process}
+use Rattle.batch_codec.specs.EmptySlots.{no_process}
 use Rattle.batch_codec.specs.ProcessReading.{take_process, process_from, process_at}
 use Rattle.batch_codec.specs.Batches.{ProcessField, whole_process, IsProcess}
 use Rattle.batch_codec.proofs.ValuesSpelled.{Agrees, is_text}

@@ -1,11 +1,11 @@
--- A reference that is read is spelled so, and one that is spelled so is read.
+-- The bytes of a reference that is read spell it, and every spelling of a reference is read.
 use Rattle.std.proofs.Common.{◌≡◌, ℕ, ℤ, pos, eqb, ◌&&◌, Some, Ok, refl, ap, ◌∙◌}
 use Rattle.std.specs.Ordering.{int_eq}
 use Rattle.jaeger_model.specs.declared.span.SpanRef.{SpanRef}
-use Rattle.thrift_binary.proofs.Found.{ok_is}
+use Rattle.thrift_binary.proofs.ReadBytesSpell.{ok_is}
 use Rattle.batch_codec.specs.declared.fault.Part.TheVariants as parts
 use Rattle.batch_codec.specs.declared.reference.ReferenceSlots.{ReferenceSlots}
-use Rattle.batch_codec.specs.Gathered.{no_reference}
+use Rattle.batch_codec.specs.EmptySlots.{no_reference}
 use Rattle.batch_codec.specs.ReferenceReading.{take_reference, reference_from, reference_at}
 use Rattle.batch_codec.specs.Batches.{ReferenceField, whole_reference, IsReference}
 use Rattle.batch_codec.proofs.ValuesSpelled.{Agrees, is_kind, is_id}

@@ -1,4 +1,4 @@
--- Worked rows: what decoding gives of some short bytes.
+-- Examples: the results of decoding some short bytes.
 use Rattle.std.proofs.Common.{◌≡◌, ℕ, List, [], ◌∷◌, ◌++◌, None, true, Ok, Err, refl, lit<}
 use Rattle.std.specs.Str.{is_utf8}
 use Rattle.std.proofs.lemmas.Str.{is_utf8-from_IsUtf8, IsUtf8-from_ascii}
@@ -36,7 +36,7 @@ no_spans : decoded (process ++ none 12 ++ 0 ∷ []) ≡ Ok alone
 unfolding decoded batch_at batch_from take_batch process_at process_from take_process text_at fields_at fields_in field_at string_at size_at list_of list_at items_at process none alone
 no_spans = rw a_is_text refl
 
--- the type of no elements isn't looked at
+-- the element type of an empty list isn't checked
 no_spans_of_another_type : decoded (process ++ none 3 ++ 0 ∷ []) ≡ Ok alone
 unfolding decoded batch_at batch_from take_batch process_at process_from take_process text_at fields_at fields_in field_at string_at size_at list_of list_at items_at process none alone
 no_spans_of_another_type = rw a_is_text refl
@@ -53,7 +53,7 @@ claimed_size : decoded (process ++ spans 12 127 255) ≡ Err (Wire Truncated)
 unfolding decoded batch_at batch_from take_batch process_at process_from take_process text_at fields_at fields_in field_at string_at size_at list_of list_at items_at span_at process spans
 claimed_size = rw a_is_text refl
 
--- the length is judged before the type
+-- the length is checked before the type
 negative_size : decoded (process ++ spans 16 255 255) ≡ Err (Wire BadLength)
 unfolding decoded batch_at batch_from take_batch process_at process_from take_process text_at fields_at fields_in field_at string_at size_at list_of list_at items_at process spans
 negative_size = rw a_is_text refl
@@ -62,12 +62,12 @@ nothing : decoded [] ≡ Err (Wire Truncated)
 unfolding decoded batch_at fields_at fields_in
 nothing = refl
 
--- the missing field comes before the bytes that follow
+-- a missing field is reported before trailing bytes
 stop_alone : decoded (0 ∷ 0 ∷ []) ≡ Err (Missing parts.Batch 1)
 unfolding decoded batch_at batch_from fields_at fields_in field_at
 stop_alone = refl
 
--- a head is read whole before it is judged
+-- all bytes of a head are read before it is checked
 half_a_head : decoded (255 ∷ 0 ∷ []) ≡ Err (Wire Truncated)
 unfolding decoded batch_at fields_at fields_in field_at
 half_a_head = refl

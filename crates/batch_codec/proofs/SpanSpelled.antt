@@ -1,11 +1,11 @@
--- A span that is read is spelled so, and one that is spelled so is read.
+-- The bytes of a span that is read spell it, and every spelling of a span is read.
 use Rattle.std.proofs.Common.{◌≡◌, ℕ, ℤ, pos, eqb, ◌&&◌, Some, Ok, refl, ap, ◌∙◌}
 use Rattle.std.specs.Ordering.{int_eq}
 use Rattle.jaeger_model.specs.declared.span.Span.{Span}
-use Rattle.thrift_binary.proofs.Found.{ok_is}
+use Rattle.thrift_binary.proofs.ReadBytesSpell.{ok_is}
 use Rattle.batch_codec.specs.declared.fault.Part.TheVariants as parts
 use Rattle.batch_codec.specs.declared.span.SpanSlots.{SpanSlots}
-use Rattle.batch_codec.specs.Gathered.{no_span}
+use Rattle.batch_codec.specs.EmptySlots.{no_span}
 use Rattle.batch_codec.specs.SpanReading.{take_span, span_from, span_at}
 use Rattle.batch_codec.specs.Batches.{SpanField, whole_span, IsSpan}
 use Rattle.batch_codec.proofs.ValuesSpelled.{Agrees, is_text, is_id, is_i32, is_i64}

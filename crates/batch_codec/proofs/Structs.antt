@@ -1,4 +1,4 @@
--- Structs: what is read is spelled so, and what is spelled so is read, of any struct whose fields do.
+-- Structs: if the bytes of each field spell its value, and every spelling of a field is read, the same holds for the struct.
 use Rattle.std.proofs.Common.{◌≡◌, ℕ, ℤ, Bool, true, false, cond, List, [], ◌∷◌, Option, Some, None, Result, Ok, refl}
 use Rattle.std.specs.Prelude.{MatchBool}
 use Rattle.thrift_binary.specs.Reading.{◌>>=◌, lift}
@@ -6,10 +6,10 @@ use Rattle.thrift_binary.specs.Skipping.{skip_at}
 use Rattle.thrift_binary.specs.Fields.{Take, fields_at}
 use Rattle.thrift_binary.specs.Lists.{list_of}
 use Rattle.thrift_binary.specs.Spelling.{Field, IsFields, IsValue}
-use Rattle.thrift_binary.proofs.Found.{lift_ok, Path, Took, fields_found}
-use Rattle.thrift_binary.proofs.Again.{fields_again}
-use Rattle.thrift_binary.proofs.SkipFound.{skip_found}
-use Rattle.thrift_binary.proofs.SkipAgain.{skip_again}
+use Rattle.thrift_binary.proofs.ReadBytesSpell.{lift_ok, Path, Took, fields_found}
+use Rattle.thrift_binary.proofs.SpellingsAreRead.{fields_again}
+use Rattle.thrift_binary.proofs.SkippedAreValues.{skip_found}
+use Rattle.thrift_binary.proofs.ValuesAreSkipped.{skip_again}
 use Rattle.thrift_binary.proofs.Lists.{list_found, list_again}
 use Rattle.batch_codec.specs.declared.fault.DecodeError.{DecodeError}
 use Rattle.batch_codec.specs.declared.fault.Part.{Part}
@@ -19,7 +19,7 @@ use Rattle.batch_codec.proofs.ValuesSpelled.{Found, Again, Agrees, made_found, m
 
 -- ---- one field
 
--- a field of this type and id, or what the others give
+-- a field of this type and id, or the result of the other readings
 pub known_is : {A S : Type 0} {read : Reading A} {Spells : List ℕ → A → Type 0} → Agrees read Spells → (set : A → S) (b : Bool) (others : Reading S) (Others : List ℕ → S → Type 0)
     → Agrees others Others
     → Agrees (λ w. cond b (read w >>= λ x. Ok (set x.0, x.1)) (others w)) (λ v t. MatchBool b ((x : A) × Spells v x × (t ≡ set x)) (Others v t))
@@ -60,7 +60,7 @@ module _ {S X : Type 0} (take : Take S DecodeError) (Does : S → Field → S �
   abbrev pub struct_at : Reading X
   struct_at w = fields_at wire take none w >>= λ y. from y.0 >>= λ z. Ok (z, y.1)
 
-  -- fields that lead from no slots to these
+  -- fields that lead from the first state to these slots
   abbrev LeadsTo : List ℕ → S → Type 0
   LeadsTo v s = (fs : List Field) × IsFields fs v × Path Does none fs s
 
@@ -97,7 +97,7 @@ module _ {S X : Type 0} (take : Take S DecodeError) (Does : S → Field → S �
           let whole = makes is.gathered x is.makes in
           rw (fields, whole) refl
 
--- a required slot that is there
+-- a required slot that is filled
 pub required_found : {A B : Type 0} (o : Option A) (part : Part) (i : ℕ) (f : A → Result B DecodeError) (y : B) → (required o part i >>= f) ≡ Ok y → (x : A) × (o ≡ Some x) × (f x ≡ Ok y)
 required_found None part i f y e = absurd cc
 required_found (Some x) part i f y e = (x, refl, e)

@@ -1,12 +1,12 @@
--- A tag that is read is spelled so, and one that is spelled so is read.
+-- The bytes of a tag that is read spell it, and every spelling of a tag is read.
 use Rattle.std.proofs.Common.{◌≡◌, ℕ, ℤ, pos, eqb, ◌&&◌, Some, Ok, refl, sym, ap, ◌∙◌}
 use Rattle.std.specs.Ordering.{int_eq}
 use Rattle.jaeger_model.specs.declared.tag.Tag.{Tag}
 use Rattle.jaeger_model.specs.declared.tag.Value.{Value}
-use Rattle.thrift_binary.proofs.Found.{ok_is}
+use Rattle.thrift_binary.proofs.ReadBytesSpell.{ok_is}
 use Rattle.batch_codec.specs.declared.fault.Part.TheVariants as parts
 use Rattle.batch_codec.specs.declared.tag.TagSlots.{TagSlots}
-use Rattle.batch_codec.specs.Gathered.{no_tag, value_named}
+use Rattle.batch_codec.specs.EmptySlots.{no_tag, value_named}
 use Rattle.batch_codec.specs.TagReading.{take_tag, tag_from, tag_at}
 use Rattle.batch_codec.specs.Batches.{TagField, MakesTag, IsTag}
 use Rattle.batch_codec.proofs.ValuesSpelled.{Agrees, is_text, is_type, is_double, is_bool, is_i64, is_binary}

@@ -1,4 +1,4 @@
--- Single values: what is read is spelled so, and what is spelled so is read.
+-- Single values: the bytes that are read spell the value, and every spelling of it is read.
 use Rattle.std.proofs.Common.{◌≡◌, ℕ, ℤ, pos, Bool, true, false, cond, List, ◌++◌, Result, Ok, Err, refl, sym, ap, subst, ◌∙◌, w32, w64}
 use Rattle.std.specs.Int.{cast_unsigned}
 use Rattle.std.specs.Ordering.{int_eq}
@@ -11,8 +11,8 @@ use Rattle.thrift_binary.specs.declared.fault.WireError.TheVariants.{BadText}
 use Rattle.thrift_binary.specs.Reading.{◌>>=◌, lift, bytes_at, string_at, signed_at}
 use Rattle.thrift_binary.specs.Reading as wires
 use Rattle.thrift_binary.specs.Spelling.{Beginning, IsString, IsBool, IsDouble, IsI32, IsI64}
-use Rattle.thrift_binary.proofs.Found.{bind_ok, pass_ok, lift_ok, ok_is, both_are, bool_found, i32_found, i64_found, double_found, string_found}
-use Rattle.thrift_binary.proofs.Again.{bool_again, i32_again, i64_again, double_again, string_again}
+use Rattle.thrift_binary.proofs.ReadBytesSpell.{bind_ok, pass_ok, lift_ok, ok_is, both_are, bool_found, i32_found, i64_found, double_found, string_found}
+use Rattle.thrift_binary.proofs.SpellingsAreRead.{bool_again, i32_again, i64_again, double_again, string_again}
 use Rattle.batch_codec.specs.declared.fault.DecodeError.{DecodeError}
 use Rattle.batch_codec.specs.declared.fault.DecodeError.TheVariants.{Wire, BadEnum}
 use Rattle.batch_codec.specs.declared.tag.TagType.{TagType}
@@ -22,11 +22,11 @@ use Rattle.batch_codec.specs.TagReading.{type_at, type_of_number}
 use Rattle.batch_codec.specs.ReferenceReading.{kind_at, kind_of_number}
 use Rattle.batch_codec.specs.Batches.{IsText, IsId, IsTagType, type_number, IsRefKind, kind_number}
 
--- what is read is spelled so
+-- the bytes that are read spell the value
 abbrev pub Found : {A : Type 0} → Reading A → (List ℕ → A → Type 0) → Type 0
 Found {A = A} read Spells = (w : List ℕ) (x : A) (r : List ℕ) → read w ≡ Ok (x, r) → Beginning (λ t. Spells t x) w r
 
--- what is spelled so is read, whatever follows
+-- every spelling of the value is read, whatever follows it
 abbrev pub Again : {A : Type 0} → Reading A → (List ℕ → A → Type 0) → Type 0
 Again {A = A} read Spells = (t r : List ℕ) (x : A) → Spells t x → read (t ++ r) ≡ Ok (x, r)
 
@@ -38,7 +38,7 @@ pub record Agrees {A : Type 0} (read : Reading A) (Spells : List ℕ → A → T
 abbrev decoded : {K : Type 0} → K → Result K DecodeError
 decoded k = Ok k
 
--- what is made of a value
+-- a function of a value
 pub made_found : {A B : Type 0} (read : Reading A) (Spells : List ℕ → A → Type 0) → Found read Spells → (make : A → Result B DecodeError)
     → Found (λ w. read w >>= λ x. make x.0 >>= λ y. Ok (y, x.1)) (λ t y. (x : A) × Spells t x × (make x ≡ Ok y))
 made_found read Spells found make w y r e =
@@ -52,7 +52,7 @@ made_found read Spells found make w y r e =
       spells = (x.0.0, f.spells, z.1 ∙ ap decoded same.0);
     }
 
--- a value turned into another
+-- a value mapped to another
 pub mapped : {A B : Type 0} {read : Reading A} {Spells : List ℕ → A → Type 0} → Agrees read Spells → (f : A → B) → Agrees (λ w. read w >>= λ x. Ok (f x.0, x.1)) (λ t y. (x : A) × Spells t x × (y ≡ f x))
 mapped {read = read} {Spells = Spells} value f = record {
   found = λ w y r e. (
@@ -122,14 +122,14 @@ is_binary_again t r x is = rw (string_again t x r is) refl
 
 -- ---- enums
 
--- what the number read stands for
+-- the variant with the number that was read
 enum_found : {K : Type 0} (number : K → ℤ) (named : ℤ → Result K DecodeError) → ((n : ℤ) (k : K) → named n ≡ Ok k → n ≡ number k)
     → Found (λ w. i32_at w >>= λ n. named n.0 >>= λ k. Ok (k, n.1)) (λ t k. IsI32 t (number k))
 enum_found number named numbered w x r e =
     let f = made_found i32_at IsI32 is_i32_found named w x r e in
     record { text = f.text; parts = f.parts; spells = subst (λ (z : ℤ). IsI32 f.text z) (numbered f.spells.0 x f.spells.2) f.spells.1 }
 
--- a number of the table, and what it stands for
+-- a number of the table, and its variant
 one_of_table : {K : Type 0} (number : K → ℤ) (z : ℤ) (k x : K) → z ≡ number k → decoded k ≡ decoded x → z ≡ number x
 one_of_table number z k x z-is e = z-is ∙ ap number (ok_is k x e)
 

@@ -10,7 +10,7 @@ use Rattle.batch_codec.specs.declared.fault.DecodeError.TheVariants.{Trailing}
 use Rattle.batch_codec.specs.declared.batch.BatchSlots.{BatchSlots}
 use Rattle.batch_codec.specs.Decoding.{Reading, wire, skipped, required, i64_at}
 use Rattle.thrift_binary.specs.Lists.{list_of}
-use Rattle.batch_codec.specs.Gathered.{no_batch}
+use Rattle.batch_codec.specs.EmptySlots.{no_batch}
 use Rattle.batch_codec.specs.ProcessReading.{process_at}
 use Rattle.batch_codec.specs.SpanReading.{span_at}
 
@@ -33,10 +33,10 @@ batch_at w = do
   b ← batch_from x.0
   Ok (b, x.1)
 
--- the end of the bytes, behind a batch
+-- the end of the bytes, after a batch
 abbrev pub at_end : Batch × List ℕ → Result Batch DecodeError
 at_end x = if length x.1 == 0 then Ok x.0 else Err Trailing
 
--- what decoding gives: the batch that spans all of the bytes, or the first fault
+-- the result of decoding: the batch that takes up all of the bytes, or the first fault
 unfoldable pub decoded : List ℕ → Result Batch DecodeError
 decoded w = batch_at w >>= at_end

@@ -1,7 +1,7 @@
--- Which bytes spell a batch (`jaeger.thrift` in the Thrift binary protocol), as a relation on whole
--- texts that doesn't read: a struct is fields and a stop byte, and each field does one thing to what
--- was gathered so far. A known field of its declared type spells its value strictly and replaces what
--- an earlier field of its id gave; every other field is a value of its type, and changes nothing.
+-- Which bytes spell a batch (`jaeger.thrift` in the Thrift binary protocol), as a relation on complete
+-- texts, not as a reading. A struct is fields and a stop byte, and each field changes the fields so far in
+-- one way: a known field of its declared type spells its value strictly and replaces the value of an
+-- earlier field of its id; every other field is a value of its type, and changes nothing.
 --
 -- The types' codes here: 2 bool, 4 double, 8 i32 and enum, 10 i64, 11 string and binary, 12 struct, 15 list.
 use Rattle.std.specs.Prelude.{◌≡◌, ℕ, ℤ, pos, List, [], ◌∷◌, Some, Result, Ok, Err, ◌⊎◌, MatchBool}
@@ -26,7 +26,7 @@ use Rattle.batch_codec.specs.declared.reference.ReferenceSlots.{ReferenceSlots}
 use Rattle.batch_codec.specs.declared.process.ProcessSlots.{ProcessSlots}
 use Rattle.batch_codec.specs.declared.span.SpanSlots.{SpanSlots}
 use Rattle.batch_codec.specs.declared.batch.BatchSlots.{BatchSlots}
-use Rattle.batch_codec.specs.Gathered.{no_tag, no_log, no_reference, no_process, no_span, no_batch, value_named}
+use Rattle.batch_codec.specs.EmptySlots.{no_tag, no_log, no_reference, no_process, no_span, no_batch, value_named}
 
 -- ---- values
 
@@ -34,7 +34,7 @@ use Rattle.batch_codec.specs.Gathered.{no_tag, no_log, no_reference, no_process,
 abbrev pub IsText : List ℕ → List ℕ → Type 0
 IsText w text = IsString w text × IsUtf8 text
 
--- 64 bits of an id, which the wire has as a signed number, as an unsigned one
+-- 64 bits of an id, a signed number on the wire, as an unsigned number
 abbrev pub IsId : List ℕ → ℕ → Type 0
 IsId w n = (z : ℤ) × IsI64 w z × (n ≡ cast_unsigned w64 z)
 
@@ -59,7 +59,7 @@ IsRefKind w kind = IsI32 w (kind_number kind)
 
 -- ---- structs
 
--- the field spells a value, and t is what was gathered with that value set
+-- the field spells a value, and t is the state so far with that value set
 abbrev pub Sets : {A S : Type 0} → (List ℕ → A → Type 0) → (A → S) → Field → S → Type 0
 Sets {A = A} Spells set f t = (x : A) × Spells f.text x × (t ≡ set x)
 
@@ -67,12 +67,12 @@ Sets {A = A} Spells set f t = (x : A) × Spells f.text x × (t ≡ set x)
 abbrev pub Skips : {S : Type 0} → S → Field → S → Type 0
 Skips s f t = IsValue 64 f.code f.text × (t ≡ s)
 
--- what the fields, one after the other, make of what was gathered
+-- how a sequence of fields changes the state so far
 abbrev pub Gathers : {S : Type 0} → (S → Field → S → Type 0) → S → List Field → S → Type 0
 Gathers Does s [] t = t ≡ s
 Gathers {S = S} Does s (f ∷ fs) t = (u : S) × Does s f u × Gathers Does u fs t
 
--- fields and a stop byte, which make the value of what was gathered before them
+-- fields and a stop byte, which turn the state before them into the value
 pub record IsStruct {S X : Type 0} (Does : S → Field → S → Type 0) (none : S) (Makes : S → X → Type 0) (w : List ℕ) (x : X) : Type 0 where
   pub fields : List Field
   pub spelled : IsFields fields w
@@ -115,7 +115,7 @@ LogField s f t =
     MatchBool (has 15 (pos 2) f) (Sets (IsStructList IsTag) (λ x. record s { fields = Some x }) f t) (
     Skips s f t))
 
--- what was gathered where all is there
+-- the slots of a complete log
 abbrev pub whole_log : Log → LogSlots
 whole_log x = record { at = Some x.at; fields = Some x.fields }
 
@@ -204,8 +204,8 @@ whole_batch x = record { process = Some x.process; spans = Some x.spans; seq_no 
 unfoldable pub IsBatch : List ℕ → Batch → Type 0
 IsBatch w x = IsStruct BatchField no_batch (λ s y. s ≡ whole_batch y) w x
 
--- ---- what decoding answers
+-- ---- the result of decoding
 
--- a batch that all of the bytes spell is the answer, unless memory ran out
+-- a batch that all of the bytes spell is the result, unless memory ran out
 abbrev pub Answers : List ℕ → Result Batch DecodeError → Type 0
 Answers w result = (b : Batch) → IsBatch w b → (result ≡ Ok b) ⊎ (result ≡ Err Memory)

@@ -1,6 +1,6 @@
--- The one spelling of a batch that is written: the fields of each struct in the order of their ids; a
--- list that may be absent is left out where it is empty, and so is an absent number of the batch; of a
--- tag the one value that its type names is written, always.
+-- The one spelling in which a batch is written: the fields of each struct in the order of their ids. An
+-- optional list is left out if it is empty, and so is an absent number of the batch. A tag always has the
+-- one value of its type.
 use Rattle.std.specs.Prelude.{◌≡◌, ℕ, ℤ, pos, ◌^◌, List, [], ◌∷◌, ◌++◌, length, Bool, true, false, ◌&&◌, Option, Some, None, Result, Ok, Err, nat_lt}
 use Rattle.std.specs.List.{list_all}
 use Rattle.std.specs.Int.{w64, cast_signed}
@@ -42,7 +42,7 @@ double_field i bytes = record { code = 4; id = i; text = bytes }
 abbrev pub list_field : {A : Type 0} → ℤ → (A → List ℕ) → List A → Field
 list_field i one xs = record { code = 15; id = i; text = list_text 12 one xs }
 
--- the same, left out where the list is empty
+-- a list of structs, left out if it is empty
 abbrev pub list_if_any : {A : Type 0} → ℤ → (A → List ℕ) → List A → List Field
 list_if_any i one [] = []
 list_if_any i one (x ∷ xs) = list_field i one (x ∷ xs) ∷ []
@@ -152,7 +152,7 @@ batch_fits b = process_fits b.process && list_fits span_fits b.spans
 
 -- ---- what writing does
 
--- The text stands at the end, where every length in it fits; a length that doesn't is the only refusal unless memory runs out.
+-- The text is appended if every length in it fits; a length that doesn't is the only error unless memory runs out.
 abbrev pub Encodes : List ℕ → Bool → List ℕ → Result (Unit {0}) WriteError → List ℕ → Type 0
 Encodes text fits old (Ok x) new = (fits ≡ true) × (new ≡ old ++ text)
 Encodes text fits old (Err BadLength) new = fits ≡ false

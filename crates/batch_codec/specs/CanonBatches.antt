@@ -1,4 +1,4 @@
--- What encoding a batch gives.
+-- The result of encoding a batch.
 use Rattle.std.specs.Prelude.{◌≡◌, ℕ, true, false, Result, Ok, Err, Vec}
 use Rattle.jaeger_model.specs.declared.batch.Batch.{Batch}
 use Rattle.thrift_binary.specs.declared.fault.WireError.TheVariants.{Truncated, BadLength, BadType, TooDeep, BadBool, BadText}
@@ -7,7 +7,7 @@ use Rattle.batch_codec.specs.declared.fault.DecodeError.{DecodeError}
 use Rattle.batch_codec.specs.declared.fault.DecodeError.TheVariants.{Wire, Missing, BadEnum, Trailing, Memory}
 use Rattle.batch_codec.specs.Canon.{canon, batch_fits}
 
--- the one spelling where every length fits; BadLength where one doesn't; no other refusal unless memory runs out
+-- the one spelling if every length fits; BadLength if one doesn't; no other error unless memory runs out
 abbrev pub WritesBatch : Batch → Result (Vec ℕ Global) DecodeError → Type 0
 WritesBatch b (Ok v) = (v.items ≡ canon b) × (batch_fits b ≡ true)
 WritesBatch b (Err Memory) = Unit {0}

@@ -1,4 +1,4 @@
--- Reading from left to right, with the first fault that is met; and what the calls that read give.
+-- Reading from left to right, with the first fault; the results of the calls that read; and a lemma about them.
 use Rattle.std.specs.Prelude.{◌≡◌, ℕ, ℤ, List, Option, Some, None, Result, Ok, Err, Bool, if◌then◌else◌}
 use Rattle.std.specs.Str.{is_utf8}
 use Rattle.std.specs.Int.{w32, w64, cast_unsigned}
@@ -12,7 +12,7 @@ use Rattle.batch_codec.specs.declared.fault.DecodeError.{DecodeError}
 use Rattle.batch_codec.specs.declared.fault.DecodeError.TheVariants.{Wire, Missing, BadEnum, Trailing, Memory}
 use Rattle.batch_codec.specs.declared.fault.Part.{Part}
 
--- what is read and the bytes after it, or the first fault
+-- the value and the bytes after it, or the first fault
 abbrev pub Reading : Type 0 → Type 0
 Reading A = List ℕ → Result (A × List ℕ) DecodeError
 
@@ -33,11 +33,11 @@ i32_at w = lift wire (signed_at w32 4 w)
 unfoldable pub i64_at : Reading ℤ
 i64_at w = lift wire (signed_at w64 8 w)
 
--- 64 bits of an id, which the wire has as a signed number, as an unsigned one
+-- 64 bits of an id, a signed number on the wire, as an unsigned number
 unfoldable pub id_at : Reading ℕ
 id_at w = i64_at w >>= λ x. Ok (cast_unsigned w64 x.0, x.1)
 
--- a string, which has to be UTF-8
+-- a string, which must be UTF-8
 unfoldable pub text_at : Reading (List ℕ)
 text_at w = lift wire (string_at w) >>= λ x. if is_utf8 x.0 then Ok (x.0, x.1) else Err (Wire BadText)
 
@@ -47,7 +47,7 @@ binary_at w = lift wire (string_at w)
 
 -- ---- fields
 
--- a value of any type, which changes nothing of what was gathered
+-- a value of any type, which changes nothing
 abbrev pub skipped : {S : Type 0} → S → ℕ → Reading S
 skipped s c w = lift wire (skip_at c w) >>= λ x. Ok (s, x.1)
 
@@ -66,22 +66,22 @@ Fails (Missing p i) r = r ≡ Err (Missing p i)
 Fails BadEnum r = r ≡ Err BadEnum
 Fails Trailing r = r ≡ Err Trailing
 
--- A call on a cursor that held `old` gave what the reading gives, and left the bytes after it.
+-- A call on a cursor over `old` returned what the reading yields, and left the bytes after it.
 abbrev pub Decodes : {X Y : Type 0} → (X → Y) → Reading Y → List ℕ → Result X DecodeError → List ℕ → Type 0
 Decodes view read old (Ok x) new = read old ≡ Ok (view x, new)
 Decodes view read old (Err e) new = Fails e (read old)
 
--- the same of one field, which changes what was gathered so far
+-- like `Decodes`, for one field, which changes the state so far
 abbrev pub Takes : {S : Type 0} → Take S DecodeError → S → ℕ → ℤ → List ℕ → Result (Unit {0}) DecodeError → S → List ℕ → Type 0
 Takes take s c i old (Ok x) t new = take s c i old ≡ Ok (t, new)
 Takes take s c i old (Err e) t new = Fails e (take s c i old)
 
--- A call gave what the reading gives, unless memory ran out.
+-- A call returned what the reading yields, unless memory ran out.
 abbrev pub Gives : {A : Type 0} → Result A DecodeError → Result A DecodeError → Type 0
 Gives (Ok x) read = read ≡ Ok x
 Gives (Err e) read = Fails e read
 
--- a fault of a part is the fault of the whole
+-- if each fault of a part is the fault of the whole reading, a call that fails by the part fails by the whole
 pub Fails-whole : {A B : Type 0} (e : DecodeError) (part : Result A DecodeError) (whole : Result B DecodeError) → ((f : DecodeError) → part ≡ Err f → whole ≡ Err f) → Fails e part → Fails e whole
 Fails-whole Memory part whole same h = tt
 Fails-whole (Wire x) part whole same h = same (Wire x) h

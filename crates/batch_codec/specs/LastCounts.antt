@@ -1,5 +1,5 @@
 -- Of several fields with one id and the declared type the last counts, and each of them spells a value;
--- every other field is a value of its type, and changes nothing. That says just which bytes spell a struct.
+-- every other field is a value of its type, and changes nothing. This determines which bytes spell a struct.
 use Rattle.std.specs.Prelude.{◌≡◌, ◌↔◌, ℕ, ℤ, pos, List, [], ◌∷◌, Bool, ◌||◌, Some, false}
 use Rattle.std.specs.List.{AllByRecursion}
 use Rattle.thrift_binary.specs.Spelling.{Field, IsFields, IsLast, IsString, IsBool, IsDouble, IsI32, IsI64, IsValue, has}
@@ -9,7 +9,7 @@ use Rattle.batch_codec.specs.declared.reference.ReferenceSlots.{ReferenceSlots}
 use Rattle.batch_codec.specs.declared.process.ProcessSlots.{ProcessSlots}
 use Rattle.batch_codec.specs.declared.span.SpanSlots.{SpanSlots}
 use Rattle.batch_codec.specs.declared.batch.BatchSlots.{BatchSlots}
-use Rattle.batch_codec.specs.Gathered.{no_tag, no_log, no_reference, no_process, no_span, no_batch}
+use Rattle.batch_codec.specs.EmptySlots.{no_tag, no_log, no_reference, no_process, no_span, no_batch}
 use Rattle.batch_codec.specs.Batches.{IsText, IsId, IsTagType, IsRefKind, IsStructList, MakesTag, whole_log, whole_reference, whole_process, whole_span, whole_batch, IsTag, IsLog, IsReference, IsProcess, IsSpan, IsBatch}
 
 -- the field has one of these types and ids
@@ -21,7 +21,7 @@ is_known (d ∷ ds) f = has d.0 d.1 f || is_known ds f
 abbrev pub OthersAreValues : List (ℕ × ℤ) → List Field → Type 0
 OthersAreValues known fs = AllByRecursion (λ f. is_known known f ≡ false → IsValue 64 f.code f.text) fs
 
--- w divides into fields of which the last of each known type and id leave what makes x, and the others are values
+-- w divides into fields: the last ones of each known type and id yield x, and the others are values
 pub record LastCounts {S X : Type 0} (none : S) (known : List (ℕ × ℤ)) (LastOf : S → List Field → S → Type 0) (Makes : S → X → Type 0) (w : List ℕ) (x : X) : Type 0 where
   pub fields : List Field
   pub spelled : IsFields fields w
@@ -30,7 +30,7 @@ pub record LastCounts {S X : Type 0} (none : S) (known : List (ℕ × ℤ)) (Las
   pub makes : Makes left x
   pub others : OthersAreValues known fields
 
--- The bytes that spell a value are those that divide so; and they divide so in one way, with one value.
+-- The bytes that spell a value are exactly those that divide so; they do in one way, with one value.
 pub record IsByLast {S X : Type 0} (Spells : List ℕ → X → Type 0) (none : S) (known : List (ℕ × ℤ)) (LastOf : S → List Field → S → Type 0) (Makes : S → X → Type 0) : Type 0 where
   pub same : (w : List ℕ) (x : X) → Spells w x ↔ LastCounts none known LastOf Makes w x
   pub one : (w : List ℕ) (x y : X) (a : LastCounts none known LastOf Makes w x) (b : LastCounts none known LastOf Makes w y) → (a.fields ≡ b.fields) × (x ≡ y)
@@ -55,10 +55,10 @@ known_of_span = (10, pos 1) ∷ (10, pos 2) ∷ (10, pos 3) ∷ (10, pos 4) ∷ 
 abbrev pub known_of_batch : List (ℕ × ℤ)
 known_of_batch = (12, pos 1) ∷ (15, pos 2) ∷ (10, pos 3) ∷ []
 
--- ---- what the last of the known fields leave
+-- ---- the state after the last of the known fields
 
 -- Slot by slot: from s on, the last of the fields fs that has the slot's type and id leaves t there, and each
--- of them spells a value; where there is none, t has what s has.
+-- of them spells a value; if there is none, t has what s has.
 
 abbrev pub LastOfTag : TagSlots → List Field → TagSlots → Type 0
 LastOfTag s fs t =
@@ -107,7 +107,7 @@ LastOfBatch s fs t =
     × IsLast 15 (pos 2) (IsStructList IsSpan) s.spans fs t.spans
     × IsLast 10 (pos 3) IsI64 s.seq_no fs t.seq_no
 
--- ---- the facts, each of a struct before whose fields nothing was gathered
+-- ---- the facts, each of a struct that is read from its first field on
 
 abbrev pub TagLast : Type 0
 TagLast = IsByLast IsTag no_tag known_of_tag LastOfTag MakesTag

@@ -1,6 +1,6 @@
 pub mod Faults
 pub mod Decoding
-pub mod Gathered
+pub mod EmptySlots
 pub mod TagReading
 pub mod LogReading
 pub mod ReferenceReading

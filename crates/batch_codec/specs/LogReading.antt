@@ -9,7 +9,7 @@ use Rattle.jaeger_model.specs.declared.span.Log.{Log}
 use Rattle.batch_codec.specs.declared.log.LogSlots.{LogSlots}
 use Rattle.batch_codec.specs.Decoding.{Reading, wire, skipped, required, i64_at}
 use Rattle.thrift_binary.specs.Lists.{list_of}
-use Rattle.batch_codec.specs.Gathered.{no_log}
+use Rattle.batch_codec.specs.EmptySlots.{no_log}
 use Rattle.batch_codec.specs.TagReading.{tag_at}
 
 unfoldable pub take_log : Take LogSlots DecodeError

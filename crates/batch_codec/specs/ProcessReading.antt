@@ -9,7 +9,7 @@ use Rattle.jaeger_model.specs.declared.batch.Process.{Process}
 use Rattle.batch_codec.specs.declared.process.ProcessSlots.{ProcessSlots}
 use Rattle.batch_codec.specs.Decoding.{Reading, wire, skipped, required, text_at}
 use Rattle.thrift_binary.specs.Lists.{list_of}
-use Rattle.batch_codec.specs.Gathered.{no_process}
+use Rattle.batch_codec.specs.EmptySlots.{no_process}
 use Rattle.batch_codec.specs.TagReading.{tag_at}
 
 unfoldable pub take_process : Take ProcessSlots DecodeError

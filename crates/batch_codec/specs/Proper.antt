@@ -1,5 +1,5 @@
--- Batches that a program can hold and four-byte lengths can say: texts are UTF-8, numbers are in the
--- ranges of their types, and no length is above 2,147,483,647.
+-- Batches that a program can hold and that can be encoded: texts are UTF-8, numbers are in the ranges of
+-- their types, and no length is above 2,147,483,647.
 use Rattle.std.specs.Prelude.{◌≡◌, ℕ, ℤ, ◌<◌, ◌^◌, List, length, Option, Some, None}
 use Rattle.std.specs.Str.{IsUtf8}
 use Rattle.std.specs.List.{AllByRecursion}
@@ -78,7 +78,7 @@ pub record IsProper (b : Batch) : Type 0 where
   pub spans : AreProper IsProperSpan b.spans
   pub seq_no : IsProperNumber b.seq_no
 
--- the one spelling of a batch spells it, and decoding it gives the batch again
+-- the one spelling of a batch spells it, and decoding it returns the batch
 abbrev pub CanonSpells : Type 0
 CanonSpells = (b : Batch) → IsProper b → IsBatch (canon b) b
 

@@ -11,7 +11,7 @@ use Rattle.jaeger_model.specs.declared.span.SpanRef.{SpanRef}
 use Rattle.batch_codec.specs.declared.fault.DecodeError.TheVariants.{BadEnum}
 use Rattle.batch_codec.specs.declared.reference.ReferenceSlots.{ReferenceSlots}
 use Rattle.batch_codec.specs.Decoding.{Reading, wire, skipped, required, i32_at, id_at}
-use Rattle.batch_codec.specs.Gathered.{no_reference}
+use Rattle.batch_codec.specs.EmptySlots.{no_reference}
 
 -- the kind that has this number in `jaeger.thrift`
 unfoldable pub kind_of_number : ℤ → Result RefKind DecodeError

@@ -9,7 +9,7 @@ use Rattle.jaeger_model.specs.declared.span.Span.{Span}
 use Rattle.batch_codec.specs.declared.span.SpanSlots.{SpanSlots}
 use Rattle.batch_codec.specs.Decoding.{Reading, wire, skipped, required, i32_at, i64_at, id_at, text_at}
 use Rattle.thrift_binary.specs.Lists.{list_of}
-use Rattle.batch_codec.specs.Gathered.{no_span}
+use Rattle.batch_codec.specs.EmptySlots.{no_span}
 use Rattle.batch_codec.specs.TagReading.{tag_at}
 use Rattle.batch_codec.specs.LogReading.{log_at}
 use Rattle.batch_codec.specs.ReferenceReading.{reference_at}

@@ -11,7 +11,7 @@ use Rattle.batch_codec.specs.declared.tag.TagType.{TagType}
 use Rattle.batch_codec.specs.declared.tag.TagType.TheVariants as types
 use Rattle.batch_codec.specs.declared.tag.TagSlots.{TagSlots}
 use Rattle.batch_codec.specs.Decoding.{Reading, wire, skipped, required, bool_at, double_at, i32_at, i64_at, text_at, binary_at}
-use Rattle.batch_codec.specs.Gathered.{no_tag, value_named}
+use Rattle.batch_codec.specs.EmptySlots.{no_tag, value_named}
 
 -- the type that has this number in `jaeger.thrift`
 unfoldable pub type_of_number : ℤ → Result TagType DecodeError

@@ -14,7 +14,7 @@ use std::alloc::Global;
 use thrift_binary::Cursor;
 use thrift_binary::types::{I64, LIST, STRUCT};
 
-/// What was gathered of a batch so far.
+/// The fields of a batch that were read so far.
 #[derive(Drop)]
 pub struct BatchSlots {
     pub process: Option<SharedProcess>,
@@ -23,9 +23,9 @@ pub struct BatchSlots {
 }
 
 impl BatchSlots {
-    ghost use Rattle.batch_codec.specs.Gathered.{no_batch};
+    ghost use Rattle.batch_codec.specs.EmptySlots.{no_batch};
 
-    /// What is gathered before the first field: nothing.
+    /// Returns the state before the first field.
     #[inline]
     pub fn new() -> Self
         ensures nothing { result ≡ no_batch }
@@ -37,11 +37,11 @@ impl BatchSlots {
         }
     }
 
-    /// The batch of what was gathered.
+    /// Returns the batch of the fields.
     ///
     /// # Errors
     ///
-    /// [`DecodeError::Missing`] of the least required field that is missing.
+    /// [`DecodeError::Missing`] with the missing required field of the least id.
     #[tactic(auto, unfolding(crate::specs::BatchReading::batch_from))]
     #[inline]
     pub fn whole(self) -> Decoded<Batch>
@@ -57,7 +57,7 @@ impl BatchSlots {
     }
 }
 
-/// The process, to be shared by the spans of its batch.
+/// Reads the process, which the spans of the batch share.
 #[tactic(auto, unfolding(crate::specs::ProcessReading::process_at))]
 fn read_shared(alloc: Global, cursor: &mut Cursor<'_>) -> Decoded<SharedProcess>
     ensures exact { Decodes (λ p. p) process_at cursor.old result cursor.new }
@@ -104,15 +104,15 @@ fn read_whole(alloc: Global, bytes: &[u8]) -> Decoded<Batch>
     Ok(batch)
 }
 
-/// The batch that the bytes spell, all of the bytes: the struct `Batch` of `jaeger.thrift` in the
-/// Thrift binary protocol.
+/// Decodes a batch that takes up all of the bytes: the struct `Batch` of `jaeger.thrift` in the Thrift
+/// binary protocol.
 ///
 /// # Errors
 ///
-/// The first fault from left to right, or [`DecodeError::Memory`] where there was no memory for the
-/// batch. Nothing is reserved by a size alone that the bytes claim.
+/// The first fault from left to right, or [`DecodeError::Memory`] if memory for the batch ran out. It
+/// never allocates by a claimed size alone.
 pub fn decode(alloc: Global, bytes: &[u8]) -> Decoded<Batch>
-    // What is read is spelled so, and what is spelled so is read.
+    // The batch that is returned is the one that the bytes spell, and every spelling of a batch is read.
     ensures found { IfOk result (λ b. IsBatch bytes.now b) }
     ensures complete { Answers bytes.now result }
 

@@ -19,7 +19,7 @@ pub enum Part {
 }
 
 impl Part {
-    /// The struct's name in `jaeger.thrift`.
+    /// Returns the struct's name in `jaeger.thrift`.
     pub fn name(self) -> &'static str
         ensures { result.now ≡ struct_name self }
     {
@@ -34,12 +34,12 @@ impl Part {
     }
 }
 
-/// Why bytes are no batch: the first fault from left to right.
+/// Why bytes aren't a batch: the first fault from left to right.
 #[derive(Clone, Copy, Debug, PartialEq, Eq)]
 pub enum DecodeError {
-    /// The bytes break the protocol, or a known value isn't of its type.
+    /// The bytes break the protocol, or the value of a known field isn't of its type.
     Wire(WireError),
-    /// A required field is absent at its struct's stop byte; the least such id.
+    /// A required field is absent at its struct's stop byte. If several are, this has the least id.
     Missing(Part, u8),
     /// The number of an enum isn't in its table.
     BadEnum,
@@ -49,11 +49,11 @@ pub enum DecodeError {
     Memory,
 }
 
-/// What reading gives: a value, or the first fault of the bytes.
+/// The result of a reading: a value, or the first fault of the bytes.
 pub type Decoded<T> = Result<T, DecodeError>;
 
 impl DecodeError {
-    /// The number that names the fault for good.
+    /// Returns the stable number of the fault.
     pub fn number(self) -> u8
         ensures { result ≡ number_of self }
     {
@@ -66,7 +66,7 @@ impl DecodeError {
         }
     }
 
-    /// The name, without the struct and the id of a missing field.
+    /// Returns the name, without the struct and the id of a missing field.
     pub fn name(self) -> &'static str
         ensures { result.now ≡ name_of self }
     {
@@ -79,8 +79,8 @@ impl DecodeError {
         }
     }
 
-    /// The text: the number and the name, as `1 Truncated`, and with a missing field its struct and id,
-    /// as `7 Missing Span 7`.
+    /// Returns the number and the name, such as `1 Truncated`, and for a missing field also its struct and
+    /// id, such as `7 Missing Span 7`.
     ///
     /// # Errors
     ///

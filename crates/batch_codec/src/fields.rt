@@ -7,7 +7,7 @@ use crate::fault::{DecodeError, Decoded, Part};
 use std::alloc::Global;
 use thrift_binary::Cursor;
 
-/// What was gathered of a struct so far.
+/// The fields of a struct that were read so far.
 pub(crate) trait Slots<'a>: Drop {
     ghost puts: { Self → ℕ → ℤ → List ℕ → Result (Self × List ℕ) DecodeError };
 
@@ -17,7 +17,7 @@ pub(crate) trait Slots<'a>: Drop {
         ensures no_longer { OnOk result (length cursor.new ≤ length cursor.old) };
 }
 
-/// All fields up to the stop byte.
+/// Reads all fields up to the stop byte.
 pub(crate) fn read_fields<'a, S: Slots<'a>>(
     alloc: Global,
     slots: S,
@@ -33,7 +33,7 @@ pub(crate) fn read_fields<'a, S: Slots<'a>>(
     Ok(slots)
 }
 
-/// The value of a required field, or that it is missing.
+/// Returns the value of a required field, or the error that it is missing.
 #[inline]
 pub fn required<T>(slot: Option<T>, part: Part, id: u8) -> Decoded<T>
     ensures { result ≡ required slot part id }
@@ -41,7 +41,7 @@ pub fn required<T>(slot: Option<T>, part: Part, id: u8) -> Decoded<T>
     slot.ok_or(DecodeError::Missing(part, id))
 }
 
-/// Keeps a value that was read in its place.
+/// Stores the value that was read in its slot.
 pub(crate) fn keep<T: Drop>(slot: &mut T, read: Decoded<T>) -> Decoded<()>
     ensures kept { (x : T) → read ≡ Ok x → slot.new ≡ x }
     ensures same { (x : T) → read ≡ Ok x → IsOk result }

@@ -8,21 +8,21 @@ use jaeger_model::Seq;
 use std::alloc::Global;
 use thrift_binary::{Cursor, WireError, types};
 
-/// A struct that stands in lists.
+/// A struct that occurs in lists.
 pub(crate) trait Element: Drop + Sized {
     ghost reads: { List ℕ → Result (Self × List ℕ) DecodeError };
 
-    /// The least number of bytes of one item.
-    fn least() -> usize;
+    /// Returns the least number of bytes of one item.
+    fn min_bytes() -> usize;
 
     fn read(alloc: Global, cursor: &mut Cursor<'_>) -> Decoded<Self>
         ensures exact { Decodes (λ s. s) reads cursor.old result cursor.new }
         ensures shorter { OnOk result (length cursor.new < length cursor.old) };
 }
 
-/// The number of items to take room for at once, of a list that claims `size` of them where `left` bytes
-/// follow: as many as those bytes can hold, where an item has at least `least` bytes, and 16 at most. So
-/// nothing is reserved by a claimed size alone. Where `least` is 0 it is 0.
+/// Returns the number of items to reserve for a list that claims `size` items, if `left` bytes remain: as
+/// many as these bytes can hold, at `least` bytes an item, and at most 16. A claimed size alone therefore
+/// reserves nothing. If `least` is 0, so is the result.
 #[inline]
 pub fn room(size: u32, left: usize, least: usize) -> usize
     ensures exact { result ≡ min (min size (left / least)) 16 }
@@ -35,7 +35,7 @@ fn read_items<T: Element>(alloc: Global, size: u32, cursor: &mut Cursor<'_>) -> 
     ensures exact { Decodes (λ v. v.items) (items_at T.reads size) cursor.old result cursor.new }
     ensures no_longer { OnOk result (length cursor.new ≤ length cursor.old) }
 {
-    let mut items = Vec::with_capacity(alloc, room(size, cursor.rest().len(), T::least()))?;
+    let mut items = Vec::with_capacity(alloc, room(size, cursor.rest().len(), T::min_bytes()))?;
     for _ in 0..size {
         let item = T::read(alloc, cursor)?;
         items.push(item)?;
@@ -43,7 +43,7 @@ fn read_items<T: Element>(alloc: Global, size: u32, cursor: &mut Cursor<'_>) -> 
     Ok(items)
 }
 
-/// A list of structs. Nothing is reserved by its size alone, which may be any that the bytes claim.
+/// Reads a list of structs. It never allocates by the claimed size alone.
 #[tactic(auto, unfolding(thrift_binary::specs::Lists::list_of))]
 pub(crate) fn read_list<T: Element>(alloc: Global, cursor: &mut Cursor<'_>) -> Decoded<Seq<T>>
     ensures exact { Decodes (λ v. v) (list_of wire 12 T.reads) cursor.old result cursor.new }

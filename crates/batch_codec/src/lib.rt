@@ -1,19 +1,19 @@
-//! Batches of spans as bytes: `jaeger.thrift` in the Thrift binary protocol.
+//! Encodes and decodes batches of spans: `jaeger.thrift` in the Thrift binary protocol.
 //!
-//! [`decode`] gives the [`Batch`](jaeger_model::Batch) that some bytes spell, all of them, or the first
-//! fault from left to right. It is proved both ways: what is read is spelled so, and what is spelled so
-//! is read. Which bytes spell a batch is a relation on whole texts that doesn't read
-//! (`specs/Batches.antt`); which fault is the first is a reading function on lists of bytes
-//! (`specs/*Reading.antt`), and [`laws`] says where a fault stands without speaking of any reading.
+//! [`decode`] returns the [`Batch`](jaeger_model::Batch) that all of the bytes spell, or the first fault
+//! from left to right. It is proved both ways: it returns only a batch that the bytes spell, and reads every
+//! spelling of a batch. Which bytes spell a batch is defined by a relation on complete texts
+//! (`specs/Batches.antt`); which fault is the first is defined by functions that read lists of bytes
+//! (`specs/*Reading.antt`). [`laws`] states the place of a fault without mentioning a reading.
 //!
-//! * `fault`: why bytes are no batch.
-//! * `values`, `fields`, `items`: single values, a struct's fields up to its stop byte, a list of structs, for
-//!   which [`room`] is taken by its claimed size only where the bytes that are there can hold so many.
-//! * `tag`, `log`, `reference`, `process`, `span`, `batch`: one struct of `jaeger.thrift` each. What is gathered of
-//!   it (`TagSlots` and so on) is public, and so are the reading of single values, the tables of tag types and reference
-//!   kinds and [`required`], for crates that decode in another way: tags and processes as what they specify, the others
-//!   for their code too.
-//! * `writer`: [`encode`], the one spelling of a batch.
+//! * `fault`: why bytes aren't a batch.
+//! * `values`, `fields`, `items`: single values, a struct's fields up to its stop byte, and a list of structs. A
+//!   list reserves memory for as many items as it claims only if the remaining bytes can hold them ([`room`]).
+//! * `tag`, `log`, `reference`, `process`, `span`, `batch`: one struct of `jaeger.thrift` each. The fields read so
+//!   far (`TagSlots` and so on) are public, as are the reading of single values, the tables of tag types and
+//!   reference kinds, and [`required`]: crates that decode in another way use them. Such crates use tags and
+//!   processes in their contracts only, and the others in their code too.
+//! * `writer`: [`encode`] writes the one spelling of a batch.
 //! * `laws`: facts about the definitions.
 #![tactic(auto)]
 
@@ -34,11 +34,11 @@ pub use batch::{BatchSlots, decode};
 pub use fault::{DecodeError, Decoded, Part};
 pub use fields::required;
 pub use items::room;
-pub use log::{LEAST_LOG, LogSlots};
+pub use log::{LogSlots, MIN_LOG_BYTES};
 pub use process::ProcessSlots;
-pub use reference::{LEAST_REFERENCE, ReferenceSlots, kind_of_number, read_kind};
-pub use span::{LEAST_SPAN, SpanSlots, read_span};
-pub use tag::{LEAST_TAG, TagSlots, TagType, read_type, type_of_number};
+pub use reference::{MIN_REFERENCE_BYTES, ReferenceSlots, kind_of_number, read_kind};
+pub use span::{MIN_SPAN_BYTES, SpanSlots, read_span};
+pub use tag::{MIN_TAG_BYTES, TagSlots, TagType, read_type, type_of_number};
 pub use values::{
     ByteSlice, TextSlice, read_bool, read_double, read_i32, read_i64, read_id, read_owned_binary,
     read_owned_text,

@@ -11,9 +11,9 @@ use thrift_binary::Cursor;
 use thrift_binary::types::{I64, LIST};
 
 /// The least number of bytes of a log: 11 of the timestamp, 8 of the fields and the stop byte.
-pub const LEAST_LOG: usize = 20;
+pub const MIN_LOG_BYTES: usize = 20;
 
-/// What was gathered of a log so far.
+/// The fields of a log that were read so far.
 #[derive(Drop)]
 pub struct LogSlots {
     pub at: Option<i64>,
@@ -21,9 +21,9 @@ pub struct LogSlots {
 }
 
 impl LogSlots {
-    ghost use Rattle.batch_codec.specs.Gathered.{no_log};
+    ghost use Rattle.batch_codec.specs.EmptySlots.{no_log};
 
-    /// What is gathered before the first field: nothing.
+    /// Returns the state before the first field.
     #[inline]
     pub fn new() -> Self
         ensures nothing { result ≡ no_log }
@@ -34,11 +34,11 @@ impl LogSlots {
         }
     }
 
-    /// The log of what was gathered.
+    /// Returns the log of the fields.
     ///
     /// # Errors
     ///
-    /// [`DecodeError::Missing`] of the least required field that is missing.
+    /// [`DecodeError::Missing`] with the missing required field of the least id.
     #[tactic(auto, unfolding(crate::specs::LogReading::log_from))]
     #[inline]
     pub fn whole(self) -> Decoded<Log>
@@ -69,8 +69,8 @@ impl<'a> Slots<'a> for LogSlots {
 impl Element for Log {
     ghost reads = { log_at };
 
-    fn least() -> usize {
-        LEAST_LOG
+    fn min_bytes() -> usize {
+        MIN_LOG_BYTES
     }
 
     #[tactic(auto, unfolding(crate::specs::LogReading::log_at))]

@@ -11,7 +11,7 @@ use std::alloc::Global;
 use thrift_binary::Cursor;
 use thrift_binary::types::{LIST, STRING};
 
-/// What was gathered of a process so far.
+/// The fields of a process that were read so far.
 #[derive(Drop)]
 pub struct ProcessSlots<'a> {
     pub service: Option<TextSlice<'a>>,

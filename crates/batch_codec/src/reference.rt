@@ -14,9 +14,9 @@ use thrift_binary::types::{I32, I64};
 
 /// The least number of bytes of a reference: 7 of `refType`, 11 of each of the three numbers of its ids
 /// and the stop byte.
-pub const LEAST_REFERENCE: usize = 41;
+pub const MIN_REFERENCE_BYTES: usize = 41;
 
-/// What was gathered of a reference so far.
+/// The fields of a reference that were read so far.
 #[derive(Drop)]
 pub struct ReferenceSlots {
     pub kind: Option<RefKind>,
@@ -26,9 +26,9 @@ pub struct ReferenceSlots {
 }
 
 impl ReferenceSlots {
-    ghost use Rattle.batch_codec.specs.Gathered.{no_reference};
+    ghost use Rattle.batch_codec.specs.EmptySlots.{no_reference};
 
-    /// What is gathered before the first field: nothing.
+    /// Returns the state before the first field.
     #[inline]
     pub fn new() -> Self
         ensures nothing { result ≡ no_reference }
@@ -41,11 +41,11 @@ impl ReferenceSlots {
         }
     }
 
-    /// The reference of what was gathered.
+    /// Returns the reference of the fields.
     ///
     /// # Errors
     ///
-    /// [`DecodeError::Missing`] of the least required field that is missing.
+    /// [`DecodeError::Missing`] with the missing required field of the least id.
     #[tactic(auto, unfolding(crate::specs::ReferenceReading::reference_from))]
     #[inline]
     pub fn whole(self) -> Decoded<SpanRef>
@@ -81,11 +81,11 @@ impl<'a> Slots<'a> for ReferenceSlots {
     }
 }
 
-/// The kind that has this number in `jaeger.thrift`.
+/// Returns the kind that has this number in `jaeger.thrift`.
 ///
 /// # Errors
 ///
-/// [`DecodeError::BadEnum`] where none has it.
+/// [`DecodeError::BadEnum`] if no kind has it.
 #[tactic(auto, unfolding(crate::specs::ReferenceReading::kind_of_number))]
 #[inline]
 pub fn kind_of_number(number: i32) -> Decoded<RefKind>
@@ -99,11 +99,11 @@ pub fn kind_of_number(number: i32) -> Decoded<RefKind>
     }
 }
 
-/// A reference's kind, which stands as its number.
+/// Reads a reference's kind, which is encoded as its number.
 ///
 /// # Errors
 ///
-/// The bytes are too few, or no kind has the number.
+/// Too few bytes, or a number that no kind has.
 #[tactic(auto, unfolding(crate::specs::ReferenceReading::kind_at))]
 #[inline]
 pub fn read_kind(cursor: &mut Cursor<'_>) -> Decoded<RefKind>
@@ -116,8 +116,8 @@ pub fn read_kind(cursor: &mut Cursor<'_>) -> Decoded<RefKind>
 impl Element for SpanRef {
     ghost reads = { reference_at };
 
-    fn least() -> usize {
-        LEAST_REFERENCE
+    fn min_bytes() -> usize {
+        MIN_REFERENCE_BYTES
     }
 
     #[tactic(auto, unfolding(crate::specs::ReferenceReading::reference_at))]

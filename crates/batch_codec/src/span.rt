@@ -13,9 +13,9 @@ use thrift_binary::types::{I32, I64, LIST, STRING};
 
 /// The least number of bytes of a span: 11 of each of the four numbers of its ids, 7 of the operation, 7 of
 /// the flags, 11 of each of the two times and the stop byte.
-pub const LEAST_SPAN: usize = 81;
+pub const MIN_SPAN_BYTES: usize = 81;
 
-/// What was gathered of a span so far.
+/// The fields of a span that were read so far.
 #[derive(Drop)]
 pub struct SpanSlots {
     pub trace_low: Option<u64>,
@@ -32,9 +32,9 @@ pub struct SpanSlots {
 }
 
 impl SpanSlots {
-    ghost use Rattle.batch_codec.specs.Gathered.{no_span};
+    ghost use Rattle.batch_codec.specs.EmptySlots.{no_span};
 
-    /// What is gathered before the first field: nothing, so an optional list that is absent is empty.
+    /// Returns the state before the first field. An optional list that is absent stays empty.
     pub fn new(alloc: Global) -> Self
         ensures nothing { result ≡ no_span }
     {
@@ -57,7 +57,7 @@ impl SpanSlots {
     ///
     /// # Errors
     ///
-    /// The first fault of the value's bytes, or out of memory. What was gathered stays the same.
+    /// The first fault of the value's bytes, or out of memory. The fields read so far are then unchanged.
     #[tactic(auto, unfolding(crate::specs::SpanReading::take_span))]
     #[inline(always)]
     pub fn put_value(
@@ -86,11 +86,11 @@ impl SpanSlots {
         Ok(())
     }
 
-    /// The span of what was gathered.
+    /// Returns the span of the fields.
     ///
     /// # Errors
     ///
-    /// [`DecodeError::Missing`] of the least required field that is missing.
+    /// [`DecodeError::Missing`] with the missing required field of the least id.
     #[tactic(auto, unfolding(crate::specs::SpanReading::span_from))]
     pub fn whole(self) -> Decoded<Span>
         ensures exact { result ≡ span_from self }
@@ -136,8 +136,8 @@ impl<'a> Slots<'a> for SpanSlots {
 impl Element for Span {
     ghost reads = { span_at };
 
-    fn least() -> usize {
-        LEAST_SPAN
+    fn min_bytes() -> usize {
+        MIN_SPAN_BYTES
     }
 
     #[tactic(auto, unfolding(crate::specs::SpanReading::span_at))]
@@ -147,7 +147,7 @@ impl Element for Span {
     }
 }
 
-/// A span that is whole, from its first byte on.
+/// Reads a complete span, from its first byte on.
 ///
 /// # Errors
 ///

@@ -15,9 +15,9 @@ use thrift_binary::Cursor;
 use thrift_binary::types::{BOOL, DOUBLE, I32, I64, STRING};
 
 /// The least number of bytes of a tag: 7 of the key, 7 of `vType` and the stop byte.
-pub const LEAST_TAG: usize = 15;
+pub const MIN_TAG_BYTES: usize = 15;
 
-/// Which of its values a tag has (`TagType` of `jaeger.thrift`).
+/// The type of a tag's value (`TagType` of `jaeger.thrift`).
 #[derive(Clone, Copy)]
 pub enum TagType {
     Text,
@@ -27,8 +27,8 @@ pub enum TagType {
     Binary,
 }
 
-/// What was gathered of a tag so far. Only the value that its type names is kept, so texts and bytes
-/// stay in the input until the type is known.
+/// The fields of a tag that were read so far. The tag keeps only the value of its type, so texts and
+/// bytes are borrowed from the input until the type is known.
 #[derive(Drop)]
 pub struct TagSlots<'a> {
     pub key: Option<TextSlice<'a>>,
@@ -41,7 +41,7 @@ pub struct TagSlots<'a> {
 }
 
 impl<'a> TagSlots<'a> {
-    ghost use Rattle.batch_codec.specs.Gathered.{no_tag};
+    ghost use Rattle.batch_codec.specs.EmptySlots.{no_tag};
 
     fn new() -> Self
         ensures { result ≡ no_tag }
@@ -79,11 +79,11 @@ impl<'a> Slots<'a> for TagSlots<'a> {
     }
 }
 
-/// The type that has this number in `jaeger.thrift`.
+/// Returns the type that has this number in `jaeger.thrift`.
 ///
 /// # Errors
 ///
-/// [`DecodeError::BadEnum`] where none has it.
+/// [`DecodeError::BadEnum`] if no type has it.
 #[tactic(auto, unfolding(crate::specs::TagReading::type_of_number))]
 #[inline]
 pub fn type_of_number(number: i32) -> Decoded<TagType>
@@ -100,11 +100,11 @@ pub fn type_of_number(number: i32) -> Decoded<TagType>
     }
 }
 
-/// A tag's type, which stands as its number.
+/// Reads a tag's type, which is encoded as its number.
 ///
 /// # Errors
 ///
-/// The bytes are too few, or no type has the number.
+/// Too few bytes, or a number that no type has.
 #[tactic(auto, unfolding(crate::specs::TagReading::type_at))]
 #[inline]
 pub fn read_type(cursor: &mut Cursor<'_>) -> Decoded<TagType>
@@ -136,8 +136,8 @@ fn tag_of(alloc: Global, slots: TagSlots<'_>) -> Decoded<Tag>
 impl Element for Tag {
     ghost reads = { tag_at };
 
-    fn least() -> usize {
-        LEAST_TAG
+    fn min_bytes() -> usize {
+        MIN_TAG_BYTES
     }
 
     #[tactic(auto, unfolding(crate::specs::TagReading::tag_at))]

@@ -8,7 +8,7 @@ use std::alloc::{AllocError, Global};
 use std::marker::Model;
 use thrift_binary::{Cursor, WireError};
 
-/// A text that stands in the input, which contracts see as its bytes. It is copied only once it is kept.
+/// A text borrowed from the input, which contracts see as its bytes. Only a text that is kept is copied.
 #[derive(Drop)]
 pub struct TextSlice<'a> {
     text: &'a str,
@@ -34,7 +34,7 @@ impl<'a> TextSlice<'a> {
     }
 }
 
-/// Bytes that stand in the input, which contracts see as their list. They are copied only once they are kept.
+/// Bytes borrowed from the input, which contracts see as their list. Only bytes that are kept are copied.
 #[derive(Drop)]
 pub struct ByteSlice<'a> {
     bytes: &'a [u8],
@@ -60,11 +60,11 @@ impl<'a> ByteSlice<'a> {
     }
 }
 
-/// A bool.
+/// Reads a bool.
 ///
 /// # Errors
 ///
-/// The bytes are too few, or no bool.
+/// Too few bytes, or a byte that is no bool.
 #[tactic(auto, unfolding(crate::specs::Decoding::bool_at))]
 #[inline]
 pub fn read_bool(cursor: &mut Cursor<'_>) -> Decoded<bool>
@@ -74,11 +74,11 @@ pub fn read_bool(cursor: &mut Cursor<'_>) -> Decoded<bool>
     Ok(cursor.read_bool()?)
 }
 
-/// The eight bytes of a double.
+/// Reads the eight bytes of a double.
 ///
 /// # Errors
 ///
-/// The bytes are too few.
+/// Too few bytes.
 #[tactic(auto, unfolding(crate::specs::Decoding::double_at))]
 #[inline]
 pub fn read_double(cursor: &mut Cursor<'_>) -> Decoded<[u8; 8]>
@@ -88,11 +88,11 @@ pub fn read_double(cursor: &mut Cursor<'_>) -> Decoded<[u8; 8]>
     Ok(cursor.read_double()?)
 }
 
-/// A signed number of 32 bits.
+/// Reads a signed number of 32 bits.
 ///
 /// # Errors
 ///
-/// The bytes are too few.
+/// Too few bytes.
 #[tactic(auto, unfolding(crate::specs::Decoding::i32_at))]
 #[inline]
 pub fn read_i32(cursor: &mut Cursor<'_>) -> Decoded<i32>
@@ -102,11 +102,11 @@ pub fn read_i32(cursor: &mut Cursor<'_>) -> Decoded<i32>
     Ok(cursor.read_i32()?)
 }
 
-/// A signed number of 64 bits.
+/// Reads a signed number of 64 bits.
 ///
 /// # Errors
 ///
-/// The bytes are too few.
+/// Too few bytes.
 #[tactic(auto, unfolding(crate::specs::Decoding::i64_at))]
 #[inline]
 pub fn read_i64(cursor: &mut Cursor<'_>) -> Decoded<i64>
@@ -116,11 +116,11 @@ pub fn read_i64(cursor: &mut Cursor<'_>) -> Decoded<i64>
     Ok(cursor.read_i64()?)
 }
 
-/// 64 bits of an id, which the wire has as an `i64`, as an unsigned number.
+/// Reads 64 bits of an id, an `i64` on the wire, as an unsigned number.
 ///
 /// # Errors
 ///
-/// The bytes are too few.
+/// Too few bytes.
 #[tactic(auto, unfolding(crate::specs::Decoding::id_at, crate::specs::Decoding::i64_at))]
 #[inline]
 pub fn read_id(cursor: &mut Cursor<'_>) -> Decoded<u64>
@@ -130,7 +130,7 @@ pub fn read_id(cursor: &mut Cursor<'_>) -> Decoded<u64>
     Ok(cursor.read_i64()?.cast_unsigned())
 }
 
-/// A string, which has to be UTF-8.
+/// Reads a string, which must be UTF-8.
 #[tactic(auto, unfolding(crate::specs::Decoding::text_at))]
 pub(crate) fn read_text<'a>(cursor: &mut Cursor<'a>) -> Decoded<TextSlice<'a>>
     ensures exact { Decodes (λ t. t) text_at cursor.old result cursor.new }
@@ -143,7 +143,7 @@ pub(crate) fn read_text<'a>(cursor: &mut Cursor<'a>) -> Decoded<TextSlice<'a>>
     Ok(TextSlice::new(text))
 }
 
-/// A binary: any bytes.
+/// Reads a binary: any bytes.
 #[tactic(auto, unfolding(crate::specs::Decoding::binary_at))]
 pub(crate) fn read_binary<'a>(cursor: &mut Cursor<'a>) -> Decoded<ByteSlice<'a>>
     ensures exact { Decodes (λ b. b) binary_at cursor.old result cursor.new }
@@ -152,11 +152,11 @@ pub(crate) fn read_binary<'a>(cursor: &mut Cursor<'a>) -> Decoded<ByteSlice<'a>>
     Ok(ByteSlice::new(cursor.read_bytes()?))
 }
 
-/// A string, which has to be UTF-8, copied from the input.
+/// Reads and copies a string, which must be UTF-8.
 ///
 /// # Errors
 ///
-/// The bytes are too few, or no UTF-8, or out of memory.
+/// Too few bytes, bytes that aren't UTF-8, or out of memory.
 #[inline]
 pub fn read_owned_text(alloc: Global, cursor: &mut Cursor<'_>) -> Decoded<Text>
     ensures exact { Decodes (λ t. t) text_at cursor.old result cursor.new }
@@ -165,11 +165,11 @@ pub fn read_owned_text(alloc: Global, cursor: &mut Cursor<'_>) -> Decoded<Text>
     Ok(read_text(cursor)?.to_text(alloc)?)
 }
 
-/// A binary, copied from the input: any bytes.
+/// Reads and copies a binary: any bytes.
 ///
 /// # Errors
 ///
-/// The bytes are too few, or out of memory.
+/// Too few bytes, or out of memory.
 #[inline]
 pub fn read_owned_binary(alloc: Global, cursor: &mut Cursor<'_>) -> Decoded<Seq<u8>>
     ensures exact { Decodes (λ b. b) binary_at cursor.old result cursor.new }

@@ -13,7 +13,7 @@ use jaeger_model::{Batch, Log, Process, RefKind, Span, SpanRef, Tag, TagValue, V
 use std::alloc::Global;
 use thrift_binary::{Out, WireError, WriteError, types};
 
-/// A field that is a text or binary.
+/// Writes a field that is a text or binary.
 fn write_text(out: &mut Out, id: i16, text: &[u8]) -> Result<(), WriteError>
     ensures writes { Encodes (front_text (text_field id text.now ∷ []))
         (fits_length (length text.now)) out.old result out.new }
@@ -23,7 +23,7 @@ fn write_text(out: &mut Out, id: i16, text: &[u8]) -> Result<(), WriteError>
     out.bytes(text)
 }
 
-/// A field that is a number of 32 bits.
+/// Writes a field that is a number of 32 bits.
 fn write_i32(out: &mut Out, id: i16, number: i32) -> Result<(), WriteError>
     ensures writes { Encodes (front_text (i32_field id number ∷ [])) true out.old result out.new }
     ensures proper { OnOk result (SFits w32 number) }
@@ -32,7 +32,7 @@ fn write_i32(out: &mut Out, id: i16, number: i32) -> Result<(), WriteError>
     out.i32(number)
 }
 
-/// A field that is a number of 64 bits.
+/// Writes a field that is a number of 64 bits.
 fn write_i64(out: &mut Out, id: i16, number: i64) -> Result<(), WriteError>
     ensures writes { Encodes (front_text (i64_field id number ∷ [])) true out.old result out.new }
     ensures proper { OnOk result (SFits w64 number) }
@@ -41,7 +41,7 @@ fn write_i64(out: &mut Out, id: i16, number: i64) -> Result<(), WriteError>
     out.i64(number)
 }
 
-/// A field that is an id, of which the wire has the bits as a signed number.
+/// Writes a field that is an id, whose bits are a signed number on the wire.
 fn write_id(out: &mut Out, id: i16, bits: u64) -> Result<(), WriteError>
     ensures writes { Encodes (front_text (id_field id bits ∷ [])) true out.old result out.new }
     ensures proper { OnOk result (bits < 2 ^ 64) }
@@ -49,7 +49,7 @@ fn write_id(out: &mut Out, id: i16, bits: u64) -> Result<(), WriteError>
     write_i64(out, id, bits.cast_signed())
 }
 
-/// A field that is a double.
+/// Writes a field that is a double.
 fn write_double(out: &mut Out, id: i16, bytes: [u8; 8]) -> Result<(), WriteError>
     ensures writes { Encodes (front_text (double_field id bytes ∷ [])) true out.old result out.new }
     ensures proper { OnOk result (length bytes ≡ 8) }
@@ -58,7 +58,8 @@ fn write_double(out: &mut Out, id: i16, bytes: [u8; 8]) -> Result<(), WriteError
     out.double(bytes)
 }
 
-/// An element of a list: its one spelling, whether each length in it fits, and what its type says of it.
+/// An element of a list. Its ghost members are its one spelling, whether each length in it fits, and what its
+/// type says of it.
 trait Spelled {
     ghost spelling: { Self → List ℕ };
 
@@ -71,7 +72,7 @@ trait Spelled {
         ensures proper { OnOk result (proper self.now) };
 }
 
-/// The elements one after the other.
+/// Writes the elements in order.
 fn write_items<T: Spelled>(out: &mut Out, items: &[T]) -> Result<(), WriteError>
     ensures writes { Encodes (flat_map T.spelling items.now) (list_all T.fits items.now) out.old
         result out.new }
@@ -83,7 +84,7 @@ fn write_items<T: Spelled>(out: &mut Out, items: &[T]) -> Result<(), WriteError>
     Ok(())
 }
 
-/// A field that is a list of structs.
+/// Writes a field that is a list of structs.
 fn write_list<T: Spelled>(out: &mut Out, id: i16, items: &[T]) -> Result<(), WriteError>
     ensures writes { Encodes (front_text (list_field id T.spelling items.now ∷ []))
         (list_fits T.fits items.now) out.old result out.new }
@@ -94,7 +95,7 @@ fn write_list<T: Spelled>(out: &mut Out, id: i16, items: &[T]) -> Result<(), Wri
     write_items(out, items)
 }
 
-/// The same, left out where the list is empty.
+/// Writes a field that is a list of structs, or nothing if the list is empty.
 fn write_if_any<T: Spelled>(out: &mut Out, id: i16, items: &[T]) -> Result<(), WriteError>
     ensures writes { Encodes (front_text (list_if_any id T.spelling items.now))
         (list_fits T.fits items.now) out.old result out.new }
@@ -106,7 +107,7 @@ fn write_if_any<T: Spelled>(out: &mut Out, id: i16, items: &[T]) -> Result<(), W
     write_list(out, id, items)
 }
 
-/// The number of a value's type (`TagType`).
+/// Returns the number of a value's type (`TagType`).
 fn type_number(value: &TagValue) -> i32
     ensures { result ≡ type_number (value_type value.now) }
 {
@@ -119,7 +120,7 @@ fn type_number(value: &TagValue) -> i32
     }
 }
 
-/// The one value of a tag.
+/// Writes the value of a tag.
 fn write_value(out: &mut Out, value: &TagValue) -> Result<(), WriteError>
     ensures writes { Encodes (front_text (value_field value.now ∷ [])) (value_fits value.now)
         out.old result out.new }
@@ -174,7 +175,7 @@ impl Spelled for Log {
     }
 }
 
-/// The number of a reference's kind (`SpanRefType`).
+/// Returns the number of a reference's kind (`SpanRefType`).
 fn kind_number(kind: RefKind) -> i32
     ensures { result ≡ kind_number kind }
 {
@@ -204,7 +205,7 @@ impl Spelled for SpanRef {
     }
 }
 
-/// The ids and the operation of a span.
+/// Writes the ids and the operation of a span.
 fn write_front(out: &mut Out, span: &Span) -> Result<(), WriteError>
     ensures writes { Encodes (front_text (span_front span.now))
         (fits_length (length span.now.operation)) out.old result out.new }
@@ -217,7 +218,7 @@ fn write_front(out: &mut Out, span: &Span) -> Result<(), WriteError>
     write_text(out, 5, span.operation.as_str().as_bytes())
 }
 
-/// The flags and the times of a span.
+/// Writes the flags and the times of a span.
 fn write_middle(out: &mut Out, span: &Span) -> Result<(), WriteError>
     ensures writes { Encodes (front_text (span_middle span.now)) true out.old result out.new }
     ensures proper { OnOk result (IsProperMiddle span.now) }
@@ -227,7 +228,7 @@ fn write_middle(out: &mut Out, span: &Span) -> Result<(), WriteError>
     write_i64(out, 9, span.duration)
 }
 
-/// All fields of a span.
+/// Writes all fields of a span.
 #[tactic(auto, unfolding(crate::specs::Canon::span_fits), using(crate::proofs::CanonTexts::span_front_parts))]
 fn write_fields(out: &mut Out, span: &Span) -> Result<(), WriteError>
     ensures writes { Encodes (front_text (span_fields span.now)) (span_fits span.now) out.old result
@@ -259,7 +260,7 @@ impl Spelled for Span {
     }
 }
 
-/// A process.
+/// Writes a process.
 #[tactic(auto, unfolding(crate::specs::Canon::canon_process, crate::specs::Canon::process_fits), using(crate::proofs::CanonTexts::process_text_parts))]
 fn write_process(out: &mut Out, process: &Process) -> Result<(), WriteError>
     ensures writes { Encodes (canon_process process.now) (process_fits process.now) out.old result
@@ -271,7 +272,7 @@ fn write_process(out: &mut Out, process: &Process) -> Result<(), WriteError>
     out.stop()
 }
 
-/// A field that is a number of 64 bits, left out where there is none.
+/// Writes a field that is a number of 64 bits, or nothing if there is none.
 fn write_number_if_any(out: &mut Out, id: i16, number: Option<i64>) -> Result<(), WriteError>
     ensures writes { Encodes (front_text (number_if_any id number)) true out.old result out.new }
     ensures proper { OnOk result (IsProperNumber number) }
@@ -282,7 +283,7 @@ fn write_number_if_any(out: &mut Out, id: i16, number: Option<i64>) -> Result<()
     }
 }
 
-/// A whole batch.
+/// Writes a batch.
 #[tactic(auto, unfolding(crate::specs::Canon::canon, crate::specs::Canon::batch_fits), using(crate::proofs::CanonTexts::batch_text_parts))]
 fn write_batch(out: &mut Out, batch: &Batch) -> Result<(), WriteError>
     ensures writes { Encodes (canon batch.now) (batch_fits batch.now) out.old result out.new }
@@ -295,16 +296,16 @@ fn write_batch(out: &mut Out, batch: &Batch) -> Result<(), WriteError>
     out.stop()
 }
 
-/// The one spelling of a batch: the struct `Batch` of `jaeger.thrift` in the Thrift binary protocol.
+/// Encodes a batch in its one spelling: the struct `Batch` of `jaeger.thrift` in the Thrift binary protocol.
 ///
 /// # Errors
 ///
-/// [`WireError::BadLength`] where a length or a size is above 2,147,483,647, and only there; else want of
-/// memory alone. The output is given up then.
+/// [`WireError::BadLength`] if a length or a size is above 2,147,483,647, and only then; else only out of memory.
+/// The output is then discarded.
 pub fn encode(alloc: Global, batch: &Batch) -> Decoded<Vec<u8>>
     ensures writes { WritesBatch batch.now result }
 
-    // What is written spells the batch, all of the bytes, so that decoding them gives it again.
+    // All of the written bytes spell the batch, so that decoding them returns it.
     ensures spells { IfOk result (λ bytes. IsBatch bytes.items batch.now) }
     ensures decodes { IfOk result (λ bytes. decoded bytes.items ≡ Ok batch.now) }
 {

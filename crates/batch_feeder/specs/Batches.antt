@@ -1,26 +1,26 @@
--- A batch of which some bytes have come.
+-- A partially received batch.
 use Rattle.std.specs.Prelude.{◌++◌, Some, Ok}
 use Rattle.thrift_binary.specs.Reading.{◌>>=◌}
 use Rattle.jaeger_model.specs.declared.batch.Process.{Process}
 use Rattle.batch_codec.specs.declared.batch.BatchSlots.{BatchSlots}
 use Rattle.batch_codec.specs.Decoding.{Reading, i64_at}
-use Rattle.batch_codec.specs.Gathered.{no_span}
+use Rattle.batch_codec.specs.EmptySlots.{no_span}
 use Rattle.batch_codec.specs.ProcessReading.{process_from, take_process}
 use Rattle.batch_codec.specs.SpanReading.{take_span, span_from}
-use Rattle.batch_feeder.specs.declared.batch.BatchHeld.{BatchHeld}
+use Rattle.batch_feeder.specs.declared.batch.BatchFieldPart.{BatchFieldPart}
 use Rattle.batch_feeder.specs.declared.batch.SharedPart.{SharedPart}
-use Rattle.batch_feeder.specs.declared.batch.BatchHeld.TheVariants as held
+use Rattle.batch_feeder.specs.declared.batch.BatchFieldPart.TheVariants as held
 use Rattle.batch_feeder.specs.Values.{skip_part}
 use Rattle.batch_feeder.specs.Fields.{struct_at, struct_from}
 use Rattle.batch_feeder.specs.Lists.{list_from}
 use Rattle.batch_feeder.specs.Processes.{process_continues}
 use Rattle.batch_feeder.specs.Spans.{span_continues}
 
--- sharing it makes no other process of it
+-- sharing the process doesn't change it
 abbrev pub shared_part : SharedPart → Reading Process
 shared_part p = struct_from take_process process_continues process_from p.process.slots p.process.step
 
-abbrev pub batch_continues : BatchSlots → BatchHeld → Reading BatchSlots
+abbrev pub batch_continues : BatchSlots → BatchFieldPart → Reading BatchSlots
 batch_continues s (held.Process p) w = shared_part p w >>= λ x. Ok (record s { process = Some x.0 }, x.1)
 batch_continues s (held.Spans p) w = list_from (struct_at take_span no_span span_from) (λ q. struct_from take_span span_continues span_from q.slots q.step) p.items.items p.left p.head p.one w >>= λ x. Ok (record s { spans = Some x.0 }, x.1)
 batch_continues s (held.SeqNo p) w = i64_at (p.bytes ++ w) >>= λ x. Ok (record s { seq_no = Some x.0 }, x.1)

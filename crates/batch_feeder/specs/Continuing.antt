@@ -1,4 +1,4 @@
--- What a call gave that went on over a piece.
+-- The result of a call that continued with a piece.
 use Rattle.std.specs.Prelude.{◌≡◌, ℕ, List, Option, Some, None, Result, Ok, Err, Bool, true, false}
 use Rattle.thrift_binary.specs.declared.fault.WireError.TheVariants.{Truncated}
 use Rattle.thrift_binary.specs.Reading.{◌>>=◌}
@@ -9,12 +9,12 @@ use Rattle.batch_codec.specs.declared.fault.DecodeError.{DecodeError}
 use Rattle.batch_codec.specs.declared.fault.DecodeError.TheVariants.{Wire, Memory}
 use Rattle.batch_codec.specs.Decoding.{Reading, Fails}
 
--- the fault of a part is that of the whole
+-- the fault of a part is the fault of the whole reading
 abbrev pub fault_of : PieceError → DecodeError
 fault_of (piece.Wire e) = Wire e
 fault_of piece.Memory = Memory
 
--- The fault, whatever follows; it isn't for want of bytes. Of running out of memory nothing is said.
+-- The fault, whatever follows; it isn't too few bytes. Nothing is said of running out of memory.
 abbrev pub Faults : {X : Type 0} → (List ℕ → Result X DecodeError) → List ℕ → DecodeError → Type 0
 Faults old piece e = (e ≡ Memory → ⊥) → Refuses (Wire Truncated) old piece e
 
@@ -23,58 +23,58 @@ abbrev pub Continues : {A : Type 0} → Reading A → Reading A → List ℕ →
 Continues old new piece left (Ok o) = Reaches (Wire Truncated) (λ x. x) old new piece left o
 Continues old new piece left (Err e) = Faults old piece e
 
--- the same of a call that changes what was gathered, and says whether it is whole
+-- like `Continues`, for a call that changes the fields so far, and returns whether the value is complete
 abbrev pub ContinuesTo : {X : Type 0} → X → Reading X → Reading X → List ℕ → List ℕ → Result Bool DecodeError → Type 0
 ContinuesTo x old new piece left (Ok true) = Comes old (λ w. Ok (x, w)) piece left
 ContinuesTo x old new piece left (Ok false) = NeedsMore (Wire Truncated) old new piece left
 ContinuesTo x old new piece left (Err e) = Faults old piece e
 
--- what a value or a fault is, read of no bytes
+-- a value or a fault, as a reading that takes no bytes
 abbrev pub ended : {A : Type 0} → Result A DecodeError → Reading A
 ended end w = end >>= λ m. Ok (m, w)
 
--- the same of a call after which the value, which may be a fault, is still to be taken
+-- like `ContinuesTo`, for a call after which the value, which may be a fault, is still to be taken
 abbrev pub Arrives : {A : Type 0} → Reading A → Reading A → Result A DecodeError → List ℕ → List ℕ → Result Bool DecodeError → Type 0
 Arrives old new end piece left (Ok true) = Comes old (ended end) piece left
 Arrives old new end piece left (Ok false) = NeedsMore (Wire Truncated) old new piece left
 Arrives old new end piece left (Err e) = Faults old piece e
 
--- the same of a call that puts a value into its place, by what the place is that holds a value
+-- like `ContinuesTo`, for a call that stores a value in its slot; `holding` is the slot with a value
 abbrev pub Places : {A S : Type 0} → (A → S) → Reading A → Reading A → S → S → List ℕ → List ℕ → Result Bool DecodeError → Type 0
 Places {A = A} holding old new before after piece left (Ok true) = (x : A) × (after ≡ holding x) × Comes old (λ w. Ok (x, w)) piece left
 Places holding old new before after piece left (Ok false) = NeedsMore (Wire Truncated) old new piece left × (after ≡ before)
 Places holding old new before after piece left (Err e) = Faults old piece e
 
--- a value that began and was put into its place: whole, or the part of it that has come, or a fault
+-- a value that began and was stored in its slot: complete, or what has arrived of it, or a fault
 abbrev pub Lays : {A P S : Type 0} → (A → S) → Reading A → (P → Reading A) → S → S → List ℕ → List ℕ → Result (Option P) DecodeError → Type 0
 Lays {A = A} holding reads resumes before after piece left (Ok None) = (x : A) × (after ≡ holding x) × Comes reads (λ w. Ok (x, w)) piece left
 Lays holding reads resumes before after piece left (Ok (Some p)) = NeedsMore (Wire Truncated) reads (resumes p) piece left × (after ≡ before)
 Lays holding reads resumes before after piece left (Err e) = Faults reads piece e
 
--- a value that began: whole, or the part of it that has come, or a fault
+-- a value that began: complete, or what has arrived of it, or a fault
 abbrev pub BeginsValue : {A P : Type 0} → Reading A → (P → Reading A) → Option P → List ℕ → List ℕ → Result (Option A) DecodeError → Type 0
 BeginsValue reads resumes part piece left (Ok (Some x)) = Comes reads (λ w. Ok (x, w)) piece left
 BeginsValue {P = P} reads resumes part piece left (Ok None) = (p : P) × (part ≡ Some p) × NeedsMore (Wire Truncated) reads (resumes p) piece left
 BeginsValue reads resumes part piece left (Err e) = Faults reads piece e
 
--- the same of a call that changes what was gathered, and says whether it is whole
+-- like `BeginsValue`, for a call that changes the fields so far, and returns whether the value is complete
 abbrev pub Enters : {X V : Type 0} → Reading X → (V → Reading X) → X → Option V → List ℕ → List ℕ → Result Bool DecodeError → Type 0
 Enters reads resumes x part piece left (Ok true) = Comes reads (λ w. Ok (x, w)) piece left
 Enters {V = V} reads resumes x part piece left (Ok false) = (v : V) × (part ≡ Some v) × NeedsMore (Wire Truncated) reads (resumes v) piece left
 Enters reads resumes x part piece left (Err e) = Faults reads piece e
 
--- A call that reads what is whole in the bytes, or leaves it; what was gathered changes only by a value that is whole.
+-- A call that reads a complete value from the bytes, or takes nothing; only a complete value changes the fields so far.
 abbrev pub Tries : {X : Type 0} → Reading X → X → X → List ℕ → List ℕ → Result Bool DecodeError → Type 0
 Tries reads old new piece left (Ok true) = reads piece ≡ Ok (new, left)
 Tries reads old new piece left (Ok false) = new ≡ old
 Tries reads old new piece left (Err e) = Fails e (reads piece) × (new ≡ old)
 
--- the fault is that the bytes are too few
+-- the fault is too few bytes
 abbrev pub IsTruncated : DecodeError → Bool → Type 0
 IsTruncated e true = e ≡ Wire Truncated
 IsTruncated e false = e ≡ Wire Truncated → ⊥
 
--- A call that reads what is whole in the bytes, or leaves it.
+-- A call that reads a complete value from the bytes, or takes nothing.
 abbrev pub Attempts : {A : Type 0} → Reading A → List ℕ → List ℕ → Result (Option A) DecodeError → Type 0
 Attempts reads piece left (Ok (Some x)) = reads piece ≡ Ok (x, left)
 Attempts reads piece left (Ok None) = Unit {0}

@@ -1,18 +1,18 @@
--- A process of which some bytes have come.
+-- A partially received process.
 use Rattle.std.specs.Prelude.{Some, Ok}
 use Rattle.thrift_binary.specs.Reading.{◌>>=◌}
 use Rattle.batch_codec.specs.declared.process.ProcessSlots.{ProcessSlots}
 use Rattle.batch_codec.specs.Decoding.{Reading}
-use Rattle.batch_codec.specs.Gathered.{no_tag}
+use Rattle.batch_codec.specs.EmptySlots.{no_tag}
 use Rattle.batch_codec.specs.TagReading.{take_tag, tag_from}
-use Rattle.batch_feeder.specs.declared.process.ProcessHeld.{ProcessHeld}
-use Rattle.batch_feeder.specs.declared.process.ProcessHeld.TheVariants as held
+use Rattle.batch_feeder.specs.declared.process.ProcessFieldPart.{ProcessFieldPart}
+use Rattle.batch_feeder.specs.declared.process.ProcessFieldPart.TheVariants as held
 use Rattle.batch_feeder.specs.Values.{text_part, skip_part}
 use Rattle.batch_feeder.specs.Fields.{struct_at, struct_from}
 use Rattle.batch_feeder.specs.Lists.{list_from}
 use Rattle.batch_feeder.specs.Tags.{tag_continues}
 
-abbrev pub process_continues : ProcessSlots → ProcessHeld → Reading ProcessSlots
+abbrev pub process_continues : ProcessSlots → ProcessFieldPart → Reading ProcessSlots
 process_continues s (held.Service p) w = text_part p w >>= λ x. Ok (record s { service = Some x.0 }, x.1)
 process_continues s (held.Tags p) w = list_from (struct_at take_tag no_tag tag_from) (λ q. struct_from take_tag tag_continues tag_from q.slots q.step) p.items.items p.left p.head p.one w >>= λ x. Ok (record s { tags = x.0 }, x.1)
 process_continues s (held.Skip p) w = skip_part s p w

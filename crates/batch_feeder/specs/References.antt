@@ -1,14 +1,14 @@
--- A reference to a span, of which some bytes have come.
+-- A partially received reference to a span.
 use Rattle.std.specs.Prelude.{◌++◌, Some, Ok}
 use Rattle.thrift_binary.specs.Reading.{◌>>=◌}
 use Rattle.batch_codec.specs.declared.reference.ReferenceSlots.{ReferenceSlots}
 use Rattle.batch_codec.specs.Decoding.{Reading, id_at}
 use Rattle.batch_codec.specs.ReferenceReading.{kind_at}
-use Rattle.batch_feeder.specs.declared.reference.ReferenceHeld.{ReferenceHeld}
-use Rattle.batch_feeder.specs.declared.reference.ReferenceHeld.TheVariants as held
+use Rattle.batch_feeder.specs.declared.reference.ReferenceFieldPart.{ReferenceFieldPart}
+use Rattle.batch_feeder.specs.declared.reference.ReferenceFieldPart.TheVariants as held
 use Rattle.batch_feeder.specs.Values.{skip_part}
 
-abbrev pub reference_continues : ReferenceSlots → ReferenceHeld → Reading ReferenceSlots
+abbrev pub reference_continues : ReferenceSlots → ReferenceFieldPart → Reading ReferenceSlots
 reference_continues s (held.Kind p) w = kind_at (p.bytes ++ w) >>= λ x. Ok (record s { kind = Some x.0 }, x.1)
 reference_continues s (held.TraceLow p) w = id_at (p.bytes ++ w) >>= λ x. Ok (record s { trace_low = Some x.0 }, x.1)
 reference_continues s (held.TraceHigh p) w = id_at (p.bytes ++ w) >>= λ x. Ok (record s { trace_high = Some x.0 }, x.1)

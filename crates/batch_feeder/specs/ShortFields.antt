@@ -1,5 +1,5 @@
--- Laws that the impls of this crate name, and their lemmas. A clause can name nothing of its own crate's proofs/, so they stand in specs/.
--- A field of each struct of `jaeger.thrift` is want of bytes where its value has fewer than each of its type.
+-- Laws that the impls of this crate name, and their lemmas. They are in specs/, since a clause can't name its own crate's proofs/.
+-- Reading a field of a struct of `jaeger.thrift` yields too few bytes if its value has fewer than every value of its type.
 use Rattle.std.proofs.Common.{◌≡◌, ℕ, ℤ, pos, List, Some, Err}
 use Rattle.std.specs.Ordering.{int_eq}
 use Rattle.thrift_binary.specs.declared.fault.WireError.TheVariants.{Truncated}
@@ -11,7 +11,7 @@ use Rattle.batch_codec.specs.declared.span.SpanSlots.{SpanSlots}
 use Rattle.batch_codec.specs.declared.batch.BatchSlots.{BatchSlots}
 use Rattle.batch_codec.specs.declared.fault.DecodeError.TheVariants.{Wire}
 use Rattle.batch_codec.specs.Decoding.{bool_at, double_at, i32_at, i64_at, id_at, text_at, binary_at}
-use Rattle.batch_codec.specs.Gathered.{no_process}
+use Rattle.batch_codec.specs.EmptySlots.{no_process}
 use Rattle.batch_codec.specs.TagReading.{take_tag, tag_at, type_at}
 use Rattle.batch_codec.specs.LogReading.{take_log, log_at}
 use Rattle.batch_codec.specs.ReferenceReading.{take_reference, reference_at, kind_at}

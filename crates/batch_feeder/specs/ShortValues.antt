@@ -1,5 +1,5 @@
--- Laws that the impls of this crate name, and their lemmas. A clause can name nothing of its own crate's proofs/, so they stand in specs/.
--- A value that has fewer bytes than each of its type is want of bytes.
+-- Laws that the impls of this crate name, and their lemmas. They are in specs/, since a clause can't name its own crate's proofs/.
+-- Reading a value from fewer bytes than every value of its type has yields too few bytes.
 use Rattle.std.proofs.Common.{◌≡◌, ℕ, ◌<◌, eqb, ltb, cond, ◌&&◌, ◌||◌, List, [], ◌∷◌, length, drop, Result, Ok, Err, Bool, true, false, refl, ap, sym, ◌∙◌, arith}
 use Rattle.std.proofs.lemmas.Bool.{ltb-true, lt-ltb, eqb-true, eqb-false, ne_eqb}
 use Rattle.thrift_binary.specs.declared.fault.WireError.TheVariants.{Truncated, BadType}
@@ -23,7 +23,7 @@ few n w h = by (ltb (length w) n) h
     by true e = refl
     by false e = absurd cc
 
--- a value of the type that has fewer bytes is want of bytes
+-- reading a value of the type from fewer bytes yields too few bytes
 abbrev pub Short : {A : Type 0} → ℕ → Reading A → Type 0
 Short c read = (w : List ℕ) → least_bytes c w ≡ Err Truncated → read w ≡ Err (Wire Truncated)
 
@@ -60,7 +60,7 @@ pub type_short : Short 8 type_at
 unfolding type_at
 type_short w h = rw (i32_short w h) refl
 
--- fewer bytes than n, which each value has, are too few
+-- fewer bytes than the n of every value are too few
 abbrev pub Few : {A : Type 0} → ℕ → Reading A → Type 0
 Few n read = (w : List ℕ) → length w < n → read w ≡ Err (Wire Truncated)
 
@@ -130,7 +130,7 @@ known_short {S = S} code read short set c b w others h more = by (eqb c code) re
     by true is false = more
     by false is d = more
 
--- ---- values that are read past
+-- ---- skipped values
 
 few_of_map : (w : List ℕ) → past 6 w ≡ Err Truncated → map_at w ≡ Err Truncated
 unfolding map_at size_at
@@ -164,7 +164,7 @@ container_short value c w inside h = at (eqb c 12) refl (eqb c 13) refl
     at false n2 true is = let k : c ≡ 13 = eqb-true c 13 is in rw (n2, is, few_of_map w (rw k at h)) refl
     at false n2 false n3 = rw (n2, n3, head n2 n3 (eqb c 14) refl) refl
 
--- a value that is no container has so many bytes
+-- the number of bytes of a value that is no container
 width_is : (a b d e f : Bool) → ◌≡◌ {A = ℕ} (cond (a || b || false) 1 (cond d 2 (cond (e || false) 4 (cond (false || false) 5 (cond false 6 (cond f 8 0)))))) (cond (a || b) 1 (cond d 2 (cond e 4 (cond f 8 0))))
 width_is true b d e f = refl
 width_is false true d e f = refl

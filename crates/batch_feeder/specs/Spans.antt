@@ -1,14 +1,14 @@
--- A span of which some bytes have come.
+-- A partially received span.
 use Rattle.std.specs.Prelude.{◌++◌, Some, Ok}
 use Rattle.thrift_binary.specs.Reading.{◌>>=◌}
 use Rattle.batch_codec.specs.declared.span.SpanSlots.{SpanSlots}
 use Rattle.batch_codec.specs.Decoding.{Reading, i32_at, i64_at, id_at}
-use Rattle.batch_codec.specs.Gathered.{no_tag, no_log, no_reference}
+use Rattle.batch_codec.specs.EmptySlots.{no_tag, no_log, no_reference}
 use Rattle.batch_codec.specs.TagReading.{take_tag, tag_from}
 use Rattle.batch_codec.specs.LogReading.{take_log, log_from}
 use Rattle.batch_codec.specs.ReferenceReading.{take_reference, reference_from}
-use Rattle.batch_feeder.specs.declared.span.SpanHeld.{SpanHeld}
-use Rattle.batch_feeder.specs.declared.span.SpanHeld.TheVariants as held
+use Rattle.batch_feeder.specs.declared.span.SpanFieldPart.{SpanFieldPart}
+use Rattle.batch_feeder.specs.declared.span.SpanFieldPart.TheVariants as held
 use Rattle.batch_feeder.specs.Values.{text_part, skip_part}
 use Rattle.batch_feeder.specs.Fields.{struct_at, struct_from}
 use Rattle.batch_feeder.specs.Lists.{list_from}
@@ -16,7 +16,7 @@ use Rattle.batch_feeder.specs.Tags.{tag_continues}
 use Rattle.batch_feeder.specs.Logs.{log_continues}
 use Rattle.batch_feeder.specs.References.{reference_continues}
 
-abbrev pub span_continues : SpanSlots → SpanHeld → Reading SpanSlots
+abbrev pub span_continues : SpanSlots → SpanFieldPart → Reading SpanSlots
 span_continues s (held.TraceLow p) w = id_at (p.bytes ++ w) >>= λ x. Ok (record s { trace_low = Some x.0 }, x.1)
 span_continues s (held.TraceHigh p) w = id_at (p.bytes ++ w) >>= λ x. Ok (record s { trace_high = Some x.0 }, x.1)
 span_continues s (held.Id p) w = id_at (p.bytes ++ w) >>= λ x. Ok (record s { id = Some x.0 }, x.1)

@@ -1,15 +1,15 @@
--- A tag of which some bytes have come.
+-- A partially received tag.
 use Rattle.std.specs.Prelude.{◌++◌, Some, Ok}
 use Rattle.thrift_binary.specs.Reading.{◌>>=◌}
 use Rattle.batch_codec.specs.declared.tag.TagSlots.{TagSlots}
 use Rattle.batch_codec.specs.Decoding.{Reading, double_at, i64_at}
 use Rattle.batch_codec.specs.TagReading.{type_at}
-use Rattle.batch_feeder.specs.declared.tag.TagHeld.{TagHeld}
-use Rattle.batch_feeder.specs.declared.tag.TagHeld.TheVariants as held
+use Rattle.batch_feeder.specs.declared.tag.TagFieldPart.{TagFieldPart}
+use Rattle.batch_feeder.specs.declared.tag.TagFieldPart.TheVariants as held
 use Rattle.batch_feeder.specs.Values.{bool_from, text_part, binary_part, skip_part}
 
--- the value that has begun, and what it makes of what was gathered
-abbrev pub tag_continues : TagSlots → TagHeld → Reading TagSlots
+-- the value that has begun, and how it changes the fields so far
+abbrev pub tag_continues : TagSlots → TagFieldPart → Reading TagSlots
 tag_continues s (held.Key p) w = text_part p w >>= λ x. Ok (record s { key = Some x.0 }, x.1)
 tag_continues s (held.Kind p) w = type_at (p.bytes ++ w) >>= λ x. Ok (record s { kind = Some x.0 }, x.1)
 tag_continues s (held.Text p) w = text_part p w >>= λ x. Ok (record s { text = x.0 }, x.1)

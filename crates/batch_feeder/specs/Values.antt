@@ -1,4 +1,4 @@
--- Values of which some bytes have come.
+-- Partially received values.
 use Rattle.std.specs.Prelude.{ℕ, List, Result, Ok, Err, Bool, if◌then◌else◌}
 use Rattle.std.specs.Str.{is_utf8}
 use Rattle.thrift_binary.specs.declared.fault.WireError.TheVariants.{BadText}
@@ -17,7 +17,7 @@ use Rattle.batch_feeder.specs.declared.skipped.SkipPart.{SkipPart}
 abbrev pub bool_from : BoolPart → Reading Bool
 bool_from p w = lift wire (wires.bool_at w)
 
--- a string whose bytes have come has to be UTF-8
+-- a string whose bytes have arrived must be UTF-8
 abbrev pub checked_text : List ℕ × List ℕ → Result (List ℕ × List ℕ) DecodeError
 checked_text x = if is_utf8 x.0 then Ok (x.0, x.1) else Err (Wire BadText)
 
@@ -27,10 +27,10 @@ text_part p w = lift wire (string_from p.part w) >>= checked_text
 abbrev pub binary_part : BinaryPart → Reading (List ℕ)
 binary_part p w = lift wire (string_from p.part w)
 
--- a value that is read past
+-- a skipped value
 abbrev pub skip_from : SkipPart → Reading (Unit {0})
 skip_from p w = lift wire (skipping p.part w)
 
--- and changes nothing of what was gathered
+-- and changes nothing
 abbrev pub skip_part : {S : Type 0} → S → SkipPart → Reading S
 skip_part s p w = skip_from p w >>= λ x. Ok (s, x.1)

@@ -1,6 +1,6 @@
 ghost use Rattle.batch_feeder.specs.Batches.{shared_part};
 
-use crate::fields::{Fields, Slots};
+use crate::fields::{Fields, PieceSlots};
 use crate::items::ListPart;
 use crate::partial::{Partial, place};
 use crate::process::ProcessParts;
@@ -14,18 +14,18 @@ use thrift_binary::Cursor;
 use thrift_binary::types::{I64, LIST, STRUCT};
 
 /// The least number of bytes of a batch: 11 of the process, 8 of the spans and the stop byte.
-const LEAST_BATCH: usize = 20;
+const MIN_BATCH_BYTES: usize = 20;
 
-/// The value of a field of a batch, of which some bytes have come.
+/// The partially received value of a field of a batch.
 #[derive(Drop)]
-pub(crate) enum BatchHeld {
+pub(crate) enum BatchFieldPart {
     Process(SharedPart),
     Spans(ListPart<Struct<SpanSlots>>),
     SeqNo(I64Part),
     Skip(SkipPart),
 }
 
-/// A process of which some bytes have come, and which is to be shared.
+/// A partially received process, which the batch's spans will share.
 #[derive(Drop)]
 pub(crate) struct SharedPart {
     process: Struct<ProcessParts>,
@@ -45,15 +45,15 @@ impl Partial for SharedPart {
     }
 }
 
-impl Slots for BatchSlots {
-    ghost use Rattle.batch_codec.specs.Gathered.{no_batch};
+impl PieceSlots for BatchSlots {
+    ghost use Rattle.batch_codec.specs.EmptySlots.{no_batch};
     ghost use Rattle.batch_codec.specs.BatchReading.{take_batch, batch_from};
     ghost use Rattle.batch_codec.proofs.AtStop.{batch_missing, never_short};
     ghost use Rattle.batch_codec.proofs.CutBatches.{take_batch_safe};
     ghost use Rattle.batch_feeder.specs.Batches.{batch_continues};
     ghost use Rattle.batch_feeder.specs.ShortFields.{take_batch_short};
 
-    type Held = BatchHeld;
+    type FieldPart = BatchFieldPart;
 
     type Output = Batch;
 
@@ -65,8 +65,8 @@ impl Slots for BatchSlots {
 
     ghost makes = { batch_from };
 
-    fn least() -> usize {
-        LEAST_BATCH
+    fn min_bytes() -> usize {
+        MIN_BATCH_BYTES
     }
 
     fn start(_alloc: Global) -> Self {
@@ -84,35 +84,35 @@ impl Slots for BatchSlots {
     }
 
     #[tactic(auto, unfolding(batch_codec::specs::BatchReading::take_batch, batch_codec::specs::ProcessReading::process_at, batch_codec::specs::SpanReading::span_at))]
-    fn begin(&self, code: u8, id: i16, alloc: Global) -> BatchHeld {
+    fn begin(&self, code: u8, id: i16, alloc: Global) -> BatchFieldPart {
         match (code, id) {
-            (STRUCT, 1) => BatchHeld::Process(SharedPart {
+            (STRUCT, 1) => BatchFieldPart::Process(SharedPart {
                 process: Struct::new(alloc),
             }),
-            (LIST, 2) => BatchHeld::Spans(ListPart::new(alloc)),
-            (I64, 3) => BatchHeld::SeqNo(I64Part::new()),
-            _ => BatchHeld::Skip(SkipPart::new(alloc, code)),
+            (LIST, 2) => BatchFieldPart::Spans(ListPart::new(alloc)),
+            (I64, 3) => BatchFieldPart::SeqNo(I64Part::new()),
+            _ => BatchFieldPart::Skip(SkipPart::new(alloc, code)),
         }
     }
 
     fn more(
         &mut self,
-        held: &mut BatchHeld,
+        held: &mut BatchFieldPart,
         alloc: Global,
         piece: &mut Cursor<'_>,
     ) -> Decoded<bool> {
         match held {
-            BatchHeld::Process(part) => place(part, &mut self.process, alloc, piece),
-            BatchHeld::Spans(part) => part.place(&mut self.spans, alloc, piece),
-            BatchHeld::SeqNo(part) => place(part, &mut self.seq_no, alloc, piece),
-            BatchHeld::Skip(part) => place(part, &mut (), alloc, piece),
+            BatchFieldPart::Process(part) => place(part, &mut self.process, alloc, piece),
+            BatchFieldPart::Spans(part) => part.place(&mut self.spans, alloc, piece),
+            BatchFieldPart::SeqNo(part) => place(part, &mut self.seq_no, alloc, piece),
+            BatchFieldPart::Skip(part) => place(part, &mut (), alloc, piece),
         }
     }
 
-    fn is_between_fields(held: &BatchHeld) -> bool {
+    fn is_between_fields(held: &BatchFieldPart) -> bool {
         match held {
-            BatchHeld::Process(part) => part.process.is_between(),
-            BatchHeld::Spans(part) => part.is_between_fields(),
+            BatchFieldPart::Process(part) => part.process.is_between(),
+            BatchFieldPart::Spans(part) => part.is_between_fields(),
             _ => false,
         }
     }

@@ -9,7 +9,7 @@ pub(crate) type TypePart = FixedPart<TagType, 4>;
 /// A reference's kind.
 pub(crate) type KindPart = FixedPart<RefKind, 4>;
 
-/// A tag's type, which stands as its number.
+/// A tag's type, which is encoded as its number.
 impl Fixed<4> for TagType {
     ghost use Rattle.batch_codec.specs.TagReading.{type_at};
     ghost use Rattle.batch_feeder.specs.ShortValues.{type_few};
@@ -24,7 +24,7 @@ impl Fixed<4> for TagType {
     ghost few = { type_few };
 }
 
-/// A reference's kind, which stands as its number.
+/// A reference's kind, which is encoded as its number.
 impl Fixed<4> for RefKind {
     ghost use Rattle.batch_codec.specs.ReferenceReading.{kind_at};
     ghost use Rattle.batch_feeder.specs.ShortValues.{kind_few};

@@ -15,10 +15,10 @@ use std::alloc::Global;
 use thrift_binary::{Cursor, WireError, types};
 use wire_pieces::size_of;
 
-/// A piece of so many bytes at most is taken byte by byte.
+/// A piece of at most this number of bytes is taken byte by byte.
 const SHORT: usize = 8;
 
-/// Where a batch has come to.
+/// The state of a batch between two pieces.
 #[derive(Drop)]
 pub(crate) enum State {
     Reading(Struct<BatchSlots>),
@@ -26,31 +26,31 @@ pub(crate) enum State {
     Refused(DecodeError),
 }
 
-/// Puts a value in the place of another.
+/// Assigns a value.
 #[inline]
-fn put<V: Drop>(place: &mut V, value: V)
+fn assign<V: Drop>(place: &mut V, value: V)
     ensures { place.new ≡ value }
 {
     *place = value;
 }
 
-/// The batch is whole. It stands apart, so that a call that continues has no place for a state on its stack.
+/// Stores the complete batch. It isn't inlined, so that a call that continues has no `State` in its stack frame.
 #[inline(never)]
 fn complete(state: &mut State, batch: Batch)
     ensures { state.new ≡ Whole batch }
 {
-    put(state, State::Whole(batch));
+    assign(state, State::Whole(batch));
 }
 
-/// The bytes are refused. It stands apart as `complete` does.
+/// Stores the error. It isn't inlined, for the same reason as [`complete`].
 #[inline(never)]
 fn refuse(state: &mut State, error: DecodeError)
     ensures { state.new ≡ Refused error }
 {
-    put(state, State::Refused(error));
+    assign(state, State::Refused(error));
 }
 
-/// Nothing follows the batch.
+/// Checks that nothing follows the batch.
 fn end_of(left: &Cursor<'_>) -> Decoded<()>
     ensures { Ends left.now result }
 {
@@ -60,7 +60,7 @@ fn end_of(left: &Cursor<'_>) -> Decoded<()>
     Err(DecodeError::Trailing)
 }
 
-/// Continues over a piece. A refusal leaves the state to be given up.
+/// Continues with a piece. After an error the state must be discarded.
 fn advance(state: &mut State, alloc: Global, piece: &[u8]) -> Decoded<()>
     requires { IsSettled state.old }
     ensures { Advances state.old state.new piece.now result }
@@ -82,7 +82,8 @@ fn advance(state: &mut State, alloc: Global, piece: &[u8]) -> Decoded<()>
     }
 }
 
-/// Continues over a piece, and keeps a refusal: how many bytes are wanted from there on, none where each is looked at.
+/// Continues with a piece, and stores an error. `wanted` becomes the number of bytes to wait for, 0 if each byte is
+/// read as it arrives.
 #[inline(never)]
 fn advance_or_refuse(
     state: &mut State,
@@ -108,7 +109,7 @@ fn advance_or_refuse(
     }
 }
 
-/// Continues over the bytes that wait, and none waits from there on.
+/// Reads the waiting bytes. None waits after that.
 fn advance_over_waiting(
     state: &mut State,
     waiting: &mut Vec<u8>,
@@ -126,7 +127,7 @@ fn advance_over_waiting(
     result
 }
 
-/// A byte is wanted where it stands between two fields of the innermost struct that has begun.
+/// Returns 1 if the state is between two fields of the innermost struct that has begun, else 0.
 fn wanted_between_fields(state: &State) -> usize
     ensures wants { 0 < result → IsBetweenFields state.now }
     ensures one { result ≤ 1 }
@@ -143,8 +144,8 @@ fn wanted_between_fields(state: &State) -> usize
     }
 }
 
-/// The bytes that each value of a type has at least.
-fn least(code: u8) -> usize
+/// Returns the least number of bytes of a value of the type.
+fn min_bytes(code: u8) -> usize
     ensures table { result ≡ least code }
 {
     match code {
@@ -158,7 +159,7 @@ fn least(code: u8) -> usize
     }
 }
 
-/// How many bytes are wanted behind these, the first of a field, before it can show a fault.
+/// Returns the number of bytes to wait for after these, the first ones of a field, before it can have a fault.
 fn wanted(bytes: &[u8]) -> usize
     ensures quiet { AreQuiet bytes.now result }
 {
@@ -170,17 +171,17 @@ fn wanted(bytes: &[u8]) -> usize
     }
 }
 
-/// The same behind the type of a field.
+/// Returns the number of bytes to wait for after the type of a field.
 fn wanted_of_type(code: u8) -> usize
     ensures quiet { AreQuiet (code ∷ []) result }
 {
     if code == 0 {
         return 0;
     }
-    2 + least(code)
+    2 + min_bytes(code)
 }
 
-/// The same behind the head of a field that is a string, and its size.
+/// Returns the number of bytes to wait for after the head of a string field and the string's size.
 fn wanted_of_string(size: &[u8]) -> usize
     ensures quiet { (a b : ℕ) → AreQuiet (11 ∷ a ∷ b ∷ size.now) result }
 {
@@ -190,7 +191,7 @@ fn wanted_of_string(size: &[u8]) -> usize
     }
 }
 
-/// How many bytes are wanted behind these, where one was the last that was wanted; none where none was.
+/// Returns the number of bytes to wait for after these, if the last of them was the last one wanted; 0 if none was.
 #[inline]
 fn still_wanted(before: usize, bytes: &[u8]) -> usize
     ensures quiet { AreQuiet bytes.now result }
@@ -202,9 +203,9 @@ fn still_wanted(before: usize, bytes: &[u8]) -> usize
     wanted(bytes)
 }
 
-/// A batch whose bytes come in pieces.
+/// Decodes a batch whose bytes arrive in pieces.
 ///
-/// The bytes of a short piece wait until the field that they are of is whole or may show a fault, which is then read at once.
+/// The bytes of a short piece wait until their field is complete or may have a fault, and are then read together.
 #[derive(Drop)]
 pub struct Feeder {
     state: State,
@@ -217,7 +218,7 @@ pub struct Feeder {
 impl Feeder {
     ghost use Rattle.batch_feeder.specs.Answers.{answers};
 
-    /// Before the first byte: whatever comes is answered as decoding answers it.
+    /// Returns a feeder before the first byte. Whatever bytes follow, it returns what decoding them returns.
     pub fn new(alloc: Global) -> Self
         ensures decodes { (w : List ℕ) → answers result w ≡ decoded w }
     {
@@ -232,9 +233,9 @@ impl Feeder {
     ///
     /// # Errors
     ///
-    /// The first fault of the bytes so far, as soon as its last byte has come, unless it is that they may be too few;
-    /// or [`DecodeError::Memory`]. It is answered from now on, whatever comes: memory doesn't run out for a feeder that
-    /// has refused.
+    /// The first fault of the bytes so far, as soon as its last byte has arrived, unless it is too few bytes; or
+    /// [`DecodeError::Memory`]. Every later call returns the same error, whatever follows: a feeder that has failed
+    /// doesn't run out of memory.
     pub fn feed(&mut self, alloc: Global, piece: &[u8]) -> Decoded<()>
         ensures feeds { Feeds (answers self.old) (answers self.new) piece.now result }
     {
@@ -244,7 +245,7 @@ impl Feeder {
         self.feed_bytes(alloc, piece)
     }
 
-    /// Takes a piece that isn't one byte: a short one byte by byte, since it is likely to end inside a field.
+    /// Takes a piece that isn't a single byte. It takes a short one byte by byte, since it probably ends inside a field.
     #[inline(never)]
     fn feed_bytes(&mut self, alloc: Global, piece: &[u8]) -> Decoded<()>
         ensures feeds { Feeds (answers self.old) (answers self.new) piece.now result }
@@ -268,27 +269,27 @@ impl Feeder {
             self.wanted -= 1;
             return Ok(());
         }
-        self.feed_slowly(alloc, byte)
+        self.feed_byte_slow_path(alloc, byte)
     }
 
-    /// Takes a byte that is looked at, or that there may be no room for.
+    /// Takes a byte that is read at once, or for which the buffer may have no room.
     #[inline(never)]
-    fn feed_slowly(&mut self, alloc: Global, byte: u8) -> Decoded<()>
+    fn feed_byte_slow_path(&mut self, alloc: Global, byte: u8) -> Decoded<()>
         ensures feeds { Feeds (answers self.old) (answers self.new) (byte ∷ []) result }
     {
         if self.wanted > 1 {
-            return self.wait(byte);
+            return self.buffer_byte(byte);
         }
         self.feed_last(alloc, byte)
     }
 
-    /// Keeps a byte that shows no fault.
-    fn wait(&mut self, byte: u8) -> Decoded<()>
+    /// Appends a byte that can't have a fault to the waiting ones.
+    fn buffer_byte(&mut self, byte: u8) -> Decoded<()>
         requires { 1 < self.old.wanted }
         ensures feeds { Feeds (answers self.old) (answers self.new) (byte ∷ []) result }
     {
         match self.waiting.push(byte) {
-            Err(_) => self.give_up(DecodeError::Memory),
+            Err(_) => self.fail(DecodeError::Memory),
             Ok(()) => {
                 self.wanted -= 1;
                 Ok(())
@@ -296,7 +297,7 @@ impl Feeder {
         }
     }
 
-    /// Takes the last byte that is wanted, or one where none is, which takes no memory to be kept.
+    /// Takes the last byte that was wanted, or one if none was. It doesn't allocate to store the byte.
     fn feed_last(&mut self, alloc: Global, byte: u8) -> Decoded<()>
         requires { self.old.wanted ≤ 1 }
         ensures feeds { Feeds (answers self.old) (answers self.new) (byte ∷ []) result }
@@ -305,7 +306,7 @@ impl Feeder {
             return advance_or_refuse(&mut self.state, &mut self.wanted, alloc, &[byte]);
         }
         match self.waiting.push(byte) {
-            Err(_) => self.give_up(DecodeError::Memory),
+            Err(_) => self.fail(DecodeError::Memory),
             Ok(()) => {
                 let more = still_wanted(self.wanted, self.waiting.as_slice());
                 if more > 0 {
@@ -317,9 +318,9 @@ impl Feeder {
         }
     }
 
-    /// Refuses whatever comes.
+    /// Stores the error, which every later call returns.
     #[inline(never)]
-    fn give_up(&mut self, error: DecodeError) -> Decoded<()>
+    fn fail(&mut self, error: DecodeError) -> Decoded<()>
         requires { error ≡ Wire Truncated → ⊥ }
         ensures refuses { result ≡ Err error }
         ensures stays { (w : List ℕ) → answers self.new w ≡ Err error }
@@ -330,7 +331,7 @@ impl Feeder {
         Err(error)
     }
 
-    /// Takes a piece that is read where it stands, behind what waits.
+    /// Reads the waiting bytes and then a piece, without copying the piece.
     #[inline(never)]
     fn feed_long(&mut self, alloc: Global, piece: &[u8]) -> Decoded<()>
         ensures feeds { Feeds (answers self.old) (answers self.new) piece.now result }
@@ -341,7 +342,7 @@ impl Feeder {
         }
     }
 
-    /// Reads what waits.
+    /// Reads the waiting bytes.
     fn read_waiting(&mut self, alloc: Global) -> Decoded<()>
         ensures keeps { Keeps (answers self.old) (answers self.new) result }
         ensures empty { self.new.waiting.items ≡ [] }
@@ -352,12 +353,12 @@ impl Feeder {
         advance_over_waiting(&mut self.state, &mut self.waiting, &mut self.wanted, alloc)
     }
 
-    /// What decoding answers of the pieces: the batch that they spell, all of the bytes, or the first fault. It takes
-    /// no memory.
+    /// Returns what decoding the joined pieces returns: the batch that all of the bytes spell, or the first fault. It
+    /// doesn't allocate.
     ///
     /// # Errors
     ///
-    /// What [`Feeder::feed`] refused, where it did; otherwise that the bytes are too few.
+    /// The error that [`Feeder::feed`] returned, if it did; otherwise that there are too few bytes.
     pub fn finish(self) -> Decoded<Batch>
         ensures gives { result ≡ answers self [] }
     {
@@ -373,7 +374,7 @@ impl Feeder {
     }
 }
 
-/// What decoding answers of the pieces joined, however they are cut.
+/// Decodes the joined pieces, however they are cut.
 ///
 /// # Errors
 ///

@@ -17,47 +17,50 @@ use std::alloc::Global;
 use thrift_binary::{Cursor, WireError};
 use wire_pieces::FieldHead;
 
-/// What was gathered of a struct so far.
-pub(crate) trait Slots: Drop + Sized {
-    /// The value of a field, of which some bytes have come.
-    type Held: Drop;
+/// The fields of a struct that were read so far.
+///
+/// Its impls are one table in parts, of the same form for each struct: a match lists the types and ids of the fields
+/// with the part that reads the value of each.
+pub(crate) trait PieceSlots: Drop + Sized {
+    /// The partially received value of a field.
+    type FieldPart: Drop;
 
     /// The struct.
     type Output: Drop;
 
-    /// What a field of a type and id makes of what was gathered.
+    /// How a field of a type and id changes the fields so far.
     ghost takes: { Self → ℕ → ℤ → List ℕ → Result (Self × List ℕ) DecodeError };
 
-    /// The same of a field whose value has begun.
-    ghost resumes: { Self → Self.Held → List ℕ → Result (Self × List ℕ) DecodeError };
+    /// How a field whose value has begun changes the fields so far.
+    ghost resumes: { Self → Self.FieldPart → List ℕ → Result (Self × List ℕ) DecodeError };
 
-    /// Before the first field.
+    /// The state before the first field.
     ghost none: { Self };
 
-    /// What the fields make at the stop byte.
+    /// The struct of the fields at the stop byte.
     ghost makes: { Self → Result Self.Output DecodeError };
 
-    /// The least number of bytes of the struct.
-    fn least() -> usize;
+    /// Returns the least number of bytes of the struct.
+    fn min_bytes() -> usize;
 
     fn start(alloc: Global) -> Self
         ensures { result ≡ none };
 
-    /// Reads the value of a field that is whole: whether it did. A list and a value that is read past are left.
+    /// Reads the value of a field if it is complete, and returns whether it did. It leaves lists and values to skip.
     fn put(&mut self, code: u8, id: i16, alloc: Global, cursor: &mut Cursor<'_>) -> Decoded<bool>
         ensures tries { Tries (takes self.old code id) self.old self.new
             cursor.old cursor.new result }
         ensures no_longer { OnOk result (length cursor.new ≤ length cursor.old) };
 
-    /// Before the first byte of the value of a field.
-    fn begin(&self, code: u8, id: i16, alloc: Global) -> Self::Held
+    /// Returns the state before the first byte of a field's value.
+    fn begin(&self, code: u8, id: i16, alloc: Global) -> Self::FieldPart
         requires { is_code code ≡ true }
         ensures fresh { (w : List ℕ) → resumes self.now result w ≡ takes self.now code id w };
 
-    /// Continues over a piece inside the value of a field: whether it is whole.
+    /// Continues a field's value with a piece, and returns whether it is complete.
     fn more(
         &mut self,
-        held: &mut Self::Held,
+        held: &mut Self::FieldPart,
         alloc: Global,
         piece: &mut Cursor<'_>,
     ) -> Decoded<bool>
@@ -65,8 +68,8 @@ pub(crate) trait Slots: Drop + Sized {
             (resumes self.new held.new) piece.old piece.new result }
         ensures no_longer { OnOk result (length piece.new ≤ length piece.old) };
 
-    /// Whether the value stands between two fields of the innermost struct that has begun in it.
-    fn is_between_fields(held: &Self::Held) -> bool
+    /// Whether the value is between two fields of the innermost struct that has begun in it.
+    fn is_between_fields(held: &Self::FieldPart) -> bool
         ensures wants { result ≡ true → (s : Self) (w : List ℕ) → IsPart w →
             resumes s held.now w ≡ Err (Wire Truncated) };
 
@@ -76,19 +79,19 @@ pub(crate) trait Slots: Drop + Sized {
     /// The faults of a field's value have places.
     ghost safe: { (s : Self) (c : ℕ) (i : ℤ) → IsCutSafe (Wire Truncated) (takes s c i) };
 
-    /// What is missing is no want of bytes.
+    /// A missing field isn't reported as too few bytes.
     ghost not_short: { (s : Self) → makes s ≡ Err (Wire Truncated) → ⊥ };
 
-    /// A value that every value of its type is longer than is no field's.
+    /// With fewer bytes than every value of the type has, reading a field yields too few bytes.
     ghost short: { (s : Self) (c : ℕ) (i : ℤ) (w : List ℕ) → least_bytes c w ≡ Err Truncated → takes s c i w ≡ Err (Wire Truncated) };
 }
 
-/// What was gathered of a struct so far, whose fields are begun over a piece.
-pub(crate) trait Fields: Slots {
-    /// Begins the value of a field over a piece, and holds the part of it that has come where it isn't whole.
+/// The fields of a struct that were read so far, for the fields that begin in a piece.
+pub(crate) trait Fields: PieceSlots {
+    /// Begins the value of a field in a piece, and stores the part of it that has arrived if it isn't complete.
     fn enter(
         &mut self,
-        next: &mut Option<Step<Self::Held>>,
+        next: &mut Option<Step<Self::FieldPart>>,
         code: u8,
         id: i16,
         alloc: Global,
@@ -99,10 +102,10 @@ pub(crate) trait Fields: Slots {
             self.new next.new piece.old piece.new result }
         ensures no_longer { OnOk result (length piece.new ≤ length piece.old) }
     {
-        enter_slowly(self, next, code, id, alloc, piece)
+        enter_in_pieces(self, next, code, id, alloc, piece)
     }
 
-    /// Reads the struct where it is whole, or leaves it to the way that continues over pieces.
+    /// Reads the struct if the bytes have all of it. Otherwise it takes nothing, and the struct is read in pieces.
     #[inline(always)]
     fn read_whole(_alloc: Global, _cursor: &mut Cursor<'_>) -> Decoded<Option<Self::Output>>
         ensures attempts { Attempts (struct_at Self.takes Self.none Self.makes)
@@ -113,14 +116,14 @@ pub(crate) trait Fields: Slots {
     }
 }
 
-/// Where the fields of a struct have come to.
+/// The state of a struct's fields between two pieces.
 #[derive(Drop)]
 pub(crate) enum Step<V> {
     Head(FieldHead),
     Value(V),
 }
 
-/// Where whole fields end: at the stop byte, at the value of a field, or inside a head.
+/// Where the complete fields end: at the stop byte, at the value of a field, or inside a head.
 #[derive(Clone, Copy)]
 pub(crate) enum FieldsEnd {
     Stop,
@@ -128,7 +131,7 @@ pub(crate) enum FieldsEnd {
     Head,
 }
 
-/// The fault is that the bytes are too few.
+/// Whether the fault is too few bytes.
 #[inline(always)]
 pub(crate) fn is_truncated(error: DecodeError) -> bool
     ensures { IsTruncated error result }
@@ -149,9 +152,13 @@ pub(crate) fn is_truncated(error: DecodeError) -> bool
     }
 }
 
-/// Reads whole fields where they stand, from the first byte of a head on.
+/// Reads complete fields without copying them, from the first byte of a head on.
 #[inline(always)]
-fn read_fields<S: Slots>(slots: &mut S, alloc: Global, piece: &mut Cursor<'_>) -> Decoded<FieldsEnd>
+fn read_fields<S: PieceSlots>(
+    slots: &mut S,
+    alloc: Global,
+    piece: &mut Cursor<'_>,
+) -> Decoded<FieldsEnd>
     ensures reads { Reads S.takes slots.old slots.new piece.old piece.new result }
     ensures no_longer { OnOk result (length piece.new ≤ length piece.old) }
 {
@@ -190,11 +197,11 @@ fn read_fields<S: Slots>(slots: &mut S, alloc: Global, piece: &mut Cursor<'_>) -
     }
 }
 
-/// Begins the value of a field over a piece, in the way that continues over it.
+/// Begins the value of a field in a piece that may end before the value does.
 #[inline(never)]
-pub(crate) fn enter_slowly<S: Slots>(
+pub(crate) fn enter_in_pieces<S: PieceSlots>(
     slots: &mut S,
-    next: &mut Option<Step<S::Held>>,
+    next: &mut Option<Step<S::FieldPart>>,
     code: u8,
     id: i16,
     alloc: Global,
@@ -216,11 +223,11 @@ pub(crate) fn enter_slowly<S: Slots>(
     }
 }
 
-/// Holds the first bytes of a head, which the piece is too short for.
+/// Stores the first bytes of a head, for which the piece is too short.
 #[inline(never)]
-fn enter_head<S: Slots>(
+fn enter_head<S: PieceSlots>(
     _slots: &S,
-    next: &mut Option<Step<S::Held>>,
+    next: &mut Option<Step<S::FieldPart>>,
     piece: &mut Cursor<'_>,
 ) -> Decoded<bool>
     requires { field_at piece.old ≡ Err Truncated }
@@ -238,11 +245,11 @@ fn enter_head<S: Slots>(
     }
 }
 
-/// Continues over fields from the first byte of a head on, up to the stop byte: what is held where the piece ends before.
+/// Reads fields from the first byte of a head on, up to the stop byte. It stores the state if the piece ends before.
 #[inline(always)]
 pub(crate) fn enter_fields<S: Fields>(
     slots: &mut S,
-    next: &mut Option<Step<S::Held>>,
+    next: &mut Option<Step<S::FieldPart>>,
     alloc: Global,
     piece: &mut Cursor<'_>,
 ) -> Decoded<bool>
@@ -264,7 +271,7 @@ pub(crate) fn enter_fields<S: Fields>(
     }
 }
 
-/// Holds a value of which some bytes have come, as the next step.
+/// Stores a partially received value as the next step.
 #[inline(always)]
 pub(crate) fn hold_next<V: Drop>(next: &mut Option<V>, step: V)
     ensures { next.new ≡ Some step }
@@ -272,8 +279,8 @@ pub(crate) fn hold_next<V: Drop>(next: &mut Option<V>, step: V)
     *next = Some(step);
 }
 
-/// The next step, where there is one.
-fn go_to<V: Drop>(step: &mut Step<V>, next: Option<Step<V>>)
+/// Returns the next step, if there is one.
+fn set_step<V: Drop>(step: &mut Step<V>, next: Option<Step<V>>)
     ensures { (s : Step V) → next ≡ Some s → step.new ≡ s }
 {
     if let Some(next) = next {
@@ -281,12 +288,12 @@ fn go_to<V: Drop>(step: &mut Step<V>, next: Option<Step<V>>)
     }
 }
 
-/// Continues over fields, up to the stop byte, and holds what has come of the last one. It stands apart, so that a call
-/// that continues inside a value has no place for such a part on its stack.
+/// Reads fields up to the stop byte, and stores what has arrived of the last one. It isn't inlined, so that a call
+/// that continues inside a value has no such part in its stack frame.
 #[inline(never)]
 fn hold_fields<S: Fields>(
     slots: &mut S,
-    step: &mut Step<S::Held>,
+    step: &mut Step<S::FieldPart>,
     alloc: Global,
     piece: &mut Cursor<'_>,
 ) -> Decoded<bool>
@@ -297,15 +304,15 @@ fn hold_fields<S: Fields>(
 {
     let mut next = None;
     let result = enter_fields(slots, &mut next, alloc, piece);
-    go_to(step, next);
+    set_step(step, next);
     result
 }
 
-/// Begins the value of a field, and continues over fields. It stands apart as `hold_fields` does.
+/// Begins the value of a field, and reads the fields after it. It isn't inlined, for the same reason as `hold_fields`.
 #[inline(never)]
 fn hold_field<S: Fields>(
     slots: &mut S,
-    step: &mut Step<S::Held>,
+    step: &mut Step<S::FieldPart>,
     code: u8,
     id: i16,
     alloc: Global,
@@ -323,17 +330,17 @@ fn hold_field<S: Fields>(
         Err(error) => Err(error),
         Ok(true) => hold_fields(slots, step, alloc, piece),
         Ok(false) => {
-            go_to(step, next);
+            set_step(step, next);
             Ok(false)
         }
     }
 }
 
-/// Continues over fields from a head of which no byte has come, which it leaves where the piece ends in front of a head.
+/// Reads fields from the first byte of a head on. If the piece ends before a head, the step is such a head again.
 #[inline(never)]
 fn read_on<S: Fields>(
     slots: &mut S,
-    step: &mut Step<S::Held>,
+    step: &mut Step<S::FieldPart>,
     alloc: Global,
     piece: &mut Cursor<'_>,
 ) -> Decoded<bool>
@@ -356,11 +363,11 @@ fn read_on<S: Fields>(
     }
 }
 
-/// Continues over fields, up to the stop byte.
+/// Continues with a piece, up to the stop byte.
 #[inline(always)]
 pub(crate) fn more_fields<S: Fields>(
     slots: &mut S,
-    step: &mut Step<S::Held>,
+    step: &mut Step<S::FieldPart>,
     alloc: Global,
     piece: &mut Cursor<'_>,
 ) -> Decoded<bool>

@@ -18,7 +18,7 @@ use std::mem;
 use thrift_binary::{Cursor, WireError, types};
 use wire_pieces::ListHead;
 
-/// Continues over so many values of a list, from the first byte of one, and holds the part of the last one that has come.
+/// Reads a number of values of a list, from the first byte of one, and stores what has arrived of the last one.
 fn begin_items<P: Item>(
     items: &mut Vec<P::Value>,
     left: &mut u32,
@@ -42,7 +42,7 @@ fn begin_items<P: Item>(
     Ok(true)
 }
 
-/// Continues over so many values of a list, behind one whose bytes have come and in its place.
+/// Takes a value of a list whose bytes have arrived, and reads a number of further ones in its place.
 #[inline(never)]
 fn next_items<P: Item>(
     items: &mut Vec<P::Value>,
@@ -72,7 +72,7 @@ fn next_items<P: Item>(
     }
 }
 
-/// A list of structs. It grows by the structs that have come, whatever its size says.
+/// A list of structs. It grows with the structs that have arrived, whatever its size claims.
 #[derive(Drop)]
 pub(crate) struct ListPart<P: Item> {
     items: Vec<P::Value>,
@@ -82,7 +82,7 @@ pub(crate) struct ListPart<P: Item> {
 }
 
 impl<P: Item> ListPart<P> {
-    /// Before the first byte.
+    /// Returns the state before the first byte.
     #[inline(always)]
     pub(crate) fn new(alloc: Global) -> Self
         ensures fresh { (w : List ℕ) → list_from P.reads P.Partial.resumes
@@ -98,7 +98,7 @@ impl<P: Item> ListPart<P> {
         }
     }
 
-    /// Whether it stands between two fields of the innermost struct that has begun in it.
+    /// Whether it is between two fields of the innermost struct that has begun in it.
     pub(crate) fn is_between_fields(&self) -> bool
         ensures wants { result ≡ true → (w : List ℕ) → IsPart w →
             list_from P.reads P.Partial.resumes self.now.items.items self.now.left self.now.head
@@ -110,7 +110,7 @@ impl<P: Item> ListPart<P> {
         }
     }
 
-    /// Continues behind the head of a list.
+    /// Continues after the head of a list.
     #[inline]
     fn enter(&mut self, code: u8, size: u32, alloc: Global, piece: &mut Cursor<'_>) -> Decoded<bool>
         ensures continues { ContinuesTo self.new.items.items
@@ -126,14 +126,14 @@ impl<P: Item> ListPart<P> {
         if code != types::STRUCT {
             return Err(DecodeError::Wire(WireError::BadType));
         }
-        self.items = Vec::with_capacity(alloc, room(size, piece.rest().len(), P::least()))?;
+        self.items = Vec::with_capacity(alloc, room(size, piece.rest().len(), P::min_bytes()))?;
         self.left = size;
         begin_items(&mut self.items, &mut self.left, &mut self.one, alloc, piece)
     }
 
-    /// Continues over a piece.
+    /// Continues with a piece.
     #[inline(always)]
-    fn go_on(&mut self, alloc: Global, piece: &mut Cursor<'_>) -> Decoded<bool>
+    fn resume(&mut self, alloc: Global, piece: &mut Cursor<'_>) -> Decoded<bool>
         ensures continues { ContinuesTo self.new.items.items
             (list_from P.reads P.Partial.resumes self.old.items.items self.old.left self.old.head
             self.old.one)
@@ -155,7 +155,7 @@ impl<P: Item> ListPart<P> {
         }
     }
 
-    /// Begins a list over a piece, and puts it into its place: the part of it that has come, where it isn't whole.
+    /// Begins a list in a piece, and stores it in its slot, or what has arrived of it if it isn't complete.
     #[inline(always)]
     pub(crate) fn begin<S: Slot<Seq<P::Value>>>(
         slot: &mut S,
@@ -175,7 +175,7 @@ impl<P: Item> ListPart<P> {
         }
     }
 
-    /// Continues over a piece, and puts the list into its place.
+    /// Continues with a piece, and stores the list in its slot.
     #[inline(always)]
     pub(crate) fn place<S: Slot<Seq<P::Value>>>(
         &mut self,
@@ -190,14 +190,14 @@ impl<P: Item> ListPart<P> {
             slot.old slot.new piece.old piece.new result }
         ensures no_longer { OnOk result (length piece.new ≤ length piece.old) }
     {
-        let result = self.go_on(alloc, piece);
+        let result = self.resume(alloc, piece);
         if let Ok(true) = result {
             slot.fill(self.take_items(alloc));
         }
         result
     }
 
-    /// The items. It stands apart, so that a call that continues inside of one has no place for a list on its stack.
+    /// Takes the items. It isn't inlined, so that a call that continues inside an item has no list in its stack frame.
     #[inline(never)]
     fn take_items(&mut self, alloc: Global) -> Seq<P::Value>
         ensures { result ≡ self.old.items.items }
@@ -206,8 +206,8 @@ impl<P: Item> ListPart<P> {
     }
 }
 
-/// Begins a list over a piece, and holds the part of it that has come where it isn't whole. It stands apart, so that
-/// fields that are no list have no place for such a part on their stack.
+/// Begins a list in a piece, and stores what has arrived of it if it isn't complete. It isn't inlined, so that fields
+/// that are no list have no such part in their stack frame.
 #[inline(never)]
 pub(crate) fn enter_list<P: Item, S: Slot<Seq<P::Value>>, V: Drop, F: FnOnce(ListPart<P>) -> V>(
     slot: &mut S,

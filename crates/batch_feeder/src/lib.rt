@@ -1,16 +1,16 @@
-//! Batches of spans whose bytes come in pieces: `jaeger.thrift` in the Thrift binary protocol.
+//! Decodes batches of spans whose bytes arrive in pieces: `jaeger.thrift` in the Thrift binary protocol.
 //!
-//! A [`Feeder`] is fed piece by piece, and is proved to answer what `batch_codec` decodes of the joined bytes, however
-//! they are cut: [`Feeder::feed`] reports a fault at the piece that holds its last byte, and another cut has no other
-//! fault; [`Feeder::finish`] gives the batch. What it keeps grows only by bytes that have come, never by a size that
-//! they claim. Bytes of short pieces wait until the field that they are of is whole or may show a fault, and are then
-//! read at once; others are read where they stand. [`decode_pieces`] joins the calls.
+//! A [`Feeder`] takes the bytes piece by piece. It is proved to return what `batch_codec` decodes from the joined bytes,
+//! however they are cut: [`Feeder::feed`] reports a fault with the piece that has its last byte, and the cut doesn't
+//! change the fault; [`Feeder::finish`] returns the batch. Its memory grows only with bytes that have arrived, never by
+//! a size that they claim. Bytes of short pieces wait until their field is complete or may have a fault, and are then
+//! read together; longer pieces are read without copying. [`decode_pieces`] makes all these calls.
 //!
-//! - `partial`: values of which some bytes have come, as readings of the bytes still to come (`specs/Continuing.antt`).
+//! - `partial`: partially received values, as readings of the bytes still to come (`specs/Continuing.antt`).
 //! - `values`, `texts`, `enums`, `skipped`: single values.
 //! - `fields`, `structs`, `items`: a struct's fields up to its stop byte, a struct, a list of structs.
 //! - `tag`, `log`, `reference`, `process`, `span`, `batch`: one struct of `jaeger.thrift` each.
-//! - `feeder`: the calls.
+//! - `feeder`: the feeder itself.
 #![tactic(auto)]
 
 mod batch;

@@ -1,33 +1,33 @@
-use crate::fields::{Fields, Slots, Step, enter_slowly};
+use crate::fields::{Fields, PieceSlots, Step, enter_in_pieces};
 use crate::items::{ListPart, enter_list};
 use crate::partial::place;
 use crate::skipped::SkipPart;
 use crate::structs::Struct;
 use crate::tag::TagParts;
 use crate::values::I64Part;
-use batch_codec::{Decoded, LEAST_LOG, LogSlots, read_i64};
+use batch_codec::{Decoded, LogSlots, MIN_LOG_BYTES, read_i64};
 use jaeger_model::Log;
 use std::alloc::Global;
 use thrift_binary::Cursor;
 use thrift_binary::types::{I64, LIST};
 
-/// The value of a field of a log, of which some bytes have come.
+/// The partially received value of a field of a log.
 #[derive(Drop)]
-pub(crate) enum LogHeld {
+pub(crate) enum LogFieldPart {
     At(I64Part),
     Fields(ListPart<Struct<TagParts>>),
     Skip(SkipPart),
 }
 
-impl Slots for LogSlots {
-    ghost use Rattle.batch_codec.specs.Gathered.{no_log};
+impl PieceSlots for LogSlots {
+    ghost use Rattle.batch_codec.specs.EmptySlots.{no_log};
     ghost use Rattle.batch_codec.specs.LogReading.{take_log, log_from};
     ghost use Rattle.batch_codec.proofs.AtStop.{log_missing, never_short};
     ghost use Rattle.batch_codec.proofs.CutBatches.{take_log_safe};
     ghost use Rattle.batch_feeder.specs.Logs.{log_continues};
     ghost use Rattle.batch_feeder.specs.ShortFields.{take_log_short};
 
-    type Held = LogHeld;
+    type FieldPart = LogFieldPart;
 
     type Output = Log;
 
@@ -39,8 +39,8 @@ impl Slots for LogSlots {
 
     ghost makes = { log_from };
 
-    fn least() -> usize {
-        LEAST_LOG
+    fn min_bytes() -> usize {
+        MIN_LOG_BYTES
     }
 
     fn start(_alloc: Global) -> Self {
@@ -58,25 +58,30 @@ impl Slots for LogSlots {
     }
 
     #[tactic(auto, unfolding(batch_codec::specs::LogReading::take_log, batch_codec::specs::TagReading::tag_at))]
-    fn begin(&self, code: u8, id: i16, alloc: Global) -> LogHeld {
+    fn begin(&self, code: u8, id: i16, alloc: Global) -> LogFieldPart {
         match (code, id) {
-            (I64, 1) => LogHeld::At(I64Part::new()),
-            (LIST, 2) => LogHeld::Fields(ListPart::new(alloc)),
-            _ => LogHeld::Skip(SkipPart::new(alloc, code)),
+            (I64, 1) => LogFieldPart::At(I64Part::new()),
+            (LIST, 2) => LogFieldPart::Fields(ListPart::new(alloc)),
+            _ => LogFieldPart::Skip(SkipPart::new(alloc, code)),
         }
     }
 
-    fn more(&mut self, held: &mut LogHeld, alloc: Global, piece: &mut Cursor<'_>) -> Decoded<bool> {
+    fn more(
+        &mut self,
+        held: &mut LogFieldPart,
+        alloc: Global,
+        piece: &mut Cursor<'_>,
+    ) -> Decoded<bool> {
         match held {
-            LogHeld::At(part) => place(part, &mut self.at, alloc, piece),
-            LogHeld::Fields(part) => part.place(&mut self.fields, alloc, piece),
-            LogHeld::Skip(part) => place(part, &mut (), alloc, piece),
+            LogFieldPart::At(part) => place(part, &mut self.at, alloc, piece),
+            LogFieldPart::Fields(part) => part.place(&mut self.fields, alloc, piece),
+            LogFieldPart::Skip(part) => place(part, &mut (), alloc, piece),
         }
     }
 
-    fn is_between_fields(held: &LogHeld) -> bool {
+    fn is_between_fields(held: &LogFieldPart) -> bool {
         match held {
-            LogHeld::Fields(part) => part.is_between_fields(),
+            LogFieldPart::Fields(part) => part.is_between_fields(),
             _ => false,
         }
     }
@@ -96,15 +101,15 @@ impl Slots for LogSlots {
 impl Fields for LogSlots {
     fn enter(
         &mut self,
-        next: &mut Option<Step<LogHeld>>,
+        next: &mut Option<Step<LogFieldPart>>,
         code: u8,
         id: i16,
         alloc: Global,
         piece: &mut Cursor<'_>,
     ) -> Decoded<bool> {
         match (code, id) {
-            (LIST, 2) => enter_list(&mut self.fields, next, LogHeld::Fields, alloc, piece),
-            _ => enter_slowly(self, next, code, id, alloc, piece),
+            (LIST, 2) => enter_list(&mut self.fields, next, LogFieldPart::Fields, alloc, piece),
+            _ => enter_in_pieces(self, next, code, id, alloc, piece),
         }
     }
 }

@@ -10,36 +10,36 @@ use std::alloc::Global;
 use thrift_binary::Cursor;
 use wire_pieces::PieceError;
 
-/// A value of which some bytes have come.
+/// A partially received value.
 pub(crate) trait Partial: Drop + Sized {
     type Value: Drop;
 
-    /// What it reads of the bytes that are still to come.
+    /// What it reads from the bytes that are still to come.
     ghost resumes: { Self → List ℕ → Result (Self.Value × List ℕ) DecodeError };
 
-    /// Continues over a piece: the value where it is whole, and nothing where the piece ends before.
+    /// Continues with a piece. Returns the value if it is complete, and `None` if the piece ends before.
     fn more(&mut self, alloc: Global, piece: &mut Cursor<'_>) -> Decoded<Option<Self::Value>>
         ensures continues { Continues (resumes self.old) (resumes self.new)
             piece.old piece.new result }
         ensures no_longer { OnOk result (length piece.new ≤ length piece.old) };
 }
 
-/// A kind of value that stands in lists.
+/// A kind of value that occurs in lists.
 pub(crate) trait Item: Partial {
     ghost reads: { List ℕ → Result (Self.Value × List ℕ) DecodeError };
 
-    /// What it makes where all of its bytes have come.
+    /// The value if all of its bytes have arrived.
     ghost ends: { Self → Result Self.Value DecodeError };
 
-    /// The least number of bytes of a value.
-    fn least() -> usize;
+    /// Returns the least number of bytes of a value.
+    fn min_bytes() -> usize;
 
-    /// Whether the value stands between two fields of the innermost struct that has begun in it.
+    /// Whether the value is between two fields of the innermost struct that has begun in it.
     fn is_between_fields(&self) -> bool
         ensures wants { result ≡ true → (w : List ℕ) → IsPart w →
             Self.resumes self.now w ≡ Err (Wire Truncated) };
 
-    /// Begins a value over a piece: the value where it is whole, and else the part of it that has come.
+    /// Begins a value in a piece. Returns the value if it is complete, and else what has arrived of it.
     fn begin(
         part: &mut Option<Self>,
         alloc: Global,
@@ -48,20 +48,20 @@ pub(crate) trait Item: Partial {
         ensures continues { BeginsValue reads Self.resumes part.new piece.old piece.new result }
         ensures no_longer { OnOk result (length piece.new ≤ length piece.old) };
 
-    /// Continues over a piece: whether all bytes of the value have come, which is then to be taken.
+    /// Continues with a piece. Returns whether all bytes of the value have arrived; take the value then.
     fn arrive(&mut self, alloc: Global, piece: &mut Cursor<'_>) -> Decoded<bool>
         ensures continues { Arrives (Self.resumes self.old) (Self.resumes self.new) (ends self.new)
             piece.old piece.new result }
         ensures no_longer { OnOk result (length piece.new ≤ length piece.old) };
 
-    /// Takes the value, all of whose bytes have come, and stands before the first byte of another.
+    /// Takes the value, all of whose bytes have arrived, and resets the state to before the first byte of another.
     fn take(&mut self, alloc: Global) -> Decoded<Self::Value>
         ensures value { result ≡ ends self.old }
         ensures no_want { result ≡ Err (Wire Truncated) → ⊥ }
         ensures fresh { (w : List ℕ) → Self.resumes self.new w ≡ reads w };
 }
 
-/// The fault of a part.
+/// Converts the fault of a part.
 pub(crate) fn fault_of(error: PieceError) -> DecodeError
     ensures { result ≡ fault_of error }
 {
@@ -71,12 +71,12 @@ pub(crate) fn fault_of(error: PieceError) -> DecodeError
     }
 }
 
-/// A place for a value.
+/// A slot for a value.
 pub(crate) trait Slot<V> {
-    /// The place that holds the value.
+    /// The slot that has the value.
     ghost holding: { V → Self };
 
-    /// Puts the value into it.
+    /// Stores the value in it.
     fn fill(&mut self, value: V)
         ensures { self.new ≡ holding value };
 }
@@ -101,7 +101,7 @@ impl<V: Drop> Slot<V> for Option<V> {
     }
 }
 
-/// Continues over a piece, and puts the value into its place.
+/// Continues with a piece, and stores the value in its slot.
 pub(crate) fn place<P: Partial, S: Slot<P::Value>>(
     part: &mut P,
     slot: &mut S,

@@ -1,4 +1,4 @@
-use crate::fields::{Fields, Slots, Step, enter_slowly};
+use crate::fields::{Fields, PieceSlots, Step, enter_in_pieces};
 use crate::items::{ListPart, enter_list};
 use crate::partial::place;
 use crate::skipped::SkipPart;
@@ -13,9 +13,9 @@ use thrift_binary::Cursor;
 use thrift_binary::types::{LIST, STRING};
 
 /// The least number of bytes of a process: 7 of the service and the stop byte.
-const LEAST_PROCESS: usize = 8;
+const MIN_PROCESS_BYTES: usize = 8;
 
-/// What was gathered of a process so far.
+/// The fields of a process that were read so far.
 #[derive(Drop)]
 pub(crate) struct ProcessParts {
     service: Option<Text>,
@@ -30,23 +30,23 @@ impl Model for ProcessParts {
     ghost view = { λ s. record { service = s.service; tags = s.tags } };
 }
 
-/// The value of a field of a process, of which some bytes have come.
+/// The partially received value of a field of a process.
 #[derive(Drop)]
-pub(crate) enum ProcessHeld {
+pub(crate) enum ProcessFieldPart {
     Service(TextPart),
     Tags(ListPart<Struct<TagParts>>),
     Skip(SkipPart),
 }
 
-impl Slots for ProcessParts {
-    ghost use Rattle.batch_codec.specs.Gathered.{no_process};
+impl PieceSlots for ProcessParts {
+    ghost use Rattle.batch_codec.specs.EmptySlots.{no_process};
     ghost use Rattle.batch_codec.specs.ProcessReading.{take_process, process_from};
     ghost use Rattle.batch_codec.proofs.AtStop.{process_missing, never_short};
     ghost use Rattle.batch_codec.proofs.CutBatches.{take_process_safe};
     ghost use Rattle.batch_feeder.specs.Processes.{process_continues};
     ghost use Rattle.batch_feeder.specs.ShortFields.{take_process_short};
 
-    type Held = ProcessHeld;
+    type FieldPart = ProcessFieldPart;
 
     type Output = Process;
 
@@ -58,8 +58,8 @@ impl Slots for ProcessParts {
 
     ghost makes = { process_from };
 
-    fn least() -> usize {
-        LEAST_PROCESS
+    fn min_bytes() -> usize {
+        MIN_PROCESS_BYTES
     }
 
     fn start(alloc: Global) -> Self {
@@ -80,30 +80,30 @@ impl Slots for ProcessParts {
     }
 
     #[tactic(auto, unfolding(batch_codec::specs::ProcessReading::take_process, batch_codec::specs::TagReading::tag_at))]
-    fn begin(&self, code: u8, id: i16, alloc: Global) -> ProcessHeld {
+    fn begin(&self, code: u8, id: i16, alloc: Global) -> ProcessFieldPart {
         match (code, id) {
-            (STRING, 1) => ProcessHeld::Service(TextPart::new()),
-            (LIST, 2) => ProcessHeld::Tags(ListPart::new(alloc)),
-            _ => ProcessHeld::Skip(SkipPart::new(alloc, code)),
+            (STRING, 1) => ProcessFieldPart::Service(TextPart::new()),
+            (LIST, 2) => ProcessFieldPart::Tags(ListPart::new(alloc)),
+            _ => ProcessFieldPart::Skip(SkipPart::new(alloc, code)),
         }
     }
 
     fn more(
         &mut self,
-        held: &mut ProcessHeld,
+        held: &mut ProcessFieldPart,
         alloc: Global,
         piece: &mut Cursor<'_>,
     ) -> Decoded<bool> {
         match held {
-            ProcessHeld::Service(part) => place(part, &mut self.service, alloc, piece),
-            ProcessHeld::Tags(part) => part.place(&mut self.tags, alloc, piece),
-            ProcessHeld::Skip(part) => place(part, &mut (), alloc, piece),
+            ProcessFieldPart::Service(part) => place(part, &mut self.service, alloc, piece),
+            ProcessFieldPart::Tags(part) => part.place(&mut self.tags, alloc, piece),
+            ProcessFieldPart::Skip(part) => place(part, &mut (), alloc, piece),
         }
     }
 
-    fn is_between_fields(held: &ProcessHeld) -> bool {
+    fn is_between_fields(held: &ProcessFieldPart) -> bool {
         match held {
-            ProcessHeld::Tags(part) => part.is_between_fields(),
+            ProcessFieldPart::Tags(part) => part.is_between_fields(),
             _ => false,
         }
     }
@@ -128,15 +128,15 @@ impl Slots for ProcessParts {
 impl Fields for ProcessParts {
     fn enter(
         &mut self,
-        next: &mut Option<Step<ProcessHeld>>,
+        next: &mut Option<Step<ProcessFieldPart>>,
         code: u8,
         id: i16,
         alloc: Global,
         piece: &mut Cursor<'_>,
     ) -> Decoded<bool> {
         match (code, id) {
-            (LIST, 2) => enter_list(&mut self.tags, next, ProcessHeld::Tags, alloc, piece),
-            _ => enter_slowly(self, next, code, id, alloc, piece),
+            (LIST, 2) => enter_list(&mut self.tags, next, ProcessFieldPart::Tags, alloc, piece),
+            _ => enter_in_pieces(self, next, code, id, alloc, piece),
         }
     }
 }

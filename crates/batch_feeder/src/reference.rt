@@ -1,17 +1,17 @@
 use crate::enums::KindPart;
-use crate::fields::{Fields, Slots};
+use crate::fields::{Fields, PieceSlots};
 use crate::partial::place;
 use crate::skipped::SkipPart;
 use crate::values::IdPart;
-use batch_codec::{Decoded, LEAST_REFERENCE, ReferenceSlots, read_id, read_kind};
+use batch_codec::{Decoded, MIN_REFERENCE_BYTES, ReferenceSlots, read_id, read_kind};
 use jaeger_model::SpanRef;
 use std::alloc::Global;
 use thrift_binary::Cursor;
 use thrift_binary::types::{I32, I64};
 
-/// The value of a field of a reference, of which some bytes have come.
+/// The partially received value of a field of a reference.
 #[derive(Drop)]
-pub(crate) enum ReferenceHeld {
+pub(crate) enum ReferenceFieldPart {
     Kind(KindPart),
     TraceLow(IdPart),
     TraceHigh(IdPart),
@@ -19,15 +19,15 @@ pub(crate) enum ReferenceHeld {
     Skip(SkipPart),
 }
 
-impl Slots for ReferenceSlots {
-    ghost use Rattle.batch_codec.specs.Gathered.{no_reference};
+impl PieceSlots for ReferenceSlots {
+    ghost use Rattle.batch_codec.specs.EmptySlots.{no_reference};
     ghost use Rattle.batch_codec.specs.ReferenceReading.{take_reference, reference_from};
     ghost use Rattle.batch_codec.proofs.AtStop.{reference_missing, never_short};
     ghost use Rattle.batch_codec.proofs.CutBatches.{take_reference_safe};
     ghost use Rattle.batch_feeder.specs.References.{reference_continues};
     ghost use Rattle.batch_feeder.specs.ShortFields.{take_reference_short};
 
-    type Held = ReferenceHeld;
+    type FieldPart = ReferenceFieldPart;
 
     type Output = SpanRef;
 
@@ -39,8 +39,8 @@ impl Slots for ReferenceSlots {
 
     ghost makes = { reference_from };
 
-    fn least() -> usize {
-        LEAST_REFERENCE
+    fn min_bytes() -> usize {
+        MIN_REFERENCE_BYTES
     }
 
     fn start(_alloc: Global) -> Self {
@@ -61,32 +61,32 @@ impl Slots for ReferenceSlots {
     }
 
     #[tactic(auto, unfolding(batch_codec::specs::ReferenceReading::take_reference))]
-    fn begin(&self, code: u8, id: i16, alloc: Global) -> ReferenceHeld {
+    fn begin(&self, code: u8, id: i16, alloc: Global) -> ReferenceFieldPart {
         match (code, id) {
-            (I32, 1) => ReferenceHeld::Kind(KindPart::new()),
-            (I64, 2) => ReferenceHeld::TraceLow(IdPart::new()),
-            (I64, 3) => ReferenceHeld::TraceHigh(IdPart::new()),
-            (I64, 4) => ReferenceHeld::Id(IdPart::new()),
-            _ => ReferenceHeld::Skip(SkipPart::new(alloc, code)),
+            (I32, 1) => ReferenceFieldPart::Kind(KindPart::new()),
+            (I64, 2) => ReferenceFieldPart::TraceLow(IdPart::new()),
+            (I64, 3) => ReferenceFieldPart::TraceHigh(IdPart::new()),
+            (I64, 4) => ReferenceFieldPart::Id(IdPart::new()),
+            _ => ReferenceFieldPart::Skip(SkipPart::new(alloc, code)),
         }
     }
 
     fn more(
         &mut self,
-        held: &mut ReferenceHeld,
+        held: &mut ReferenceFieldPart,
         alloc: Global,
         piece: &mut Cursor<'_>,
     ) -> Decoded<bool> {
         match held {
-            ReferenceHeld::Kind(part) => place(part, &mut self.kind, alloc, piece),
-            ReferenceHeld::TraceLow(part) => place(part, &mut self.trace_low, alloc, piece),
-            ReferenceHeld::TraceHigh(part) => place(part, &mut self.trace_high, alloc, piece),
-            ReferenceHeld::Id(part) => place(part, &mut self.id, alloc, piece),
-            ReferenceHeld::Skip(part) => place(part, &mut (), alloc, piece),
+            ReferenceFieldPart::Kind(part) => place(part, &mut self.kind, alloc, piece),
+            ReferenceFieldPart::TraceLow(part) => place(part, &mut self.trace_low, alloc, piece),
+            ReferenceFieldPart::TraceHigh(part) => place(part, &mut self.trace_high, alloc, piece),
+            ReferenceFieldPart::Id(part) => place(part, &mut self.id, alloc, piece),
+            ReferenceFieldPart::Skip(part) => place(part, &mut (), alloc, piece),
         }
     }
 
-    fn is_between_fields(_held: &ReferenceHeld) -> bool {
+    fn is_between_fields(_held: &ReferenceFieldPart) -> bool {
         false
     }
 

@@ -10,14 +10,14 @@ use std::alloc::Global;
 use thrift_binary::Cursor;
 use wire_pieces::Skipping;
 
-/// A value that is read past.
+/// A value that is skipped.
 #[derive(Drop)]
 pub(crate) struct SkipPart {
     part: Skipping,
 }
 
 impl SkipPart {
-    /// Before the first byte of a value of the type.
+    /// Returns the state before the first byte of a value of the type.
     pub(crate) fn new(alloc: Global, code: u8) -> Self
         requires { is_code code ≡ true }
         ensures { (w : List ℕ) → skip_from result w ≡ lift wire (skip_at code w) }

@@ -1,4 +1,4 @@
-use crate::fields::{Fields, Slots, Step, enter_slowly};
+use crate::fields::{Fields, PieceSlots, Step, enter_in_pieces};
 use crate::items::{ListPart, enter_list};
 use crate::partial::place;
 use crate::skipped::SkipPart;
@@ -6,15 +6,15 @@ use crate::structs::Struct;
 use crate::tag::TagParts;
 use crate::texts::TextPart;
 use crate::values::{I32Part, I64Part, IdPart};
-use batch_codec::{Decoded, LEAST_SPAN, LogSlots, ReferenceSlots, SpanSlots, read_span};
+use batch_codec::{Decoded, LogSlots, MIN_SPAN_BYTES, ReferenceSlots, SpanSlots, read_span};
 use jaeger_model::Span;
 use std::alloc::Global;
 use thrift_binary::Cursor;
 use thrift_binary::types::{I32, I64, LIST, STRING};
 
-/// The value of a field of a span, of which some bytes have come.
+/// The partially received value of a field of a span.
 #[derive(Drop)]
-pub(crate) enum SpanHeld {
+pub(crate) enum SpanFieldPart {
     TraceLow(IdPart),
     TraceHigh(IdPart),
     Id(IdPart),
@@ -29,15 +29,15 @@ pub(crate) enum SpanHeld {
     Skip(SkipPart),
 }
 
-impl Slots for SpanSlots {
-    ghost use Rattle.batch_codec.specs.Gathered.{no_span};
+impl PieceSlots for SpanSlots {
+    ghost use Rattle.batch_codec.specs.EmptySlots.{no_span};
     ghost use Rattle.batch_codec.specs.SpanReading.{take_span, span_from};
     ghost use Rattle.batch_codec.proofs.AtStop.{span_missing, never_short};
     ghost use Rattle.batch_codec.proofs.CutBatches.{take_span_safe};
     ghost use Rattle.batch_feeder.specs.Spans.{span_continues};
     ghost use Rattle.batch_feeder.specs.ShortFields.{take_span_short};
 
-    type Held = SpanHeld;
+    type FieldPart = SpanFieldPart;
 
     type Output = Span;
 
@@ -49,8 +49,8 @@ impl Slots for SpanSlots {
 
     ghost makes = { span_from };
 
-    fn least() -> usize {
-        LEAST_SPAN
+    fn min_bytes() -> usize {
+        MIN_SPAN_BYTES
     }
 
     fn start(alloc: Global) -> Self {
@@ -67,50 +67,50 @@ impl Slots for SpanSlots {
     }
 
     #[tactic(auto, unfolding(batch_codec::specs::SpanReading::take_span, batch_codec::specs::TagReading::tag_at, batch_codec::specs::LogReading::log_at, batch_codec::specs::ReferenceReading::reference_at))]
-    fn begin(&self, code: u8, id: i16, alloc: Global) -> SpanHeld {
+    fn begin(&self, code: u8, id: i16, alloc: Global) -> SpanFieldPart {
         match (code, id) {
-            (I64, 1) => SpanHeld::TraceLow(IdPart::new()),
-            (I64, 2) => SpanHeld::TraceHigh(IdPart::new()),
-            (I64, 3) => SpanHeld::Id(IdPart::new()),
-            (I64, 4) => SpanHeld::Parent(IdPart::new()),
-            (STRING, 5) => SpanHeld::Operation(TextPart::new()),
-            (LIST, 6) => SpanHeld::References(ListPart::new(alloc)),
-            (I32, 7) => SpanHeld::Flags(I32Part::new()),
-            (I64, 8) => SpanHeld::Start(I64Part::new()),
-            (I64, 9) => SpanHeld::Duration(I64Part::new()),
-            (LIST, 10) => SpanHeld::Tags(ListPart::new(alloc)),
-            (LIST, 11) => SpanHeld::Logs(ListPart::new(alloc)),
-            _ => SpanHeld::Skip(SkipPart::new(alloc, code)),
+            (I64, 1) => SpanFieldPart::TraceLow(IdPart::new()),
+            (I64, 2) => SpanFieldPart::TraceHigh(IdPart::new()),
+            (I64, 3) => SpanFieldPart::Id(IdPart::new()),
+            (I64, 4) => SpanFieldPart::Parent(IdPart::new()),
+            (STRING, 5) => SpanFieldPart::Operation(TextPart::new()),
+            (LIST, 6) => SpanFieldPart::References(ListPart::new(alloc)),
+            (I32, 7) => SpanFieldPart::Flags(I32Part::new()),
+            (I64, 8) => SpanFieldPart::Start(I64Part::new()),
+            (I64, 9) => SpanFieldPart::Duration(I64Part::new()),
+            (LIST, 10) => SpanFieldPart::Tags(ListPart::new(alloc)),
+            (LIST, 11) => SpanFieldPart::Logs(ListPart::new(alloc)),
+            _ => SpanFieldPart::Skip(SkipPart::new(alloc, code)),
         }
     }
 
     fn more(
         &mut self,
-        held: &mut SpanHeld,
+        held: &mut SpanFieldPart,
         alloc: Global,
         piece: &mut Cursor<'_>,
     ) -> Decoded<bool> {
         match held {
-            SpanHeld::TraceLow(part) => place(part, &mut self.trace_low, alloc, piece),
-            SpanHeld::TraceHigh(part) => place(part, &mut self.trace_high, alloc, piece),
-            SpanHeld::Id(part) => place(part, &mut self.id, alloc, piece),
-            SpanHeld::Parent(part) => place(part, &mut self.parent, alloc, piece),
-            SpanHeld::Operation(part) => place(part, &mut self.operation, alloc, piece),
-            SpanHeld::References(part) => part.place(&mut self.references, alloc, piece),
-            SpanHeld::Flags(part) => place(part, &mut self.flags, alloc, piece),
-            SpanHeld::Start(part) => place(part, &mut self.start, alloc, piece),
-            SpanHeld::Duration(part) => place(part, &mut self.duration, alloc, piece),
-            SpanHeld::Tags(part) => part.place(&mut self.tags, alloc, piece),
-            SpanHeld::Logs(part) => part.place(&mut self.logs, alloc, piece),
-            SpanHeld::Skip(part) => place(part, &mut (), alloc, piece),
+            SpanFieldPart::TraceLow(part) => place(part, &mut self.trace_low, alloc, piece),
+            SpanFieldPart::TraceHigh(part) => place(part, &mut self.trace_high, alloc, piece),
+            SpanFieldPart::Id(part) => place(part, &mut self.id, alloc, piece),
+            SpanFieldPart::Parent(part) => place(part, &mut self.parent, alloc, piece),
+            SpanFieldPart::Operation(part) => place(part, &mut self.operation, alloc, piece),
+            SpanFieldPart::References(part) => part.place(&mut self.references, alloc, piece),
+            SpanFieldPart::Flags(part) => place(part, &mut self.flags, alloc, piece),
+            SpanFieldPart::Start(part) => place(part, &mut self.start, alloc, piece),
+            SpanFieldPart::Duration(part) => place(part, &mut self.duration, alloc, piece),
+            SpanFieldPart::Tags(part) => part.place(&mut self.tags, alloc, piece),
+            SpanFieldPart::Logs(part) => part.place(&mut self.logs, alloc, piece),
+            SpanFieldPart::Skip(part) => place(part, &mut (), alloc, piece),
         }
     }
 
-    fn is_between_fields(held: &SpanHeld) -> bool {
+    fn is_between_fields(held: &SpanFieldPart) -> bool {
         match held {
-            SpanHeld::References(part) => part.is_between_fields(),
-            SpanHeld::Tags(part) => part.is_between_fields(),
-            SpanHeld::Logs(part) => part.is_between_fields(),
+            SpanFieldPart::References(part) => part.is_between_fields(),
+            SpanFieldPart::Tags(part) => part.is_between_fields(),
+            SpanFieldPart::Logs(part) => part.is_between_fields(),
             _ => false,
         }
     }
@@ -130,7 +130,7 @@ impl Slots for SpanSlots {
 impl Fields for SpanSlots {
     fn enter(
         &mut self,
-        next: &mut Option<Step<SpanHeld>>,
+        next: &mut Option<Step<SpanFieldPart>>,
         code: u8,
         id: i16,
         alloc: Global,
@@ -140,13 +140,13 @@ impl Fields for SpanSlots {
             (LIST, 6) => enter_list(
                 &mut self.references,
                 next,
-                SpanHeld::References,
+                SpanFieldPart::References,
                 alloc,
                 piece,
             ),
-            (LIST, 10) => enter_list(&mut self.tags, next, SpanHeld::Tags, alloc, piece),
-            (LIST, 11) => enter_list(&mut self.logs, next, SpanHeld::Logs, alloc, piece),
-            _ => enter_slowly(self, next, code, id, alloc, piece),
+            (LIST, 10) => enter_list(&mut self.tags, next, SpanFieldPart::Tags, alloc, piece),
+            (LIST, 11) => enter_list(&mut self.logs, next, SpanFieldPart::Logs, alloc, piece),
+            _ => enter_in_pieces(self, next, code, id, alloc, piece),
         }
     }
 

@@ -6,7 +6,7 @@ ghost use Rattle.batch_feeder.specs.Continuing.{BeginsValue};
 ghost use Rattle.batch_feeder.specs.Fields.{made_of, struct_at, struct_from};
 ghost use Rattle.batch_feeder.specs.LeastBytes.{IsPart};
 
-use crate::fields::{Fields, Slots, Step, enter_fields, is_truncated, more_fields};
+use crate::fields::{Fields, PieceSlots, Step, enter_fields, is_truncated, more_fields};
 use crate::partial::{Item, Partial};
 use batch_codec::Decoded;
 use std::alloc::Global;
@@ -14,11 +14,11 @@ use std::mem;
 use thrift_binary::Cursor;
 use wire_pieces::FieldHead;
 
-/// A struct of which some bytes have come.
+/// A partially received struct.
 #[derive(Drop)]
-pub(crate) struct Struct<S: Slots> {
+pub(crate) struct Struct<S: PieceSlots> {
     slots: S,
-    step: Step<S::Held>,
+    step: Step<S::FieldPart>,
 }
 
 impl<S: Fields> Partial for Struct<S> {
@@ -43,8 +43,8 @@ impl<S: Fields> Item for Struct<S> {
 
     ghost ends = { λ p. S.makes p.slots };
 
-    fn least() -> usize {
-        S::least()
+    fn min_bytes() -> usize {
+        S::min_bytes()
     }
 
     fn is_between_fields(&self) -> bool {
@@ -83,7 +83,7 @@ impl<S: Fields> Item for Struct<S> {
     }
 }
 
-/// Begins a struct over a piece, field by field.
+/// Begins a struct in a piece, field by field.
 fn begin_fields<S: Fields>(
     part: &mut Option<Struct<S>>,
     alloc: Global,
@@ -106,10 +106,10 @@ fn begin_fields<S: Fields>(
     }
 }
 
-/// What was gathered, and the step that it came to. It stands apart, so that a struct that is whole costs no such part.
+/// Returns the fields so far and the next step. It isn't inlined, so that a complete struct costs no such part.
 #[inline(never)]
-fn hold<S: Slots>(part: &mut Option<Struct<S>>, slots: S, next: Option<Step<S::Held>>)
-    ensures { (s : Step S.Held) → next ≡ Some s →
+fn hold<S: PieceSlots>(part: &mut Option<Struct<S>>, slots: S, next: Option<Step<S::FieldPart>>)
+    ensures { (s : Step S.FieldPart) → next ≡ Some s →
         part.new ≡ Some (record { slots = slots; step = s }) }
 {
     if let Some(step) = next {
@@ -117,9 +117,9 @@ fn hold<S: Slots>(part: &mut Option<Struct<S>>, slots: S, next: Option<Step<S::H
     }
 }
 
-/// The struct of fields that are whole.
+/// Returns the struct of complete fields.
 #[inline(always)]
-fn made<S: Slots>(slots: S) -> Decoded<Option<S::Output>>
+fn made<S: PieceSlots>(slots: S) -> Decoded<Option<S::Output>>
     ensures { result ≡ made_of S.makes slots }
 {
     match slots.whole() {
@@ -128,8 +128,8 @@ fn made<S: Slots>(slots: S) -> Decoded<Option<S::Output>>
     }
 }
 
-impl<S: Slots> Struct<S> {
-    /// Whether it stands between two fields of the innermost struct that has begun.
+impl<S: PieceSlots> Struct<S> {
+    /// Whether it is between two fields of the innermost struct that has begun.
     pub(crate) fn is_between(&self) -> bool
         ensures wants { result ≡ true → (w : List ℕ) → IsPart w →
             struct_from S.takes S.resumes S.makes self.now.slots self.now.step w ≡
@@ -141,7 +141,7 @@ impl<S: Slots> Struct<S> {
         }
     }
 
-    /// Before the first byte.
+    /// Returns the state before the first byte.
     pub(crate) fn new(alloc: Global) -> Self
         ensures { (w : List ℕ) → struct_from S.takes S.resumes S.makes result.slots result.step w ≡
             struct_at S.takes S.none S.makes w }
@@ -152,8 +152,8 @@ impl<S: Slots> Struct<S> {
         }
     }
 
-    /// Takes the struct of its fields, which are whole, and stands before the first byte of another. It stands apart, so
-    /// that a call that continues inside a field has no place for a struct on its stack.
+    /// Takes the struct of its complete fields, and resets the state to before the first byte of another. It isn't
+    /// inlined, so that a call that continues inside a field has no struct in its stack frame.
     #[inline(never)]
     fn take_made(&mut self, alloc: Global) -> Decoded<S::Output>
         ensures made { result ≡ S.makes self.old.slots }

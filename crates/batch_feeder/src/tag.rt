@@ -1,13 +1,13 @@
 ghost use Rattle.std.specs.Prelude.{◌≡◌};
 
 use crate::enums::TypePart;
-use crate::fields::{Fields, Slots};
+use crate::fields::{Fields, PieceSlots};
 use crate::partial::place;
 use crate::skipped::SkipPart;
 use crate::texts::{BinaryPart, TextPart};
 use crate::values::{BoolPart, DoublePart, I64Part};
 use batch_codec::{
-    Decoded, LEAST_TAG, Part, TagType, read_bool, read_double, read_i64, read_owned_binary,
+    Decoded, MIN_TAG_BYTES, Part, TagType, read_bool, read_double, read_i64, read_owned_binary,
     read_owned_text, read_type, required,
 };
 use jaeger_model::{Seq, Tag, TagValue, Text, Value};
@@ -16,7 +16,7 @@ use std::marker::Model;
 use thrift_binary::Cursor;
 use thrift_binary::types::{BOOL, DOUBLE, I32, I64, STRING};
 
-/// What was gathered of a tag so far.
+/// The fields of a tag that were read so far.
 #[derive(Drop)]
 pub(crate) struct TagParts {
     key: Option<Text>,
@@ -44,9 +44,9 @@ impl Model for TagParts {
     } };
 }
 
-/// The value of a field of a tag, of which some bytes have come.
+/// The partially received value of a field of a tag.
 #[derive(Drop)]
-pub(crate) enum TagHeld {
+pub(crate) enum TagFieldPart {
     Key(TextPart),
     Kind(TypePart),
     Text(TextPart),
@@ -57,15 +57,15 @@ pub(crate) enum TagHeld {
     Skip(SkipPart),
 }
 
-impl Slots for TagParts {
-    ghost use Rattle.batch_codec.specs.Gathered.{no_tag};
+impl PieceSlots for TagParts {
+    ghost use Rattle.batch_codec.specs.EmptySlots.{no_tag};
     ghost use Rattle.batch_codec.specs.TagReading.{take_tag, tag_from};
     ghost use Rattle.batch_codec.proofs.AtStop.{tag_missing, never_short};
     ghost use Rattle.batch_codec.proofs.CutBatches.{take_tag_safe};
     ghost use Rattle.batch_feeder.specs.Tags.{tag_continues};
     ghost use Rattle.batch_feeder.specs.ShortFields.{take_tag_short};
 
-    type Held = TagHeld;
+    type FieldPart = TagFieldPart;
 
     type Output = Tag;
 
@@ -77,8 +77,8 @@ impl Slots for TagParts {
 
     ghost makes = { tag_from };
 
-    fn least() -> usize {
-        LEAST_TAG
+    fn min_bytes() -> usize {
+        MIN_TAG_BYTES
     }
 
     fn start(alloc: Global) -> Self {
@@ -110,33 +110,38 @@ impl Slots for TagParts {
     }
 
     #[tactic(auto, unfolding(batch_codec::specs::TagReading::take_tag))]
-    fn begin(&self, code: u8, id: i16, alloc: Global) -> TagHeld {
+    fn begin(&self, code: u8, id: i16, alloc: Global) -> TagFieldPart {
         match (code, id) {
-            (STRING, 1) => TagHeld::Key(TextPart::new()),
-            (I32, 2) => TagHeld::Kind(TypePart::new()),
-            (STRING, 3) => TagHeld::Text(TextPart::new()),
-            (DOUBLE, 4) => TagHeld::Double(DoublePart::new()),
-            (BOOL, 5) => TagHeld::Boolean(BoolPart::new()),
-            (I64, 6) => TagHeld::Long(I64Part::new()),
-            (STRING, 7) => TagHeld::Binary(BinaryPart::new()),
-            _ => TagHeld::Skip(SkipPart::new(alloc, code)),
+            (STRING, 1) => TagFieldPart::Key(TextPart::new()),
+            (I32, 2) => TagFieldPart::Kind(TypePart::new()),
+            (STRING, 3) => TagFieldPart::Text(TextPart::new()),
+            (DOUBLE, 4) => TagFieldPart::Double(DoublePart::new()),
+            (BOOL, 5) => TagFieldPart::Boolean(BoolPart::new()),
+            (I64, 6) => TagFieldPart::Long(I64Part::new()),
+            (STRING, 7) => TagFieldPart::Binary(BinaryPart::new()),
+            _ => TagFieldPart::Skip(SkipPart::new(alloc, code)),
         }
     }
 
-    fn more(&mut self, held: &mut TagHeld, alloc: Global, piece: &mut Cursor<'_>) -> Decoded<bool> {
+    fn more(
+        &mut self,
+        held: &mut TagFieldPart,
+        alloc: Global,
+        piece: &mut Cursor<'_>,
+    ) -> Decoded<bool> {
         match held {
-            TagHeld::Key(part) => place(part, &mut self.key, alloc, piece),
-            TagHeld::Kind(part) => place(part, &mut self.kind, alloc, piece),
-            TagHeld::Text(part) => place(part, &mut self.text, alloc, piece),
-            TagHeld::Double(part) => place(part, &mut self.double, alloc, piece),
-            TagHeld::Boolean(part) => place(part, &mut self.boolean, alloc, piece),
-            TagHeld::Long(part) => place(part, &mut self.long, alloc, piece),
-            TagHeld::Binary(part) => place(part, &mut self.binary, alloc, piece),
-            TagHeld::Skip(part) => place(part, &mut (), alloc, piece),
+            TagFieldPart::Key(part) => place(part, &mut self.key, alloc, piece),
+            TagFieldPart::Kind(part) => place(part, &mut self.kind, alloc, piece),
+            TagFieldPart::Text(part) => place(part, &mut self.text, alloc, piece),
+            TagFieldPart::Double(part) => place(part, &mut self.double, alloc, piece),
+            TagFieldPart::Boolean(part) => place(part, &mut self.boolean, alloc, piece),
+            TagFieldPart::Long(part) => place(part, &mut self.long, alloc, piece),
+            TagFieldPart::Binary(part) => place(part, &mut self.binary, alloc, piece),
+            TagFieldPart::Skip(part) => place(part, &mut (), alloc, piece),
         }
     }
 
-    fn is_between_fields(_held: &TagHeld) -> bool {
+    fn is_between_fields(_held: &TagFieldPart) -> bool {
         false
     }
 

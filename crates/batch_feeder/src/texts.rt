@@ -9,7 +9,7 @@ use std::alloc::Global;
 use thrift_binary::{Cursor, WireError};
 use wire_pieces::StringPart;
 
-/// A string, which has to be UTF-8. It is judged once, when its last byte has come.
+/// A string, which must be UTF-8. It is validated once, when its last byte has arrived.
 #[derive(Drop)]
 pub(crate) struct TextPart {
     part: StringPart,
@@ -33,7 +33,7 @@ impl Partial for TextPart {
 }
 
 impl TextPart {
-    /// Before the first byte.
+    /// Returns the state before the first byte.
     #[tactic(auto, unfolding(batch_codec::specs::Decoding::text_at))]
     pub(crate) fn new() -> Self
         ensures fresh { (w : List ℕ) → text_part result w ≡ text_at w }
@@ -65,7 +65,7 @@ impl Partial for BinaryPart {
 }
 
 impl BinaryPart {
-    /// Before the first byte.
+    /// Returns the state before the first byte.
     #[tactic(auto, unfolding(batch_codec::specs::Decoding::binary_at))]
     pub(crate) fn new() -> Self
         ensures fresh { (w : List ℕ) → binary_part result w ≡ binary_at w }

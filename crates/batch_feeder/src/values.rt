@@ -12,7 +12,7 @@ use byteorder::{BigEndian, ByteOrder};
 use std::alloc::Global;
 use std::marker::PhantomData;
 use thrift_binary::Cursor;
-use wire_pieces::{Bool, Gathered};
+use wire_pieces::{Bool, PartialBytes};
 
 /// A bool.
 #[derive(Drop)]
@@ -34,7 +34,7 @@ impl Partial for BoolPart {
 }
 
 impl BoolPart {
-    /// Before the first byte.
+    /// Returns the state before the first byte.
     #[tactic(auto, unfolding(batch_codec::specs::Decoding::bool_at))]
     pub(crate) fn new() -> Self
         ensures fresh { (w : List ℕ) → bool_from result w ≡ bool_at w }
@@ -43,24 +43,24 @@ impl BoolPart {
     }
 }
 
-/// A value that is spelled by N bytes, whatever it is. Some bytes may be a fault.
+/// A value that is encoded in N bytes. Some bytes may be a fault.
 pub(crate) trait Fixed<const N: usize>: Drop + Sized {
-    /// What is read of bytes that begin with it.
+    /// What is read from bytes that begin with it.
     ghost at: { List ℕ → Result (Self × List ℕ) DecodeError };
 
-    /// What the bytes spell.
+    /// Returns the value that the bytes spell.
     fn of(bytes: &[u8; N]) -> Decoded<Self>
         ensures spells { (w : List ℕ) → at (bytes.now ++ w) ≡ ended result w }
         ensures no_want { result ≡ Err (Wire Truncated) → ⊥ };
 
-    /// Fewer bytes are too few.
+    /// Reading fewer than N bytes is too few bytes.
     ghost few: { (w : List ℕ) → length w < N → at w ≡ Err (Wire Truncated) };
 }
 
-/// Such a value of which some bytes have come.
+/// A partially received value of N bytes.
 #[derive(Drop)]
 pub(crate) struct FixedPart<V, const N: usize> {
-    bytes: Gathered<N>,
+    bytes: PartialBytes<N>,
     value: PhantomData<V>,
 }
 
@@ -81,13 +81,13 @@ impl<V: Fixed<N>, const N: usize> Partial for FixedPart<V, N> {
 }
 
 impl<V: Fixed<N>, const N: usize> FixedPart<V, N> {
-    /// Before the first byte.
+    /// Returns the state before the first byte.
     pub(crate) fn new() -> Self
         requires some { 0 < N }
         ensures fresh { (w : List ℕ) → V.at (result.bytes ++ w) ≡ V.at w }
     {
         FixedPart {
-            bytes: Gathered::new(),
+            bytes: PartialBytes::new(),
             value: PhantomData,
         }
     }
@@ -147,7 +147,7 @@ impl Fixed<8> for i64 {
     ghost few = { i64_few };
 }
 
-/// An id, which the wire has as a signed number.
+/// An id, which is a signed number on the wire.
 impl Fixed<8> for u64 {
     ghost use Rattle.batch_codec.specs.Decoding.{id_at};
     ghost use Rattle.batch_feeder.specs.ShortValues.{id_few};

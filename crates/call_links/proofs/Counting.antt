@@ -26,7 +26,7 @@ number_total = then_total (on_total (λ (c : Numbers). c.0) nat_cmp_total) (on_t
 pub number_exact : (x y : Numbers) → number_cmp x y ≡ Equal → x ≡ y
 number_exact = exact_pairs nat_cmp nat_cmp exact_unsigned exact_unsigned
 
--- ---- how often a pair of numbers is met
+-- ---- the count of a pair of numbers
 -- the test of two pairs of numbers is the tie of their order
 same_is : (c k : Numbers) → same_numbers c k ≡ is_eq (number_cmp c k)
 same_is c k = (λ i. unsigned_ties c.0 k.0 i && unsigned_ties c.1 k.1 i) ∙ sym (then_eq (nat_cmp c.0 k.0) (nat_cmp c.1 k.1))
@@ -54,7 +54,7 @@ or_none : (b : Bool) (n : ℕ) (t : Texts) → (b ≡ false → n ≡ 0) → unw
 or_none true n t h = refl
 or_none false n t h = sym (h refl)
 
--- how often a call was counted so far, by what is kept
+-- the count of a call so far, by the table
 so_far_seen : (es : List (Numbers × Tally)) (k : Numbers) → so_far (tallies_seen es) k ≡ unwrap_or (option_map (λ (t : Tally). t.calls) (lookup (is_at (number_cmp k)) es)) 0
 so_far_seen [] k = refl
 so_far_seen (e ∷ es) k = elim (is_eq (number_cmp k e.0)) as (λ b. unwrap_or (option_map (λ (t : Texts × ℕ). t.1) (cond b (Some (tally_seen e).1) (lookup (is_at (number_cmp k)) (tallies_seen es)))) 0 ≡ unwrap_or (option_map (λ (t : Tally). t.calls) (cond b (Some e.1) (lookup (is_at (number_cmp k)) es))) 0) [
@@ -62,15 +62,15 @@ so_far_seen (e ∷ es) k = elim (is_eq (number_cmp k e.0)) as (λ b. unwrap_or (
   | false ↦ so_far_seen es k
 ]
 
--- one tally put in
+-- one tally inserted
 pub tally_put : (es : List (Numbers × Tally)) (k : Numbers) (t : Tally) → tallies_seen (insert_entry number_cmp es k t) ≡ insert_entry number_cmp (tallies_seen es) k (tally_seen (k, t)).1
-tally_put es k t = insert_through number_cmp (λ n. n) (λ (t : Tally). ((text_in t.caller.now.span, text_in t.callee.now.span), t.calls)) es k t
+tally_put es k t = insert_through number_cmp (λ n. n) (λ (t : Tally). ((text_in t.caller.span, text_in t.callee.span), t.calls)) es k t
 
 pub call_put : (es : List (Numbers × Tally)) (c : SeenCall) (calls : ℕ) → calls ≡ unwrap_or (option_map (λ (t : Tally). t.calls) (lookup (is_at (number_cmp (numbers_called (numbered_call c)))) es)) 0 + 1
-    → tallies_seen (insert_entry number_cmp es (numbers_called (numbered_call c)) (record { caller = c.0; callee = c.1; calls = calls })) ≡ with_call (tallies_seen es) (numbered_call c)
+    → tallies_seen (insert_entry number_cmp es (numbers_called (numbered_call c)) (record { caller = c.0.now; callee = c.1.now; calls = calls })) ≡ with_call (tallies_seen es) (numbered_call c)
 call_put es c calls e =
     let k = numbers_called (numbered_call c) in
-    tally_put es k (record { caller = c.0; callee = c.1; calls = calls })
+    tally_put es k (record { caller = c.0.now; callee = c.1.now; calls = calls })
     ∙ ap (λ n. insert_entry number_cmp (tallies_seen es) k (texts_called (numbered_call c), n)) (e ∙ ap (λ n. n + 1) (sym (so_far_seen es k)))
 
 -- ---- calls one by one
@@ -78,7 +78,7 @@ module _ (text : ℕ → List ℕ) (number : List ℕ → ℕ) where
   abbrev values : List Numbers → Numbers → Texts × ℕ
   values ns k = (texts_for text k, times ns k)
 
-  -- how often a call was counted so far
+  -- the count of a call so far
   counted_so_far : (ns : List Numbers) (c : Numbers) → so_far (tally_of text ns) c ≡ times ns c
   counted_so_far ns c =
       ap (λ l. unwrap_or (option_map (λ (x : Texts × ℕ). x.1) (lookup (is_at (number_cmp c)) l)) 0) (paired_is number_total number_exact (values ns) (sorted_set number_cmp ns))

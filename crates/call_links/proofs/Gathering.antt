@@ -1,5 +1,5 @@
 -- Calls by a table of services, and the table as it grows.
-use Rattle.std.proofs.Common.{◌≡◌, ℕ, ◌+◌, ◌<◌, true, false, cond, List, [], ◌∷◌, ◌++◌, take, length, get_or, refl, sym, ap, ◌∙◌, eqb-true}
+use Rattle.std.proofs.Common.{◌≡◌, ℕ, ◌+◌, ◌<◌, Bool, true, false, cond, List, [], ◌∷◌, ◌++◌, take, length, get_or, refl, sym, ap, ◌∙◌, eqb-true}
 use Rattle.std.specs.Prelude.{Option, Some, None, option_map, is_some, find, ◌==◌, if◌then◌else◌}
 use Rattle.std.specs.Option.{option_or}
 use Rattle.std.specs.List.{filter_map, cons_option}
@@ -70,13 +70,25 @@ pub services_kept : (q id : ℕ) (g : ℕ → Option (Bor Taken)) (xs : List Tak
 services_kept q id g xs i x l e own inv some =
     kept (services_by g) id q (service_in x) (id == q) (eqb-true id q) (is_some-map service_seen (g id) ∙ some) ∙ service_more q id xs i x (services_by g q) l e own (inv q)
 
+-- the first span with an id that is put back leaves the table as it was
+pub put_back : (q id : ℕ) (g : ℕ → Option (Bor Taken)) (o p : Option (Bor Taken)) (v before : Bor Taken) → o ≡ cond (is_eq (nat_cmp id q)) (Some v) (g q) → p ≡ cond (is_eq (nat_cmp id q)) (Some before) o
+    → Some before ≡ g id → p ≡ g q
+put_back q id g o p v before put again had =
+    again ∙ ap (cond (is_eq (nat_cmp id q)) (Some before)) put
+    ∙ ap (λ b. cond b (Some before) (cond b (Some v) (g q))) (sym (unsigned_ties id q))
+    ∙ by (id == q) (eqb-true id q)
+  where
+    by : (b : Bool) → (b ≡ true → id ≡ q) → cond b (Some before) (cond b (Some v) (g q)) ≡ g q
+    by true same = had ∙ ap g (same refl)
+    by false same = refl
+
 -- ---- calls by a table
 pub call_at : (t : ℕ → Option NumberedService) (n id : ℕ) (o : Option Placed) → Some id ≡ option_map (λ (p : Placed). (parent p.span).0) o
     → call_by t (record { span = o; number = n }) ≡ (if id == 0 then None else call_between (t id) (n, text_in o))
 call_at t n id None e = absurd cc
 call_at t n id (Some p) e = let same : (parent p.span).0 ≡ id = cc e in ap (λ k. if k == 0 then None else call_between (t k) (n, p.process.service)) same
 
--- a table of the services of the first spans gives the calls of the trace
+-- a table of the services of the first spans yields the calls of the trace
 same_filter_map : {X Y : Type 0} (f g : X → Option Y) → ((x : X) → f x ≡ g x) → (xs : List X) → filter_map f xs ≡ filter_map g xs
 same_filter_map f g h [] = refl
 same_filter_map f g h (x ∷ xs) = λ i. cons_option (h x i) (same_filter_map f g h xs i)

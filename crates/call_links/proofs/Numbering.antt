@@ -20,7 +20,7 @@ module _ (text : ℕ → List ℕ) (number : List ℕ → ℕ) where
   abbrev Stands : NumberedService → Type 0
   Stands t = StandsFor text number t
 
-  -- two services have one number where they have one text
+  -- two services have the same number if they have the same text
   pub same_by_number : (a b : NumberedService) → Stands a → Stands b → (a.0 == b.0) ≡ same_text a.1 b.1
   same_by_number a b p q = same_where a.0 b.0 a.1 b.1 (λ one. sym p.1 ∙ ap text one ∙ q.1) (λ one. p.0 ∙ ap number one ∙ sym q.0)
 

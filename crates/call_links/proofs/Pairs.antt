@@ -1,4 +1,4 @@
--- Lists of pairs in order of their keys, and what becomes of them by one pair more.
+-- Lists of pairs in order of their keys, and their changes by one more pair.
 use Rattle.std.proofs.Common.{◌≡◌, false, ◌||◌, cond, List, [], ◌∷◌, map, refl, sym, ap, ◌∙◌}
 use Rattle.std.specs.Prelude.{fold, Some, None}
 use Rattle.std.specs.List.{AllByRecursion}
@@ -50,7 +50,7 @@ module _ {K V : Type 0} {cmp : K → K → Ordering} (o : IsTotalOrder cmp) (exa
   same_where_apart f g c h [] a = refl
   same_where_apart f g c h (k ∷ ks) a = λ i. (k, h k a.0 i) ∷ same_where_apart f g c h ks a.1 i
 
-  -- one more key, where only its own value changes
+  -- one more key, if only its own value changes
   pub insert_paired : (f g : K → V) (c : K) (v : V) → ((k : K) → is_eq (cmp c k) ≡ false → g k ≡ f k) → g c ≡ v → (ks : List K) → IsStrictlySortedBy cmp ks → paired g (insert_once cmp ks c) ≡ insert_entry cmp (paired f ks) c v
   unfolding IsStrictlySortedBy
   insert_paired f g c v h e [] r = λ i. (c, e i) ∷ []
@@ -81,7 +81,7 @@ module _ {K V : Type 0} {cmp : K → K → Ordering} (o : IsTotalOrder cmp) (exa
       paired_is f (insert_once cmp ks c) ∙ insert_paired f f c (f c) (λ k _. refl) refl ks r
       ∙ ap (λ l. insert_entry cmp l c (f c)) (sym (paired_is f ks))
 
-  -- pairs whose values follow from their keys, put one by one
+  -- pairs whose values follow from their keys, inserted one by one
   put_from : (f : K → V) (ks base : List K) → IsStrictlySortedBy cmp base → fold (put cmp) (with_values f base) (with_values f ks) ≡ with_values f (fold (insert_once cmp) base ks)
   put_from f [] base r = refl
   put_from f (k ∷ ks) base r =

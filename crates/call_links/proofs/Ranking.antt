@@ -32,9 +32,9 @@ use Rattle.call_links.proofs.Numbering.{same_by_number}
 use Rattle.call_links.proofs.Pairs.{insert_through, put, with_values, put_all, each_in_set}
 use Rattle.call_links.proofs.Counting.{number_exact}
 
--- ---- what is put into the tables
-pub service_put : (es : List (ℕ × Bor Taken)) (n : ℕ) (s : Bor Taken) → map service_entry (insert_entry nat_cmp es n s) ≡ insert_entry nat_cmp (map service_entry es) n (text_in s.now.span)
-service_put es n s = insert_through nat_cmp (λ n. n) (λ (s : Bor Taken). text_in s.now.span) es n s
+-- ---- what is inserted into the tables
+pub service_put : (es : List (ℕ × Taken)) (n : ℕ) (s : Taken) → map service_entry (insert_entry nat_cmp es n s) ≡ insert_entry nat_cmp (map service_entry es) n (text_in s.span)
+service_put es n s = insert_through nat_cmp (λ n. n) (λ (s : Taken). text_in s.span) es n s
 
 pub name_put : (es : List (Bor Text × ℕ)) (t : Bor Text) (n : ℕ) → map name_entry (insert_entry (λ (a b : Bor Text). text_cmp a.now b.now) es t n) ≡ insert_entry text_cmp (map name_entry es) t.now n
 name_put es t n = insert_through text_cmp (λ (t : Bor Text). t.now) (λ n. n) es t n
@@ -60,7 +60,7 @@ rank_entered n g o ks i k l e inv none put =
 pub rank_kept : (n : ℕ) (g : ℕ → Option ℕ) (ks : List ℕ) (i k : ℕ) → i < length ks → k ≡ get_or ks i 0 → ((m : ℕ) → g m ≡ rank_of (take i ks) m) → is_some (g k) ≡ true → g n ≡ rank_of (take (i + 1) ks) n
 rank_kept n g ks i k l e inv some = kept g k n i (k == n) (eqb-true k n) some ∙ rank_more n ks i k (g n) l e (inv n)
 
--- ---- the place of a key in a list that rises
+-- ---- the place of a key in an ascending list
 abbrev pub place : {K : Type 0} → (K → K → Ordering) → List K → K → ℕ
 place cmp [] q = 0
 place cmp (x ∷ xs) q = cond (is_eq (cmp q x)) 0 (suc (place cmp xs q))
@@ -105,7 +105,7 @@ module _ {K : Type 0} {cmp : K → K → Ordering} (o : IsTotalOrder cmp) (exact
     | Greater ↦ λ r g. absurd (false≢true g)
   ] refl e
 
-  -- each of two keys is the first of the list, or behind it
+  -- each of two keys is the first of the list, or after it
   two_placed : (x : K) (xs : List K) (p q : K) (a b : Bool) → is_eq (cmp p x) ≡ a → is_eq (cmp q x) ≡ b → Below cmp x xs → (a || has cmp p xs) ≡ true → (b || has cmp q xs) ≡ true
       → (has cmp p xs ≡ true → has cmp q xs ≡ true → nat_cmp (place cmp xs p) (place cmp xs q) ≡ cmp p q)
       → nat_cmp (cond a 0 (suc (place cmp xs p))) (cond b 0 (suc (place cmp xs q))) ≡ cmp p q
@@ -175,7 +175,7 @@ or_true : (a b : Bool) → b ≡ true → (a || b) ≡ true
 or_true true b e = refl
 or_true false b e = e
 
--- ---- the ranks of numbers that stand for services
+-- ---- the ranks of numbers that represent services
 module _ (text : ℕ → List ℕ) (number : List ℕ → ℕ) where
   abbrev Own : ℕ → Type 0
   Own n = n ≡ number (text n)

@@ -10,8 +10,8 @@ use Rattle.trace_model.specs.declared.answer.Link.{Link}
 use Rattle.call_links.specs.Seen.{NumberedService, text_in}
 use Rattle.call_links.specs.Tallies.{Numbers, Texts, Tallies, number_cmp}
 
-abbrev pub service_entry : ℕ × Bor Taken → NumberedService
-service_entry e = (e.0, text_in e.1.now.span)
+abbrev pub service_entry : ℕ × Taken → NumberedService
+service_entry e = (e.0, text_in e.1.span)
 
 -- the services of the tallies, in order of their numbers
 abbrev pub with_services : List NumberedService → Numbers × (Texts × ℕ) → List NumberedService

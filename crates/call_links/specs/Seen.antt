@@ -1,4 +1,4 @@
--- Services and calls of spans that were taken out, each service with the number that stands for it.
+-- Services and calls of spans that were collected, each service with the number that represents it.
 use Rattle.std.specs.Prelude.{◌≡◌, ℕ, Bool, false, List, [], map, flat_map, filter_map, find, Option, Some, None, option_map, if◌then◌else◌, ◌==◌, IfSome}
 use Rattle.std.specs.List.{All, AllByRecursion}
 use denote.Ref.{Bor}
@@ -12,7 +12,7 @@ use Rattle.trace_model.specs.Taking.{Taken}
 abbrev pub NumberedService : Type 0
 NumberedService = ℕ × List ℕ
 
--- the service of a span, where there is one
+-- the service of a span, if there is one
 abbrev pub text_in : Option Placed → List ℕ
 text_in None = []
 text_in (Some p) = p.process.service
@@ -40,12 +40,12 @@ NumberedCall = NumberedService × NumberedService
 abbrev pub numbered_call : SeenCall → NumberedCall
 numbered_call c = (service_seen c.0, service_seen c.1)
 
--- services with one number do not call one another
+-- services with one number do not call each other
 abbrev pub call_between : Option NumberedService → NumberedService → Option NumberedCall
 call_between None callee = None
 call_between (Some caller) callee = if caller.0 == callee.0 then None else Some (caller, callee)
 
--- the call that a span stands for, where a table has the services of the spans by their ids
+-- the call that a span represents, if a table has the services of the spans by their ids
 abbrev pub call_in : (ℕ → Option NumberedService) → ℕ → Option Placed → Option NumberedCall
 call_in service number None = None
 call_in service number (Some p) = if (parent p.span).0 == 0 then None else call_between (service (parent p.span).0) (number, p.process.service)
@@ -60,11 +60,11 @@ calls_in_trace ss = filter_map (call_by (λ id. service_of id ss)) ss
 abbrev pub calls_in_traces : List (List Taken) → List NumberedCall
 calls_in_traces ts = flat_map calls_in_trace ts
 
--- how often each service of the traces called each other one
+-- the number of calls from each service of the traces to each other one
 abbrev pub links_in : List (List Placed) → List Link
 links_in ts = counted (flat_map calls_of ts)
 
--- the spans that were taken out
+-- the spans that were collected
 abbrev pub placed_all : List Taken → List Placed
 placed_all ss = filter_map (λ s. s.span) ss
 
@@ -75,7 +75,7 @@ texts_called c = (c.0.1, c.1.1)
 abbrev pub numbers_called : NumberedCall → ℕ × ℕ
 numbers_called c = (c.0.0, c.1.0)
 
--- ---- numbers that stand for services
+-- ---- numbers that represent services
 -- the number is its text's, and the text its number's
 abbrev pub StandsFor : (ℕ → List ℕ) → (List ℕ → ℕ) → NumberedService → Type 0
 StandsFor text number t = (t.0 ≡ number t.1) × (text t.0 ≡ t.1)
@@ -89,6 +89,6 @@ IsNumberedBy text number s = IfSome s.span (λ (p : Placed). StandsFor text numb
 abbrev pub AreNumberedBy : (ℕ → List ℕ) → (List ℕ → ℕ) → List (List Taken) → Type 0
 AreNumberedBy text number ts = All (λ (t : List Taken). All (IsNumberedBy text number) t) ts
 
--- each service of the spans has one number, and each number stands for one service
+-- each service of the spans has one number, and each number represents one service
 abbrev pub AreNumbered : List (List Taken) → Type 0
 AreNumbered ts = (text : ℕ → List ℕ) × ((number : List ℕ → ℕ) × AreNumberedBy text number ts)

@@ -18,19 +18,19 @@ number_cmp a b = ordering_then (nat_cmp a.0 b.0) (nat_cmp a.1 b.1)
 abbrev pub same_numbers : Numbers → Numbers → Bool
 same_numbers a b = (a.0 == b.0) && (a.1 == b.1)
 
--- how many of the pairs are this one
+-- the number of pairs that are this one
 abbrev pub times : List Numbers → Numbers → ℕ
 times ns k = count_by (same_numbers k) ns
 
 abbrev pub Texts : Type 0
 Texts = List ℕ × List ℕ
 
--- each pair of numbers with a call, its texts and how often it was counted, in order of the numbers
+-- each pair of numbers with a call, its texts and its count, in order of the numbers
 abbrev pub Tallies : Type 0
 Tallies = List (Numbers × (Texts × ℕ))
 
 abbrev pub tally_seen : Numbers × Tally → Numbers × (Texts × ℕ)
-tally_seen e = (e.0, ((text_in e.1.caller.now.span, text_in e.1.callee.now.span), e.1.calls))
+tally_seen e = (e.0, ((text_in e.1.caller.span, text_in e.1.callee.span), e.1.calls))
 
 abbrev pub tallies_seen : List (Numbers × Tally) → Tallies
 tallies_seen es = map tally_seen es
@@ -49,7 +49,7 @@ with_trace es t = fold with_call es (calls_in_trace t)
 abbrev pub tallied : List (List Taken) → Tallies
 tallied ts = fold with_trace [] ts
 
--- ---- what they are, where numbers stand for these texts
+-- ---- the links, if the numbers represent these texts
 abbrev pub texts_for : (ℕ → List ℕ) → Numbers → Texts
 texts_for text k = (text k.0, text k.1)
 

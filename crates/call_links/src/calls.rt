@@ -6,54 +6,53 @@ ghost use Rattle.std.specs.BTreeMap.{get};
 ghost use Rattle.jaeger_model.specs.Parents.{parent};
 ghost use Rattle.call_links.specs.Seen.{service_seen, service_of, numbered_call, call_by};
 
+use crate::numbered_span::NumberedSpan;
 use jaeger_model::parent_of;
 use std::alloc::{AllocError, Global};
 use std::collections::BTreeMap;
-use trace_model::TakenSpan;
 
 /// A span of a service, and a span of another service that it calls.
-pub(crate) type Call<'a> = (&'a TakenSpan, &'a TakenSpan);
+pub(crate) type Call<'t, 'a> = (&'t NumberedSpan<'a>, &'t NumberedSpan<'a>);
 
-/// The id of a span.
+/// Returns the id of a span.
 #[tactic(auto, using(crate::proofs::Gathering::id_kept))]
-fn span_id(span: &TakenSpan) -> u64
+fn span_id(span: &NumberedSpan<'_>) -> u64
     ensures { Some result ≡ option_map (λ p. p.span.id.0) span.now.span }
 {
     span.seen().span.id.0
 }
 
-/// The id of a span's parent, 0 where it has none.
+/// Returns the id of a span's parent, or 0 if it has none.
 #[tactic(auto, using(crate::proofs::Gathering::parent_kept))]
-fn parent_id(span: &TakenSpan) -> u64
+fn parent_id(span: &NumberedSpan<'_>) -> u64
     ensures { Some result ≡ option_map (λ p. (parent p.span).0) span.now.span }
 {
     parent_of(span.seen().span).0
 }
 
-/// The first span of the trace with each id.
-pub(crate) fn first_spans(
+/// Returns the first span of the trace with each id.
+pub(crate) fn first_spans<'t, 'a>(
     alloc: Global,
-    trace: &[TakenSpan],
-) -> Result<BTreeMap<u64, &TakenSpan>, AllocError>
+    trace: &'t [NumberedSpan<'a>],
+) -> Result<BTreeMap<u64, &'t NumberedSpan<'a>>, AllocError>
     ensures { IfOk result (λ m. (id : ℕ) →
         option_map service_seen (get nat_cmp m id) ≡ service_of id trace.now) }
 {
     let mut first = BTreeMap::new(alloc);
     for span in trace {
         let id = span_id(span);
-        if !first.contains_key(&id) {
-            first.insert(id, span)?;
+        if let Some(before) = first.insert(id, span)? {
+            first.insert(id, before)?;
         }
     }
     Ok(first)
 }
 
-/// The call that a span stands for, if its parent is in the table and of another service. No text is
-/// looked at.
-pub(crate) fn call_to<'a>(
-    first: &BTreeMap<u64, &'a TakenSpan>,
-    span: &'a TakenSpan,
-) -> Option<Call<'a>>
+/// Returns the call that a span represents, if its parent is in the table and of another service. Reads no text.
+pub(crate) fn call_to<'t, 'a>(
+    first: &BTreeMap<u64, &'t NumberedSpan<'a>>,
+    span: &'t NumberedSpan<'a>,
+) -> Option<Call<'t, 'a>>
     ensures { option_map numbered_call result ≡
         call_by (λ id. option_map service_seen (get nat_cmp first.now id)) span.now }
 {

@@ -6,16 +6,17 @@ ghost use Rattle.call_links.specs.Seen.{numbered_call, placed_all, links_in, Are
 ghost use Rattle.call_links.specs.Tallies.{with_call, with_trace, tallied};
 
 use crate::calls::{Call, call_to, first_spans};
+use crate::numbered_span::NumberedSpan;
 use crate::order::{in_order, linked};
 use crate::tally::{Tally, numbers_of, one_more};
 use std::alloc::{AllocError, Global};
 use std::collections::BTreeMap;
 use std::marker::Model;
-use trace_model::{Link, TakenSpan};
+use trace_model::Link;
 
-/// How often services call one another, counted trace by trace. It keeps a span of the caller and one of
-/// the callee for each pair of services, and nothing for a call or for a trace. Contracts see each pair
-/// by its numbers, with its names and its number of calls.
+/// The number of calls between services, counted trace by trace. It keeps a span of the caller and one of the
+/// callee for each pair of services, and nothing for a call or a trace. Contracts see each pair by its numbers,
+/// with its names and its number of calls.
 #[derive(Drop)]
 pub struct LinkCounts<'a> {
     tallies: BTreeMap<(u32, u32), Tally<'a>>,
@@ -30,7 +31,7 @@ impl<'a> Model for LinkCounts<'a> {
 }
 
 impl<'a> LinkCounts<'a> {
-    /// No call yet.
+    /// Makes an empty count.
     pub fn new(alloc: Global) -> Self
         ensures { result ≡ [] }
     {
@@ -39,16 +40,16 @@ impl<'a> LinkCounts<'a> {
         }
     }
 
-    /// Counts one call. No text is looked at.
-    fn count(&mut self, call: Call<'a>) -> Result<(), AllocError>
+    /// Counts one call. Reads no text.
+    fn count(&mut self, call: Call<'_, 'a>) -> Result<(), AllocError>
         ensures { OnOk result (self.new ≡ with_call self.old (numbered_call call.entry)) }
     {
         let numbers = numbers_of(call);
         let calls = one_more(&self.tallies, numbers)?;
         let (caller, callee) = call;
         let tally = Tally {
-            caller,
-            callee,
+            caller: caller.again(),
+            callee: callee.again(),
             calls,
         };
         self.tallies.insert(numbers, tally)?;
@@ -63,7 +64,7 @@ impl<'a> LinkCounts<'a> {
     /// # Errors
     ///
     /// Out of memory, and nothing else.
-    pub fn add(&mut self, alloc: Global, trace: &'a [TakenSpan]) -> Result<(), AllocError>
+    pub fn add(&mut self, alloc: Global, trace: &[NumberedSpan<'a>]) -> Result<(), AllocError>
         ensures { OnOk result (self.new ≡ with_trace self.old trace.now) }
     {
         let first = first_spans(alloc, trace)?;
@@ -75,8 +76,8 @@ impl<'a> LinkCounts<'a> {
         Ok(())
     }
 
-    /// Each pair of services with its number of calls, in order of caller and then of callee, where
-    /// spans are of one service if their numbers are equal, and only then. The links share the names.
+    /// Returns each pair of services with its number of calls, in order of caller and then of callee. Spans are of
+    /// the same service exactly if their numbers are equal. The links share the names.
     ///
     /// # Errors
     ///
@@ -86,6 +87,7 @@ impl<'a> LinkCounts<'a> {
             IfOk result (λ v. v.items ≡ links_in (map placed_all traces)) }
     {
         let ordered = in_order(alloc, self.tallies)?;
+        // For the prover: the binding lets the clauses of `linked` be used for the result.
         let links = linked(alloc, ordered)?;
         Ok(links)
     }

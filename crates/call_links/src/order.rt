@@ -8,52 +8,53 @@ ghost use Rattle.call_links.specs.Tallies.{tally_seen, tallies_seen};
 ghost use Rattle.call_links.specs.Ranks.{service_entry, name_entry, rank_of, link_of};
 ghost use Rattle.call_links.specs.Ranks.{services_met, named, numbers_by_name, ranked};
 
+use crate::numbered_span::NumberedSpan;
 use crate::tally::Tally;
 use jaeger_model::Text;
 use std::alloc::{AllocError, Global};
 use std::collections::BTreeMap;
-use trace_model::{Link, TakenSpan};
+use trace_model::Link;
 
-/// The name of the service of a span.
+/// Returns the name of the service of a span.
 #[tactic(auto, using(crate::proofs::Gathering::name_kept))]
-fn name_of(span: &TakenSpan) -> &Text
+fn name_of<'a>(span: &NumberedSpan<'a>) -> &'a Text
     ensures { result.now ≡ text_in span.now.span }
 {
     &span.seen().process.service
 }
 
-/// A span of each service of the tallies, by the number of the service.
+/// Returns a span of each service of the tallies, by the number of the service.
 fn services_met<'a>(
     alloc: Global,
     tallies: &BTreeMap<(u32, u32), Tally<'a>>,
-) -> Result<BTreeMap<u32, &'a TakenSpan>, AllocError>
+) -> Result<BTreeMap<u32, NumberedSpan<'a>>, AllocError>
     ensures { IfOk result (λ m.
         map service_entry m.entries ≡ services_met (tallies_seen tallies.now.entries)) }
 {
     let mut services = BTreeMap::new(alloc);
     for (numbers, tally) in tallies {
-        services.insert(numbers.0, tally.caller)?;
-        services.insert(numbers.1, tally.callee)?;
+        services.insert(numbers.0, tally.caller.again())?;
+        services.insert(numbers.1, tally.callee.again())?;
     }
     Ok(services)
 }
 
-/// The numbers of the services by their names. No other function compares names.
+/// Returns the numbers of the services by their names. No other function compares names.
 fn by_name<'a>(
     alloc: Global,
-    services: BTreeMap<u32, &'a TakenSpan>,
+    services: BTreeMap<u32, NumberedSpan<'a>>,
 ) -> Result<BTreeMap<&'a Text, u32>, AllocError>
     ensures { IfOk result (λ m.
         map name_entry m.entries ≡ named (map service_entry services.entry.entries)) }
 {
     let mut names = BTreeMap::new(alloc);
     for (number, span) in services {
-        names.insert(name_of(span), number)?;
+        names.insert(name_of(&span), number)?;
     }
     Ok(names)
 }
 
-/// The numbers of the services in order of their names.
+/// Returns the numbers of the services in order of their names.
 fn numbers_by_name(
     alloc: Global,
     tallies: &BTreeMap<(u32, u32), Tally<'_>>,
@@ -69,7 +70,7 @@ fn numbers_by_name(
     Ok(numbers)
 }
 
-/// The place of each number in the list.
+/// Returns the place of each number in the list.
 fn ranks(alloc: Global, numbers: &[u32]) -> Result<BTreeMap<u32, usize>, AllocError>
     ensures { IfOk result (λ m. (n : ℕ) → get nat_cmp m n ≡ rank_of numbers.now n) }
 {
@@ -82,7 +83,7 @@ fn ranks(alloc: Global, numbers: &[u32]) -> Result<BTreeMap<u32, usize>, AllocEr
     Ok(ranks)
 }
 
-/// The rank of a number; 0 where it has none.
+/// Returns the rank of a number, or 0 if it has none.
 fn rank(ranks: &BTreeMap<u32, usize>, number: u32) -> usize
     ensures { result ≡ unwrap_or (get nat_cmp ranks.now number) 0 }
 {
@@ -92,7 +93,7 @@ fn rank(ranks: &BTreeMap<u32, usize>, number: u32) -> usize
     }
 }
 
-/// The tallies in order of the ranks of their services.
+/// Sorts the tallies by the ranks of their services.
 fn by_ranks<'a>(
     alloc: Global,
     tallies: BTreeMap<(u32, u32), Tally<'a>>,
@@ -109,8 +110,8 @@ fn by_ranks<'a>(
     Ok(ranked)
 }
 
-/// The tallies in order of the names of their services: each name is compared to the others once, and
-/// pairs are put in order by numbers.
+/// Sorts the tallies by the names of their services. Each name is compared with the others once; pairs are sorted
+/// by numbers.
 pub(crate) fn in_order<'a>(
     alloc: Global,
     tallies: BTreeMap<(u32, u32), Tally<'a>>,
@@ -124,7 +125,7 @@ pub(crate) fn in_order<'a>(
     by_ranks(alloc, tallies, &ranks)
 }
 
-/// A link for each tally, in their order. The links share the names.
+/// Makes a link of each tally, in their order. The links share the names.
 pub(crate) fn linked(
     alloc: Global,
     ordered: BTreeMap<(usize, usize), Tally<'_>>,

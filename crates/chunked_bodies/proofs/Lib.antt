@@ -1,5 +1,5 @@
-pub mod Beginnings
+pub mod Prefixes
 pub mod Once
-pub mod Behind
+pub mod After
 pub mod Sizes
 pub mod Found

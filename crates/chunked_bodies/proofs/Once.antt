@@ -1,4 +1,4 @@
--- A chunked body at the beginning of bytes stands there in one way.
+-- Bytes start with a chunked body in at most one way.
 use Rattle.std.proofs.Common.{◌≡◌, ◌≢◌, ℕ, ◌+◌, ◌≤◌, ◌<◌, List, [], ◌∷◌, ◌++◌, length, take, drop, All, refl, sym, ap, ◌∙◌, subst, arith, inl, inr, ◌⊎◌, ⊎_elim, append_assoc, length-append}
 use Rattle.std.proofs.lemmas.List.{take_at, drop_at, append_cancel_left}
 use Rattle.std.proofs.lemmas.List.Elements.{All-head, All-tail}
@@ -24,7 +24,7 @@ trailer_once a b r q one other e =
     let same = section_unique (a ++ r) one.fields other.fields one.last other.last r q (one.are, ap (λ l. l ++ r) one.text_is) (other.are, e ∙ ap (λ l. l ++ q) other.text_is) in
     (one.text_is ∙ (λ i. print_section (same.0 i) (same.1 i)) ∙ sym other.text_is, same.2)
 
--- a chunk's text and what follows, cut behind its line
+-- a chunk's text and what follows, cut after its line
 pub chunk_cut : (c : Chunk) (r : List ℕ) (is : IsChunk c) → c.text ++ r ≡ is.line ++ (c.content ++ (crlf_bytes ++ r))
 chunk_cut c r is =
     ap (λ l. l ++ r) is.text_is ∙ append_assoc is.line (c.content ++ crlf_bytes) r ∙ ap (λ l. is.line ++ l) (append_assoc c.content crlf_bytes r)
@@ -45,7 +45,7 @@ chunk_is_not_last c last r q is zero e =
 pub first_chunk : (c : Chunk) (cs : List Chunk) (r : List ℕ) → texts (c ∷ cs) ++ r ≡ c.text ++ (texts cs ++ r)
 first_chunk c cs r = append_assoc c.text (texts cs) r
 
--- ---- chunks and a size line behind them
+-- ---- chunks and a size line after them
 
 -- the chunks and their lines are the same, or one line is that of a chunk of the other
 abbrev Meet : (cs ds : List Chunk) (line end r q : List ℕ) (size more : ℕ) → Type 0

@@ -1,4 +1,4 @@
--- Size lines: where none has ended no line has, and what they say at the beginning of a body.
+-- Size lines: where none has ended no line has, and what they say at the start of a body.
 use Rattle.std.proofs.Common.{◌≡◌, ℕ, ◌==◌, ◌||◌, ◌<◌, Bool, true, false, List, [], ◌∷◌, ◌++◌, length, take, Option, None, Some, IsTrue, refl, sym, ap, ◌∙◌, subst, arith, inl, inr, append_assoc, append-nil, length-append}
 use Rattle.std.specs.List.{list_any}
 use Rattle.std.specs.Char.{is_ascii_hexdigit}
@@ -8,7 +8,7 @@ use Rattle.std.proofs.lemmas.List.{take_all}
 use Rattle.std.proofs.lemmas.List.Elements.{All-nil, All-from_recursion}
 use Rattle.std.proofs.lemmas.Bool.{or_parts}
 use Rattle.httparse.specs.Grammar.{ChunkLine, IsChunkLine, print_chunk_line, print_extension, IsExtension, AllPass, is_ows, is_extension_byte, chunk_size, MayBecomeChunkLine}
-use Rattle.chunked_bodies.specs.declared.line.TheConstants.{MOST_LINE_BYTES}
+use Rattle.chunked_bodies.specs.declared.line.TheConstants.{MAX_LINE_BYTES}
 use Rattle.chunked_bodies.specs.Chunks.{IsSizeLine, IsSomeSizeLine, IsDecided, IsSized, texts, HasNone, BeginsWith}
 
 abbrev has_feed : List ℕ → Bool
@@ -30,16 +30,16 @@ quiet_extension None is = refl
 quiet_extension (Some text) is = quiet is_extension_byte text refl is
 
 -- before its line feed a size line has none
-beginning_of : ChunkLine → List ℕ
-beginning_of l = ((l.digits ++ l.pad) ++ print_extension l.extension) ++ 13 ∷ []
+prefix_of : ChunkLine → List ℕ
+prefix_of l = ((l.digits ++ l.pad) ++ print_extension l.extension) ++ 13 ∷ []
 
-beginning_is : (l : ChunkLine) → print_chunk_line l ≡ beginning_of l ++ 10 ∷ []
-unfolding print_chunk_line beginning_of
-beginning_is l = sym (append_assoc ((l.digits ++ l.pad) ++ print_extension l.extension) (13 ∷ []) (10 ∷ []))
+prefix_is : (l : ChunkLine) → print_chunk_line l ≡ prefix_of l ++ 10 ∷ []
+unfolding print_chunk_line prefix_of
+prefix_is l = sym (append_assoc ((l.digits ++ l.pad) ++ print_extension l.extension) (13 ∷ []) (10 ∷ []))
 
-beginning_quiet : (l : ChunkLine) → IsChunkLine l → has_feed (beginning_of l) ≡ false
-unfolding beginning_of
-beginning_quiet l is =
+prefix_quiet : (l : ChunkLine) → IsChunkLine l → has_feed (prefix_of l) ≡ false
+unfolding prefix_of
+prefix_quiet l is =
     quiet_both ((l.digits ++ l.pad) ++ print_extension l.extension) (13 ∷ [])
     (quiet_both (l.digits ++ l.pad) (print_extension l.extension)
     (quiet_both l.digits l.pad (quiet is_ascii_hexdigit l.digits refl is.digits.2) (quiet is_ows l.pad refl is.pad))
@@ -47,18 +47,18 @@ beginning_quiet l is =
     refl
 
 -- nothing follows the only line feed
-nothing_behind : (beginning a c : List ℕ) → has_feed beginning ≡ false → beginning ++ 10 ∷ [] ≡ a ++ 10 ∷ c → c ≡ []
-nothing_behind [] [] c none e = cc e
-nothing_behind [] (y ∷ a) c none e = absurd (omega (arith, ap length e, length-append a (10 ∷ c)))
-nothing_behind (x ∷ beginning) [] c none e = absurd (first x e none)
+nothing_after : (prefix a c : List ℕ) → has_feed prefix ≡ false → prefix ++ 10 ∷ [] ≡ a ++ 10 ∷ c → c ≡ []
+nothing_after [] [] c none e = cc e
+nothing_after [] (y ∷ a) c none e = absurd (omega (arith, ap length e, length-append a (10 ∷ c)))
+nothing_after (x ∷ prefix) [] c none e = absurd (first x e none)
   where
-    first : (x : ℕ) {xs ys : List ℕ} → x ∷ xs ≡ 10 ∷ ys → (x == 10 || has_feed beginning) ≡ false → ⊥
+    first : (x : ℕ) {xs ys : List ℕ} → x ∷ xs ≡ 10 ∷ ys → (x == 10 || has_feed prefix) ≡ false → ⊥
     first x e none =
         let is : x ≡ 10 = cc e in
-        absurd (cc (ap (λ b. b == 10 || has_feed beginning) (sym is) ∙ none))
-nothing_behind (x ∷ beginning) (y ∷ a) c none e =
-    let later : beginning ++ 10 ∷ [] ≡ a ++ 10 ∷ c = cc e in
-    nothing_behind beginning a c (or_parts (x == 10) (has_feed beginning) none).1 later
+        absurd (cc (ap (λ b. b == 10 || has_feed prefix) (sym is) ∙ none))
+nothing_after (x ∷ prefix) (y ∷ a) c none e =
+    let later : prefix ++ 10 ∷ [] ≡ a ++ 10 ∷ c = cc e in
+    nothing_after prefix a c (or_parts (x == 10) (has_feed prefix) none).1 later
 
 -- a line feed stands somewhere
 feed_at : (bytes : List ℕ) → has_feed bytes ≡ true → (a : List ℕ) × (b : List ℕ) × (bytes ≡ a ++ 10 ∷ b)
@@ -76,8 +76,8 @@ feed_at (x ∷ bytes) e = at (x == 10) refl (λ off. feed_at bytes (ap (λ b. b 
 whole_line : (bytes : List ℕ) (l : ChunkLine) (more : List ℕ) → IsChunkLine l → bytes ++ more ≡ print_chunk_line l → has_feed bytes ≡ true → bytes ≡ print_chunk_line l
 whole_line bytes l more is e feed =
     let at = feed_at bytes feed in
-    let none = nothing_behind (beginning_of l) at.0 (at.1 ++ more) (beginning_quiet l is)
-    (sym (beginning_is l) ∙ sym e ∙ ap (λ x. x ++ more) at.2 ∙ append_assoc at.0 (10 ∷ at.1) more) in
+    let none = nothing_after (prefix_of l) at.0 (at.1 ++ more) (prefix_quiet l is)
+    (sym (prefix_is l) ∙ sym e ∙ ap (λ x. x ++ more) at.2 ∙ append_assoc at.0 (10 ∷ at.1) more) in
     let nothing : more ≡ [] = empty at.1 more none in
     sym (append-nil bytes) ∙ ap (λ x. bytes ++ x) (sym nothing) ∙ e
   where
@@ -85,15 +85,15 @@ whole_line bytes l more is e feed =
     empty [] b e = e
     empty (x ∷ a) b e = absurd (omega (arith, ap length e))
 
-unended : (bytes : List ℕ) → MayBecomeChunkLine bytes → HasNone IsSomeSizeLine bytes → length bytes < MOST_LINE_BYTES → (b : Bool) → b ≡ has_feed bytes → has_feed bytes ≡ false
+unended : (bytes : List ℕ) → MayBecomeChunkLine bytes → HasNone IsSomeSizeLine bytes → length bytes < MAX_LINE_BYTES → (b : Bool) → b ≡ has_feed bytes → has_feed bytes ≡ false
 unended bytes may none short false e = sym e
 unended bytes (more, l, reads) none short true e =
     let is : bytes ≡ print_chunk_line l = whole_line bytes l more reads.0 (reads.1 ∙ append-nil (print_chunk_line l)) (sym e) in
     absurd (none bytes [] (chunk_size l, record { line = l; is = reads.0; text_is = is; short = omega (arith, short); size_is = refl }) (sym (append-nil bytes)))
 
-pub line_unended : (bytes beginning : List ℕ) → beginning ≡ take MOST_LINE_BYTES bytes → length bytes < MOST_LINE_BYTES → MayBecomeChunkLine beginning → HasNone IsSomeSizeLine bytes → has_feed bytes ≡ false
-line_unended bytes beginning f short may none =
-    unended bytes (subst MayBecomeChunkLine (f ∙ take_all MOST_LINE_BYTES bytes (omega (arith, short))) may) none short (has_feed bytes) refl
+pub line_unended : (bytes prefix : List ℕ) → prefix ≡ take MAX_LINE_BYTES bytes → length bytes < MAX_LINE_BYTES → MayBecomeChunkLine prefix → HasNone IsSomeSizeLine bytes → has_feed bytes ≡ false
+line_unended bytes prefix f short may none =
+    unended bytes (subst MayBecomeChunkLine (f ∙ take_all MAX_LINE_BYTES bytes (omega (arith, short))) may) none short (has_feed bytes) refl
 
 -- ---- the last line
 

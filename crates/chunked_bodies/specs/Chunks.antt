@@ -1,18 +1,18 @@
--- A chunked body (RFC 9112, section 7.1), in the limits of a session.
+-- A chunked body (RFC 9112, section 7.1), within the limits of a session.
 use Rattle.std.specs.Prelude.{◌≡◌, ℕ, ◌+◌, ◌<◌, ◌≤◌, ◌⊎◌, List, ◌++◌, length, All}
 use Rattle.std.specs.List.{flat_map}
 use Rattle.httparse.specs.Ascii.{crlf_bytes}
 use Rattle.httparse.specs.Grammar.{ChunkLine, IsChunkLine, print_chunk_line, chunk_size, Field, IsField, LineEnd, print_section}
-use Rattle.chunked_bodies.specs.declared.line.TheConstants.{MOST_LINE_BYTES}
-use Rattle.chunked_bodies.specs.declared.trailer.TheConstants.{MOST_TRAILER_BYTES, MOST_FIELDS}
+use Rattle.chunked_bodies.specs.declared.line.TheConstants.{MAX_LINE_BYTES}
+use Rattle.chunked_bodies.specs.declared.trailer.TheConstants.{MAX_TRAILER_BYTES, MAX_FIELDS}
 
--- A line that says a size, in hexadecimal digits and perhaps with an extension, with its CR LF. The limit is a
--- session's own: RFC 9112, section 7.1, has none.
+-- A size line: hexadecimal digits, optional extensions, and CR LF. The length limit is the session's; RFC 9112,
+-- section 7.1, has none.
 pub record IsSizeLine (text : List ℕ) (size : ℕ) : Type 0 where
   pub line : ChunkLine
   pub is : IsChunkLine line
   pub text_is : text ≡ print_chunk_line line
-  pub short : length text ≤ MOST_LINE_BYTES
+  pub short : length text ≤ MAX_LINE_BYTES
   pub size_is : size ≡ chunk_size line
 
 -- a chunk's text, and the data in it
@@ -33,16 +33,16 @@ texts cs = flat_map (λ (c : Chunk). c.text) cs
 abbrev pub contents : List Chunk → List ℕ
 contents cs = flat_map (λ (c : Chunk). c.content) cs
 
--- field lines and an empty line (RFC 9112, section 7.1.2), in limits of a session's own
+-- field lines and an empty line (RFC 9112, section 7.1.2), within the limits of a session
 pub record IsTrailer (text : List ℕ) : Type 0 where
   pub fields : List Field
   pub last : LineEnd
   pub are : All IsField fields
   pub text_is : text ≡ print_section fields last
-  pub short : length text ≤ MOST_TRAILER_BYTES
-  pub few : length fields ≤ MOST_FIELDS
+  pub short : length text ≤ MAX_TRAILER_BYTES
+  pub few : length fields ≤ MAX_FIELDS
 
--- Chunks, a line with the size 0 and a trailer. The body is the data of the chunks, of at most so many bytes.
+-- Chunks, a line with the size 0, and a trailer. The body is the data of the chunks, of at most `most` bytes.
 pub record IsBody (most : ℕ) (text body : List ℕ) : Type 0 where
   pub chunks : List Chunk
   pub last : List ℕ
@@ -54,7 +54,7 @@ pub record IsBody (most : ℕ) (text body : List ℕ) : Type 0 where
   pub body_is : body ≡ contents chunks
   pub small : length body ≤ most
 
--- chunks, and a line with a size by which the sum passes the most
+-- chunks, and a size line with which the sum exceeds `most`
 pub record IsTooLarge (most : ℕ) (text : List ℕ) : Type 0 where
   pub chunks : List Chunk
   pub line : List ℕ
@@ -65,7 +65,7 @@ pub record IsTooLarge (most : ℕ) (text : List ℕ) : Type 0 where
   pub small : length (contents chunks) ≤ most
   pub large : most < length (contents chunks) + size
 
--- chunks, and a line with the size 0, behind which the trailer comes
+-- chunks and a line with the size 0, which the trailer follows
 pub record IsUpToTrailer (most : ℕ) (text : List ℕ) : Type 0 where
   pub chunks : List Chunk
   pub last : List ℕ
@@ -74,49 +74,49 @@ pub record IsUpToTrailer (most : ℕ) (text : List ℕ) : Type 0 where
   pub text_is : text ≡ texts chunks ++ last
   pub small : length (contents chunks) ≤ most
 
--- all chunks of a body with the line behind them, or those up to the line that says that it is too large
+-- all chunks of a body with the line after them, or those up to the size line that makes it too large
 abbrev pub IsSized : ℕ → List ℕ → Type 0
 IsSized most text = IsUpToTrailer most text ⊎ IsTooLarge most text
 
--- ---- what stands at the beginning of bytes
+-- ---- what some bytes start with
 
--- no beginning of the bytes is such a text
+-- no prefix of the bytes is such a text
 abbrev pub HasNone : (List ℕ → Type 0) → List ℕ → Type 0
 HasNone Is bytes = (text rest : List ℕ) → Is text → bytes ≡ text ++ rest → ⊥
 
--- and whatever follows, none will be
+-- no prefix of any continuation is such a text
 abbrev pub NeverHas : (List ℕ → Type 0) → List ℕ → Type 0
 NeverHas Is bytes = (more : List ℕ) → HasNone Is (bytes ++ more)
 
--- none will be, or none is and nothing follows
+-- none will be, or none is and the bytes have ended
 abbrev pub Lacks : Type 0 → (List ℕ → Type 0) → List ℕ → Type 0
 Lacks AtEnd Is bytes = NeverHas Is bytes ⊎ (AtEnd × HasNone Is bytes)
 
--- a line that says some size
+-- a size line with some size
 abbrev pub IsSomeSizeLine : List ℕ → Type 0
 IsSomeSizeLine text = (size : ℕ) × IsSizeLine text size
 
--- the text of a body, or of one that is too large up to the line that says so
+-- the text of a body, or of one that is too large, up to the size line that says so
 abbrev pub IsDecided : ℕ → List ℕ → Type 0
 IsDecided most text = ((body : List ℕ) × IsBody most text body) ⊎ IsTooLarge most text
 
--- what the bytes received so far come to
+-- the outcome of the bytes received so far
 pub data Reading : Type 0 where
-  -- a whole body with these data, whose text has so many bytes
+  -- a complete body with these data, and the length of its text
   whole : List ℕ → ℕ → Reading
-  -- the sum passes the most at the line that ends behind so many bytes
+  -- the sum exceeds the limit at the line that ends after this number of bytes
   too_large : ℕ → Reading
   bad : Reading
   not_yet : Reading
 
--- the bytes begin with such a text
+-- the bytes start with such a text
 pub record BeginsWith (Is : List ℕ → Type 0) (bytes : List ℕ) : Type 0 where
   pub text : List ℕ
   pub rest : List ℕ
   pub is : Is text
   pub cut : bytes ≡ text ++ rest
 
--- and it has so many bytes
+-- the bytes start with such a text of this length
 pub record Stands (Is : List ℕ → Type 0) (bytes : List ℕ) (used : ℕ) : Type 0 where
   pub text : List ℕ
   pub rest : List ℕ
@@ -124,7 +124,7 @@ pub record Stands (Is : List ℕ → Type 0) (bytes : List ℕ) (used : ℕ) : T
   pub cut : bytes ≡ text ++ rest
   pub used_is : used ≡ length text
 
--- with some bytes behind, such a text stands at the beginning
+-- some continuation of the bytes starts with such a text
 pub record MayHave (Is : List ℕ → Type 0) (bytes : List ℕ) : Type 0 where
   pub more : List ℕ
   pub text : List ℕ
@@ -138,7 +138,7 @@ Reads most bytes (too_large used) = Stands (IsTooLarge most) bytes used
 Reads most bytes bad = NeverHas (IsDecided most) bytes
 Reads most bytes not_yet = HasNone (IsDecided most) bytes × MayHave (IsDecided most) bytes
 
--- so many data, and CR LF
+-- data of this size, and CR LF
 pub record IsContent (size : ℕ) (text : List ℕ) : Type 0 where
   pub content : List ℕ
   pub size_is : length content ≡ size

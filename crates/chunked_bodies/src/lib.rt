@@ -1,22 +1,22 @@
-//! A chunked body (RFC 9112, section 7.1): its size lines and its trailer at the beginning of bytes.
+//! Parses the size lines and the trailer of a chunked body (RFC 9112, section 7.1).
 //!
-//! What a chunked body is stands in `specs/Chunks.antt`, as a relation of a text and the data in it. At the
-//! beginning of bytes it has one answer, which what follows doesn't change ([`laws`]).
+//! `specs/Chunks.antt` defines a chunked body as a relation of a text and the data in it. A prefix of the input that
+//! decides what the body is has one outcome, and later bytes don't change it ([`laws`]).
 //!
-//! * `looks`: what stands at the beginning of bytes, by what was parsed of them.
+//! * `looks`: what a parser found at the start of the bytes received.
 //! * `line`: the line with a chunk's size.
-//! * `trailer`: the fields behind the last chunk, up to an empty line.
-//! * `beginning`: the first bytes, at most so many.
-//! * `laws`: facts about the definition.
+//! * `trailer`: the fields after the last chunk, up to an empty line.
+//! * `prefix`: a prefix of limited length.
+//! * `laws`: laws of the definition.
 #![tactic(auto)]
 
-mod beginning;
 pub mod laws;
 mod line;
 mod looks;
+mod prefix;
 mod trailer;
 
-pub use beginning::beginning_of;
-pub use line::{MOST_LINE_BYTES, look_for_size};
+pub use line::{MAX_LINE_BYTES, look_for_size};
 pub use looks::{Look, look_by};
-pub use trailer::{MOST_TRAILER_BYTES, look_for_trailer};
+pub use prefix::prefix_of;
+pub use trailer::{MAX_TRAILER_BYTES, look_for_trailer};

@@ -2,19 +2,19 @@ ghost use Rattle.chunked_bodies.specs.Looks.{LooksBy};
 
 use httparse::Status;
 
-/// What stands at the beginning of the bytes received so far.
+/// What was found at the start of the bytes received so far.
 #[derive(Clone, Copy, Debug, PartialEq, Eq)]
 pub enum Look<T> {
-    /// A text, as it was read.
+    /// The whole text, parsed.
     Whole(T),
-    /// None yet.
+    /// Nothing yet: more bytes may complete it.
     More,
-    /// None, whatever follows.
+    /// Nothing, whatever follows.
     Never,
 }
 
-/// What stands at the beginning of so many bytes, as it was parsed from the first of them, at most as many as such a
-/// text has: where it has not ended in so many, none stands there, whatever follows.
+/// Returns what `count` bytes start with, given what a parser returned for the first `most` of them. A text that is
+/// still incomplete after `most` bytes never comes.
 pub fn look_by<T, E: Drop>(parsed: Result<Status<T>, E>, count: usize, most: usize) -> Look<T>
     ensures { LooksBy parsed count most result }
 {

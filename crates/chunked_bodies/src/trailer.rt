@@ -1,23 +1,23 @@
 ghost use Rattle.chunked_bodies.specs.Looks.{LooksAtTrailer};
 
-use crate::beginning::beginning_of;
 use crate::looks::{Look, look_by};
+use crate::prefix::prefix_of;
 use httparse::spans::{EMPTY_HEADER_SPAN, parse_headers};
 
-/// How many bytes a trailer has at most, with its empty line: a limit of a session's own.
-pub const MOST_TRAILER_BYTES: usize = 8192;
+/// The length limit of a trailer, with its empty line: a limit of the session.
+pub const MAX_TRAILER_BYTES: usize = 8192;
 
-/// How many fields a trailer has at most: a limit of a session's own.
-const MOST_FIELDS: usize = 64;
+/// The number of fields that a trailer may have: a limit of the session.
+const MAX_FIELDS: usize = 64;
 
-/// Looks for a trailer at the beginning of the bytes, in its limits of bytes and fields: how many bytes it has
-/// (RFC 9112, section 7.1.2). Its fields are ignored.
+/// Looks for a trailer within these limits at the start of the bytes, and finds its length (RFC 9112, section 7.1.2).
+/// Its fields are ignored.
 pub fn look_for_trailer(bytes: &[u8]) -> Look<usize>
     ensures { LooksAtTrailer bytes.now result }
 {
-    let mut headers = [EMPTY_HEADER_SPAN; MOST_FIELDS];
-    let parsed = parse_headers(beginning_of(bytes, MOST_TRAILER_BYTES), &mut headers);
-    match look_by(parsed, bytes.len(), MOST_TRAILER_BYTES) {
+    let mut headers = [EMPTY_HEADER_SPAN; MAX_FIELDS];
+    let parsed = parse_headers(prefix_of(bytes, MAX_TRAILER_BYTES), &mut headers);
+    match look_by(parsed, bytes.len(), MAX_TRAILER_BYTES) {
         Look::Whole((length, _)) => Look::Whole(length),
         Look::More => Look::More,
         Look::Never => Look::Never,

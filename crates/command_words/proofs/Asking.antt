@@ -1,4 +1,4 @@
--- What the words behind the program's name say of all of them.
+-- What the words after the program's name say of all of them.
 use Rattle.std.proofs.Common.{◌≡◌, List, [], ◌∷◌, Some, map, sym, ap, subst, ◌∙◌}
 use Rattle.std.specs.Prelude.{slice_get}
 use Rattle.clap.specs.Words.{App, Text}
@@ -20,7 +20,7 @@ module _ {S : Type 0} (text : S → Text) (words rest : List S) (program name : 
             holds = subst (λ t. Holds (t ∷ map text ys)) named holds;
           }
 
-  -- the subcommand's name, and what holds behind the program's
+  -- the subcommand's name, and what holds after the program's
   pub asked_for : AsksFor app Holds (map text words) → (app.top.name ≡ text name) × Holds (map text rest)
   asked_for asks = (by rest first are, subst Holds (sym are) asks.holds)
     where

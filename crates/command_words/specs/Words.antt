@@ -1,4 +1,4 @@
--- What the program's words ask for.
+-- The commands of the program's words.
 use Rattle.std.specs.Prelude.{◌≡◌, ℕ, pos, Bool, List, [], ◌∷◌, Option, Some, None, Result, IfOk, true, false, codes, ◌⊎◌}
 use Rattle.std.specs.Str.Parse.{IsNumeral, digits_value, without_leading_plus}
 use Rattle.clap.specs.Words.{App, Row, Rule, Text, app_of, is_simple, new_app, new_rule, with_rule, matches_of, one_of, first_of, takes}
@@ -12,7 +12,7 @@ use Rattle.serve_options.specs.declared.host.Host.{Host}
 use Rattle.serve_options.specs.declared.options.ServeOptions.{ServeOptions}
 use Rattle.serve_options.specs.Hosts.{host_text}
 
--- an option that takes a number, with the number that stands for it where it isn't given
+-- an option whose value is a number, with its default
 abbrev pub number_rule : Text → ValueParser → Text → Rule
 number_rule name numbers default = record (new_rule name) {
   long = Some name;
@@ -64,7 +64,7 @@ idle_rule = number_rule (codes "idle") (parser.Signed (pos 0) (pos 86400)) (code
 abbrev pub report_rule : Rule
 report_rule = number_rule (codes "report") (parser.Signed (pos 0) (pos 86400)) (codes "0")
 
--- the options that each subcommand has
+-- the options that every subcommand has
 abbrev pub with_limits : App → App
 with_limits app = with_rule (with_rule (with_rule (with_rule app batches_rule) spans_rule) traces_rule) skew_rule
 
@@ -96,7 +96,7 @@ pub record HasLimits (rows : List Row) (limits : Limits) : Type 0 where
   pub traces : HasNumber (codes "traces") rows limits.traces
   pub max_skew : HasNumber (codes "max-skew") rows limits.max_skew
 
--- the option's text, which is the default where it isn't given, is the host's
+-- the option's text, or the default if it isn't given, is the host's
 abbrev pub HasHost : List Row → Host → Type 0
 HasHost rows host = first_of (codes "host") rows ≡ Some (host_text host)
 
@@ -119,32 +119,30 @@ abbrev pub trace_in : Option Text → Option TraceId
 trace_in None = None
 trace_in (Some text) = read_trace text
 
--- the command, if one was made, is the subcommand, whose words clap's definitions read
+-- the clap command, if one was made, is the subcommand as the definitions of clap read it
 abbrev pub Makes : {E : Type 0} → Result Command E → App → Type 0
 Makes made app = IfOk made (λ c. app_of c ≡ app) × (is_simple app ≡ true)
 
--- The words are the program's name, the subcommand's, and others. So much holds of the words behind the program's name.
+-- The words are the program's name, the subcommand's name, and others. This holds for the words after the program's
+-- name.
 pub record AsksFor (app : App) (Holds : List Text → Type 0) (words : List Text) : Type 0 where
   pub program : Text
   pub others : List Text
   pub words_are : words ≡ program ∷ app.top.name ∷ others
   pub holds : Holds (app.top.name ∷ others)
 
--- clap takes the words of the subcommand, which begin with its name
+-- clap accepts the words of the subcommand, of which the first is its name
 unfoldable pub are_taken : App → List Text → Bool
 are_taken app words = takes app words
 
--- clap takes the words of `get`, and the options can be had; nothing is said of the trace's id
+-- clap accepts the words of `get`, and its options can be read; the trace's id may be anything
 abbrev pub TakesLimits : Limits → List Text → Type 0
 TakesLimits limits words = (are_taken get_app words ≡ true) × HasLimits (matches_of get_app words) limits
 
 abbrev pub TakesGet : List Text → Limits → Type 0
 TakesGet words limits = AsksFor get_app (TakesLimits limits) words
 
--- the statuses of a run that asks for nothing: a fault of the words or a call for help, a writer that failed, memory that ran out
-abbrev pub IsFault : ℕ → Type 0
-IsFault status = (status ≡ 2) ⊎ (status ≡ 4) ⊎ (status ≡ 5)
-
--- and only where the writer failed it is 4
+-- the status of words that name no command: 2 for a fault of the words or a request for help, 4 if the writer failed, 5
+-- if memory ran out
 abbrev pub IsFaultOf : ℕ → Bool → Type 0
 IsFaultOf status failed = ((status ≡ 2) × (failed ≡ false)) ⊎ ((status ≡ 4) × (failed ≡ true)) ⊎ ((status ≡ 5) × (failed ≡ false))

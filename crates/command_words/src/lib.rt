@@ -1,13 +1,15 @@
-//! The program's words: the command that they ask for.
+//! Parses the words of the command line.
 //!
-//! [`read_words`] promises that the command is what clap reads in the words, and what becomes of words that
-//! ask for none.
+//! [`read_words`] is proved to return the command that clap reads in the words, and to answer words that name none.
 //!
-//! * `words`: what the words ask for, and what is said to words that ask for nothing;
-//! * `serve`: the subcommand `serve`, whose options are more than those that each subcommand has.
+//! * `words`: the command that the words name, and the reply to words that name none;
+//! * `exit`: how the program ends if the words name none;
+//! * `serve`: the subcommand `serve`, which has more options than the others.
 #![tactic(auto)]
 
+mod exit;
 mod serve;
 mod words;
 
+pub use exit::Exit;
 pub use words::{Command, read_words};

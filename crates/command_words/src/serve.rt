@@ -1,12 +1,14 @@
-//! The subcommand `serve`: its options, and what its words ask for.
+//! The subcommand `serve`: its options, and how they are read.
 ghost use Rattle.std.specs.Prelude.{◌≡◌, IfErr, IfOk, IfSome, IsOk, IsSome, OnOk, false, map};
 ghost use Rattle.clap.specs.Words.{app_of, found_of, rows_of, rule_of};
 ghost use Rattle.serve_options.specs.declared.host.Host.{Host as HostValue};
 ghost use Rattle.serve_options.specs.declared.options.ServeOptions.{ServeOptions as ServeOptionsValue};
 ghost use Rattle.command_words.specs.declared.words.Command.TheVariants.{Serve};
-ghost use Rattle.command_words.specs.Words.{HasHost, HasServeOptions, IsFault, Makes, connections_rule, host_rule, idle_rule, port_rule, queue_rule, report_rule, serve_app, sessions_rule, with_serving as serving_on, workers_rule};
+ghost use Rattle.command_words.specs.Words.{HasHost, HasServeOptions, Makes, connections_rule, host_rule, idle_rule, port_rule, queue_rule, report_rule, serve_app, sessions_rule, with_serving as serving_on, workers_rule};
+ghost use Rattle.command_words.specs.declared.exit.Exit.TheVariants.{NoMemory};
 ghost use Rattle.command_words.specs.Asked.{Reads, Takes};
 
+use crate::exit::Exit;
 use crate::words::{limits_of, matches_of, number, with_limits};
 use clap::{Arg, ArgMatches, value_parser};
 use serve_options::{Host, ServeOptions};
@@ -15,7 +17,7 @@ use std::convert::AsStr;
 use std::io;
 use std::io::Write;
 
-/// The option `--host`.
+/// Defines the option `--host`.
 fn host_option<'a>(alloc: Global) -> Arg<'a>
     ensures rule { rule_of result ≡ host_rule }
     ensures own { result.global ≡ false }
@@ -27,7 +29,7 @@ fn host_option<'a>(alloc: Global) -> Arg<'a>
         .help("Which address to listen on: 127.0.0.1, 0.0.0.0, ::1 or ::")
 }
 
-/// The option `--port`.
+/// Defines the option `--port`.
 fn port_option<'a>(alloc: Global) -> Arg<'a>
     ensures rule { rule_of result ≡ port_rule }
     ensures own { result.global ≡ false }
@@ -36,7 +38,7 @@ fn port_option<'a>(alloc: Global) -> Arg<'a>
     number(alloc, "port", value_parser!(u16), "0", help)
 }
 
-/// The option `--workers`.
+/// Defines the option `--workers`.
 fn workers_option<'a>(alloc: Global) -> Arg<'a>
     ensures rule { rule_of result ≡ workers_rule }
     ensures own { result.global ≡ false }
@@ -46,7 +48,7 @@ fn workers_option<'a>(alloc: Global) -> Arg<'a>
     number(alloc, "workers", workers, "4", help)
 }
 
-/// The option `--queue`.
+/// Defines the option `--queue`.
 fn queue_option<'a>(alloc: Global) -> Arg<'a>
     ensures rule { rule_of result ≡ queue_rule }
     ensures own { result.global ≡ false }
@@ -56,7 +58,7 @@ fn queue_option<'a>(alloc: Global) -> Arg<'a>
     number(alloc, "queue", queue, "256", help)
 }
 
-/// The option `--sessions`.
+/// Defines the option `--sessions`.
 fn sessions_option<'a>(alloc: Global) -> Arg<'a>
     ensures rule { rule_of result ≡ sessions_rule }
     ensures own { result.global ≡ false }
@@ -65,7 +67,7 @@ fn sessions_option<'a>(alloc: Global) -> Arg<'a>
     number(alloc, "sessions", value_parser!(u32), "0", help)
 }
 
-/// The option `--connections`.
+/// Defines the option `--connections`.
 fn connections_option<'a>(alloc: Global) -> Arg<'a>
     ensures rule { rule_of result ≡ connections_rule }
     ensures own { result.global ≡ false }
@@ -75,7 +77,7 @@ fn connections_option<'a>(alloc: Global) -> Arg<'a>
     number(alloc, "connections", connections, "1024", help)
 }
 
-/// The option `--idle`.
+/// Defines the option `--idle`.
 fn idle_option<'a>(alloc: Global) -> Arg<'a>
     ensures rule { rule_of result ≡ idle_rule }
     ensures own { result.global ≡ false }
@@ -86,7 +88,7 @@ fn idle_option<'a>(alloc: Global) -> Arg<'a>
     number(alloc, "idle", idle, "300", help).value_name("SECONDS")
 }
 
-/// The option `--report`.
+/// Defines the option `--report`.
 fn report_option<'a>(alloc: Global) -> Arg<'a>
     ensures rule { rule_of result ≡ report_rule }
     ensures own { result.global ≡ false }
@@ -97,7 +99,7 @@ fn report_option<'a>(alloc: Global) -> Arg<'a>
     number(alloc, "report", report, "0", help).value_name("SECONDS")
 }
 
-/// The options that only `serve` has.
+/// Adds the options that only `serve` has.
 fn with_serving(alloc: Global, command: clap::Command<'_>) -> Result<clap::Command<'_>, AllocError>
     ensures { IfOk result (λ c. app_of c ≡ serving_on (app_of command.entry)) }
 {
@@ -112,7 +114,7 @@ fn with_serving(alloc: Global, command: clap::Command<'_>) -> Result<clap::Comma
         .arg(report_option(alloc))
 }
 
-/// The subcommand `serve`.
+/// Defines the subcommand `serve`.
 pub(crate) fn serve_command<'a>(alloc: Global) -> Result<clap::Command<'a>, AllocError>
     ensures { Makes result serve_app }
 {
@@ -124,7 +126,7 @@ pub(crate) fn serve_command<'a>(alloc: Global) -> Result<clap::Command<'a>, Allo
     with_limits(alloc, command)
 }
 
-/// The host that is asked for, if the text names one.
+/// Returns the host of the option, if the text names one.
 fn asked_host(matches: &ArgMatches<'_>) -> Option<Host>
     ensures named { IfSome result (HasHost (rows_of (found_of matches.now))) }
     ensures found { (host : HostValue) → HasHost (rows_of (found_of matches.now)) host →
@@ -133,8 +135,8 @@ fn asked_host(matches: &ArgMatches<'_>) -> Option<Host>
     Host::parse(matches.get_str("host")?)
 }
 
-/// Writes that the text names no host, as clap does of a value that is none of those that it knows.
-fn say_bad_host<W: Write>(writer: &mut W, text: &str) -> io::Result<()> {
+/// Writes that the text names no host, like clap's error for a value that is not among the possible ones.
+fn write_bad_host<W: Write>(writer: &mut W, text: &str) -> io::Result<()> {
     writeln!(
         writer,
         "error: invalid value '{text}' for '--host <ADDRESS>'\n  \
@@ -143,24 +145,23 @@ fn say_bad_host<W: Write>(writer: &mut W, text: &str) -> io::Result<()> {
     )
 }
 
-/// The host that is asked for, or the status once its fault is written.
-fn host_of<W: Write>(matches: &ArgMatches<'_>, writer: &mut W) -> Result<Host, u8>
+/// Returns the host of the option. Otherwise writes the fault and returns how the program ends.
+fn host_of<W: Write>(matches: &ArgMatches<'_>, writer: &mut W) -> Result<Host, Exit>
     ensures host { IfOk result (HasHost (rows_of (found_of matches.now))) }
     ensures found { (host : HostValue) → HasHost (rows_of (found_of matches.now)) host →
         IsOk result }
     ensures silent { OnOk result (W.contents writer.new ≡ W.contents writer.old) }
-    ensures status { IfErr result IsFault }
 {
     match asked_host(matches) {
         Some(host) => Ok(host),
-        None => match say_bad_host(writer, matches.get_str("host").unwrap_or("")) {
-            Ok(()) => Err(2),
-            Err(_) => Err(4),
+        None => match write_bad_host(writer, matches.get_str("host").unwrap_or("")) {
+            Ok(()) => Err(Exit::Fault),
+            Err(_) => Err(Exit::Device),
         },
     }
 }
 
-/// What the options ask of a server on this host.
+/// Returns the options of a server on this host.
 fn serve_options_of(matches: &ArgMatches<'_>, host: Host) -> Option<ServeOptions>
     requires { HasHost (rows_of (found_of matches.now)) host }
     ensures given { IfSome result (HasServeOptions (rows_of (found_of matches.now))) }
@@ -188,19 +189,19 @@ fn serve_options_of(matches: &ArgMatches<'_>, host: Host) -> Option<ServeOptions
     )
 }
 
-/// The options of `serve`, whose own name is the first of the words.
+/// Reads the options of `serve`. The first of the words is the subcommand's name.
 pub(crate) fn read_serve<S: AsStr, W: Write>(
     alloc: Global,
     words: &[S],
     writer: &mut W,
-) -> Result<ServeOptions, u8>
+) -> Result<ServeOptions, Exit>
     ensures asked { IfOk result (λ options. Reads (Serve options) (map S.text words.now)) }
     ensures silent { OnOk result (W.contents writer.new ≡ W.contents writer.old) }
-    ensures status { IfErr result IsFault }
     ensures accepted { (options : ServeOptionsValue) →
-        Takes (Serve options) (map S.text words.now) → IfErr result (λ s. s ≡ 5) }
+        Takes (Serve options) (map S.text words.now) → IfErr result (λ e. e ≡ NoMemory) }
 {
     let matches = matches_of(serve_command(alloc), words, writer)?;
     let host = host_of(&matches, writer)?;
-    serve_options_of(&matches, host).ok_or(2)
+    // Impossible: None, since clap has read each option in its range.
+    serve_options_of(&matches, host).ok_or(Exit::Fault)
 }

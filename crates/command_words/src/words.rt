@@ -1,4 +1,4 @@
-//! What the words ask for, and what is said to words that ask for nothing.
+//! The command that the words name, and the reply to words that name none.
 ghost use Rattle.std.specs.Prelude.{◌≡◌, ◌⊎◌, IfOk, IfErr, IfSome, IsSome, None, OnOk, Some, codes, map, false, true};
 ghost use Rattle.std.specs.Io.KnownBytes.{Appends};
 ghost use Rattle.clap.specs.Words.{App, app_of, first_value, found_of, kind_of, matches_of, rows_of, rule_of};
@@ -6,9 +6,12 @@ ghost use Rattle.trace_model.specs.declared.limits.Limits.{Limits as LimitsValue
 ghost use Rattle.jaeger_model.specs.declared.ids.TraceId.{TraceId as TraceIdValue};
 ghost use Rattle.command_words.specs.declared.words.Command.{Command as CommandValue};
 ghost use Rattle.command_words.specs.declared.words.Command.TheVariants.{Get};
-ghost use Rattle.command_words.specs.Words.{HasLimits, IsFault, IsFaultOf, Makes, TakesGet, TakesLimits, are_taken, get_app, number_rule, pipe_app, play_app, trace_in, with_limits as limits_on};
+ghost use Rattle.command_words.specs.Words.{HasLimits, IsFaultOf, Makes, TakesGet, TakesLimits, are_taken, get_app, number_rule, pipe_app, play_app, trace_in, with_limits as limits_on};
+ghost use Rattle.command_words.specs.declared.exit.Exit.TheVariants.{Fault, Device, NoMemory};
+ghost use Rattle.command_words.specs.Exits.{exit_status};
 ghost use Rattle.command_words.specs.Asked.{Accepts, Asks, Reads, Takes};
 
+use crate::exit::Exit;
 use crate::serve::{read_serve, serve_command};
 use clap::builder::ValueParser;
 use clap::error::ErrorKind;
@@ -20,27 +23,27 @@ use std::alloc::{AllocError, Global};
 use std::convert::AsStr;
 use std::io;
 use std::io::Write;
-use text_lines::say;
+use text_lines::write_text;
 use trace_model::Limits;
 
-/// The version of the program. `CHANGELOG.md` says what each version has.
+/// The version of the program, as in `CHANGELOG.md`.
 const VERSION: &str = "0.1.0";
 
-/// A subcommand with its options. A further subcommand is a variant of its own: it has a function that
-/// makes its `clap::Command`, one that reads its words, and its line in [`judge_words`] and in `program`.
+/// A subcommand with its options. To add one, add a variant, a function that makes its `clap::Command`, one that reads
+/// its words, and a line in [`judge_words`] and in `program`.
 #[derive(Drop)]
 pub enum Command {
-    /// The spans of a trace.
+    /// Prints the spans of a trace.
     Get { limits: Limits, trace: TraceId },
-    /// The responses to a session's requests.
+    /// Prints the responses to a session's requests.
     Pipe { limits: Limits },
-    /// What comes of steps.
+    /// Prints the outcomes of steps.
     Play { limits: Limits },
-    /// The responses to requests of many connections.
+    /// Serves many connections.
     Serve { options: ServeOptions },
 }
 
-/// An option that takes a number.
+/// Defines an option whose value is a number.
 pub(crate) fn number<'a>(
     alloc: Global,
     name: &'a str,
@@ -59,7 +62,7 @@ pub(crate) fn number<'a>(
         .help(help)
 }
 
-/// The options that each subcommand has.
+/// Adds the options that every subcommand has.
 pub(crate) fn with_limits(
     alloc: Global,
     command: clap::Command<'_>,
@@ -101,7 +104,7 @@ pub(crate) fn with_limits(
         ))
 }
 
-/// The subcommand `get`.
+/// Defines the subcommand `get`.
 fn get_command<'a>(alloc: Global) -> Result<clap::Command<'a>, AllocError>
     ensures { Makes result get_app }
 {
@@ -118,7 +121,7 @@ fn get_command<'a>(alloc: Global) -> Result<clap::Command<'a>, AllocError>
     with_limits(alloc, command)
 }
 
-/// The subcommand `pipe`.
+/// Defines the subcommand `pipe`.
 fn pipe_command<'a>(alloc: Global) -> Result<clap::Command<'a>, AllocError>
     ensures { Makes result pipe_app }
 {
@@ -131,7 +134,7 @@ fn pipe_command<'a>(alloc: Global) -> Result<clap::Command<'a>, AllocError>
     with_limits(alloc, command)
 }
 
-/// The subcommand `play`.
+/// Defines the subcommand `play`.
 fn play_command<'a>(alloc: Global) -> Result<clap::Command<'a>, AllocError>
     ensures { Makes result play_app }
 {
@@ -144,7 +147,8 @@ fn play_command<'a>(alloc: Global) -> Result<clap::Command<'a>, AllocError>
     with_limits(alloc, command)
 }
 
-/// The program with a further subcommand. It takes the program, so that none stands where a call may fail.
+/// Adds a subcommand to the program. It takes `program` by value, so that no value is alive across a call that may
+/// fail.
 fn with_subcommand<'a>(
     program: clap::Command<'a>,
     made: Result<clap::Command<'a>, AllocError>,
@@ -158,7 +162,7 @@ fn with_subcommand<'a>(
     }
 }
 
-/// The program with its subcommands, for the texts of help and faults.
+/// Defines the program with its subcommands, for the texts of help and faults.
 fn program<'a>(alloc: Global) -> Result<clap::Command<'a>, AllocError> {
     let program = clap::Command::new(alloc, "jaeger_one")
         .version(VERSION)
@@ -171,35 +175,33 @@ fn program<'a>(alloc: Global) -> Result<clap::Command<'a>, AllocError> {
     with_subcommand(program, serve_command(alloc))
 }
 
-/// Writes what is wrong with the words, or the help that they call for, and gives the status.
-fn explain<W: Write>(writer: &mut W, error: &Error) -> u8
-    ensures status { IsFault result }
-    ensures memory { kind_of error.now ≡ ErrorKind.OutOfMemory → result ≡ 5 }
+/// Writes what is wrong with the words, or the help that they ask for, and returns how the program ends.
+fn explain<W: Write>(writer: &mut W, error: &Error) -> Exit
+    ensures memory { kind_of error.now ≡ ErrorKind.OutOfMemory → result ≡ NoMemory }
 {
     if error.kind() == ErrorKind::OutOfMemory {
-        return 5;
+        return Exit::NoMemory;
     }
     match write!(writer, "{error}") {
-        Ok(()) => 2,
-        Err(_) => 4,
+        Ok(()) => Exit::Fault,
+        Err(_) => Exit::Device,
     }
 }
 
-/// Reads the words of a subcommand as clap does, or says what is wrong with them.
+/// Reads the words of a subcommand by clap, or writes what is wrong with them and returns how the program ends.
 pub(crate) fn matches_of<'a, S: AsStr, W: Write>(
     made: Result<clap::Command<'a>, AllocError>,
     words: &'a [S],
     writer: &mut W,
-) -> Result<ArgMatches<'a>, u8>
+) -> Result<ArgMatches<'a>, Exit>
     ensures rows { (app : App) → Makes made.entry app →
         IfOk result (λ m. rows_of (found_of m) ≡ matches_of app (map S.text words.entry.now)) }
     ensures silent { OnOk result (W.contents writer.new ≡ W.contents writer.old) }
-    ensures status { IfErr result IsFault }
     ensures taken { (app : App) → Makes made.entry app →
-        are_taken app (map S.text words.entry.now) ≡ true → IfErr result (λ s. s ≡ 5) }
+        are_taken app (map S.text words.entry.now) ≡ true → IfErr result (λ e. e ≡ NoMemory) }
 {
     let Ok(command) = made else {
-        return Err(5);
+        return Err(Exit::NoMemory);
     };
     match command.try_get_matches_from(words) {
         Ok(matches) => Ok(matches),
@@ -207,7 +209,7 @@ pub(crate) fn matches_of<'a, S: AsStr, W: Write>(
     }
 }
 
-/// The limits that the options give.
+/// Returns the limits of the options.
 pub(crate) fn limits_of(matches: &ArgMatches<'_>) -> Option<Limits>
     ensures given { IfSome result (HasLimits (rows_of (found_of matches.now))) }
     ensures found { (limits : LimitsValue) → HasLimits (rows_of (found_of matches.now)) limits →
@@ -220,94 +222,94 @@ pub(crate) fn limits_of(matches: &ArgMatches<'_>) -> Option<Limits>
     Limits::new(batches, spans, traces, max_skew)
 }
 
-/// The trace that is asked for, where its text is an id.
+/// Returns the trace's id, if the text is one.
 fn asked_trace(matches: &ArgMatches<'_>) -> Option<TraceId>
     ensures { result ≡ trace_in (first_value (found_of matches.now) (codes "TRACE")) }
 {
     parse_trace(matches.get_str("TRACE")?)
 }
 
-/// Says that the trace's id can't be read.
-fn say_bad_trace<W: Write>(writer: &mut W) -> io::Result<()>
+/// Writes that the trace's id can't be read.
+fn write_bad_trace<W: Write>(writer: &mut W) -> io::Result<()>
     ensures { OnOk result (Appends (W.contents writer.old) (W.contents writer.new)
         (codes "bad trace id\n")) }
 {
     writeln!(writer, "bad trace id")
 }
 
-/// The trace that is asked for, or the status once its fault is written.
-fn trace_of<W: Write>(matches: &ArgMatches<'_>, writer: &mut W) -> Result<TraceId, u8>
+/// Returns the trace's id. Otherwise writes the fault and returns how the program ends.
+fn trace_of<W: Write>(matches: &ArgMatches<'_>, writer: &mut W) -> Result<TraceId, Exit>
     ensures trace { IfOk result (λ id. trace_in
         (first_value (found_of matches.now) (codes "TRACE")) ≡ Some id) }
     ensures silent { OnOk result (W.contents writer.new ≡ W.contents writer.old) }
-    ensures none { IfErr result (λ s. trace_in
+    ensures none { IfErr result (λ e. trace_in
         (first_value (found_of matches.now) (codes "TRACE")) ≡ None) }
-    ensures said { IfErr result (λ s. (s ≡ 4)
-        ⊎ ((s ≡ 2) × Appends (W.contents writer.old) (W.contents writer.new)
+    ensures said { IfErr result (λ e. (e ≡ Device)
+        ⊎ ((e ≡ Fault) × Appends (W.contents writer.old) (W.contents writer.new)
         (codes "bad trace id\n"))) }
 {
     match asked_trace(matches) {
         Some(trace) => Ok(trace),
-        None => match say_bad_trace(writer) {
-            Ok(()) => Err(2),
-            Err(_) => Err(4),
+        None => match write_bad_trace(writer) {
+            Ok(()) => Err(Exit::Fault),
+            Err(_) => Err(Exit::Device),
         },
     }
 }
 
-/// The limits and the trace of `get`, whose own name is the first of the words.
+/// Reads the limits and the trace of `get`. The first of the words is the subcommand's name.
 fn read_get<S: AsStr, W: Write>(
     alloc: Global,
     words: &[S],
     writer: &mut W,
-) -> Result<(Limits, TraceId), u8>
+) -> Result<(Limits, TraceId), Exit>
     ensures asked { IfOk result (λ r. Reads (Get r.0 r.1) (map S.text words.now)) }
     ensures silent { OnOk result (W.contents writer.new ≡ W.contents writer.old) }
-    ensures status { IfErr result IsFault }
     ensures accepted { (limits : LimitsValue) (id : TraceIdValue) →
-        Takes (Get limits id) (map S.text words.now) → IfErr result (λ s. s ≡ 5) }
+        Takes (Get limits id) (map S.text words.now) → IfErr result (λ e. e ≡ NoMemory) }
     ensures bad_trace { (limits : LimitsValue) → TakesLimits limits (map S.text words.now) →
-        IfErr result (λ s. s ≡ 2 → Appends (W.contents writer.old) (W.contents writer.new)
+        IfErr result (λ e. e ≡ Fault → Appends (W.contents writer.old) (W.contents writer.new)
         (codes "bad trace id\n")) }
 {
     let matches = matches_of(get_command(alloc), words, writer)?;
-    let limits = limits_of(&matches).ok_or(2)?;
+    // Impossible: None, since clap has read each option in its range.
+    let limits = limits_of(&matches).ok_or(Exit::Fault)?;
     let trace = trace_of(&matches, writer)?;
     Ok((limits, trace))
 }
 
-/// The limits of a subcommand that has no other options, whose own name is the first of the words.
+/// Reads the limits of a subcommand without other options. The first of the words is the subcommand's name.
 fn read_limits<'a, S: AsStr, W: Write>(
     made: Result<clap::Command<'a>, AllocError>,
     words: &'a [S],
     writer: &mut W,
-) -> Result<Limits, u8>
+) -> Result<Limits, Exit>
     ensures asked { (app : App) → Makes made.entry app →
         IfOk result (HasLimits (matches_of app (map S.text words.now))) }
     ensures silent { OnOk result (W.contents writer.new ≡ W.contents writer.old) }
-    ensures status { IfErr result IsFault }
     ensures accepted { (app : App) (limits : LimitsValue) → Makes made.entry app →
         are_taken app (map S.text words.now) ≡ true →
-        HasLimits (matches_of app (map S.text words.now)) limits → IfErr result (λ s. s ≡ 5) }
+        HasLimits (matches_of app (map S.text words.now)) limits →
+        IfErr result (λ e. e ≡ NoMemory) }
 {
     let matches = matches_of(made, words, writer)?;
-    limits_of(&matches).ok_or(2)
+    // Impossible: None, since clap has read each option in its range.
+    limits_of(&matches).ok_or(Exit::Fault)
 }
 
-/// What the words ask for, the first of them being the program's name, and the word behind it the
-/// subcommand's. An answer to the words is left to the writer.
+/// Reads the command of the words: the program's name, the subcommand's name, and its own words. A reply to the words
+/// goes to the writer.
 fn judge_words<S: AsStr, W: Write>(
     alloc: Global,
     words: &[S],
     writer: &mut W,
-) -> Result<Command, u8>
+) -> Result<Command, Exit>
     ensures asked { IfOk result (Asks (map S.text words.now)) }
     ensures silent { OnOk result (W.contents writer.new ≡ W.contents writer.old) }
-    ensures status { IfErr result IsFault }
     ensures accepted { (command : CommandValue) → Accepts (map S.text words.now) command →
-        IfErr result (λ s. s ≡ 5) }
+        IfErr result (λ e. e ≡ NoMemory) }
     ensures bad_trace { (limits : LimitsValue) → TakesGet (map S.text words.now) limits
-        → IfErr result (λ s. s ≡ 2 → Appends (W.contents writer.old) (W.contents writer.new)
+        → IfErr result (λ e. e ≡ Fault → Appends (W.contents writer.old) (W.contents writer.new)
         (codes "bad trace id\n")) }
 {
     if let Some((_, rest)) = words.split_first() {
@@ -333,63 +335,62 @@ fn judge_words<S: AsStr, W: Write>(
     Err(refuse(alloc, words, writer))
 }
 
-/// Says what is wrong with words that name no subcommand, and gives the status.
-fn refuse<S: AsStr, W: Write>(alloc: Global, words: &[S], writer: &mut W) -> u8
-    ensures { IsFault result }
-{
+/// Writes what is wrong with words that name no subcommand, and returns how the program ends.
+fn refuse<S: AsStr, W: Write>(alloc: Global, words: &[S], writer: &mut W) -> Exit {
     match matches_of(program(alloc), words, writer) {
-        Ok(_) => 2,
-        Err(status) => status,
+        Ok(_) => Exit::Fault,
+        Err(exit) => exit,
     }
 }
 
-/// Answers words that ask for no command, and gives the exit status.
-#[tactic(auto, using(crate::proofs::Answering::stopped, crate::proofs::Answering::stopped_not_2))]
-fn answer<W: Output>(alloc: Global, output: &mut W, text: &[u8], status: u8) -> u8
+/// Writes the reply to words that name no command, and returns how the program ends.
+#[tactic(auto, using(crate::proofs::Answering::stopped, crate::proofs::Answering::stopped_no_fault))]
+fn answer<W: Output>(alloc: Global, output: &mut W, text: &[u8], exit: Exit) -> Exit
     requires { W.has_failed output.old ≡ false }
-    ensures status { IsFaultOf result (W.has_failed output.new) }
-    ensures memory { status ≡ 5 → result ≡ 5 }
-    ensures text { result ≡ 2 → (status ≡ 2)
+    ensures status { IsFaultOf (exit_status result) (W.has_failed output.new) }
+    ensures memory { exit ≡ NoMemory → result ≡ NoMemory }
+    ensures text { result ≡ Fault → (exit ≡ Fault)
         × Appends (W.contents output.old) (W.contents output.new) text.now }
 {
-    // A text in memory fails only where memory runs out, so 4 means 5 here.
-    if status != 2 {
-        return 5;
+    match exit {
+        Exit::Fault => {}
+        // A write to memory fails only if memory runs out.
+        Exit::Device | Exit::NoMemory => return Exit::NoMemory,
     }
-    match say(alloc, output, text) {
-        Ok(()) => 2,
-        Err(error) => error.status(),
+    match write_text(alloc, output, text) {
+        Ok(()) => Exit::Fault,
+        Err(error) => Exit::after(error),
     }
 }
 
-/// What the words ask for, the first of them being the program's name.
+/// Reads the command of the words, of which the first is the program's name.
 ///
-/// The word behind it is the subcommand, and clap reads those that follow. A fault of the words, and
-/// a call for help, is answered on the output.
+/// The second word is the subcommand, and clap reads those after it. A fault of the words, or a request for help, is
+/// answered on the output.
 ///
 /// # Errors
 ///
-/// The exit status: 2 for a fault of the words, a call for help or a trace's id that can't be read,
-/// 4 where the output failed, and 5 where memory ran out.
+/// How the program ends: a fault of the words (or a request for help, or a trace's id that can't be read), a failed
+/// output, or out of memory.
 pub fn read_words<S: AsStr, W: Output>(
     alloc: Global,
     words: &[S],
     output: &mut W,
-) -> Result<Command, u8>
+) -> Result<Command, Exit>
     requires { W.has_failed output.old ≡ false }
     ensures asked { IfOk result (Asks (map S.text words.now)) }
     ensures silent { OnOk result (W.contents output.new ≡ W.contents output.old) }
     ensures works { OnOk result (W.has_failed output.new ≡ false) }
-    ensures status { IfErr result (λ s. IsFaultOf s (W.has_failed output.new)) }
+    ensures status { IfErr result (λ e. IsFaultOf (exit_status e) (W.has_failed output.new)) }
     ensures accepted { (command : CommandValue) → Accepts (map S.text words.now) command →
-        IfErr result (λ s. s ≡ 5) }
+        IfErr result (λ e. exit_status e ≡ 5) }
     ensures bad_trace { (limits : LimitsValue) → TakesGet (map S.text words.now) limits
-        → IfErr result (λ s. s ≡ 2 → Appends (W.contents output.old) (W.contents output.new)
-        (codes "bad trace id\n")) }
+        → IfErr result (λ e. exit_status e ≡ 2 →
+        Appends (W.contents output.old) (W.contents output.new) (codes "bad trace id\n")) }
 {
     let mut said = Vec::new(alloc);
     match judge_words(alloc, words, &mut said) {
         Ok(command) => Ok(command),
-        Err(status) => Err(answer(alloc, output, said.as_slice(), status)),
+        Err(exit) => Err(answer(alloc, output, said.as_slice(), exit)),
     }
 }

@@ -1,6 +1,6 @@
-//! Numbers in decimal digits, without a sign and with leading zeros or without.
+//! Unsigned decimal numbers, with or without leading zeros.
 //!
-//! What digits spell stands in `specs/Digits.antt`.
+//! `specs/Digits.antt` defines the number that digits spell.
 #![tactic(auto)]
 
 ghost use Rattle.std.specs.Prelude.{◌≡◌, ◌^◌, ◌<◌, ◌≤◌, length};
@@ -8,7 +8,7 @@ ghost use Rattle.std.specs.List.{list_all};
 ghost use Rattle.std.specs.Char.{is_ascii_digit};
 ghost use Rattle.decimal_digits.specs.Digits.{digit, is_digits, number_of};
 
-/// The value of a decimal digit, 0 of any other byte.
+/// Returns the value of a decimal digit, and 0 for any other byte.
 fn digit_of(byte: u8) -> u8
     ensures value { result ≡ digit byte }
     ensures small { result < 10 }
@@ -25,14 +25,14 @@ fn are_digits(text: &[u8]) -> bool
     text.iter().all(|byte| byte.is_ascii_digit())
 }
 
-/// The text is one digit or more, at most so many, and nothing else.
+/// Whether the text is 1 to `most` decimal digits and nothing else.
 pub fn is_number(text: &[u8], most: usize) -> bool
     ensures { result ≡ is_digits most text.now }
 {
     !text.is_empty() && text.len() <= most && are_digits(text)
 }
 
-/// The number that decimal digits spell, of which there are at most 19; none spell 0.
+/// Returns the number that at most 19 decimal digits spell. The empty text is 0.
 pub fn value_of(digits: &[u8]) -> u64
     requires { length digits.now ≤ 19 }
     ensures value { result ≡ number_of digits.now }

@@ -1,4 +1,4 @@
--- What a store that one owner has does, as functions of its entries.
+-- What a store with one owner does, as functions of its entries.
 use Rattle.std.specs.Prelude.{◌≡◌, ℕ, ◌⊎◌, Result, Ok, Err}
 use Rattle.jaeger_model.specs.declared.batch.Batch.{Batch}
 use Rattle.trace_model.specs.declared.admission.Admission.{Admission}
@@ -12,12 +12,12 @@ use Rattle.trace_model.specs.Refusals.{place_of, with_admitted}
 use Rattle.trace_model.specs.Answers.{answer}
 use Rattle.arrival_journal.specs.Journals.{admission_by, turned_away_by}
 use Rattle.span_store.specs.NextEntry.{next_entry}
-use Rattle.store_backend.specs.Knowing.{History, IsBeginning}
+use Rattle.store_backend.specs.Knowing.{History, IsPrefixOf}
 
 abbrev pub DirectKnows : Held → History → Type 0
-DirectKnows s h = IsBeginning h s.entries
+DirectKnows s h = IsPrefixOf h s.entries
 
--- a batch is accepted where the entries take it, or have it already: then they stay, and its place is the old one
+-- a batch is accepted if the entries admit it, or have it already: then they don't change, and its place is the old one
 abbrev pub DirectSubmits : Held → Batch → Result ℕ Refusal → Held → Type 0
 DirectSubmits s b (Ok place) t =
     (a : Admission) × (admission_by s (next_entry s b) ≡ Ok a) × (place ≡ place_of s.entries a)

@@ -1,5 +1,5 @@
--- Laws that the impls of this crate name, and their lemmas. A clause can name nothing of its own crate's proofs/, so they stand in specs/.
--- What such a store does gives what a session asks of any store: store_backend names it SubmitKnows and ReadKnows.
+-- Laws that the impls of this crate name, and their lemmas. A clause can't name its own crate's proofs/, so they are in
+-- specs/. A direct store meets the laws of every backend: SubmitKnows and ReadKnows of store_backend.
 use Rattle.std.specs.Prelude.{◌≡◌, ℕ, [], ◌++◌, Result, Ok, Err, refl}
 use Rattle.std.proofs.Common.{append_assoc, sym, ◌∙◌, ap, subst, append-nil}
 use Rattle.jaeger_model.specs.declared.batch.Batch.{Batch}
@@ -10,7 +10,7 @@ use Rattle.trace_model.specs.Held.{Held}
 use Rattle.trace_model.specs.Refusals.{with_admitted}
 use Rattle.store_backend.specs.Knowing.{History, HasAt, Keeps, SubmitKnows, ReadKnows}
 use Rattle.span_store.specs.NextEntry.{next_entry}
-use Rattle.direct_store.specs.Behind.{grows, limits_stay, has_batch}
+use Rattle.direct_store.specs.After.{grows, limits_stay, has_batch}
 use Rattle.direct_store.specs.Exactly.{DirectKnows, DirectSubmits, DirectReads}
 
 keeps : (s t : Held) → t ≡ s → Keeps (λ (x : Held). x.limits) DirectKnows s t

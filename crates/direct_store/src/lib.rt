@@ -1,9 +1,8 @@
-//! A store that one owner has behind a session: each batch is handed in by one seat, and each answer is the
-//! store's at once.
+//! A store with one owner as the backend of a session. Seat 0 submits every batch, and the store answers at once.
 //!
-//! Contracts see a [`Direct`] as its limits and its list of entries. What it does is exact: a batch is
-//! accepted where the store takes it, as the next entry of seat 0, or has it already, and a read is
-//! answered at the entries held.
+//! Contracts see a [`Direct`] as its limits and its list of entries, and determine its answers. A batch is accepted as
+//! the next entry of seat 0 if the store admits it, or if the store has it already. A query is answered from the
+//! entries held.
 #![tactic(auto)]
 
 ghost use Rattle.std.specs.Prelude.{◌≡◌, ◌≤◌, length};
@@ -17,7 +16,7 @@ use std::sync::Arc;
 use store_backend::Backend;
 use trace_model::{Answer, Query, Refusal};
 
-/// A store that one owner has.
+/// A store with one owner.
 #[derive(Drop)]
 pub struct Direct {
     store: SpanStore,
@@ -37,17 +36,17 @@ impl Model for Direct {
 }
 
 impl Direct {
-    /// Serves the store. No number of seat 0 in it is above the number of its entries, so that the next
-    /// number is free.
+    /// Wraps the store. Its entries of seat 0 have no number above the number of entries, so the next number is free.
     pub fn new(store: SpanStore) -> Self
         requires { last_number 0 store.entries ≤ length store.entries }
         ensures { result ≡ store }
     {
+        // For the prover: the invariant needs the clause `legal` of `len`.
         let _legal = store.len();
         Direct { store }
     }
 
-    /// The store.
+    /// Returns the store.
     pub fn into_store(self) -> SpanStore
         ensures { result ≡ self }
     {

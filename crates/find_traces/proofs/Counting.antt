@@ -1,4 +1,4 @@
--- Keys that are counted: where as many different ones were found as there are, each of them was.
+-- Keys that are counted: if as many different ones were found as there are, each of them was found.
 use Rattle.std.proofs.Common.{◌≡◌, ℕ, ◌+◌, ◌≤◌, Bool, true, false, true≢false, ◌||◌, ◌&&◌, cond, List, [], ◌∷◌, ◌++◌, length, refl, sym, ap, ◌∙◌, arith, length-append, eqb-true, eq-eqb}
 use Rattle.std.specs.Prelude.{not, ◌==◌}
 use Rattle.std.specs.Cmp.{IsEquivalence}
@@ -69,7 +69,7 @@ module _ {K : Type 0} {eq : K → K → Bool} (laws : IsEquivalence eq) where
   either xs ns a q within there false true p s h = list_any_congr laws q a xs s ∙ there
   either xs ns a q within there false false p s h = absurd (true≢false (sym h))
 
-  -- where one of the list is left out they are fewer
+  -- without one item of the list they are fewer
   pub fewer : (xs ns : List K) (a : K) → IsDistinct eq ns → ((q : K) → is_member eq ns q ≡ true → is_member eq xs q ≡ true) → is_member eq ns a ≡ false → is_member eq xs a ≡ true → length ns + 1 ≤ distinct_count eq xs
   fewer xs ns a d within absent there =
       let long = few xs (ns ++ a ∷ []) (IsDistinct-push laws ns a d absent)
@@ -94,7 +94,7 @@ module _ {K : Type 0} {eq : K → K → Bool} (laws : IsEquivalence eq) where
       by true e g more = alike q x e ∙ (and_parts (f x) (list_all f xs) h).0
       by false e g more = more g
 
-  -- where none is left, each of the list passes
+  -- if none is left, each of the list passes
   pub none_left : (f s p : K → Bool) → ((q : K) → f q ≡ (s q || p q)) → (xs met : List K) → IsDistinct eq met → ((q : K) → is_member eq met q ≡ (is_member eq xs q && p q))
       → length met ≡ distinct_count eq xs → true ≡ list_all f xs
   none_left f s p either_is xs met d met_is count = by (list_all f xs) refl

@@ -24,7 +24,7 @@ trace e = e.1
 pub map_cut : {X Y : Type 0} (f : X → Y) (n : ℕ) (xs : List X) → map f (cut n xs) ≡ cut n (map f xs)
 map_cut f n xs = elim (n == 0) as (λ b. map f (if b then xs else take n xs) ≡ (if b then map f xs else take n (map f xs))) [ true ↦ refl | false ↦ sym (take-map f n xs) ]
 
--- what the sorted and cut hits name
+-- the places of the sorted and cut hits
 pub places_of_hits : (q : Find) (ts : List (List Placed)) → map reverse_key_place (cut q.limit (map reverse_key_of (ranked_by_start start_of (hits q ts)))) ≡ places_found q ts
 places_of_hits q ts =
     ap (map reverse_key_place) (sym (map_cut reverse_key_of q.limit (ranked_by_start start_of (hits q ts)))) ∙ map-map reverse_key_place reverse_key_of (cut q.limit (ranked_by_start start_of (hits q ts)))
@@ -74,7 +74,7 @@ numbered_push : {X : Type 0} (n : ℕ) (xs : List X) (x : X) → enumerate_from 
 numbered_push n [] x = let e : n ≡ n + 0 = omega arith in ap (λ m. (m, x) ∷ []) e
 numbered_push n (y ∷ ys) x = let e : (n + 1) + length ys ≡ n + length (y ∷ ys) = omega arith in ap (λ l. (n, y) ∷ l) (numbered_push (n + 1) ys x ∙ ap (λ m. enumerate_from (n + 1) ys ++ (m, x) ∷ []) e)
 
--- the traces once one more is looked at
+-- the traces after one more is read
 numbered_read : (ts : List (List Placed)) (i : ℕ) → i < length ts → enumerate_from 0 (take (i + 1) ts) ≡ enumerate_from 0 (take i ts) ++ (i, trace_at ts i) ∷ []
 numbered_read ts i h =
     let count : 0 + length (take i ts) ≡ i = omega (arith, length-take-le i ts (let l : i ≤ length ts = omega arith in l)) in

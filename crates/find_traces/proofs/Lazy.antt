@@ -1,4 +1,4 @@
--- The walk over the ranking of all gives the answer.
+-- The walk over the ranking of all yields the answer.
 use Rattle.std.proofs.Common.{◌≡◌, ℕ, Bool, cond, List, [], ◌∷◌, map, refl, sym, ap, subst, ◌∙◌, true, false}
 use Rattle.std.specs.Prelude.{filter}
 use Rattle.std.specs.List.{list_any, All, enumerate_from}

@@ -1,4 +1,4 @@
--- Numbered elements, once ranked, rise strictly by start and then place, best first.
+-- Numbered elements, once ranked, are in strictly ascending order by start and then place, best first.
 use Rattle.std.proofs.Common.{◌≡◌, ℕ, ℤ, ◌+◌, ◌<◌, ◌≤◌, true, false, cond, List, [], ◌∷◌, map, refl, sym, ap, ◌∙◌, arith}
 use Rattle.std.specs.Prelude.{if◌then◌else◌, ◌==◌, int_lt}
 use Rattle.std.specs.List.{AllByRecursion, enumerate_from}
@@ -84,7 +84,7 @@ module _ {X : Type 0} (start : ℕ × X → ℤ) where
       (recursion_from_All (λ (e : ℕ × X). x.0 < e.0) _ (All-permutation (λ (e : ℕ × X). x.0 < e.0) es (ranked_by_start start es) (ranked-permutation start es) (All-from_recursion (λ (e : ℕ × X). x.0 < e.0) es r.0)))
       (strict_ranked es r.1)
 
-  -- the places of what is numbered rise
+  -- the places of what is numbered are ascending
   weaker : (n : ℕ) (es : List (ℕ × X)) → AllByRecursion (λ (e : ℕ × X). n + 1 ≤ e.0) es → AllByRecursion (λ (e : ℕ × X). n ≤ e.0) es
   weaker n [] a = tt
   weaker n (x ∷ es) a = (let b = a.0 in omega arith, weaker n es a.1)
@@ -104,7 +104,7 @@ module _ {X : Type 0} (start : ℕ × X → ℤ) where
   pub ranked_rises : (xs : List X) → IsStrictlySortedBy rank_cmp (ranked_by_start start (enumerate_from 0 xs))
   ranked_rises xs = strict_ranked (enumerate_from 0 xs) (places_rise 0 xs)
 
--- ---- and so does what they are mapped to, where that is in the same order
+-- ---- and so does what they are mapped to, if that is in the same order
 module _ {X Y : Type 0} (f : X → Y) (cmp : Y → Y → Ordering) where
   abbrev through : X → X → Ordering
   through a b = cmp (f a) (f b)

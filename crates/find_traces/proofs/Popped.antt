@@ -1,4 +1,4 @@
--- What comes out of a heap is the head of the strictly rising list of what is in it.
+-- What is popped from a heap is the head of the strictly ascending list of its items.
 use Rattle.std.proofs.Common.{◌≡◌, false, ◌||◌, List, [], ◌∷◌, refl, sym, ap, ◌∙◌}
 use Rattle.std.specs.List.{AllByRecursion, IsDistinct}
 use Rattle.std.specs.List.Sorted.{IsStrictlySortedBy, IsPermutation}
@@ -14,7 +14,7 @@ use Rattle.trace_model.proofs.Rising.{Below, has, not_below, absent, present, ta
 use Rattle.find_traces.proofs.Rising.{flips, distinct_moved}
 
 module _ {K : Type 0} (cmp : K → K → Ordering) where
-  -- rest, which rises strictly, has what is left
+  -- rest, which is strictly ascending, has what is left
   pub record Leaves (rest left : List K) : Type 0 where
     pub rises : IsStrictlySortedBy cmp rest
     pub distinct : IsDistinct (eq_by_cmp cmp) left

@@ -1,4 +1,5 @@
--- A strictly rising list is settled by its members, and so by any list that has its elements in another order.
+-- A strictly ascending list is determined by its members, and so by any list that has its elements in another
+-- order.
 use Rattle.std.proofs.Common.{◌≡◌, suc, ◌+◌, false, List, [], ◌∷◌, get_or, refl, sym, ap, subst, ◌∙◌, arith}
 use Rattle.std.specs.List.{IsDistinct}
 use Rattle.std.specs.List.Sorted.{IsSorted, IsStrictlySortedBy, IsPermutation}
@@ -42,7 +43,7 @@ module _ {K : Type 0} {cmp : K → K → Ordering} (o : IsTotalOrder cmp) (exact
   pub distinct_moved : (xs ys : List K) → IsStrictlySortedBy cmp xs → IsPermutation xs ys → IsDistinct (eq_by_cmp cmp) ys
   distinct_moved xs ys strict moved = IsDistinct-IsPermutation (eq_by_cmp cmp) flips xs ys moved (IsDistinct-from_sorted cmp xs strict)
 
-  -- what a sort gives
+  -- the result of a sort
   pub sorted_is : (xs ys : List K) → IsStrictlySortedBy cmp xs → IsPermutation xs ys → IsSorted cmp ys → ys ≡ xs
   sorted_is xs ys strict moved sorted =
       rises_same o exact ys xs (strictly ys sorted (distinct_moved xs ys strict moved)) strict (λ q. sym (list_any-IsPermutation (eq_by_cmp cmp q) xs ys moved))

@@ -1,4 +1,4 @@
--- What is sorted, and where it stands, is the ranking.
+-- The sorted traces, and their places, are the ranking.
 use Rattle.std.proofs.Common.{◌≡◌, ℕ, List, map, subst}
 use Rattle.std.specs.declared.cmp.Reverse.{Reverse}
 use Rattle.std.specs.List.Sorted.{IsSorted, IsStrictlySortedBy, IsPermutation}

@@ -1,4 +1,4 @@
--- The answer as far as a walk in order has come, and that it may stop.
+-- The answer of a walk in order so far, and that it may stop.
 use Rattle.std.proofs.Common.{◌≡◌, ℕ, zero, suc, ◌<◌, ◌≤◌, Bool, true, false, cond, List, [], ◌∷◌, ◌++◌, map, length, take, refl, sym, ap, ◌∙◌, arith}
 use Rattle.std.specs.Prelude.{filter, if◌then◌else◌, ◌==◌, ◌&&◌, not, nat_le}
 use Rattle.std.proofs.Math.Seq.{take-nil}
@@ -29,7 +29,7 @@ cut_full n xs ys e = elim (n == 0) as (λ b. (not b && nat_le n (length (if b th
 ] e
 
 module _ {K : Type 0} (p : K → Bool) (place : K → ℕ) (limit : ℕ) where
-  -- the answer that a walk over xs gives
+  -- the answer of a walk over xs
   abbrev pub answer : List K → List ℕ
   answer xs = map place (cut limit (filter p xs))
 

@@ -1,4 +1,4 @@
--- Pairs that a search asks and that tags have.
+-- Pairs that a search requests and that tags have.
 use Rattle.std.proofs.Common.{◌≡◌, ℕ, ◌+◌, ◌*◌, ◌<◌, ◌≤◌, Bool, true, false, true≢false, ◌||◌, ◌&&◌, cond, List, [], ◌∷◌, ◌++◌, length, get_or, take, refl, sym, ap, ◌∙◌, inl, inr, arith, Some, None}
 use Rattle.std.specs.Prelude.{◌%◌, ◌^◌, not, flat_map, if◌then◌else◌, ◌==◌}
 use Rattle.std.specs.Int.{bit_at}
@@ -26,7 +26,7 @@ use Rattle.jaeger_model.specs.Texts.{text_cmp}
 use Rattle.trace_model.specs.declared.query.Find.{Find}
 use Rattle.trace_model.specs.Linking.{call_cmp as pair_cmp}
 use Rattle.trace_model.specs.Searching.{tag_matches, has_tag, tags_of}
-use Rattle.find_traces.specs.Wanting.{pair_of, same_pair, with_key, key_bits, asks, asked_count, if_asked, has_pair, is_in, wants}
+use Rattle.find_traces.specs.Wanting.{pair_of, same_pair, with_key, key_bits, asks, requested_count, if_requested, has_pair, is_in, wants}
 use Rattle.find_traces.specs.Prepared.{IsJudged}
 use Rattle.find_traces.proofs.Counting.{few, counted, none_left}
 use Rattle.trace_model.proofs.NameLaws.{call_total, then_eq}
@@ -55,7 +55,7 @@ one_more true w m e = refl
 one_more false true m e = refl
 one_more false false m e = refl
 
--- ---- one more key, length or pair is put in
+-- ---- one more key, length or pair is inserted
 pub put_more : {K : Type 0} {same : K → K → Bool} → IsEquivalence same → (f : List ℕ × List ℕ → K) (n o : List K) (xs : List (List ℕ × List ℕ)) (i : ℕ) (x : List ℕ × List ℕ) (y : K)
     → i < length xs → x ≡ get_or xs i x → y ≡ f x → (k : K) → list_any (same k) n ≡ cond (same y k) true (list_any (same k) o)
     → list_any (same k) o ≡ list_any (λ (a : List ℕ × List ℕ). same k (f a)) (take i xs) → list_any (same k) n ≡ list_any (λ (a : List ℕ × List ℕ). same k (f a)) (take (i + 1) xs)
@@ -64,7 +64,7 @@ put_more {same = same} laws f n o xs i x y le is put_is k put before =
     ∙ (λ j. before j || (laws.symm y k ∙ ap (same k) (put_is ∙ ap f is)) j)
     ∙ sym (list_any_more (λ (a : List ℕ × List ℕ). same k (f a)) xs i x le)
 
--- ---- what is asked
+-- ---- what is requested
 -- a pair that differs from each pair that fails a test is not among pairs that all fail it
 no_part : (p : List ℕ × List ℕ → Bool) (a : List ℕ × List ℕ) → ((x : List ℕ × List ℕ) → p x ≡ false → same_pair a x ≡ false) → (xs : List (List ℕ × List ℕ)) → list_any p xs ≡ false → list_any (same_pair a) xs ≡ false
 no_part p a apart [] h = refl
@@ -104,7 +104,7 @@ any_bit b (x ∷ xs) k h = elim (or_cases (eq_by_cmp text_cmp k x.0) (list_any (
   | inr more ↦ any_bit (with_key b x) xs k more
 ]
 
--- a key whose length has no bit is not asked
+-- a key whose length has no bit is not requested
 pub no_bit : (xs : List (List ℕ × List ℕ)) (k t : List ℕ) → (bit_at (key_bits xs) (length k % 64) == 1) ≡ false → list_any (same_pair (k, t)) xs ≡ false
 no_bit xs k t h = no_key xs k t (false_from_ne_true _ (λ e. both_ways _ h (ap (λ n. n == 1) (any_bit 0 xs k e))))
 
@@ -118,14 +118,14 @@ pub no_length : (xs : List (List ℕ × List ℕ)) (k t : List ℕ) → list_any
 no_length xs k t =
     no_part (λ a. eq_by_cmp nat_cmp (length t) (length a.1)) (k, t) (λ x e. then_eq (text_cmp k x.0) (text_cmp t x.1) ∙ and_right (is_eq (text_cmp k x.0)) (is_eq (text_cmp t x.1)) (other_length t x.1 e)) xs
 
-pub asked_some : (q : Find) (x p : List ℕ × List ℕ) → if_asked q x ≡ Some p → (asks q x ≡ true) × (p ≡ x)
+pub asked_some : (q : Find) (x p : List ℕ × List ℕ) → if_requested q x ≡ Some p → (asks q x ≡ true) × (p ≡ x)
 asked_some q x p h = by (asks q x) refl h
   where
     by : (b : Bool) → asks q x ≡ b → (if b then Some x else None) ≡ Some p → (asks q x ≡ true) × (p ≡ x)
     by true e g = (e, cc)
     by false e g = absurd cc
 
-pub asked_none : (q : Find) (x : List ℕ × List ℕ) → if_asked q x ≡ None → asks q x ≡ false
+pub asked_none : (q : Find) (x : List ℕ × List ℕ) → if_requested q x ≡ None → asks q x ≡ false
 asked_none q x h = by (asks q x) refl h
   where
     by : (b : Bool) → asks q x ≡ b → (if b then Some x else None) ≡ None → asks q x ≡ false
@@ -230,5 +230,5 @@ module _ (q : Find) (o : Process) (s : Span) where
       none_left pair_laws (has_tag here) (λ a. has_pair s.tags a || has_pair (fields_of s.logs) a) (has_pair o.tags) has_tag-pairs q.tags met (distinct_pairs met j.rising) j.asked (omega arith)
 
 -- ---- the tags of a process
-pub met_few : (q : Find) (o : Process) (met : List (List ℕ × List ℕ)) → IsStrictlySortedBy pair_cmp met → ((a : List ℕ × List ℕ) → is_in met a ≡ (asks q a && has_pair o.tags a)) → length met ≤ asked_count q
+pub met_few : (q : Find) (o : Process) (met : List (List ℕ × List ℕ)) → IsStrictlySortedBy pair_cmp met → ((a : List ℕ × List ℕ) → is_in met a ≡ (asks q a && has_pair o.tags a)) → length met ≤ requested_count q
 met_few q o met rising is = few pair_laws q.tags met (distinct_pairs met rising) (λ a m. (and_parts (asks q a) (has_pair o.tags a) (sym (is a) ∙ m)).0)

@@ -1,4 +1,4 @@
--- What stands in place of the traces while they are put in order.
+-- The sort keys of traces.
 use Rattle.std.specs.Prelude.{ℕ, Bool, List, ◌&&◌, ◌==◌, not, nat_le}
 use Rattle.std.specs.List.{list_any}
 use Rattle.std.specs.declared.cmp.Ordering.{Ordering}
@@ -10,7 +10,7 @@ use Rattle.trace_model.specs.Searching.{matches}
 use Rattle.find_traces.specs.declared.key.Key.{Key}
 use Rattle.find_traces.specs.Places.{start_of, trace_at}
 
--- so many are as many as the limit lets through
+-- the count has reached the limit
 abbrev pub is_full : ℕ → ℕ → Bool
 is_full limit count = not (limit == 0) && nat_le limit count
 
@@ -27,7 +27,7 @@ key_cmp a b = ordering_then (int_cmp a.start b.start) (nat_cmp a.place b.place)
 abbrev pub best_cmp : Key → Key → Ordering
 best_cmp a b = key_cmp b a
 
--- the same in an order whose least is the best
+-- its place in an order whose least is the best
 abbrev pub reverse_key_of : ℕ × List Placed → Reverse Key
 reverse_key_of e = record { 0 = key_of e }
 

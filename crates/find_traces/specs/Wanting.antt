@@ -1,4 +1,4 @@
--- The pairs of a key and a text that a search asks, and which of them tags have.
+-- The pairs of a key and a text that a search requests, and which of them tags have.
 use Rattle.std.specs.Prelude.{ℕ, ◌%◌, ◌^◌, Bool, not, ◌&&◌, List, length, Option, Some, None, if◌then◌else◌}
 use Rattle.std.specs.Int.Bits.{bit_or}
 use Rattle.std.specs.List.{fold, list_any}
@@ -19,15 +19,15 @@ pair_of t = (t.key, tag_text t.value)
 abbrev pub same_pair : List ℕ × List ℕ → List ℕ × List ℕ → Bool
 same_pair a b = eq_by_cmp pair_cmp a b
 
--- the search asks a pair with the key
-abbrev pub asks_key : Find → List ℕ → Bool
-asks_key q k = list_any (λ (a : List ℕ × List ℕ). eq_by_cmp text_cmp k a.0) q.tags
+-- the search requests a pair with the key
+abbrev pub requests_key : Find → List ℕ → Bool
+requests_key q k = list_any (λ (a : List ℕ × List ℕ). eq_by_cmp text_cmp k a.0) q.tags
 
--- the search asks a pair with a text of so many bytes
-abbrev pub asks_length : Find → ℕ → Bool
-asks_length q n = list_any (λ (a : List ℕ × List ℕ). eq_by_cmp nat_cmp n (length a.1)) q.tags
+-- the search requests a pair with a text of n bytes
+abbrev pub requests_length : Find → ℕ → Bool
+requests_length q n = list_any (λ (a : List ℕ × List ℕ). eq_by_cmp nat_cmp n (length a.1)) q.tags
 
--- bits for the lengths of keys: that of the rest by 64 of each one's length is set
+-- bits for the lengths of keys: the one with the number of each length modulo 64 is set
 abbrev pub with_key : ℕ → List ℕ × List ℕ → ℕ
 with_key bits a = bit_or bits (2 ^ (length a.0 % 64))
 
@@ -37,13 +37,13 @@ key_bits asked = fold with_key 0 asked
 abbrev pub asks : Find → List ℕ × List ℕ → Bool
 asks q a = list_any (same_pair a) q.tags
 
--- how many pairs the search asks, each counted once
-abbrev pub asked_count : Find → ℕ
-asked_count q = distinct_count same_pair q.tags
+-- the number of requested pairs, each counted once
+abbrev pub requested_count : Find → ℕ
+requested_count q = distinct_count same_pair q.tags
 
--- the pair, if it is asked
-abbrev pub if_asked : Find → List ℕ × List ℕ → Option (List ℕ × List ℕ)
-if_asked q a = if asks q a then Some a else None
+-- the pair, if it is requested
+abbrev pub if_requested : Find → List ℕ × List ℕ → Option (List ℕ × List ℕ)
+if_requested q a = if asks q a then Some a else None
 
 -- one of the tags has the pair
 abbrev pub has_pair : List Tag → List ℕ × List ℕ → Bool
@@ -53,11 +53,11 @@ has_pair ts a = list_any (λ (t : Tag). same_pair a (pair_of t)) ts
 abbrev pub is_in : List (List ℕ × List ℕ) → List ℕ × List ℕ → Bool
 is_in ps a = list_any (same_pair a) ps
 
--- the pair is asked and is not among those
+-- the pair is requested and is not among those
 abbrev pub wants : Find → List (List ℕ × List ℕ) → List ℕ × List ℕ → Bool
 wants q but a = asks q a && not (is_in but a)
 
--- a search and the process of spans that it is about
+-- a search, and the process of the spans that it judges
 pub record Beside : Type 0 where
   pub query : Find
   pub process : Process

@@ -1,5 +1,5 @@
-//! Searches with a limit: a heap gives the traces in the order of the answer, and they are judged as
-//! they come up, until as many match as are asked for.
+//! Searches with a limit. A heap yields the traces in the order of the answer; they are judged in that order,
+//! until the limit is reached.
 
 ghost use Rattle.std.specs.Prelude.{◌≡◌, IfOk, List, map, filter};
 ghost use Rattle.std.specs.List.Sorted.{IsPermutation, IsStrictlySortedBy};
@@ -14,7 +14,7 @@ use crate::searched::Searched;
 use std::alloc::{AllocError, Global};
 use std::collections::BinaryHeap;
 
-/// A key for each trace.
+/// Makes a key for each trace.
 fn all_keys<T: Searched>(alloc: Global, traces: &T) -> Result<Vec<Key>, AllocError>
     ensures { IfOk result (λ v. v.items ≡ map key_of (enumerate_from 0 (T.traces traces.now))) }
 {
@@ -25,15 +25,15 @@ fn all_keys<T: Searched>(alloc: Global, traces: &T) -> Result<Vec<Key>, AllocErr
     Ok(keys)
 }
 
-/// Whether so many are as many as the limit lets through.
+/// Whether the count has reached the limit.
 fn is_full(limit: u64, count: usize) -> bool
     ensures { result ≡ is_full limit count }
 {
     limit != 0 && limit <= count as u64
 }
 
-/// The places of the traces that match, the best first, no more than the limit. None is judged once
-/// the limit is reached.
+/// Returns the places of the traces that match, the best first, no more than the limit. None is judged after the
+/// limit is reached.
 fn judge_popped<T: Searched>(
     alloc: Global,
     traces: &mut T,
@@ -61,7 +61,7 @@ fn judge_popped<T: Searched>(
     Ok(places)
 }
 
-/// The places of the best traces that match, in the order of the answer.
+/// Returns the places of the best traces that match, in the order of the answer.
 pub(crate) fn find_best<T: Searched>(
     alloc: Global,
     traces: &mut T,

@@ -8,9 +8,9 @@ use crate::searched::Searched;
 use jaeger_model::TraceId;
 use std::alloc::{AllocError, Global};
 
-/// The places of the traces that a search finds, in the order of its answer: latest first start
-/// first, of equal starts the trace opened later, and no more than the limit. With a limit no trace
-/// is judged once so many were found; without one only those that match are sorted.
+/// Returns the places of the traces that a search finds, in the order of its answer: latest first start first, of
+/// equal starts the trace opened later, and no more than the limit. With a limit, no trace is judged after the
+/// limit is reached; without one, only those that match are sorted.
 ///
 /// # Errors
 ///
@@ -29,7 +29,7 @@ pub fn find<T: Searched>(alloc: Global, traces: &mut T) -> Result<Vec<usize>, Al
     find_best(alloc, traces)
 }
 
-/// The ids of the traces that a search finds, in the order of its answer, as [`find`] gives it.
+/// Returns the ids of the traces that a search finds, in the order of [`find`].
 ///
 /// # Errors
 ///

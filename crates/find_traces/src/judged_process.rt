@@ -6,22 +6,22 @@ ghost use Rattle.jaeger_model.specs.declared.span.Log.{Log as LogValue};
 ghost use Rattle.trace_model.specs.Searching.{matches, has_tag};
 ghost use Rattle.find_traces.specs.Wanting.{pair_of, same_pair, is_in, asks, wants, has_pair};
 
-use crate::wanted::Wanted;
+use crate::prepared::PreparedSearch;
 use jaeger_model::{Log, Process, Seen, Span, Tag, Text};
 use span_steps::{is_named, is_timed};
 use std::alloc::{AllocError, Global};
 use std::collections::BTreeSet;
 use std::marker::Model;
 
-/// A process whose tags were looked up among those that a search asks, once for all its spans. Contracts
-/// see the search and the process.
+/// A process whose tags were compared with those that a search requests, once for all its spans. Contracts see the
+/// search and the process.
 #[derive(Drop)]
 pub struct JudgedProcess<'a> {
-    wanted: &'a Wanted<'a>,
+    prepared: &'a PreparedSearch<'a>,
     process: &'a Process,
-    /// The asked pairs that tags of the process have.
+    /// The requested pairs that tags of the process have.
     met: BTreeSet<(Text, Text)>,
-    /// How many asked pairs they leave.
+    /// The number of the other requested pairs.
     left: usize,
 }
 
@@ -31,24 +31,24 @@ impl<'a> Model for JudgedProcess<'a> {
 
     ghost Value = { Beside };
 
-    ghost view = { λ j. record { query = j.wanted.now; process = j.process.now } };
+    ghost view = { λ j. record { query = j.prepared.now; process = j.process.now } };
 
-    ghost invariant = { λ j. IsJudged j.wanted.now j.process.now j.met.keys j.left };
+    ghost invariant = { λ j. IsJudged j.prepared.now j.process.now j.met.keys j.left };
 }
 
-/// Adds the pair that a tag has, if it is asked and is not among the others.
+/// Adds the pair of a tag, if it is requested and is not among the others.
 fn add_pair(
     alloc: Global,
-    wanted: &Wanted<'_>,
+    prepared: &PreparedSearch<'_>,
     tag: &Tag,
     others: &BTreeSet<(Text, Text)>,
     pairs: &mut BTreeSet<(Text, Text)>,
 ) -> Result<(), AllocError>
     ensures { OnOk result ((a : List ℕ × List ℕ) → is_in pairs.new.keys a ≡
         (is_in pairs.old.keys a
-        || (wants wanted.now others.now.keys a && same_pair a (pair_of tag.now)))) }
+        || (wants prepared.now others.now.keys a && same_pair a (pair_of tag.now)))) }
 {
-    if let Some(pair) = wanted.asked_by(alloc, tag)? {
+    if let Some(pair) = prepared.requested_pair(alloc, tag)? {
         if !others.contains(&pair) {
             pairs.insert(pair)?;
         }
@@ -56,101 +56,101 @@ fn add_pair(
     Ok(())
 }
 
-/// The same for each of the tags.
+/// Adds the pairs of the tags that are requested and not among the others.
 fn add_pairs(
     alloc: Global,
-    wanted: &Wanted<'_>,
+    prepared: &PreparedSearch<'_>,
     tags: &[Tag],
     others: &BTreeSet<(Text, Text)>,
     pairs: &mut BTreeSet<(Text, Text)>,
 ) -> Result<(), AllocError>
     ensures { OnOk result ((a : List ℕ × List ℕ) → is_in pairs.new.keys a ≡
-        (is_in pairs.old.keys a || (wants wanted.now others.now.keys a && has_pair tags.now a))) }
+        (is_in pairs.old.keys a || (wants prepared.now others.now.keys a && has_pair tags.now a))) }
 {
     for tag in tags {
-        add_pair(alloc, wanted, tag, others, pairs)?;
+        add_pair(alloc, prepared, tag, others, pairs)?;
     }
     Ok(())
 }
 
-/// The same for each field of the logs.
+/// Adds the pairs of the fields of the logs that are requested and not among the others.
 fn add_fields(
     alloc: Global,
-    wanted: &Wanted<'_>,
+    prepared: &PreparedSearch<'_>,
     logs: &[Log],
     others: &BTreeSet<(Text, Text)>,
     pairs: &mut BTreeSet<(Text, Text)>,
 ) -> Result<(), AllocError>
     ensures { OnOk result ((a : List ℕ × List ℕ) → is_in pairs.new.keys a ≡
-        (is_in pairs.old.keys a || (wants wanted.now others.now.keys a
+        (is_in pairs.old.keys a || (wants prepared.now others.now.keys a
         && has_pair (flat_map (λ (l : LogValue). l.fields) logs.now) a))) }
 {
     for log in logs {
-        add_pairs(alloc, wanted, log.fields.as_slice(), others, pairs)?;
+        add_pairs(alloc, prepared, log.fields.as_slice(), others, pairs)?;
     }
     Ok(())
 }
 
-/// The asked pairs that tags of the process have.
+/// Returns the requested pairs that tags of the process have.
 fn process_pairs(
     alloc: Global,
-    wanted: &Wanted<'_>,
+    prepared: &PreparedSearch<'_>,
     process: &Process,
 ) -> Result<BTreeSet<(Text, Text)>, AllocError>
     ensures { IfOk result (λ s. (a : List ℕ × List ℕ) → is_in s.keys a ≡
-        (asks wanted.now a && has_pair process.now.tags a)) }
+        (asks prepared.now a && has_pair process.now.tags a)) }
 {
     let mut met = BTreeSet::new(alloc);
-    if wanted.asks_nothing() {
+    if prepared.has_no_pairs() {
         return Ok(met);
     }
     let others = BTreeSet::new(alloc);
-    add_pairs(alloc, wanted, process.tags.as_slice(), &others, &mut met)?;
+    add_pairs(alloc, prepared, process.tags.as_slice(), &others, &mut met)?;
     Ok(met)
 }
 
-/// The asked pairs that the span's own tags and log fields have, but for the others.
+/// Returns the requested pairs that the span's own tags and log fields have, except for the others.
 fn own_pairs(
     alloc: Global,
-    wanted: &Wanted<'_>,
+    prepared: &PreparedSearch<'_>,
     span: &Span,
     others: &BTreeSet<(Text, Text)>,
 ) -> Result<BTreeSet<(Text, Text)>, AllocError>
     ensures { IfOk result (λ s. (a : List ℕ × List ℕ) → is_in s.keys a ≡
-        (wants wanted.now others.now.keys a && (has_pair span.now.tags a
+        (wants prepared.now others.now.keys a && (has_pair span.now.tags a
         || has_pair (flat_map (λ (l : LogValue). l.fields) span.now.logs) a))) }
 {
     let mut own = BTreeSet::new(alloc);
-    add_pairs(alloc, wanted, span.tags.as_slice(), others, &mut own)?;
-    add_fields(alloc, wanted, span.logs.as_slice(), others, &mut own)?;
+    add_pairs(alloc, prepared, span.tags.as_slice(), others, &mut own)?;
+    add_fields(alloc, prepared, span.logs.as_slice(), others, &mut own)?;
     Ok(own)
 }
 
 impl<'a> JudgedProcess<'a> {
-    /// The process, its tags looked up.
+    /// Compares the tags of the process with the requested ones.
     ///
     /// # Errors
     ///
     /// Out of memory, and nothing else.
     pub fn new(
         alloc: Global,
-        wanted: &'a Wanted<'a>,
+        prepared: &'a PreparedSearch<'a>,
         process: &'a Process,
     ) -> Result<Self, AllocError>
         ensures { IfOk result (λ j. j ≡
-            record { query = wanted.now; process = process.now }) }
+            record { query = prepared.now; process = process.now }) }
     {
-        let met = process_pairs(alloc, wanted, process)?;
-        let left = wanted.count() - met.len();
+        let met = process_pairs(alloc, prepared, process)?;
+        let left = prepared.count() - met.len();
         Ok(JudgedProcess {
-            wanted,
+            prepared,
             process,
             met,
             left,
         })
     }
 
-    /// Whether a span of the process has each of the asked tags, itself or in its process or its logs.
+    /// Whether a span of the process has each of the requested tags, itself or in its process or its logs.
     ///
     /// # Errors
     ///
@@ -163,12 +163,12 @@ impl<'a> JudgedProcess<'a> {
         if self.left == 0 {
             return Ok(true);
         }
-        let own = own_pairs(alloc, self.wanted, span, &self.met)?;
+        let own = own_pairs(alloc, self.prepared, span, &self.met)?;
         Ok(own.len() == self.left)
     }
 
-    /// Whether a span of the process meets every condition of the search. Of tags only its own and its
-    /// log fields are looked at.
+    /// Whether a span of the process meets every condition of the search. Of tags, only its own and its log fields
+    /// are read.
     ///
     /// # Errors
     ///
@@ -177,7 +177,7 @@ impl<'a> JudgedProcess<'a> {
         ensures { IfOk result (λ b. b ≡ matches self.now.query
             (record { process = self.now.process; span = span.now })) }
     {
-        let query = self.wanted.query();
+        let query = self.prepared.query();
         let at = Seen {
             process: self.process,
             span,

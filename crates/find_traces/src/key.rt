@@ -1,4 +1,4 @@
-//! What stands in place of a trace while a search puts traces in order.
+//! The sort key of a trace in a search.
 
 ghost use Rattle.std.specs.Prelude.{◌≡◌};
 ghost use Rattle.find_traces.specs.Places.{trace_at};
@@ -6,7 +6,7 @@ ghost use Rattle.find_traces.specs.Keys.{key_of};
 
 use crate::searched::Searched;
 
-/// A trace that may match. The one with the latest first start is the greatest, and of equal starts
+/// The sort key of a trace that may match. The one with the latest first start is the greatest; of equal starts,
 /// the one at the later place, which was opened later.
 #[derive(Clone, Copy, Debug, PartialEq, Eq, PartialOrd, Ord)]
 pub(crate) struct Key {

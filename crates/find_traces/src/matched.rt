@@ -9,7 +9,8 @@ use crate::searched::Searched;
 use std::alloc::{AllocError, Global};
 use std::cmp::Reverse;
 
-/// A key for each trace that matches, the one opened longest ago first. The best trace's is the least.
+/// Makes a key for each trace that matches, the one opened first at the front. The key of the best trace is the
+/// least.
 fn all_hits<T: Searched>(alloc: Global, traces: &mut T) -> Result<Vec<Reverse<Key>>, AllocError>
     ensures found { IfOk result (λ v. v.items ≡
         map reverse_key_of (hits (T.query traces.old) (T.traces traces.old))) }
@@ -35,7 +36,7 @@ fn places_of(alloc: Global, hits: &[Reverse<Key>]) -> Result<Vec<usize>, AllocEr
     Ok(places)
 }
 
-/// The places of all traces that match, in the order of the answer. Only those that match are sorted.
+/// Returns the places of all traces that match, in the order of the answer. Sorts only those that match.
 pub(crate) fn find_all<T: Searched>(alloc: Global, traces: &mut T) -> Result<Vec<usize>, AllocError>
     requires { (T.query traces.old).limit ≡ 0 }
     ensures places { IfOk result (λ v. v.items ≡

@@ -6,8 +6,8 @@ ghost use Rattle.find_traces.specs.Places.{trace_at, id_at};
 use jaeger_model::TraceId;
 use std::alloc::{AllocError, Global};
 
-/// A search, and traces that it looks at one by one, wherever their spans stand. A trace has its place
-/// among them, the one opened longest ago the first, 0.
+/// A search, and traces that it judges one by one, wherever their spans are. A trace has a place among them; the
+/// one opened first is at 0.
 pub trait Searched {
     ghost use Rattle.std.specs.Prelude.{List};
     ghost use Rattle.jaeger_model.specs.declared.placed.Placed.{Placed as PlacedValue};
@@ -19,24 +19,24 @@ pub trait Searched {
     /// The search.
     ghost query: { Self → FindValue };
 
-    /// How many traces the search asks for at most; 0 is no limit.
+    /// Returns the limit of the search; 0 is no limit.
     fn limit(&self) -> u64
         ensures { result ≡ (query self.now).limit };
 
-    /// How many traces there are.
+    /// Returns the number of traces.
     fn count(&self) -> usize
         ensures { result ≡ length (traces self.now) };
 
-    /// The start of the trace's first span; 0 where there is none.
+    /// Returns the start of the trace's first span, or 0 if there is none.
     fn start_at(&self, place: usize) -> i64
         ensures { result ≡ first_start (trace_at (traces self.now) place) };
 
-    /// The id that the trace's first span has.
+    /// Returns the id of the trace's first span.
     fn id_at(&self, place: usize) -> Option<TraceId>
         ensures { result ≡ id_at (traces self.now) place };
 
-    /// Whether one span of the trace meets every condition of the search. What was judged may be kept for the traces
-    /// that are judged later.
+    /// Whether one span of the trace meets every condition of the search. May cache results for the traces that are
+    /// judged later.
     ///
     /// # Errors
     ///

@@ -15,7 +15,7 @@ count_more n m k is e = elim (cases_Bool (n / 256 == m)) [
   | inr miss ↦ let other = eqb-false (n / 256) m miss in let more : k ≡ m = e ∙ ap (λ b. if b then m + 1 else m) miss in omega (arith, other)
 ]
 
--- one more start, whose block's bound was raised to it
+-- one more start, to which its block's bound was raised
 pub bounded_more : (room left : ℕ) (opened bounds raised : List ℤ) (start : ℤ) → IsBounded room left opened bounds → length opened < room
     → length raised ≡ (if length opened / 256 == length bounds then length bounds + 1 else length bounds)
     → int_lt (get_or raised (length opened / 256) (pos 0)) start ≡ false

@@ -1,4 +1,4 @@
--- Starts that are looked at from one place on, and those that are skipped.
+-- Starts that are read from one place on, and those that are skipped.
 use Rattle.std.proofs.Common.{◌≡◌, ℕ, zero, suc, ℤ, pos, ◌+◌, ◌-◌, ◌*◌, ◌/◌, ◌<◌, ◌≤◌, true, false, List, [], ◌∷◌, ◌++◌, length, get_or, drop, sym, ap, ◌∙◌, inl, inr, arith}
 use Rattle.std.specs.Prelude.{int_lt, if◌then◌else◌}
 use Rattle.std.proofs.lemmas.Int.{ints}
@@ -43,7 +43,7 @@ all_miss time xs (suc k) at place h = elim (cases_lt at (length xs)) [
 not_later : (time bound start : ℤ) → int_lt time bound ≡ false → int_lt bound start ≡ false → int_lt time start ≡ false
 not_later time bound start p q = grind (arith, ints)
 
--- the rest of a block whose bound is not after the time
+-- the remaining starts of a block whose bound is not after the time
 pub block_miss : (room left : ℕ) (opened bounds : List ℤ) (time : ℤ) (at : ℕ) → IsBounded room left opened bounds → left ≤ at → at < length opened
     → int_lt time (get_or bounds (at / 256) (pos 0)) ≡ false
     → places_from time (at - left) (drop at opened) ≡ places_from time ((at / 256 + 1) * 256 - left) (drop ((at / 256 + 1) * 256) opened)

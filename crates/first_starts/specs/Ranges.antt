@@ -17,7 +17,7 @@ pub record IsWider (r s : Range) : Type 0 where
   pub begins : int_lt r.earliest s.earliest ≡ false
   pub ends : int_lt s.latest r.latest ≡ false
 
--- the range of the block of the trace at a place, where the oldest one has place 0
+-- the range of the block of the trace at a place; the oldest one is at 0
 abbrev pub range_at : Starts → ℕ → Range
 range_at s k = get_or s.ranges ((s.left + k) / 256) no_range
 

@@ -1,8 +1,9 @@
--- The first starts of traces, and which of the traces start after some time.
+-- The first starts of traces, and which traces start after some time.
 use Rattle.std.specs.Prelude.{◌≡◌, ℕ, suc, ℤ, pos, ◌+◌, ◌/◌, ◌^◌, ◌<◌, ◌≤◌, int_lt, false, List, [], ◌∷◌, length, get_or, if◌then◌else◌}
 use Rattle.first_starts.specs.declared.ranges.Range.{Range}
 
--- the starts, that of the trace opened longest ago first; how many were pushed in all, and how many may be; how many of them left, and the ranges of the blocks of all
+-- the starts, that of the trace opened first at the front; the number that was pushed in all, and that may be; the
+-- number that left, and the ranges of all blocks
 pub record Starts : Type 0 where
   pub starts : List ℤ
   pub used : ℕ
@@ -10,7 +11,7 @@ pub record Starts : Type 0 where
   pub left : ℕ
   pub ranges : List Range
 
--- the places of those after a time, where the first one has this place
+-- the places of those after a time, counted from this place at the first one
 abbrev pub places_from : ℤ → ℕ → List ℤ → List ℕ
 places_from time place [] = []
 places_from time place (s ∷ ss) = if int_lt time s then place ∷ places_from time (suc place) ss else places_from time (suc place) ss

@@ -2,7 +2,7 @@
 
 ghost use Rattle.std.specs.Prelude.{◌≡◌, ◌+◌, ◌<◌, ◌≤◌, ◌==◌, ℕ, pos, int_lt, false, length, get_or, vec_capacity, if◌then◌else◌};
 
-/// How many starts a block has.
+/// The number of starts in a block.
 pub(crate) const BLOCK: usize = 256;
 
 /// Raises the bound of a block to a start, if it is below. The block is one of those with a bound, or the next one.
@@ -24,7 +24,7 @@ pub(crate) fn raise(bounds: &mut Vec<i64>, block: usize, start: i64)
     }
 }
 
-/// Whether a bound or a start is later than a time.
+/// Whether the bound or start at an index is later than a time.
 pub(crate) fn is_later(times: &[i64], at: usize, time: i64) -> bool
     requires { at < length times.now }
     ensures { result ≡ int_lt time (get_or times.now at (pos 0)) }

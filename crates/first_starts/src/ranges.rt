@@ -10,14 +10,14 @@ pub(crate) struct Range {
     pub(crate) latest: i64,
 }
 
-/// The times strictly between two bounds, in microseconds since 1970. A bound that is `None` leaves no time out.
+/// The times strictly between two bounds, in microseconds since 1970. A bound that is `None` excludes no time.
 #[derive(Clone, Copy)]
 pub struct Window {
     pub after: Option<i128>,
     pub before: Option<i128>,
 }
 
-/// A time of the range is after the bound.
+/// Whether a time of the range is after the bound.
 fn ends_after(range: Range, bound: Option<i128>) -> bool
     ensures { result ≡ ends_after range bound }
 {
@@ -27,7 +27,7 @@ fn ends_after(range: Range, bound: Option<i128>) -> bool
     }
 }
 
-/// A time of the range is before the bound.
+/// Whether a time of the range is before the bound.
 fn begins_before(range: Range, bound: Option<i128>) -> bool
     ensures { result ≡ begins_before range bound }
 {
@@ -44,7 +44,7 @@ pub(crate) fn reaches(range: Range, window: Window) -> bool
     ends_after(range, window.after) && begins_before(range, window.before)
 }
 
-/// The range with one more time.
+/// Widens the range to one more time.
 fn with_time(range: Range, time: i64) -> Range
     ensures wider { IsWider range result }
     ensures own { IsIn result time }

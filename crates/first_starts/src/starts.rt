@@ -7,14 +7,14 @@ use crate::ranges::{Range, widen};
 use std::alloc::{AllocError, Global};
 use std::marker::Model;
 
-/// The first starts of the newest traces, that of the trace opened longest ago first, and for each block of them a range
-/// that has the starts of all spans of its traces.
+/// The first starts of the newest traces, that of the trace opened first at the front, and for each block of them a
+/// range that contains the starts of all spans of its traces.
 #[derive(Drop)]
 pub struct FirstStarts {
     pub(crate) room: u32,
-    /// The start of each trace that was opened, those of traces that left too.
+    /// The start of each trace that was opened, including those that left.
     pub(crate) opened: Vec<i64>,
-    /// How many of them left.
+    /// The number of them that left.
     pub(crate) left: usize,
     /// For each block of them an upper bound.
     pub(crate) bounds: Vec<i64>,
@@ -36,7 +36,7 @@ impl Model for FirstStarts {
 }
 
 impl FirstStarts {
-    /// No start, and room for so many in all, those of traces that left too.
+    /// Makes an empty list with room for `room` starts in all, including those of traces that left.
     ///
     /// # Errors
     ///
@@ -58,14 +58,14 @@ impl FirstStarts {
         })
     }
 
-    /// How many starts there are.
+    /// Returns the number of starts.
     pub fn len(&self) -> usize
         ensures { result ≡ length self.now.starts }
     {
         self.opened.len() - self.left
     }
 
-    /// Adds the start of a trace that was opened, which its range has from now on. It takes no memory.
+    /// Appends the start of a trace that was opened, and widens the range of its block to it. Allocates nothing.
     pub fn push(&mut self, start: i64)
         requires { self.old.used < self.old.room }
         ensures starts { self.new.starts ≡ self.old.starts ++ start ∷ [] }
@@ -81,7 +81,7 @@ impl FirstStarts {
         self.opened.push_reserved(start);
     }
 
-    /// The range of the trace at a place, the oldest one at 0, has the start of one more of its spans from now on.
+    /// Widens the range of the trace at a place to the start of one more of its spans. The oldest trace is at 0.
     pub fn widen(&mut self, place: usize, start: i64)
         requires { place < length self.old.starts }
         ensures starts { self.new.starts ≡ self.old.starts }
@@ -94,7 +94,7 @@ impl FirstStarts {
         widen(&mut self.ranges, (self.left + place) / BLOCK, start);
     }
 
-    /// The trace opened longest ago leaves. The others keep their ranges.
+    /// Removes the trace that was opened first. The others keep their ranges.
     pub fn drop_oldest(&mut self)
         ensures starts { self.new.starts ≡ drop 1 self.old.starts }
         ensures used { self.new.used ≡ self.old.used }
@@ -107,8 +107,8 @@ impl FirstStarts {
         }
     }
 
-    /// The places of the traces that start after this time, the oldest trace at 0. A block whose bound isn't later
-    /// is skipped.
+    /// Returns the places of the traces that start after this time; the oldest trace is at 0. Skips a block whose
+    /// bound isn't later.
     ///
     /// # Errors
     ///

@@ -1,5 +1,5 @@
-//! After which time about so many traces start: a guess, which decides how many traces a search looks at first, and no
-//! answer.
+//! A time after which about a given number of traces start. It is a guess, which decides how many traces a
+//! search tries first, and no answer.
 
 use crate::bounds::BLOCK;
 use crate::starts::FirstStarts;
@@ -7,14 +7,14 @@ use std::alloc::{AllocError, Global};
 use std::cmp::Reverse;
 use std::collections::BinaryHeap;
 
-/// A block, the one with the latest bound the greatest.
+/// A block, ordered by its bound; the latest is the greatest.
 #[derive(Clone, Copy, Debug, PartialEq, Eq, PartialOrd, Ord)]
 struct BoundedBlock {
     bound: i64,
     block: usize,
 }
 
-/// The blocks, but for those whose traces all left.
+/// Returns the blocks, except for those whose traces all left.
 fn blocks_of(alloc: Global, starts: &FirstStarts) -> Result<BinaryHeap<BoundedBlock>, AllocError> {
     let mut blocks = Vec::with_capacity(alloc, starts.bounds.len())?;
     for block in starts.left / BLOCK..starts.bounds.len() {
@@ -24,16 +24,16 @@ fn blocks_of(alloc: Global, starts: &FirstStarts) -> Result<BinaryHeap<BoundedBl
     Ok(BinaryHeap::from(blocks))
 }
 
-/// The latest starts of those that were added, the earliest of them the greatest.
+/// The latest of the starts that were added; the heap's greatest is the earliest of them.
 #[derive(Drop)]
 struct Latest {
     starts: BinaryHeap<Reverse<i64>>,
-    /// How many are kept, and one more.
+    /// At most `count + 1` starts are kept.
     count: usize,
 }
 
 impl Latest {
-    /// The earliest start that is kept, once as many are kept as are wanted and one more.
+    /// Returns the earliest start that is kept, if `count + 1` are.
     fn earliest(&self) -> Option<i64> {
         if self.starts.len() <= self.count {
             return None;
@@ -52,7 +52,7 @@ impl Latest {
         Ok(())
     }
 
-    /// Adds the starts of a block, those of traces that left too.
+    /// Adds the starts of a block, including those of traces that left.
     fn add_block(&mut self, starts: &FirstStarts, block: usize) -> Result<(), AllocError> {
         let first = block.saturating_mul(BLOCK);
         for at in first..first.saturating_add(BLOCK) {
@@ -65,8 +65,9 @@ impl Latest {
 }
 
 impl FirstStarts {
-    /// A time after which so many traces start, or fewer where some start at that time. `None` where there are no more
-    /// traces. It looks at the bounds, and at the starts of no more blocks than there are such traces, and one more.
+    /// Returns a time after which `count` traces start, or fewer if some start at that very time. Returns `None` if
+    /// there are no more traces than that. Reads the bounds, and the starts of at most one more block than there
+    /// are such traces.
     ///
     /// # Errors
     ///

@@ -8,8 +8,8 @@ use crate::ranges::{Window, reaches};
 use crate::starts::FirstStarts;
 
 impl FirstStarts {
-    /// The first place, from this one on, of a trace whose range reaches into the window, the oldest trace at 0; how many
-    /// traces there are if no range does. A block whose range doesn't reach into the window is skipped.
+    /// Returns the first place, from this one on, of a trace whose range reaches into the window, or the number of
+    /// traces if there is none. The oldest trace is at 0. Skips a block whose range doesn't reach into the window.
     pub fn next_within(&self, from: usize, window: Window) -> usize
         requires { from ≤ length self.now.starts }
         ensures from { from ≤ result }
@@ -29,8 +29,8 @@ impl FirstStarts {
         self.len()
     }
 
-    /// How many traces there are in blocks whose ranges reach into the window, some that left too: a guess of how many may
-    /// have a span there, and no answer.
+    /// Counts the traces in blocks whose ranges reach into the window, some of which may have left. It is a guess
+    /// of how many may have a span there, and no answer.
     pub fn count_within(&self, window: Window) -> usize {
         let mut count: usize = 0;
         for block in self.left / BLOCK..self.ranges.len() {

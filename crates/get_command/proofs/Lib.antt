@@ -1,4 +1,4 @@
 pub mod Judgings
 pub mod Finding
-pub mod Said
+pub mod WrittenLines
 pub mod Wholes

@@ -12,7 +12,7 @@ use Rattle.span_store.specs.NextEntry.{next_entry}
 use Rattle.get_command.specs.declared.line_fault.LineFault.{LineFault}
 use Rattle.get_command.specs.declared.line_fault.LineFault.TheVariants.{NoBatch, Refused}
 
--- neither a space nor a tab
+-- the byte is neither a space nor a tab
 abbrev pub is_written : ℕ → Bool
 is_written c = not (c == 32) && not (c == 9)
 
@@ -20,16 +20,16 @@ is_written c = not (c == 32) && not (c == 9)
 abbrev pub without_blanks : List ℕ → List ℕ
 without_blanks line = filter is_written line
 
--- what a line says: nothing where it is empty but for spaces and tabs
+-- the batch of a line: none if it has only spaces and tabs
 abbrev pub batch_on : List ℕ → Option (Result Batch HexFault)
 batch_on line = if length (without_blanks line) == 0 then None else Some (batch_in (without_blanks line))
 
--- why a line can't be used, if it can't, and what is held after it
+-- why a line can't be used, if it can't, and the store after it
 pub record JudgedLine : Type 0 where
   pub fault : Option LineFault
   pub held : Held
 
--- no fault where it is added, or where its batch was sent before and nothing is added
+-- no fault if it is added, or if its batch was sent before and nothing is added
 abbrev pub fault_by : Result Admission Refusal → Option LineFault
 fault_by (Ok a) = None
 fault_by (Err refusal) = Some (Refused refusal)
@@ -42,6 +42,6 @@ taken_in held None = record { fault = None; held = held }
 taken_in held (Some (Err fault)) = record { fault = Some (NoBatch fault); held = held }
 taken_in held (Some (Ok batch)) = admitted held (next_entry held batch) (admission held.limits held.entries (next_entry held batch))
 
--- a refused batch leaves what is held, and so does one that was sent before
+-- a batch that was refused, or sent before, doesn't change the store
 unfoldable pub judged_line : Held → List ℕ → JudgedLine
 judged_line held line = taken_in held (batch_on line)

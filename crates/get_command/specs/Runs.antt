@@ -12,7 +12,7 @@ use Rattle.trace_model.specs.Showing.{trace_found}
 use Rattle.text_lines.specs.declared.run_error.RunError.{RunError}
 use Rattle.text_lines.specs.Lines.{lines_of}
 use Rattle.text_lines.specs.RunErrors.{Finishes, StopsShort, status_by as status_of_error}
-use Rattle.text_lines.specs.Taking.{Said, Takes}
+use Rattle.text_lines.specs.Taking.{LineReply, Takes}
 use Rattle.text_lines.specs.Results.{LineResult, result_of_lines}
 use Rattle.get_command.specs.LineFaults.{fault_text}
 use Rattle.get_command.specs.declared.line_fault.LineFault.{LineFault}
@@ -24,16 +24,16 @@ abbrev pub fault_line : ℕ → Option LineFault → List ℕ
 fault_line n None = []
 fault_line n (Some fault) = codes "line " ++ decimal n ++ codes ": " ++ fault_text fault ++ codes "\n"
 
--- what is said to a line
-abbrev pub said_to : ℕ → JudgedLine → Said
+-- the reply to a line
+abbrev pub said_to : ℕ → JudgedLine → LineReply
 said_to n j = record { text = fault_line n j.fault; faulty = is_some j.fault }
 
--- what the line with the number n comes to
+-- the result of the line with the number n
 abbrev pub line_result : ℕ → Held → List ℕ → LineResult Held
-line_result n held line = record { said = said_to n (judged_line held line); held = (judged_line held line).held }
+line_result n held line = record { reply = said_to n (judged_line held line); held = (judged_line held line).held }
 
 abbrev pub TakesBatch : Takes Held
-TakesBatch held n line said after = (after ≡ (line_result n held line).held) × (said ≡ (line_result n held line).said)
+TakesBatch held n line reply after = (after ≡ (line_result n held line).held) × (reply ≡ (line_result n held line).reply)
 
 -- ---- the trace
 
@@ -60,22 +60,22 @@ trace_lines (Some spans) = flat_map span_line spans
 abbrev pub found_in : Held → TraceId → Option (List Placed)
 found_in held id = trace_found held.limits.traces (events held.entries) id
 
--- ---- the whole
+-- ---- the complete run
 
 abbrev pub nothing_held : Limits → Held
 nothing_held limits = record { limits = limits; entries = [] }
 
--- what the lines come to
+-- the result of the lines
 abbrev pub all_lines : Limits → List (List ℕ) → LineResult Held
 all_lines limits lines = result_of_lines line_result 1 (nothing_held limits) lines
 
--- a line for each that can't be used, and then the spans of the trace
+-- a line for each line that can't be used, and then the spans of the trace
 abbrev pub output_of : Limits → TraceId → List ℕ → List ℕ
 output_of limits id input =
     let all = all_lines limits (lines_of input) in
-    all.said.text ++ trace_lines (found_in all.held id)
+    all.reply.text ++ trace_lines (found_in all.held id)
 
--- 3 where a line couldn't be used, else 0 where the trace was found, else 1
+-- 3 if a line couldn't be used, else 0 if the trace was found, else 1
 abbrev pub status_by : Bool → Bool → ℕ
 status_by true found = 3
 status_by false true = 0
@@ -84,9 +84,10 @@ status_by false false = 1
 abbrev pub status_of : Limits → TraceId → List ℕ → ℕ
 status_of limits id input =
     let all = all_lines limits (lines_of input) in
-    status_by all.said.faulty (is_some (found_in all.held id))
+    status_by all.reply.faulty (is_some (found_in all.held id))
 
--- A run of `get` gave a status: that of the whole input, with its output; or, where it stopped short, that of the error.
+-- A run of `get` returned a status: that of the whole input, with its output; or, if it stopped short, that of the
+-- error.
 abbrev pub RunsGet : Limits → TraceId → (in0 in1 out0 out1 : Option (List ℕ)) → Bool → Bool → Result ℕ RunError → Type 0
 RunsGet limits id in0 in1 out0 out1 in_failed out_failed (Ok status) =
     Finishes in0 in1 out0 out1 in_failed out_failed (output_of limits id) (status_of limits id) status

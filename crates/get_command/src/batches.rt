@@ -1,4 +1,4 @@
-//! A store that takes a batch from each line.
+//! A store that reads a batch from each line.
 ghost use Rattle.std.specs.Prelude.{◌≡◌, ◌++◌, IfOk, OnOk, Some};
 ghost use Rattle.trace_model.specs.Refusals.{admission};
 ghost use Rattle.get_command.specs.Judging.{admitted, is_written, judged_line, without_blanks};
@@ -14,10 +14,10 @@ use std::hash::RandomState;
 use std::io::Write;
 use std::marker::Model;
 use std::sync::Arc;
-use text_lines::LineTaker;
+use text_lines::LineHandler;
 use trace_model::Limits;
 
-/// Hands the batch to the store, as seat 0's next entry. Where it was sent before, nothing is added.
+/// Submits the batch as the next entry of seat 0. If it was sent before, nothing is added.
 fn admit(
     alloc: Global,
     store: &mut SpanStore,
@@ -36,7 +36,7 @@ fn admit(
     }
 }
 
-/// The byte is neither a space nor a tab.
+/// Returns whether the byte is neither a space nor a tab.
 fn is_written(c: u8) -> bool
     ensures { result ≡ is_written c }
 {
@@ -49,7 +49,7 @@ fn drop_blanks(line: &mut Vec<u8>)
     line.retain(|c| is_written(*c));
 }
 
-/// Takes the batch of a line into the store, and returns why where it can't.
+/// Adds the batch of a line to the store, or returns why it can't.
 fn take_batch(
     alloc: Global,
     store: &mut SpanStore,
@@ -68,14 +68,14 @@ fn take_batch(
     }
 }
 
-/// Says that a line can't be used.
-fn say_fault(said: &mut Vec<u8>, number: u64, fault: LineFault) -> Result<(), AllocError>
-    ensures { OnOk result (said.new.items ≡ said.old.items ++ fault_line number (Some fault)) }
+/// Writes that a line can't be used.
+fn write_fault(reply: &mut Vec<u8>, number: u64, fault: LineFault) -> Result<(), AllocError>
+    ensures { OnOk result (reply.new.items ≡ reply.old.items ++ fault_line number (Some fault)) }
 {
-    writeln!(said, "line {number}: {fault}").map_err(|_| AllocError)
+    writeln!(reply, "line {number}: {fault}").map_err(|_| AllocError)
 }
 
-/// A store that takes a batch from each line, and says why where it can't.
+/// A store that reads a batch from each line, and replies with the reason if it can't.
 #[derive(Drop)]
 pub struct Batches {
     store: SpanStore,
@@ -90,7 +90,7 @@ impl Model for Batches {
 }
 
 impl Batches {
-    /// Nothing is held.
+    /// Creates an empty store.
     ///
     /// # Errors
     ///
@@ -102,7 +102,7 @@ impl Batches {
         Ok(Batches { store })
     }
 
-    /// The store.
+    /// Returns the store.
     pub fn store(&self) -> &SpanStore
         ensures { result.now ≡ self.now }
     {
@@ -110,22 +110,22 @@ impl Batches {
     }
 }
 
-impl LineTaker for Batches {
+impl LineHandler for Batches {
     ghost use Rattle.get_command.specs.Runs.{TakesBatch};
 
     ghost takes = { TakesBatch };
 
-    fn take_line(
+    fn handle_line(
         &mut self,
         alloc: Global,
         number: u64,
         line: &mut Vec<u8>,
-        said: &mut Vec<u8>,
+        reply: &mut Vec<u8>,
     ) -> Result<bool, AllocError> {
         match take_batch(alloc, &mut self.store, line)? {
             None => Ok(false),
             Some(fault) => {
-                say_fault(said, number, fault)?;
+                write_fault(reply, number, fault)?;
                 Ok(true)
             }
         }

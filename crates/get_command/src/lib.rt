@@ -1,9 +1,9 @@
-//! The subcommand `get`: batches on lines of hexadecimal text, and then the spans of one trace.
+//! The subcommand `get`: reads batches on lines of hexadecimal text, then prints the spans of one trace.
 //!
-//! [`run_get`] runs over any input and any output, and promises that what it writes is one function of
-//! what it reads; where it has to stop before the end, what it wrote is a beginning of that.
+//! [`run_get`] runs over any input and any output. Its output is proved to be a function of its input. If it stops
+//! before the end, it wrote a prefix of that.
 //!
-//! * `batches`: a store that takes a batch from each line.
+//! * `batches`: a store that reads a batch from each line.
 //! * `line_fault`: why a line can't be used.
 //! * `trace_lines`: the lines of a trace's spans.
 #![tactic(auto)]
@@ -16,7 +16,7 @@ mod batches;
 mod line_fault;
 mod trace_lines;
 
-use crate::trace_lines::say_trace;
+use crate::trace_lines::write_trace;
 pub use batches::Batches;
 use jaeger_model::TraceId;
 pub use line_fault::LineFault;
@@ -36,7 +36,7 @@ fn status_of(faulty: bool, found: bool) -> u8
     }
 }
 
-/// The run to the end of the input over batches of which none has come, which gives the status.
+/// Runs to the end of the input, over an empty store, and returns the exit status.
 fn take_all<R: Input, W: Output>(
     alloc: Global,
     batches: &mut Batches,
@@ -53,11 +53,11 @@ fn take_all<R: Input, W: Output>(
         (W.has_failed output.new) result }
 {
     let faulty = answer_lines(alloc, input, output, batches)?;
-    let found = say_trace(alloc, output, batches.store(), trace)?;
+    let found = write_trace(alloc, output, batches.store(), trace)?;
     Ok(status_of(faulty, found))
 }
 
-/// The run to the end of the input, which gives the status.
+/// Runs to the end of the input, and returns the exit status.
 fn finish<R: Input, W: Output>(
     alloc: Global,
     keys: RandomState,
@@ -74,19 +74,20 @@ fn finish<R: Input, W: Output>(
 {
     let mut batches = Batches::new(alloc, keys, limits)?;
     let status = take_all(alloc, &mut batches, input, output, limits, trace);
+    // For the prover: an explicit drop is cheaper than one at the end of the block.
     drop(batches);
     status
 }
 
-/// Reads batches, a line of hexadecimal text each, and writes the spans of the trace.
+/// Reads batches, one line of hexadecimal text each, and writes the spans of the trace.
 ///
-/// A line that can't be used is answered by a line of its own, as the lines are read, and leaves
-/// what is held. So does a batch that was sent before, with its number, process and spans, but it is
-/// no fault. Spaces and tabs don't count, and lines without anything else are passed over. The
-/// spans of the trace follow at the end of the input, or `trace not found`.
+/// The reply to a line that can't be used is a line of its own, written while the lines are read. It changes nothing in
+/// the store. A batch that was sent before, with the same number, process and spans, changes nothing either, but is no
+/// fault. Spaces and tabs are ignored, and so are lines of nothing else. At the end of the input follow the spans of
+/// the trace, or `trace not found`.
 ///
-/// The status is 0; 1 where the trace isn't found; 3, before 1, where a line couldn't be used; 4
-/// where a read or a write failed, or the limit of reads was met; 5 where memory ran out.
+/// The exit status is 0; 1 if the trace isn't found; 3, which goes before 1, if a line couldn't be used; 4 if a read or
+/// a write failed or the limit of reads was reached; 5 if memory ran out.
 pub fn run_get<R: Input, W: Output>(
     alloc: Global,
     keys: RandomState,

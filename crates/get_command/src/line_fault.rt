@@ -1,16 +1,16 @@
-//! Why a line of input can't be used.
+//! Faults of a line.
 ghost use Rattle.std.specs.Prelude.{Some};
 
 use hex_batches::HexFault;
 use std::fmt;
 use trace_model::Refusal;
 
-/// Why a line of `get` is no batch of the store.
+/// Why a line of `get` can't be used.
 #[derive(Clone, Copy, Debug, PartialEq, Eq)]
 pub enum LineFault {
-    /// Its text spells no batch.
+    /// Its text is not a batch.
     NoBatch(HexFault),
-    /// The store didn't take the batch.
+    /// The store refused the batch.
     Refused(Refusal),
 }
 

@@ -1,4 +1,4 @@
--- Why text spells no batch, as text.
+-- Why a text isn't a batch, as text.
 use Rattle.std.specs.Prelude.{ℕ, List, ◌++◌, codes}
 use Rattle.batch_codec.specs.Faults.{fault_text as decode_text}
 use Rattle.hex_batches.specs.declared.fault.HexFault.{HexFault}

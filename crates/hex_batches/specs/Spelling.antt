@@ -1,4 +1,4 @@
--- The batch that hexadecimal text spells.
+-- The batch that a hexadecimal text encodes.
 use Rattle.std.specs.Prelude.{ℕ, List, Result, Ok, Err}
 use Rattle.hex.specs.Hex.{decode_of}
 use Rattle.hex.specs.declared.error.FromHexError.{FromHexError}

@@ -1,15 +1,15 @@
-//! Why text spells no batch.
+//! Why a text isn't a batch.
 ghost use Rattle.std.specs.Prelude.{Some};
 
 use batch_codec::DecodeError;
 use std::fmt;
 
-/// Why text spells no batch. Running out of memory is no such fault.
+/// Why a text isn't a batch. Running out of memory is no such fault.
 #[derive(Clone, Copy, Debug, PartialEq, Eq)]
 pub enum HexFault {
-    /// It isn't hexadecimal text, or has an odd number of digits.
+    /// The text isn't hexadecimal, or has an odd number of digits.
     BadHex,
-    /// Its bytes are no batch: their first fault.
+    /// The bytes aren't a batch; this is their first fault.
     Undecodable(DecodeError),
 }
 

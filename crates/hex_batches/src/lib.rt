@@ -1,9 +1,9 @@
 //! Batches as hexadecimal text, two digits of either case for each byte.
 //!
-//! [`decode_hex`] gives the batch that such text spells, or why it spells none.
+//! [`decode_hex`] returns the batch that such a text encodes, or why it encodes none.
 //!
-//! * `fault`: why text spells no batch.
-//! * `reading`: the batch of a text.
+//! * `fault`: why a text isn't a batch.
+//! * `reading`: decodes a text.
 #![tactic(auto)]
 
 mod fault;

@@ -1,4 +1,4 @@
-//! The batch of a text.
+//! Decodes a text.
 ghost use Rattle.std.specs.Prelude.{◌≡◌, IfOk};
 ghost use Rattle.hex_batches.specs.Spelling.{batch_in};
 
@@ -8,8 +8,8 @@ use hex::FromHexError;
 use jaeger_model::Batch;
 use std::alloc::{AllocError, Global};
 
-/// The batch that hexadecimal text spells, or why it spells none: [`HexFault::BadHex`] before
-/// [`HexFault::Undecodable`].
+/// Returns the batch that a hexadecimal text encodes, or why it encodes none: [`HexFault::BadHex`]
+/// is reported before [`HexFault::Undecodable`].
 ///
 /// # Errors
 ///

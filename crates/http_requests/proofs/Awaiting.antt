@@ -21,20 +21,20 @@ module _ {R : Type 0} (gives : Gives R) where
     each = each_join Awaits first.pieces second.pieces s m t a b c first.each second.each;
   }
 
-  each_behind : (Awaits More : List ℕ → Type 0) (front : List ℕ) → ((h : List ℕ) → Awaits h → More (front ++ h)) → (ps : List (List ℕ)) (s t : R) (a b : List ℕ)
+  each_after : (Awaits More : List ℕ → Type 0) (front : List ℕ) → ((h : List ℕ) → Awaits h → More (front ++ h)) → (ps : List (List ℕ)) (s t : R) (a b : List ℕ)
       → GivesWhile gives Awaits s t a b ps → GivesWhile gives More s t (front ++ a) (front ++ b) ps
-  each_behind Awaits More front more [] s t a b each = (each.0, ap (λ l. front ++ l) each.1)
-  each_behind Awaits More front more (p ∷ ps) s t a b each = (
+  each_after Awaits More front more [] s t a b each = (each.0, ap (λ l. front ++ l) each.1)
+  each_after Awaits More front more (p ∷ ps) s t a b each = (
     more a each.0,
     each.1,
     each.2,
-    subst (λ (l : List ℕ). GivesWhile gives More each.1 t l (front ++ b) ps) (sym (append_assoc front a p)) (each_behind Awaits More front more ps each.1 t (a ++ p) b each.3),
+    subst (λ (l : List ℕ). GivesWhile gives More each.1 t l (front ++ b) ps) (sym (append_assoc front a p)) (each_after Awaits More front more ps each.1 t (a ++ p) b each.3),
   )
 
-  -- what is awaited behind a text, seen from the beginning of the text
-  pub reads_behind : (Awaits More : List ℕ → Type 0) (front : List ℕ) → ((h : List ℕ) → Awaits h → More (front ++ h)) → (s t : R) (a b : List ℕ)
+  -- what is awaited after a text, seen from the start of the text
+  pub reads_after : (Awaits More : List ℕ → Type 0) (front : List ℕ) → ((h : List ℕ) → Awaits h → More (front ++ h)) → (s t : R) (a b : List ℕ)
       → ReadsWhile gives Awaits s t a b → ReadsWhile gives More s t (front ++ a) (front ++ b)
-  reads_behind Awaits More front more s t a b reads = record { pieces = reads.pieces; each = each_behind Awaits More front more reads.pieces s t a b reads.each }
+  reads_after Awaits More front more s t a b reads = record { pieces = reads.pieces; each = each_after Awaits More front more reads.pieces s t a b reads.each }
 
 -- ---- with the reads that may still be made
 

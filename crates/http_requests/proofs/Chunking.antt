@@ -1,4 +1,4 @@
--- What is awaited behind a part of a chunked body, and what can't come there.
+-- What is awaited after a part of a chunked body, and what can't come there.
 use Rattle.std.proofs.Common.{All, ◌≡◌, ℕ, ◌+◌, ◌-◌, ◌≤◌, ◌<◌, Bool, true, false, List, [], ◌∷◌, ◌++◌, length, take, drop, replicate, refl, sym, ap, ◌∙◌, subst, arith, inl, inr, append_assoc, append-nil, length-append}
 use Rattle.std.proofs.lemmas.Bool.Decides.{nat_tests}
 use Rattle.std.proofs.lemmas.List.{flat_map_more, take-append-drop, length-take-le, length-replicate, length-drop}
@@ -7,8 +7,8 @@ use Rattle.httparse.specs.Ascii.{crlf_bytes}
 use Rattle.chunked_bodies.specs.Chunks.{IsSizeLine, IsSomeSizeLine, IsTrailer, IsContent, IsDecided, Chunk, IsChunk, texts, contents, HasNone, NeverHas, Lacks}
 use Rattle.chunked_bodies.proofs.Once.{same_cut}
 use Rattle.chunked_bodies.proofs.Sizes.{zero_line, zero_line_is}
-use Rattle.chunked_bodies.proofs.Behind.{lacks_behind, behind_chunks, no_line, no_content, no_trailer}
-use Rattle.http_requests.specs.declared.asked.TheConstants.{MOST_BODY_BYTES}
+use Rattle.chunked_bodies.proofs.After.{lacks_after, after_chunks, no_line, no_content, no_trailer}
+use Rattle.http_requests.specs.declared.asked.TheConstants.{MAX_BODY_BYTES}
 use Rattle.http_requests.specs.Requests.{AwaitsChunks, HasBody, PassesMost}
 use Rattle.http_requests.specs.Bodies.{AwaitsLine, AwaitsRest, IsLineEnd, begins_line_end, may_begin_line_end}
 use Rattle.http_requests.specs.declared.asked.BodyLength.TheVariants.{Chunked}
@@ -61,10 +61,10 @@ end_is_awaited h awaits = record {
     is_nothing [] e = refl
     is_nothing (x ∷ xs) e = absurd (omega (arith, e))
 
--- behind the first of the data
+-- after the first of the data
 module _ (size count : ℕ) (got : List ℕ) (lacking : length got + count ≡ size) where
-  pub none_behind : (h : List ℕ) → HasNone (IsContent count) h → HasNone (IsContent size) (got ++ h)
-  none_behind h none text rest is e =
+  pub none_after : (h : List ℕ) → HasNone (IsContent count) h → HasNone (IsContent size) (got ++ h)
+  none_after h none text rest is e =
       let n = length got in
       let front = take n is.content in
       let back = drop n is.content in
@@ -74,9 +74,9 @@ module _ (size count : ℕ) (got : List ℕ) (lacking : length got + count ≡ s
       let parts = same_cut got front h ((back ++ crlf_bytes) ++ rest) long (e ∙ whole) in
       none (back ++ crlf_bytes) rest (record { content = back; size_is = omega (arith, is.size_is, lacking, length-drop n is.content); text_is = refl }) parts.1
 
-  pub awaited_behind : (h : List ℕ) → AwaitsRest (IsContent count) h → AwaitsRest (IsContent size) (got ++ h)
-  awaited_behind h awaits = record {
-    none = none_behind h awaits.none;
+  pub awaited_after : (h : List ℕ) → AwaitsRest (IsContent count) h → AwaitsRest (IsContent size) (got ++ h)
+  awaited_after h awaits = record {
+    none = none_after h awaits.none;
     more = awaits.more;
     may = record {
       content = got ++ awaits.may.content;
@@ -85,29 +85,29 @@ module _ (size count : ℕ) (got : List ℕ) (lacking : length got + count ≡ s
     };
   }
 
--- ---- behind chunks
+-- ---- after chunks
 
-module _ (chunks : List Chunk) (left : ℕ) (each : All IsChunk chunks) (sum : MOST_BODY_BYTES ≡ length (contents chunks) + left) where
-  behind_texts : (h : List ℕ) → HasNone IsSomeSizeLine h → HasNone (IsDecided MOST_BODY_BYTES) (texts chunks ++ h)
-  behind_texts h none = behind_chunks chunks left MOST_BODY_BYTES h each sum (no_line left h none)
+module _ (chunks : List Chunk) (left : ℕ) (each : All IsChunk chunks) (sum : MAX_BODY_BYTES ≡ length (contents chunks) + left) where
+  after_texts : (h : List ℕ) → HasNone IsSomeSizeLine h → HasNone (IsDecided MAX_BODY_BYTES) (texts chunks ++ h)
+  after_texts h none = after_chunks chunks left MAX_BODY_BYTES h each sum (no_line left h none)
 
-  -- in front of a line that hasn't ended the last line may stand
+  -- before a line that hasn't ended the last line may stand
   pub line_awaited : (h : List ℕ) → AwaitsLine h → AwaitsChunks (texts chunks ++ h)
   line_awaited h awaits = record {
-    none = behind_texts h awaits.0;
+    none = after_texts h awaits.0;
     may = λ lines rest e ends never. let cut = cut_before (texts chunks) h lines rest ends e awaits.1 in
         never (cut.0 ++ zero_line) (texts chunks ++ zero_line) []
         (inl (record { chunks = chunks; last = zero_line; each = each; last_is = zero_line_is; text_is = refl; small = omega (arith, sum) }))
         (sym (append_assoc lines cut.0 zero_line) ∙ ap (λ l. l ++ zero_line) (sym cut.1) ∙ sym (append-nil (texts chunks ++ zero_line)));
   }
 
-  pub no_size : (h : List ℕ) → NeverHas IsSomeSizeLine h → Lacks ⊥ (IsDecided MOST_BODY_BYTES) (texts chunks ++ h)
-  no_size h never = lacks_behind ⊥ IsSomeSizeLine (IsDecided MOST_BODY_BYTES) (texts chunks) h behind_texts (inl never)
+  pub no_size : (h : List ℕ) → NeverHas IsSomeSizeLine h → Lacks ⊥ (IsDecided MAX_BODY_BYTES) (texts chunks ++ h)
+  no_size h never = lacks_after ⊥ IsSomeSizeLine (IsDecided MAX_BODY_BYTES) (texts chunks) h after_texts (inl never)
 
   module _ (line : List ℕ) (size : ℕ) (line_is : IsSizeLine line size) where
-    -- what can't go on behind the line can't go on
-    behind_line : (h : List ℕ) → HasNone (IsDecided left) (line ++ h) → HasNone (IsDecided MOST_BODY_BYTES) ((texts chunks ++ line) ++ h)
-    behind_line h none = subst (HasNone (IsDecided MOST_BODY_BYTES)) (sym (append_assoc (texts chunks) line h)) (behind_chunks chunks left MOST_BODY_BYTES (line ++ h) each sum none)
+    -- what can't go on after the line can't go on
+    after_line : (h : List ℕ) → HasNone (IsDecided left) (line ++ h) → HasNone (IsDecided MAX_BODY_BYTES) ((texts chunks ++ line) ++ h)
+    after_line h none = subst (HasNone (IsDecided MAX_BODY_BYTES)) (sym (append_assoc (texts chunks) line h)) (after_chunks chunks left MAX_BODY_BYTES (line ++ h) each sum none)
 
     pub passes : (h : List ℕ) → left < size → PassesMost Chunked ((texts chunks ++ line) ++ h)
     passes h large = record {
@@ -118,8 +118,8 @@ module _ (chunks : List Chunk) (left : ℕ) (each : All IsChunk chunks) (sum : M
     }
 
     module _ (some : 0 < size) (fits : size ≤ left) where
-      behind_content : (h : List ℕ) → HasNone (IsContent size) h → HasNone (IsDecided MOST_BODY_BYTES) ((texts chunks ++ line) ++ h)
-      behind_content h none = behind_line h (no_content left size line h some fits line_is none)
+      after_content : (h : List ℕ) → HasNone (IsContent size) h → HasNone (IsDecided MAX_BODY_BYTES) ((texts chunks ++ line) ++ h)
+      after_content h none = after_line h (no_content left size line h some fits line_is none)
 
       abbrev pub chunk_of : List ℕ → Chunk
       chunk_of content = record { text = line ++ (content ++ crlf_bytes); content = content }
@@ -136,7 +136,7 @@ module _ (chunks : List Chunk) (left : ℕ) (each : All IsChunk chunks) (sum : M
       pub texts_with : (content : List ℕ) → (texts chunks ++ line) ++ (content ++ crlf_bytes) ≡ texts (chunks ++ chunk_of content ∷ [])
       texts_with content = append_assoc (texts chunks) line (content ++ crlf_bytes) ∙ flat_map_more (λ (x : Chunk). x.text) [] chunks (chunk_of content)
 
-      -- behind data that are whole the last line may stand
+      -- after data that are whole the last line may stand
       pub content_awaited : (h : List ℕ) → AwaitsRest (IsContent size) h → AwaitsChunks ((texts chunks ++ line) ++ h)
       content_awaited h awaits =
           let content = awaits.may.content in
@@ -144,7 +144,7 @@ module _ (chunks : List Chunk) (left : ℕ) (each : All IsChunk chunks) (sum : M
           let whole : ((texts chunks ++ line) ++ h) ++ awaits.more ≡ more =
           append_assoc (texts chunks ++ line) h awaits.more ∙ ap (λ l. (texts chunks ++ line) ++ l) awaits.may.text_is ∙ texts_with content in
           record {
-            none = behind_content h awaits.none;
+            none = after_content h awaits.none;
             may = λ lines rest e ends never.
                 never (rest ++ (awaits.more ++ zero_line)) (more ++ zero_line) []
                 (inl (record {
@@ -159,23 +159,23 @@ module _ (chunks : List Chunk) (left : ℕ) (each : All IsChunk chunks) (sum : M
                 ∙ sym (append_assoc ((texts chunks ++ line) ++ h) awaits.more zero_line) ∙ ap (λ l. l ++ zero_line) whole ∙ sym (append-nil (more ++ zero_line)));
           }
 
-      pub no_more_content : (h : List ℕ) → NeverHas (IsContent size) h → Lacks ⊥ (IsDecided MOST_BODY_BYTES) ((texts chunks ++ line) ++ h)
-      no_more_content h never = lacks_behind ⊥ (IsContent size) (IsDecided MOST_BODY_BYTES) (texts chunks ++ line) h behind_content (inl never)
+      pub no_more_content : (h : List ℕ) → NeverHas (IsContent size) h → Lacks ⊥ (IsDecided MAX_BODY_BYTES) ((texts chunks ++ line) ++ h)
+      no_more_content h never = lacks_after ⊥ (IsContent size) (IsDecided MAX_BODY_BYTES) (texts chunks ++ line) h after_content (inl never)
 
   module _ (line : List ℕ) (line_is : IsSizeLine line 0) where
-    behind_last : (h : List ℕ) → HasNone IsTrailer h → HasNone (IsDecided MOST_BODY_BYTES) ((texts chunks ++ line) ++ h)
-    behind_last h none = behind_line line 0 line_is h (no_trailer left line h line_is none)
+    after_last : (h : List ℕ) → HasNone IsTrailer h → HasNone (IsDecided MAX_BODY_BYTES) ((texts chunks ++ line) ++ h)
+    after_last h none = after_line line 0 line_is h (no_trailer left line h line_is none)
 
     -- all chunks are there
     pub trailer_awaited : (h : List ℕ) → HasNone IsTrailer h → AwaitsChunks ((texts chunks ++ line) ++ h)
     trailer_awaited h none = record {
-      none = behind_last h none;
+      none = after_last h none;
       may = λ lines rest e ends never. never rest (texts chunks ++ line) h
           (inl (record { chunks = chunks; last = line; each = each; last_is = line_is; text_is = refl; small = omega (arith, sum) })) (sym e);
     }
 
-    pub no_trailer_comes : (h : List ℕ) → NeverHas IsTrailer h → Lacks ⊥ (IsDecided MOST_BODY_BYTES) ((texts chunks ++ line) ++ h)
-    no_trailer_comes h never = lacks_behind ⊥ IsTrailer (IsDecided MOST_BODY_BYTES) (texts chunks ++ line) h behind_last (inl never)
+    pub no_trailer_comes : (h : List ℕ) → NeverHas IsTrailer h → Lacks ⊥ (IsDecided MAX_BODY_BYTES) ((texts chunks ++ line) ++ h)
+    no_trailer_comes h never = lacks_after ⊥ IsTrailer (IsDecided MAX_BODY_BYTES) (texts chunks ++ line) h after_last (inl never)
 
     pub chunks_whole : (trailer : List ℕ) → IsTrailer trailer → HasBody Chunked ((texts chunks ++ line) ++ trailer) (contents chunks)
     chunks_whole trailer trailer_is = record {

@@ -8,12 +8,12 @@ use Rattle.httparse.specs.declared.Status.{Status}
 use Rattle.httparse.specs.declared.spans.RequestSpans.{RequestSpans}
 use Rattle.chunked_bodies.specs.Looks.{LooksBy}
 use Rattle.chunked_bodies.specs.declared.looks.Look.TheVariants.{Never}
-use Rattle.http_requests.specs.declared.head.TheConstants.{MOST_HEAD_BYTES, MOST_FIELDS}
+use Rattle.http_requests.specs.declared.head.TheConstants.{MAX_HEAD_BYTES, MAX_FIELDS}
 use Rattle.http_requests.specs.Heads.{NeverHasHead}
-use Rattle.http_requests.proofs.Beginnings.{never_when_full, never_in_room}
+use Rattle.http_requests.proofs.Prefixes.{never_when_full, never_in_room}
 
-pub never_found : (bytes beginning : List ℕ) (room : ℕ) (parsed : Result (Status RequestSpans) Error) → beginning ≡ take MOST_HEAD_BYTES bytes → MOST_FIELDS ≤ room
-    → OnPartial parsed (HasNoRequest beginning) → OnErr parsed (RequestOverflows room beginning)
-    → LooksBy parsed (length bytes) MOST_HEAD_BYTES Never → NeverHasHead bytes
-never_found bytes beginning room parsed f wide partial no_room (inl (e, is)) = never_in_room bytes beginning room f wide (rw is at no_room)
-never_found bytes beginning room parsed f wide partial no_room (inr (is, full)) = never_when_full bytes beginning f full (rw is at partial)
+pub never_found : (bytes prefix : List ℕ) (room : ℕ) (parsed : Result (Status RequestSpans) Error) → prefix ≡ take MAX_HEAD_BYTES bytes → MAX_FIELDS ≤ room
+    → OnPartial parsed (HasNoRequest prefix) → OnErr parsed (RequestOverflows room prefix)
+    → LooksBy parsed (length bytes) MAX_HEAD_BYTES Never → NeverHasHead bytes
+never_found bytes prefix room parsed f wide partial no_room (inl (e, is)) = never_in_room bytes prefix room f wide (rw is at no_room)
+never_found bytes prefix room parsed f wide partial no_room (inr (is, full)) = never_when_full bytes prefix f full (rw is at partial)

@@ -1,4 +1,4 @@
-pub mod Beginnings
+pub mod Prefixes
 pub mod Cuts
 pub mod Readings
 pub mod Wholes

@@ -1,4 +1,4 @@
--- What stands at the beginning of the bytes stands there in one way.
+-- Bytes start with a request in at most one way.
 use Rattle.std.proofs.Common.{false, ◌≡◌, ℕ, ◌<◌, List, [], ◌++◌, length, codes, IsTrue, refl, sym, ap, ◌∙◌, subst, arith, inl, inr, append_assoc, append-nil, length-append}
 use Rattle.std.proofs.lemmas.List.Elements.{All-nil, All-from_recursion}
 use Rattle.std.proofs.lemmas.Str.{IsUtf8-from_ascii}
@@ -7,15 +7,15 @@ use Rattle.httparse.specs.Grammar.{LineEnd, LineEnd.{crlf}, RequestHead, IsReque
 use Rattle.httparse.proofs.GrammarLemmas.{request_unique, ReadsRequest-append, print_request-append}
 use Rattle.chunked_bodies.specs.Chunks.{IsDecided, HasNone}
 use Rattle.chunked_bodies.proofs.Once.{same_cut, body_once, body_is_not_large, never_longer}
-use Rattle.http_requests.specs.declared.asked.TheConstants.{MOST_BODY_BYTES}
+use Rattle.http_requests.specs.declared.asked.TheConstants.{MAX_BODY_BYTES}
 use Rattle.http_requests.specs.Asked.{body_length}
 use Rattle.http_requests.specs.Heads.{TakesHead, HasNoHead}
-use Rattle.http_requests.specs.Requests.{HasBody, Spells, IsUnreadable, PassesMost, BodyBreaks, BreaksBehind, IsBroken}
+use Rattle.http_requests.specs.Requests.{HasBody, Spells, IsUnreadable, PassesMost, BodyBreaks, BreaksAfter, IsMalformed}
 use Rattle.http_requests.specs.declared.asked.BodyLength.{BodyLength}
 use Rattle.http_requests.specs.declared.asked.BodyLength.TheVariants.{Bytes, Chunked, Unreadable, TooLarge}
-use Rattle.http_requests.specs.declared.asked.Breach.{Breach}
-use Rattle.http_requests.specs.declared.asked.Breach.TheVariants.{Head, Body}
-use Rattle.http_requests.specs.declared.asked.Breach.TheVariants as breach
+use Rattle.http_requests.specs.declared.asked.BadRequest.{BadRequest}
+use Rattle.http_requests.specs.declared.asked.BadRequest.TheVariants.{Head, Body}
+use Rattle.http_requests.specs.declared.asked.BadRequest.TheVariants as bad_request
 
 -- ---- heads
 
@@ -36,7 +36,7 @@ one_body : (size : BodyLength) (text other body more rest left : List ℕ) → H
 one_body (Bytes n) text other body more rest left one two e =
     let same = same_cut text other rest left (ap length one.0 ∙ one.1 ∙ sym two.1 ∙ sym (ap length two.0)) e in
     (same.0, sym one.0 ∙ same.0 ∙ two.0, same.1)
-one_body Chunked text other body more rest left one two e = body_once MOST_BODY_BYTES text other body more rest left one two e
+one_body Chunked text other body more rest left one two e = body_once MAX_BODY_BYTES text other body more rest left one two e
 one_body Unreadable text other body more rest left one two e = absurd one
 one_body TooLarge text other body more rest left one two e = absurd one
 
@@ -56,73 +56,73 @@ request_once text other h k body more rest left one two e =
     let texts : text ≡ other = one.takes.reads.1 ∙ (λ i. print_request (heads.0 i) ++ parts.0 i) ∙ sym two.takes.reads.1 in
     (texts, heads.0, parts.1, parts.2)
 
--- ---- breaches of all the bytes
+-- ---- why all the bytes are malformed
 
-abbrev pub Breaks : List ℕ → Breach → Type 0
-Breaks bytes b = IsBroken (Unit {0}) bytes b
+abbrev pub Breaks : List ℕ → BadRequest → Type 0
+Breaks bytes b = IsMalformed (Unit {0}) bytes b
 
--- nothing is left behind a list that nothing follows
+-- nothing is left after a list that nothing follows
 nothing_more : (xs left : List ℕ) → left ≡ [] → xs ++ left ≡ xs
 nothing_more xs left none = ap (λ (l : List ℕ). xs ++ l) none ∙ append-nil xs
 
-body_breaks_all : (size : BodyLength) (after left : List ℕ) (b : Breach) → BodyBreaks (left ≡ []) b size after → BodyBreaks (Unit {0}) b size (after ++ left)
-body_breaks_all (Bytes n) after left Body broken = (subst (λ (l : List ℕ). length l < n) (sym (nothing_more after left broken.1)) broken.0, tt)
-body_breaks_all Chunked after left Body (inl never) = inl (never_longer (IsDecided MOST_BODY_BYTES) after left never)
-body_breaks_all Chunked after left Body (inr ended) = inr (tt, subst (HasNone (IsDecided MOST_BODY_BYTES)) (sym (nothing_more after left ended.0)) ended.1)
-body_breaks_all Unreadable after left Body broken = tt
-body_breaks_all TooLarge after left Body broken = absurd broken
-body_breaks_all (Bytes n) after left breach.TooLarge broken = absurd broken
-body_breaks_all Chunked after left breach.TooLarge b = record { text = b.text; rest = b.rest ++ left; is = b.is; cut = ap (λ l. l ++ left) b.cut ∙ append_assoc b.text b.rest left }
-body_breaks_all Unreadable after left breach.TooLarge broken = absurd broken
-body_breaks_all TooLarge after left breach.TooLarge broken = tt
-body_breaks_all size after left Head broken = absurd broken
+body_breaks_all : (size : BodyLength) (after left : List ℕ) (b : BadRequest) → BodyBreaks (left ≡ []) b size after → BodyBreaks (Unit {0}) b size (after ++ left)
+body_breaks_all (Bytes n) after left Body malformed = (subst (λ (l : List ℕ). length l < n) (sym (nothing_more after left malformed.1)) malformed.0, tt)
+body_breaks_all Chunked after left Body (inl never) = inl (never_longer (IsDecided MAX_BODY_BYTES) after left never)
+body_breaks_all Chunked after left Body (inr ended) = inr (tt, subst (HasNone (IsDecided MAX_BODY_BYTES)) (sym (nothing_more after left ended.0)) ended.1)
+body_breaks_all Unreadable after left Body malformed = tt
+body_breaks_all TooLarge after left Body malformed = absurd malformed
+body_breaks_all (Bytes n) after left bad_request.TooLarge malformed = absurd malformed
+body_breaks_all Chunked after left bad_request.TooLarge b = record { text = b.text; rest = b.rest ++ left; is = b.is; cut = ap (λ l. l ++ left) b.cut ∙ append_assoc b.text b.rest left }
+body_breaks_all Unreadable after left bad_request.TooLarge malformed = absurd malformed
+body_breaks_all TooLarge after left bad_request.TooLarge malformed = tt
+body_breaks_all size after left Head malformed = absurd malformed
 
-behind_all : (piece left : List ℕ) (b : Breach) → BreaksBehind (left ≡ []) piece b → BreaksBehind (Unit {0}) (piece ++ left) b
-behind_all piece left b reported = record {
+after_all : (piece left : List ℕ) (b : BadRequest) → BreaksAfter (left ≡ []) piece b → BreaksAfter (Unit {0}) (piece ++ left) b
+after_all piece left b reported = record {
   head = reported.head;
   after = reported.after ++ left;
   takes = head_stays piece reported.head reported.after left reported.takes;
   breaks = body_breaks_all (body_length reported.head) reported.after left b reported.breaks;
 }
 
--- what broke a piece breaks all bytes that begin with it, where the end was seen only with nothing left
-pub breaks_all : (piece left : List ℕ) (b : Breach) → IsBroken (left ≡ []) piece b → Breaks (piece ++ left) b
+-- if a piece is malformed, all bytes that start with it are, provided that the end was seen only with nothing left
+pub breaks_all : (piece left : List ℕ) (b : BadRequest) → IsMalformed (left ≡ []) piece b → Breaks (piece ++ left) b
 breaks_all piece left Head (inl never) = inl (λ more. subst HasNoHead (sym (append_assoc piece left more)) (never (left ++ more)))
 breaks_all piece left Head (inr ended) =
     let same : piece ≡ piece ++ left = sym (nothing_more piece left ended.0) in
     inr (tt, subst (λ (l : List ℕ). 0 < length l) same ended.1, subst HasNoHead same ended.2)
-breaks_all piece left Body reported = behind_all piece left Body reported
-breaks_all piece left breach.TooLarge reported = behind_all piece left breach.TooLarge reported
+breaks_all piece left Body reported = after_all piece left Body reported
+breaks_all piece left bad_request.TooLarge reported = after_all piece left bad_request.TooLarge reported
 
--- where the head is broken there is none
+-- if the head is malformed there is none
 no_head : (bytes : List ℕ) → Breaks bytes Head → HasNoHead bytes
 no_head bytes (inl never) h rest takes = never [] h (rest ++ []) (head_stays bytes h rest [] takes)
 no_head bytes (inr ended) h rest takes = ended.2 h rest takes
 
--- a body is none that is broken
-body_no_breach : (size : BodyLength) (text body rest : List ℕ) (b : Breach) → HasBody size text body → BodyBreaks (Unit {0}) b size (text ++ rest) → ⊥
-body_no_breach (Bytes n) text body rest Body is broken = absurd (omega (arith, broken.0, ap length is.0, is.1, length-append text rest))
-body_no_breach Chunked text body rest Body is (inl never) = never [] text (rest ++ []) (inl (body, is)) (append_assoc text rest [])
-body_no_breach Chunked text body rest Body is (inr ended) = ended.1 text rest (inl (body, is)) refl
-body_no_breach Unreadable text body rest b is broken = absurd is
-body_no_breach TooLarge text body rest b is broken = absurd is
-body_no_breach (Bytes n) text body rest breach.TooLarge is broken = absurd broken
-body_no_breach Chunked text body rest breach.TooLarge is broken = body_is_not_large MOST_BODY_BYTES text broken.text body rest broken.rest is broken.is broken.cut
-body_no_breach (Bytes n) text body rest Head is broken = absurd broken
-body_no_breach Chunked text body rest Head is broken = absurd broken
+-- a body isn't malformed
+body_no_bad_request : (size : BodyLength) (text body rest : List ℕ) (b : BadRequest) → HasBody size text body → BodyBreaks (Unit {0}) b size (text ++ rest) → ⊥
+body_no_bad_request (Bytes n) text body rest Body is malformed = absurd (omega (arith, malformed.0, ap length is.0, is.1, length-append text rest))
+body_no_bad_request Chunked text body rest Body is (inl never) = never [] text (rest ++ []) (inl (body, is)) (append_assoc text rest [])
+body_no_bad_request Chunked text body rest Body is (inr ended) = ended.1 text rest (inl (body, is)) refl
+body_no_bad_request Unreadable text body rest b is malformed = absurd is
+body_no_bad_request TooLarge text body rest b is malformed = absurd is
+body_no_bad_request (Bytes n) text body rest bad_request.TooLarge is malformed = absurd malformed
+body_no_bad_request Chunked text body rest bad_request.TooLarge is malformed = body_is_not_large MAX_BODY_BYTES text malformed.text body rest malformed.rest is malformed.is malformed.cut
+body_no_bad_request (Bytes n) text body rest Head is malformed = absurd malformed
+body_no_bad_request Chunked text body rest Head is malformed = absurd malformed
 
-no_request_behind : (text rest : List ℕ) (h : RequestHead) (body : List ℕ) (b : Breach) → Spells text h body → BreaksBehind (Unit {0}) (text ++ rest) b → ⊥
-no_request_behind text rest h body b spells reported =
+no_request_after : (text rest : List ℕ) (h : RequestHead) (body : List ℕ) (b : BadRequest) → Spells text h body → BreaksAfter (Unit {0}) (text ++ rest) b → ⊥
+no_request_after text rest h body b spells reported =
     let same = head_once (text ++ rest) reported.head h reported.after (spells.after ++ rest) reported.takes (request_stays text h body rest spells) in
-    let broken : BodyBreaks (Unit {0}) b (body_length h) (spells.after ++ rest) =
+    let malformed : BodyBreaks (Unit {0}) b (body_length h) (spells.after ++ rest) =
     subst (λ (x : RequestHead). BodyBreaks (Unit {0}) b (body_length x) (spells.after ++ rest)) same.0
     (subst (λ (l : List ℕ). BodyBreaks (Unit {0}) b (body_length reported.head) l) same.1 reported.breaks) in
-    body_no_breach (body_length h) spells.after body rest b spells.body_is broken
+    body_no_bad_request (body_length h) spells.after body rest b spells.body_is malformed
 
-pub no_request : (text rest : List ℕ) (h : RequestHead) (body : List ℕ) (b : Breach) → Spells text h body → Breaks (text ++ rest) b → ⊥
-no_request text rest h body Head spells broken = no_head (text ++ rest) broken h (spells.after ++ rest) (request_stays text h body rest spells)
-no_request text rest h body Body spells reported = no_request_behind text rest h body Body spells reported
-no_request text rest h body breach.TooLarge spells reported = no_request_behind text rest h body breach.TooLarge spells reported
+pub no_request : (text rest : List ℕ) (h : RequestHead) (body : List ℕ) (b : BadRequest) → Spells text h body → Breaks (text ++ rest) b → ⊥
+no_request text rest h body Head spells malformed = no_head (text ++ rest) malformed h (spells.after ++ rest) (request_stays text h body rest spells)
+no_request text rest h body Body spells reported = no_request_after text rest h body Body spells reported
+no_request text rest h body bad_request.TooLarge spells reported = no_request_after text rest h body bad_request.TooLarge spells reported
 
 -- a body that can't be read isn't too large
 body_not_both : (size : BodyLength) (after : List ℕ) → IsUnreadable (Unit {0}) size after → PassesMost size after → ⊥
@@ -132,23 +132,23 @@ body_not_both Chunked after (inr ended) other = ended.1 other.text other.rest (i
 body_not_both Unreadable after one other = absurd other
 body_not_both TooLarge after one other = absurd one
 
-not_both : (bytes : List ℕ) → Breaks bytes Body → Breaks bytes breach.TooLarge → ⊥
+not_both : (bytes : List ℕ) → Breaks bytes Body → Breaks bytes bad_request.TooLarge → ⊥
 not_both bytes one other =
     let same = head_once bytes one.head other.head one.after other.after one.takes other.takes in
-    let broken : IsUnreadable (Unit {0}) (body_length other.head) other.after =
+    let malformed : IsUnreadable (Unit {0}) (body_length other.head) other.after =
     subst (λ (x : RequestHead). IsUnreadable (Unit {0}) (body_length x) other.after) same.0 (subst (IsUnreadable (Unit {0}) (body_length one.head)) same.1 one.breaks) in
-    body_not_both (body_length other.head) other.after broken other.breaks
+    body_not_both (body_length other.head) other.after malformed other.breaks
 
-pub one_breach : (bytes : List ℕ) (b c : Breach) → Breaks bytes b → Breaks bytes c → b ≡ c
-one_breach bytes Head Head one other = refl
-one_breach bytes Head Body one other = absurd (no_head bytes one other.head other.after other.takes)
-one_breach bytes Head breach.TooLarge one other = absurd (no_head bytes one other.head other.after other.takes)
-one_breach bytes Body Head one other = absurd (no_head bytes other one.head one.after one.takes)
-one_breach bytes Body Body one other = refl
-one_breach bytes Body breach.TooLarge one other = absurd (not_both bytes one other)
-one_breach bytes breach.TooLarge Head one other = absurd (no_head bytes other one.head one.after one.takes)
-one_breach bytes breach.TooLarge Body one other = absurd (not_both bytes other one)
-one_breach bytes breach.TooLarge breach.TooLarge one other = refl
+pub one_bad_request : (bytes : List ℕ) (b c : BadRequest) → Breaks bytes b → Breaks bytes c → b ≡ c
+one_bad_request bytes Head Head one other = refl
+one_bad_request bytes Head Body one other = absurd (no_head bytes one other.head other.after other.takes)
+one_bad_request bytes Head bad_request.TooLarge one other = absurd (no_head bytes one other.head other.after other.takes)
+one_bad_request bytes Body Head one other = absurd (no_head bytes other one.head one.after one.takes)
+one_bad_request bytes Body Body one other = refl
+one_bad_request bytes Body bad_request.TooLarge one other = absurd (not_both bytes one other)
+one_bad_request bytes bad_request.TooLarge Head one other = absurd (no_head bytes other one.head one.after one.takes)
+one_bad_request bytes bad_request.TooLarge Body one other = absurd (not_both bytes other one)
+one_bad_request bytes bad_request.TooLarge bad_request.TooLarge one other = refl
 
 -- ---- no bytes
 
@@ -174,7 +174,7 @@ pub token_quiet : is_token_byte 10 ≡ false
 unfolding is_token_byte
 token_quiet = refl
 
--- the same behind empty lines
+-- the same after empty lines
 pub some_with : (blank : List LineEnd) → IsRequestHead (record some_head { blank = blank })
 some_with blank = record {
   method = some_head_is_one.method;
@@ -192,19 +192,19 @@ some_head_is_taken : TakesHead (print_request some_head) some_head []
 unfolding some_head print_request
 some_head_is_taken = record { reads = (some_head_is_one, sym (append-nil (print_request some_head))); size = omega arith; fields = omega arith }
 
-pub nothing_is_no_breach : (b : Breach) → Breaks [] b → ⊥
-nothing_is_no_breach Head (inl never) = never (print_request some_head) some_head [] some_head_is_taken
-nothing_is_no_breach Head (inr ended) = absurd (omega (arith, ended.1))
-nothing_is_no_breach Body reported = absurd (omega (arith, head_is_some [] reported.head reported.after reported.takes))
-nothing_is_no_breach breach.TooLarge reported = absurd (omega (arith, head_is_some [] reported.head reported.after reported.takes))
+pub nothing_is_no_bad_request : (b : BadRequest) → Breaks [] b → ⊥
+nothing_is_no_bad_request Head (inl never) = never (print_request some_head) some_head [] some_head_is_taken
+nothing_is_no_bad_request Head (inr ended) = absurd (omega (arith, ended.1))
+nothing_is_no_bad_request Body reported = absurd (omega (arith, head_is_some [] reported.head reported.after reported.takes))
+nothing_is_no_bad_request bad_request.TooLarge reported = absurd (omega (arith, head_is_some [] reported.head reported.after reported.takes))
 
 -- ---- pieces
 
-pub piece_no_request : (text rest piece left : List ℕ) (h : RequestHead) (body : List ℕ) (b : Breach) → Spells text h body → piece ++ left ≡ text ++ rest
-    → IsBroken (left ≡ []) piece b → ⊥
-piece_no_request text rest piece left h body b spells e broken =
-    no_request text rest h body b spells (subst (λ (l : List ℕ). Breaks l b) e (breaks_all piece left b broken))
+pub piece_no_request : (text rest piece left : List ℕ) (h : RequestHead) (body : List ℕ) (b : BadRequest) → Spells text h body → piece ++ left ≡ text ++ rest
+    → IsMalformed (left ≡ []) piece b → ⊥
+piece_no_request text rest piece left h body b spells e malformed =
+    no_request text rest h body b spells (subst (λ (l : List ℕ). Breaks l b) e (breaks_all piece left b malformed))
 
-pub piece_one_breach : (piece left part behind : List ℕ) (b c : Breach) → piece ++ left ≡ part ++ behind → IsBroken (left ≡ []) piece b → IsBroken (behind ≡ []) part c → b ≡ c
-piece_one_breach piece left part behind b c e one other =
-    one_breach (part ++ behind) b c (subst (λ (l : List ℕ). Breaks l b) e (breaks_all piece left b one)) (breaks_all part behind c other)
+pub piece_one_bad_request : (piece left part behind : List ℕ) (b c : BadRequest) → piece ++ left ≡ part ++ behind → IsMalformed (left ≡ []) piece b → IsMalformed (behind ≡ []) part c → b ≡ c
+piece_one_bad_request piece left part behind b c e one other =
+    one_bad_request (part ++ behind) b c (subst (λ (l : List ℕ). Breaks l b) e (breaks_all piece left b one)) (breaks_all part behind c other)

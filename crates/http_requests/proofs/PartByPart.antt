@@ -8,12 +8,12 @@ use Rattle.http_requests.specs.Receiving.{ReadBuffer, ReadsOn, ReadsOnWhile, IsR
 use Rattle.http_requests.specs.Bodies.{TakesBody, BreaksBody}
 use Rattle.http_requests.specs.InParts.{IsPart, AwaitsMore, Comes, TakesOn, TakesPart}
 use Rattle.http_requests.specs.declared.asked.BodyLength.{BodyLength}
-use Rattle.http_requests.specs.declared.asked.Breach.{Breach}
-use Rattle.http_requests.specs.declared.asked.Breach.TheVariants as breach
+use Rattle.http_requests.specs.declared.asked.BadRequest.{BadRequest}
+use Rattle.http_requests.specs.declared.asked.BadRequest.TheVariants as bad_request
 use Rattle.http_requests.specs.declared.body_reader.BodyReader.{BodyReader}
-use Rattle.http_requests.specs.declared.body_reader.BodyLook.TheVariants.{Whole, More, Broken}
+use Rattle.http_requests.specs.declared.body_reader.BodyLook.TheVariants.{Whole, More, Malformed}
 use Rattle.http_requests.specs.declared.read_buffer.ReadError.{ReadError}
-use Rattle.http_requests.proofs.Readings.{nothing_yet, with_text, read_behind, stops_reading}
+use Rattle.http_requests.proofs.Readings.{nothing_yet, with_text, read_after, stops_reading}
 use Rattle.http_requests.proofs.Parts.{awaits_body, ended_breaks, breaks_anyway}
 
 module _ {S R : Type 0} (takes : Takings S) (source : Source R) where
@@ -40,8 +40,8 @@ module _ {S R : Type 0} (takes : Takings S) (source : Source R) where
       put = joined before now after so.content on.content so.put on.put;
     }
 
-    pub broken_body : (why : Breach) → TakesOn takes here new now after was (λ of text content. Comes of text content new.held is (Broken why)) → BreaksBody source s t old new size why
-    broken_body why on = record {
+    pub malformed_body : (why : BadRequest) → TakesOn takes here new now after was (λ of text content. Comes of text content new.held is (Malformed why)) → BreaksBody source s t old new size why
+    malformed_body why on = record {
       text = so.text ++ on.text;
       reads = with_text source (AwaitsBody size) s t old here new so.text on.text so.reads on.cut;
       breaks = breaks_anyway (IsAtEnd (source.remaining t)) why size ((so.text ++ on.text) ++ new.held) (on.come size so.text so.content so.part);
@@ -49,7 +49,7 @@ module _ {S R : Type 0} (takes : Takings S) (source : Source R) where
 
   module _ (s m t : R) (old here new : ReadBuffer) (before after : S) (size : BodyLength) (reader : BodyReader)
       (so : TakesPart takes source s m old here before after size reader) (awaits : AwaitsMore reader here.held) where
-    pub ended_body : IsAtEnd (source.remaining m) → BreaksBody source s m old here size breach.Body
+    pub ended_body : IsAtEnd (source.remaining m) → BreaksBody source s m old here size bad_request.Body
     ended_body at_end = record { text = so.text; reads = so.reads; breaks = ended_breaks _ size (so.text ++ here.held) (awaits_body size so.text so.content here.held reader so.part awaits) at_end }
 
     pub body_read_on : ReadsOn (source.remaining m) (source.remaining t) here new → IsRead source.gives m t here new → TakesPart takes source s t old new before after size reader
@@ -57,7 +57,7 @@ module _ {S R : Type 0} (takes : Takings S) (source : Source R) where
       text = so.text;
       content = so.content;
       part = so.part;
-      reads = read_behind source (AwaitsBody size) s m t old here new so.text so.reads (awaits_body size so.text so.content here.held reader so.part awaits) on read;
+      reads = read_after source (AwaitsBody size) s m t old here new so.text so.reads (awaits_body size so.text so.content here.held reader so.part awaits) on read;
       put = so.put;
     }
 

@@ -5,11 +5,11 @@ use Rattle.std.proofs.Math.Seq.{take-append_seam}
 use Rattle.httparse.specs.Ascii.{crlf_bytes}
 use Rattle.chunked_bodies.specs.Chunks.{IsSizeLine, IsSomeSizeLine, IsTrailer, IsContent, IsDecided, Chunk, texts, contents, HasNone, NeverHas}
 use Rattle.session_devices.specs.Takings.{Takings, TakesNothing, TakesJoined}
-use Rattle.http_requests.specs.declared.asked.TheConstants.{MOST_BODY_BYTES}
+use Rattle.http_requests.specs.declared.asked.TheConstants.{MAX_BODY_BYTES}
 use Rattle.http_requests.specs.declared.asked.BodyLength.{BodyLength}
 use Rattle.http_requests.specs.declared.asked.BodyLength.TheVariants.{Bytes, Chunked, Unreadable, TooLarge}
-use Rattle.http_requests.specs.declared.asked.Breach.{Breach}
-use Rattle.http_requests.specs.declared.asked.Breach.TheVariants as breach
+use Rattle.http_requests.specs.declared.asked.BadRequest.{BadRequest}
+use Rattle.http_requests.specs.declared.asked.BadRequest.TheVariants as bad_request
 use Rattle.http_requests.specs.declared.body_reader.BodyReader.{BodyReader}
 use Rattle.http_requests.specs.declared.body_reader.Stage.{Stage}
 use Rattle.http_requests.specs.declared.body_reader.Stage.TheVariants.{Length, SizeLine, Data, Trailer, Refused}
@@ -17,7 +17,7 @@ use Rattle.http_requests.specs.Requests.{HasBody, BodyBreaks, AwaitsBody}
 use Rattle.http_requests.specs.Receiving.{ReadBuffer, put_back}
 use Rattle.http_requests.specs.Bodies.{AwaitsLine, IsLineEnd}
 use Rattle.http_requests.specs.InParts.{WithChunks, WithData, WithLastLine, IsPartAt, IsPart, HasLookedAt, HasLooked, AwaitsAt, AwaitsMore, TakesOn, TakesText}
-use Rattle.http_requests.proofs.Chunking.{shorter, none_behind, awaited_behind, line_awaited, no_size, passes, each_with, sum_with, texts_with, content_awaited, no_more_content, trailer_awaited, no_trailer_comes, chunks_whole}
+use Rattle.http_requests.proofs.Chunking.{shorter, none_after, awaited_after, line_awaited, no_size, passes, each_with, sum_with, texts_with, content_awaited, no_more_content, trailer_awaited, no_trailer_comes, chunks_whole}
 
 -- ---- a size line
 
@@ -56,21 +56,21 @@ line_then_trailer Unreadable front fed line left so is = absurd so
 line_then_trailer TooLarge front fed line left so is = absurd so
 
 pub line_passes : (of : BodyLength) (front fed line held : List ℕ) (left size : ℕ) → IsPartAt of front fed left SizeLine → IsSizeLine line size → left < size
-    → BodyBreaks ⊥ breach.TooLarge of ((front ++ line) ++ held)
+    → BodyBreaks ⊥ bad_request.TooLarge of ((front ++ line) ++ held)
 line_passes Chunked front fed line held left size so is large =
-    subst (λ (l : List ℕ). BodyBreaks ⊥ breach.TooLarge Chunked ((l ++ line) ++ held)) (sym so.text_is) (passes so.chunks left so.each so.sum line size is held large)
+    subst (λ (l : List ℕ). BodyBreaks ⊥ bad_request.TooLarge Chunked ((l ++ line) ++ held)) (sym so.text_is) (passes so.chunks left so.each so.sum line size is held large)
 line_passes (Bytes n) front fed line held left size so is large = absurd so
 line_passes Unreadable front fed line held left size so is large = absurd so
 line_passes TooLarge front fed line held left size so is large = absurd so
 
-pub no_line_comes : (of : BodyLength) (front fed held : List ℕ) (left : ℕ) → IsPartAt of front fed left SizeLine → NeverHas IsSomeSizeLine held → BodyBreaks ⊥ breach.Body of (front ++ held)
+pub no_line_comes : (of : BodyLength) (front fed held : List ℕ) (left : ℕ) → IsPartAt of front fed left SizeLine → NeverHas IsSomeSizeLine held → BodyBreaks ⊥ bad_request.Body of (front ++ held)
 no_line_comes Chunked front fed held left so never =
-    subst (λ (l : List ℕ). BodyBreaks ⊥ breach.Body Chunked (l ++ held)) (sym so.text_is) (no_size so.chunks left so.each so.sum held never)
+    subst (λ (l : List ℕ). BodyBreaks ⊥ bad_request.Body Chunked (l ++ held)) (sym so.text_is) (no_size so.chunks left so.each so.sum held never)
 no_line_comes (Bytes n) front fed held left so never = absurd so
 no_line_comes Unreadable front fed held left so never = absurd so
 no_line_comes TooLarge front fed held left so never = absurd so
 
--- ---- data, and CR LF behind them
+-- ---- data, and CR LF after them
 
 pub data_then : (of : BodyLength) (front fed piece : List ℕ) (left count rest : ℕ) → IsPartAt of front fed left (Data count) → length piece + rest ≡ count
     → IsPartAt of (front ++ piece) (fed ++ piece) left (Data rest)
@@ -115,13 +115,13 @@ never_content held never more text rest is e = never more text rest (is.text_is 
     is_nothing [] e = refl
     is_nothing (x ∷ xs) e = absurd (omega (arith, e))
 
-pub no_end_comes : (of : BodyLength) (front fed held : List ℕ) (left : ℕ) → IsPartAt of front fed left (Data 0) → NeverHas IsLineEnd held → BodyBreaks ⊥ breach.Body of (front ++ held)
+pub no_end_comes : (of : BodyLength) (front fed held : List ℕ) (left : ℕ) → IsPartAt of front fed left (Data 0) → NeverHas IsLineEnd held → BodyBreaks ⊥ bad_request.Body of (front ++ held)
 no_end_comes Chunked front fed held left so never =
     let fits : so.size ≤ so.size + left = omega arith in
     let nothing = never_content held never in
     let behind : NeverHas (IsContent so.size) (so.got ++ held) =
-    λ more. subst (HasNone (IsContent so.size)) (sym (append_assoc so.got held more)) (none_behind so.size 0 so.got so.lacking (held ++ more) (nothing more)) in
-    subst (λ (l : List ℕ). BodyBreaks ⊥ breach.Body Chunked l) (sym (append_assoc (texts so.chunks ++ so.line) so.got held) ∙ ap (λ l. l ++ held) (sym so.text_is))
+    λ more. subst (HasNone (IsContent so.size)) (sym (append_assoc so.got held more)) (none_after so.size 0 so.got so.lacking (held ++ more) (nothing more)) in
+    subst (λ (l : List ℕ). BodyBreaks ⊥ bad_request.Body Chunked l) (sym (append_assoc (texts so.chunks ++ so.line) so.got held) ∙ ap (λ l. l ++ held) (sym so.text_is))
     (no_more_content so.chunks (so.size + left) so.each so.sum so.line so.size so.line_is so.some fits (so.got ++ held) behind)
 no_end_comes (Bytes n) front fed held left so never = absurd so
 no_end_comes Unreadable front fed held left so never = absurd so
@@ -130,7 +130,7 @@ no_end_comes TooLarge front fed held left so never = absurd so
 -- ---- a trailer
 
 abbrev rest_of : List Chunk → ℕ
-rest_of chunks = MOST_BODY_BYTES - length (contents chunks)
+rest_of chunks = MAX_BODY_BYTES - length (contents chunks)
 
 pub trailer_ends : (of : BodyLength) (front fed text : List ℕ) (left seen : ℕ) → IsPartAt of front fed left (Trailer seen) → IsTrailer text → HasBody of (front ++ text) (fed ++ [])
 trailer_ends Chunked front fed text left seen so is =
@@ -140,9 +140,9 @@ trailer_ends (Bytes n) front fed text left seen so is = absurd so
 trailer_ends Unreadable front fed text left seen so is = absurd so
 trailer_ends TooLarge front fed text left seen so is = absurd so
 
-pub no_trailer_then : (of : BodyLength) (front fed held : List ℕ) (left seen : ℕ) → IsPartAt of front fed left (Trailer seen) → NeverHas IsTrailer held → BodyBreaks ⊥ breach.Body of (front ++ held)
+pub no_trailer_then : (of : BodyLength) (front fed held : List ℕ) (left seen : ℕ) → IsPartAt of front fed left (Trailer seen) → NeverHas IsTrailer held → BodyBreaks ⊥ bad_request.Body of (front ++ held)
 no_trailer_then Chunked front fed held left seen so never =
-    subst (λ (l : List ℕ). BodyBreaks ⊥ breach.Body Chunked (l ++ held)) (sym so.text_is)
+    subst (λ (l : List ℕ). BodyBreaks ⊥ bad_request.Body Chunked (l ++ held)) (sym so.text_is)
     (no_trailer_comes so.chunks (rest_of so.chunks) so.each (omega (arith, so.small)) so.line so.line_is held never)
 no_trailer_then (Bytes n) front fed held left seen so never = absurd so
 no_trailer_then Unreadable front fed held left seen so never = absurd so
@@ -169,23 +169,23 @@ length_ends Chunked front fed piece left count so long = absurd so
 length_ends Unreadable front fed piece left count so long = absurd so
 length_ends TooLarge front fed piece left count so long = absurd so
 
-pub refused_breaks : (of : BodyLength) (why : Breach) (front fed held : List ℕ) (left : ℕ) → IsPartAt of front fed left (Refused why) → BodyBreaks ⊥ why of (front ++ held)
-refused_breaks Unreadable breach.Body front fed held left so = tt
-refused_breaks TooLarge breach.TooLarge front fed held left so = tt
-refused_breaks Unreadable breach.Head front fed held left so = absurd so
-refused_breaks Unreadable breach.TooLarge front fed held left so = absurd so
-refused_breaks TooLarge breach.Head front fed held left so = absurd so
-refused_breaks TooLarge breach.Body front fed held left so = absurd so
+pub refused_breaks : (of : BodyLength) (why : BadRequest) (front fed held : List ℕ) (left : ℕ) → IsPartAt of front fed left (Refused why) → BodyBreaks ⊥ why of (front ++ held)
+refused_breaks Unreadable bad_request.Body front fed held left so = tt
+refused_breaks TooLarge bad_request.TooLarge front fed held left so = tt
+refused_breaks Unreadable bad_request.Head front fed held left so = absurd so
+refused_breaks Unreadable bad_request.TooLarge front fed held left so = absurd so
+refused_breaks TooLarge bad_request.Head front fed held left so = absurd so
+refused_breaks TooLarge bad_request.Body front fed held left so = absurd so
 refused_breaks (Bytes n) why front fed held left so = absurd so
 refused_breaks Chunked why front fed held left so = absurd so
 
--- ---- what is awaited behind a part
+-- ---- what is awaited after a part
 
 data_awaited : (front fed held : List ℕ) (left count : ℕ) → IsPartAt Chunked front fed left (Data count) → AwaitsAt (Data count) held → AwaitsBody Chunked (front ++ held)
 data_awaited front fed held left count so awaits =
     let fits : so.size ≤ so.size + left = omega arith in
     subst (AwaitsBody Chunked) (sym (append_assoc (texts so.chunks ++ so.line) so.got held) ∙ ap (λ l. l ++ held) (sym so.text_is))
-    (content_awaited so.chunks (so.size + left) so.each so.sum so.line so.size so.line_is so.some fits (so.got ++ held) (awaited_behind so.size count so.got so.lacking held awaits))
+    (content_awaited so.chunks (so.size + left) so.each so.sum so.line so.size so.line_is so.some fits (so.got ++ held) (awaited_after so.size count so.got so.lacking held awaits))
 
 awaits_at : (of : BodyLength) (front fed held : List ℕ) (left : ℕ) (stage : Stage) → IsPartAt of front fed left stage → AwaitsAt stage held → AwaitsBody of (front ++ held)
 awaits_at (Bytes n) front fed held left (Length count) so short = omega (arith, so.1, short, ap length so.0, length-append front held)
@@ -230,20 +230,20 @@ pub has_looked : (reader : BodyReader) (held new more : List ℕ) → new ≡ he
 has_looked reader held new more is awaits = subst (HasLooked reader) (sym is) (looked_at reader.stage held more awaits)
 
 -- where the input has ended, there is none
-pub ended_breaks : (AtEnd : Type 0) (of : BodyLength) (after : List ℕ) → AwaitsBody of after → AtEnd → BodyBreaks AtEnd breach.Body of after
+pub ended_breaks : (AtEnd : Type 0) (of : BodyLength) (after : List ℕ) → AwaitsBody of after → AtEnd → BodyBreaks AtEnd bad_request.Body of after
 ended_breaks AtEnd (Bytes n) after short ended = (short, ended)
 ended_breaks AtEnd Chunked after awaits ended = inr (ended, awaits.none)
 ended_breaks AtEnd Unreadable after awaits ended = tt
 ended_breaks AtEnd TooLarge after awaits ended = absurd awaits
 
-pub breaks_anyway : (AtEnd : Type 0) (why : Breach) (of : BodyLength) (after : List ℕ) → BodyBreaks ⊥ why of after → BodyBreaks AtEnd why of after
-breaks_anyway AtEnd breach.Head of after breaks = breaks
-breaks_anyway AtEnd breach.Body (Bytes n) after breaks = absurd breaks.1
-breaks_anyway AtEnd breach.Body Chunked after (inl never) = inl never
-breaks_anyway AtEnd breach.Body Chunked after (inr ended) = absurd ended.0
-breaks_anyway AtEnd breach.Body Unreadable after breaks = tt
-breaks_anyway AtEnd breach.Body TooLarge after breaks = absurd breaks
-breaks_anyway AtEnd breach.TooLarge of after breaks = breaks
+pub breaks_anyway : (AtEnd : Type 0) (why : BadRequest) (of : BodyLength) (after : List ℕ) → BodyBreaks ⊥ why of after → BodyBreaks AtEnd why of after
+breaks_anyway AtEnd bad_request.Head of after breaks = breaks
+breaks_anyway AtEnd bad_request.Body (Bytes n) after breaks = absurd breaks.1
+breaks_anyway AtEnd bad_request.Body Chunked after (inl never) = inl never
+breaks_anyway AtEnd bad_request.Body Chunked after (inr ended) = absurd ended.0
+breaks_anyway AtEnd bad_request.Body Unreadable after breaks = tt
+breaks_anyway AtEnd bad_request.Body TooLarge after breaks = absurd breaks
+breaks_anyway AtEnd bad_request.TooLarge of after breaks = breaks
 
 -- ---- one text, and then another
 
@@ -268,7 +268,7 @@ none_taken old was Come come = record {
 }
 
 module _ {S : Type 0} (takes : Takings S) where
-  -- the first bytes were taken and put into the sink
+  -- the first bytes were taken and pushed into the sink
   pub data_taken : (old new : ReadBuffer) (before after : S) (was : BodyReader) (Come : BodyLength → List ℕ → List ℕ → Type 0) (count : ℕ)
       → takes before (take count old.held) after → new ≡ record old { held = drop count old.held }
       → ((of : BodyLength) (front fed : List ℕ) → IsPart of front fed was → Come of (front ++ take count old.held) (fed ++ take count old.held))

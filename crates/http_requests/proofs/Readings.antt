@@ -4,7 +4,7 @@ use Rattle.std.proofs.Math.Seq.{take-append_seam}
 use Rattle.std.proofs.KnownBytes.{Consumes-trans, Consumes-nil}
 use Rattle.http_requests.specs.Waiting.{Source, counted, ReadsWhile}
 use Rattle.http_requests.specs.Receiving.{ReadBuffer, ReadsOn, ReadsOnWhile, IsRead, ReadFails, StopsWhile, put_back}
-use Rattle.http_requests.proofs.Awaiting.{no_read, one_read, reads_in_turn, reads_behind}
+use Rattle.http_requests.proofs.Awaiting.{no_read, one_read, reads_in_turn, reads_after}
 use Rattle.http_requests.specs.declared.read_buffer.ReadError.{ReadError}
 use Rattle.http_requests.specs.declared.read_buffer.ReadError.TheVariants.{Reading, Memory}
 
@@ -18,7 +18,7 @@ nothing_read input r = record {
   end = λ knows. knows;
 }
 
--- ---- with what was taken in front
+-- ---- with what was taken before
 
 -- a text was taken, and then more was read
 takes_then_reads : (in0 in1 in2 : Option (List ℕ)) (a b c : ReadBuffer) (text : List ℕ) → ReadsOn in0 in1 a (put_back text b) → ReadsOn in1 in2 b c → ReadsOn in0 in2 a (put_back text c)
@@ -33,7 +33,7 @@ takes_then_reads in0 in1 in2 a b c text first second =
       end = λ knows. second.end (first.end knows);
     }
 
--- and one more from the beginning of what is there
+-- and one more from the start of what is there
 takes_more : (in0 in1 : Option (List ℕ)) (a b : ReadBuffer) (text more rest : List ℕ) → ReadsOn in0 in1 a (put_back text b) → b.held ≡ more ++ rest → ReadsOn in0 in1 a (put_back (text ++ more) (record b { held = rest }))
 takes_more in0 in1 a b text more rest reads cut = record {
   more = reads.more;
@@ -54,39 +54,39 @@ module _ {R : Type 0} (source : Source R) where
       → ReadsOnWhile source Awaits s t a b
   once Awaits s t a b awaits on read = record { on = on; waits = one_read (counted source.gives) Awaits (s, a.left) (t, b.left) a.held b.held read.0 awaits (read.1, read.3) read.2 }
 
-  -- seen from the beginning of what was taken before
-  pub beginning_then : (Awaits More : List ℕ → Type 0) (s m t : R) (a b c : ReadBuffer) (text : List ℕ) → ((h : List ℕ) → More h → Awaits (text ++ h))
+  -- seen from the start of what was taken before
+  pub prefix_then : (Awaits More : List ℕ → Type 0) (s m t : R) (a b c : ReadBuffer) (text : List ℕ) → ((h : List ℕ) → More h → Awaits (text ++ h))
       → ReadsOnWhile source Awaits s m a (put_back text b) → ReadsOnWhile source More m t b c → ReadsOnWhile source Awaits s t a (put_back text c)
-  beginning_then Awaits More s m t a b c text more first second = record {
+  prefix_then Awaits More s m t a b c text more first second = record {
     on = takes_then_reads (source.remaining s) (source.remaining m) (source.remaining t) a b c text first.on second.on;
     waits = reads_in_turn (counted source.gives) Awaits (s, a.left) (m, b.left) (t, c.left) a.held (text ++ b.held) (text ++ c.held) first.waits
-        (reads_behind (counted source.gives) More Awaits text more (m, b.left) (t, c.left) b.held c.held second.waits);
+        (reads_after (counted source.gives) More Awaits text more (m, b.left) (t, c.left) b.held c.held second.waits);
   }
 
   pub then_on : (Awaits : List ℕ → Type 0) (s m t : R) (a b c : ReadBuffer) → ReadsOnWhile source Awaits s m a b → ReadsOnWhile source Awaits m t b c → ReadsOnWhile source Awaits s t a c
-  then_on Awaits s m t a b c first second = beginning_then Awaits Awaits s m t a b c [] (λ h awaits. awaits) first second
+  then_on Awaits s m t a b c first second = prefix_then Awaits Awaits s m t a b c [] (λ h awaits. awaits) first second
 
-  -- one more text from the beginning of what is there
-  pub beginning_more : (Awaits : List ℕ → Type 0) (s t : R) (a b : ReadBuffer) (text more rest : List ℕ) → ReadsOnWhile source Awaits s t a (put_back text b) → b.held ≡ more ++ rest
+  -- one more text from the start of what is there
+  pub prefix_more : (Awaits : List ℕ → Type 0) (s t : R) (a b : ReadBuffer) (text more rest : List ℕ) → ReadsOnWhile source Awaits s t a (put_back text b) → b.held ≡ more ++ rest
       → ReadsOnWhile source Awaits s t a (put_back (text ++ more) (record b { held = rest }))
-  beginning_more Awaits s t a b text more rest reads cut = record {
+  prefix_more Awaits s t a b text more rest reads cut = record {
     on = takes_more (source.remaining s) (source.remaining t) a b text more rest reads.on cut;
     waits = subst (λ (l : List ℕ). ReadsWhile (counted source.gives) Awaits (s, a.left) (t, b.left) a.held l) (ap (λ l. text ++ l) cut ∙ sym (append_assoc text more rest)) reads.waits;
   }
 
-  pub beginnings_join : (Awaits More : List ℕ → Type 0) (s m t : R) (a b c : ReadBuffer) (text more : List ℕ) → ((h : List ℕ) → More h → Awaits (text ++ h))
+  pub prefixes_join : (Awaits More : List ℕ → Type 0) (s m t : R) (a b c : ReadBuffer) (text more : List ℕ) → ((h : List ℕ) → More h → Awaits (text ++ h))
       → ReadsOnWhile source Awaits s m a (put_back text b) → ReadsOnWhile source More m t b (put_back more c) → ReadsOnWhile source Awaits s t a (put_back (text ++ more) c)
-  beginnings_join Awaits More s m t a b c text more behind first second =
-      let all = beginning_then Awaits More s m t a b (put_back more c) text behind first second in
-      beginning_more Awaits s t a (put_back more c) text more c.held all refl
+  prefixes_join Awaits More s m t a b c text more behind first second =
+      let all = prefix_then Awaits More s m t a b (put_back more c) text behind first second in
+      prefix_more Awaits s t a (put_back more c) text more c.held all refl
 
-  pub beginning_taken : (Awaits : List ℕ → Type 0) (s t : R) (a b : ReadBuffer) (text rest : List ℕ) → ReadsOnWhile source Awaits s t a b → b.held ≡ text ++ rest
+  pub prefix_taken : (Awaits : List ℕ → Type 0) (s t : R) (a b : ReadBuffer) (text rest : List ℕ) → ReadsOnWhile source Awaits s t a b → b.held ≡ text ++ rest
       → ReadsOnWhile source Awaits s t a (put_back text (record b { held = rest }))
-  beginning_taken Awaits s t a b text rest reads cut = beginning_more Awaits s t a b [] text rest reads cut
+  prefix_taken Awaits s t a b text rest reads cut = prefix_more Awaits s t a b [] text rest reads cut
 
   -- who awaits less awaits this
   pub widened : (Awaits More : List ℕ → Type 0) (s t : R) (a b : ReadBuffer) → ((h : List ℕ) → More h → Awaits h) → ReadsOnWhile source More s t a b → ReadsOnWhile source Awaits s t a b
-  widened Awaits More s t a b more reads = record { on = reads.on; waits = reads_behind (counted source.gives) More Awaits [] more (s, a.left) (t, b.left) a.held b.held reads.waits }
+  widened Awaits More s t a b more reads = record { on = reads.on; waits = reads_after (counted source.gives) More Awaits [] more (s, a.left) (t, b.left) a.held b.held reads.waits }
 
   -- ---- calls that ended in an error
 
@@ -99,13 +99,13 @@ module _ {R : Type 0} (source : Source R) where
   fails_put_back s t failed r text Reading last = last
   fails_put_back s t failed r text Memory last = last
 
-  -- what was awaited behind a text, seen from the beginning of the text
-  pub stops_behind : (Awaits More : List ℕ → Type 0) (s m t : R) (failed : Bool) (a b : ReadBuffer) (text : List ℕ) (why : ReadError) → ((h : List ℕ) → More h → Awaits (text ++ h))
+  -- what was awaited after a text, seen from the start of the text
+  pub stops_after : (Awaits More : List ℕ → Type 0) (s m t : R) (failed : Bool) (a b : ReadBuffer) (text : List ℕ) (why : ReadError) → ((h : List ℕ) → More h → Awaits (text ++ h))
       → ReadsOnWhile source Awaits s m a (put_back text b) → StopsWhile source More m t failed b why → StopsWhile source Awaits s t failed a why
-  stops_behind Awaits More s m t failed a b text why more first stops = record {
+  stops_after Awaits More s m t failed a b text why more first stops = record {
     here = put_back text stops.here;
     before = stops.before;
-    reads = beginning_then Awaits More s m stops.before a b stops.here text more first stops.reads;
+    reads = prefix_then Awaits More s m stops.before a b stops.here text more first stops.reads;
     awaits = more stops.here.held stops.awaits;
     last = fails_put_back stops.before t failed stops.here text why stops.last;
   }
@@ -113,7 +113,7 @@ module _ {R : Type 0} (source : Source R) where
   -- who awaits less awaits this
   pub widened_stop : (Awaits More : List ℕ → Type 0) (s t : R) (failed : Bool) (a : ReadBuffer) (why : ReadError) → ((h : List ℕ) → More h → Awaits h) → StopsWhile source More s t failed a why
       → StopsWhile source Awaits s t failed a why
-  widened_stop Awaits More s t failed a why more stops = stops_behind Awaits More s s t failed a a [] why more (nothing_yet Awaits s a) stops
+  widened_stop Awaits More s t failed a why more stops = stops_after Awaits More s s t failed a a [] why more (nothing_yet Awaits s a) stops
 
 -- ---- what was seen, among more
 
@@ -136,15 +136,15 @@ module _ {R : Type 0} (source : Source R) where
       → ReadsOnWhile source Awaits s t old (put_back (front ++ text) new)
   with_text Awaits s t old here new front text reads cut =
       let More : List ℕ → Type 0 = λ h. Awaits (front ++ h) in
-      beginnings_join source Awaits More s t t old here new front text (λ h awaits. awaits) reads
+      prefixes_join source Awaits More s t t old here new front text (λ h awaits. awaits) reads
       (subst (λ (b : ReadBuffer). ReadsOnWhile source More t t here b) cut (nothing_yet source More t here))
 
-  -- one more read, seen from the beginning of a text that was taken
-  pub read_behind : (Awaits : List ℕ → Type 0) (s m t : R) (old here new : ReadBuffer) (front : List ℕ) → ReadsOnWhile source Awaits s m old (put_back front here) → Awaits (front ++ here.held)
+  -- one more read, seen from the start of a text that was taken
+  pub read_after : (Awaits : List ℕ → Type 0) (s m t : R) (old here new : ReadBuffer) (front : List ℕ) → ReadsOnWhile source Awaits s m old (put_back front here) → Awaits (front ++ here.held)
       → ReadsOn (source.remaining m) (source.remaining t) here new → IsRead source.gives m t here new → ReadsOnWhile source Awaits s t old (put_back front new)
-  read_behind Awaits s m t old here new front reads awaits on read =
+  read_after Awaits s m t old here new front reads awaits on read =
       let More : List ℕ → Type 0 = λ h. Awaits (front ++ h) in
-      beginning_then source Awaits More s m t old here new front (λ h more. more) reads (once source More m t here new awaits on read)
+      prefix_then source Awaits More s m t old here new front (λ h more. more) reads (once source More m t here new awaits on read)
 
   -- and one that gave nothing
   pub stops_reading : (Awaits : List ℕ → Type 0) (s m t : R) (failed : Bool) (old here : ReadBuffer) (front : List ℕ) (why : ReadError) → ReadsOnWhile source Awaits s m old (put_back front here)

@@ -5,7 +5,7 @@ use Rattle.decimal_digits.specs.Digits.{is_digits, number_of}
 use Rattle.jaeger_model.specs.Texts.{same_text}
 use Rattle.httparse.specs.Grammar.{RequestHead, trim_ows}
 use Rattle.httparse.specs.Spans.{name_and_value}
-use Rattle.http_requests.specs.declared.asked.TheConstants.{MOST_BODY_BYTES}
+use Rattle.http_requests.specs.declared.asked.TheConstants.{MAX_BODY_BYTES}
 use Rattle.http_requests.specs.Fields.{Pairs, same_name, values_of, have_token, all_are}
 use Rattle.http_requests.specs.declared.asked.Method.{Method}
 use Rattle.http_requests.specs.declared.asked.Method.TheVariants.{Get, Post, Other}
@@ -15,30 +15,31 @@ use Rattle.http_requests.specs.declared.asked.BodyLength.TheVariants.{Bytes, Chu
 abbrev pub pairs_of : RequestHead → Pairs
 pairs_of h = map name_and_value h.fields
 
--- methods are recognized in their own case
+-- method names are case-sensitive
 abbrev pub method_of : List ℕ → Method
 method_of text = if same_text text (codes "GET") then Get else if same_text text (codes "POST") then Post else Other
 
--- a body of so many bytes, where that is no more than a session takes
+-- a body of this size, unless it exceeds the limit of a session
 abbrev pub body_of_size : ℕ → BodyLength
-body_of_size n = if nat_le n MOST_BODY_BYTES then Bytes n else TooLarge
+body_of_size n = if nat_le n MAX_BODY_BYTES then Bytes n else TooLarge
 
--- the body's length by the values of Content-Length, in 1 to 19 digits; none is a body of no bytes
+-- the body's length by the values of Content-Length, of 1 to 19 digits; without one the body is empty
 abbrev pub length_by : List (List ℕ) → BodyLength
 length_by [] = Bytes 0
 length_by (v ∷ []) = if is_digits 19 v then body_of_size (number_of v) else Unreadable
 length_by (v ∷ w ∷ more) = Unreadable
 
--- the same by the values of Transfer-Encoding first: one that is `chunked`, in any ASCII case, and stands alone
+-- the body's length by all fields: one Transfer-Encoding `chunked`, in any ASCII case, without a Content-Length, or
+-- without a Transfer-Encoding by Content-Length
 abbrev pub length_in : List (List ℕ) → List (List ℕ) → BodyLength
 length_in [] lengths = length_by lengths
 length_in (coding ∷ []) [] = if same_name coding (codes "chunked") then Chunked else Unreadable
 length_in (coding ∷ []) (v ∷ more) = Unreadable
 length_in (coding ∷ other ∷ more) lengths = Unreadable
 
--- a body that is read is no larger
+-- a body that is read doesn't exceed the limit
 abbrev pub IsBounded : BodyLength → Type 0
-IsBounded (Bytes n) = n ≤ MOST_BODY_BYTES
+IsBounded (Bytes n) = n ≤ MAX_BODY_BYTES
 IsBounded Chunked = Unit {0}
 IsBounded Unreadable = Unit {0}
 IsBounded TooLarge = Unit {0}
@@ -50,19 +51,19 @@ body_by ps = length_in (values_of (codes "transfer-encoding") ps) (values_of (co
 abbrev pub closes_by : Pairs → Bool
 closes_by ps = have_token (codes "connection") (codes "close") ps
 
--- what stands before any `;`, without white space around it
+-- the text before the first `;`, without surrounding white space
 abbrev pub media_type : List ℕ → List ℕ
 media_type value = trim_ows (before_first (λ b. b == 59) value)
 
 abbrev pub is_thrift : List ℕ → Bool
 is_thrift media = same_name media (codes "application/x-thrift") || same_name media (codes "application/vnd.apache.thrift.binary")
 
--- the first Content-Type is one of Thrift's binary protocol
+-- the first Content-Type is one of the binary Thrift protocol
 abbrev pub is_thrift_type : List (List ℕ) → Bool
 is_thrift_type [] = false
 is_thrift_type (v ∷ more) = is_thrift (media_type v)
 
--- each Content-Encoding is `identity`, spelled so
+-- every Content-Encoding is exactly `identity`
 abbrev pub is_plain : Pairs → Bool
 is_plain ps = all_are (codes "content-encoding") (codes "identity") ps
 
@@ -70,7 +71,7 @@ is_plain ps = all_are (codes "content-encoding") (codes "identity") ps
 abbrev pub has_batch_type : Pairs → Bool
 has_batch_type ps = is_plain ps && is_thrift_type (values_of (codes "content-type") ps)
 
--- what a session looks at in a head
+-- what a session reads from a head
 pub record Asked : Type 0 where
   pub method : Method
   pub target : List ℕ

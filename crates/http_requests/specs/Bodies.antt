@@ -4,29 +4,29 @@ use Rattle.std.specs.Io.KnownBytes.{IsAtEnd}
 use Rattle.httparse.specs.Ascii.{crlf_bytes}
 use Rattle.chunked_bodies.specs.Chunks.{IsSomeSizeLine, IsContent, Chunk, IsChunk, texts, contents, HasNone, Lacks}
 use Rattle.chunked_bodies.specs.Looks.{EndsNoLine}
-use Rattle.http_requests.specs.declared.asked.TheConstants.{MOST_BODY_BYTES}
+use Rattle.http_requests.specs.declared.asked.TheConstants.{MAX_BODY_BYTES}
 use Rattle.http_requests.specs.Requests.{HasBody, BodyBreaks, IsShorter, AwaitsBody}
 use Rattle.http_requests.specs.Waiting.{Source}
 use Rattle.http_requests.specs.Receiving.{ReadBuffer, ReadsOnWhile, put_back}
 use Rattle.session_devices.specs.Takings.{Takings}
 use Rattle.http_requests.specs.declared.asked.BodyLength.{BodyLength}
 use Rattle.http_requests.specs.declared.asked.BodyLength.TheVariants.{Chunked}
-use Rattle.http_requests.specs.declared.asked.Breach.{Breach}
+use Rattle.http_requests.specs.declared.asked.BadRequest.{BadRequest}
 
--- ---- a text of one kind at the beginning
+-- ---- a text of one kind at the start
 
--- so many bytes at the beginning are such a text
+-- this number of bytes at the start is such a text
 abbrev pub Begins : (List ℕ → Type 0) → List ℕ → ℕ → Type 0
 Begins Is bytes count = Is (take count bytes) × (count ≤ length bytes)
 
--- no size line stands at the beginning, and none has ended
+-- the bytes don't start with a size line, and no line has ended
 abbrev pub AwaitsLine : List ℕ → Type 0
 AwaitsLine bytes = HasNone IsSomeSizeLine bytes × EndsNoLine bytes
 
 abbrev pub IsLineEnd : List ℕ → Type 0
 IsLineEnd text = text ≡ crlf_bytes
 
--- the bytes begin with CR LF
+-- the bytes start with CR LF
 abbrev pub begins_line_end : List ℕ → Bool
 begins_line_end [] = false
 begins_line_end (a ∷ []) = false
@@ -38,7 +38,7 @@ may_begin_line_end [] = true
 may_begin_line_end (a ∷ []) = a == 13
 may_begin_line_end (a ∷ b ∷ rest) = false
 
--- no text of this kind stands at the beginning, and with these bytes behind all of it is one
+-- the bytes don't start with such a text, and some continuation of them is one
 pub record AwaitsRest (Is : List ℕ → Type 0) (bytes : List ℕ) : Type 0 where
   pub none : HasNone Is bytes
   pub more : List ℕ
@@ -46,7 +46,7 @@ pub record AwaitsRest (Is : List ℕ → Type 0) (bytes : List ℕ) : Type 0 whe
 
 -- ---- bodies
 
--- a body as the head says was taken, and put into the sink; each read for it was made while more of it was awaited
+-- the body that the head announces was taken and pushed into the sink; each read for it was made while more was awaited
 pub record TakesBody {S R : Type 0} (takes : Takings S) (source : Source R) (s t : R) (old new : ReadBuffer) (before after : S) (size : BodyLength) : Type 0 where
   pub text : List ℕ
   pub body : List ℕ
@@ -54,13 +54,13 @@ pub record TakesBody {S R : Type 0} (takes : Takings S) (source : Source R) (s t
   pub reads : ReadsOnWhile source (AwaitsBody size) s t old (put_back text new)
   pub put : takes before body after
 
--- a text was taken, and with what is left it has no body as the head says, for that reason; each read was made
--- while more of a body was awaited
-pub record BreaksBody {R : Type 0} (source : Source R) (s t : R) (old new : ReadBuffer) (size : BodyLength) (why : Breach) : Type 0 where
+-- a text was taken, and with what is left it isn't the body that the head announces, for this reason; each read was
+-- made while more of a body was awaited
+pub record BreaksBody {R : Type 0} (source : Source R) (s t : R) (old new : ReadBuffer) (size : BodyLength) (why : BadRequest) : Type 0 where
   pub text : List ℕ
   pub reads : ReadsOnWhile source (AwaitsBody size) s t old (put_back text new)
   pub breaks : BodyBreaks (IsAtEnd (source.remaining t)) why size (text ++ new.held)
 
-abbrev pub ReadsBody : {S R : Type 0} → Takings S → Source R → R → R → ReadBuffer → ReadBuffer → S → S → BodyLength → Result (Unit {0}) Breach → Type 0
+abbrev pub ReadsBody : {S R : Type 0} → Takings S → Source R → R → R → ReadBuffer → ReadBuffer → S → S → BodyLength → Result (Unit {0}) BadRequest → Type 0
 ReadsBody takes source s t old new before after size (Ok _) = TakesBody takes source s t old new before after size
 ReadsBody takes source s t old new before after size (Err why) = BreaksBody source s t old new size why

@@ -20,7 +20,7 @@ same_name a b = same_text (map to_ascii_lowercase a) (map to_ascii_lowercase b)
 abbrev pub values_of : List ℕ → Pairs → List (List ℕ)
 values_of name ps = map (λ (p : List ℕ × List ℕ). p.1) (filter (λ (p : List ℕ × List ℕ). same_name p.0 name) ps)
 
--- some item of a list that is parted by commas is that token, in any case
+-- some item of a comma-separated list is the token, in any ASCII case
 abbrev pub has_token : List ℕ → List ℕ → Bool
 has_token token value = list_any (λ item. same_name (trim_ows item) token) (slice_split (λ b. b == 44) value)
 
@@ -28,22 +28,22 @@ has_token token value = list_any (λ item. same_name (trim_ows item) token) (sli
 abbrev pub have_token : List ℕ → List ℕ → Pairs → Bool
 have_token name token ps = list_any (λ (p : List ℕ × List ℕ). same_name p.0 name && has_token token p.1) ps
 
--- each field of that name has that very value
+-- every field of that name has exactly this value
 abbrev pub all_are : List ℕ → List ℕ → Pairs → Bool
 all_are name value ps = list_all (λ (p : List ℕ × List ℕ). not (same_name p.0 name) || same_text p.1 value) ps
 
--- none, the one value, or two and more
+-- none, the only value, or at least two
 abbrev pub AreValues : Values → List (List ℕ) → Type 0
 AreValues values.None vs = vs ≡ []
 AreValues (One v) vs = vs ≡ v.now ∷ []
 AreValues Many vs = (v : List ℕ) × (w : List ℕ) × (more : List (List ℕ)) × (vs ≡ v ∷ w ∷ more)
 
--- those that were found, where it isn't Many
+-- the values that were found, unless it is Many
 abbrev pub values_in : Values → List (List ℕ)
 values_in values.None = []
 values_in (One v) = v.now ∷ []
 values_in Many = []
 
--- what stands before and behind the first such byte; None where there is none
+-- the bytes before and after the first such byte; None if there is none
 abbrev pub cut_at : ℕ → List ℕ → Option (List ℕ × List ℕ)
 cut_at c s = if nat_lt (position_or_len (λ b. b == c) s) (length s) then Some (before_first (λ b. b == c) s, after_first (λ b. b == c) s) else None

@@ -1,4 +1,4 @@
--- What was reported of the head at the beginning of the bytes.
+-- What was reported about the head at the start of the bytes.
 use Rattle.std.specs.Prelude.{◌≡◌, ℕ, ◌≤◌, List, length, drop}
 use Rattle.httparse.specs.Grammar.{RequestHead}
 use Rattle.http_requests.specs.Heads.{TakesHead}
@@ -7,7 +7,7 @@ use Rattle.http_requests.specs.Requests.{Describes}
 use Rattle.http_requests.specs.declared.asked.BodyLength.{BodyLength}
 use Rattle.http_requests.specs.declared.asked.Request.{Request}
 
--- the head at the beginning, of that length, what it asks, and how long the body is that it says follows
+-- the head at the start has this length, asks this, and announces a body of this length
 pub record Frames (bytes : List ℕ) (len : ℕ) (r : Request) (size : BodyLength) : Type 0 where
   pub head : RequestHead
   pub takes : TakesHead bytes head (drop len bytes)

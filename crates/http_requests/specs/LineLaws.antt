@@ -9,8 +9,8 @@ use Rattle.httparse.specs.Ascii.{crlf_bytes}
 use Rattle.httparse.specs.Grammar.{LineEnd.{crlf, lf}, LineEnd, ChunkLine, print_chunk_line, print_extension, Field, RequestHead, print_end, print_field, print_section, print_blank, print_version, print_request}
 use Rattle.httparse.proofs.GrammarLemmas.{print_request-append}
 use Rattle.chunked_bodies.specs.Chunks.{IsSomeSizeLine, IsTrailer, HasNone}
-use Rattle.chunked_bodies.specs.declared.trailer.TheConstants.{MOST_TRAILER_BYTES}
-use Rattle.http_requests.specs.declared.head.TheConstants.{MOST_HEAD_BYTES}
+use Rattle.chunked_bodies.specs.declared.trailer.TheConstants.{MAX_TRAILER_BYTES}
+use Rattle.http_requests.specs.declared.head.TheConstants.{MAX_HEAD_BYTES}
 use Rattle.http_requests.specs.Heads.{EndsLine, AwaitsHead}
 use Rattle.http_requests.specs.LineEnds.{is_due}
 use Rattle.http_requests.specs.Bodies.{AwaitsLine, AwaitsRest, IsLineEnd}
@@ -18,7 +18,7 @@ use Rattle.http_requests.specs.Bodies.{AwaitsLine, AwaitsRest, IsLineEnd}
 abbrev pub has_feed : List ℕ → Bool
 has_feed bytes = list_any (λ b. b == 10) bytes
 
--- a beginning that ends with a line ends where no line ended later
+-- a prefix that ends with a line ends where no line ended later
 ends_before : (seen part front rest : List ℕ) → seen ++ part ≡ front ++ 10 ∷ rest → has_feed part ≡ false → (left : List ℕ) × (seen ≡ (front ++ 10 ∷ []) ++ left)
 ends_before [] part front rest e none = absurd (cc (sym none ∙ ap has_feed e ∙ has_one front rest))
   where
@@ -48,8 +48,8 @@ section_ends (f ∷ fs) last =
       append_assoc (print_field f) (flat_map print_field fs) (print_end last) ∙ ap (λ l. print_field f ++ l) later.1 ∙ sym (append_assoc (print_field f) later.0 (10 ∷ [])),
     )
 
-behind_ends : (front text : List ℕ) → EndsLine text → EndsLine (front ++ text)
-behind_ends front text ends = (front ++ ends.0, ap (λ l. front ++ l) ends.1 ∙ sym (append_assoc front ends.0 (10 ∷ [])))
+after_ends : (front text : List ℕ) → EndsLine text → EndsLine (front ++ text)
+after_ends front text ends = (front ++ ends.0, ap (λ l. front ++ l) ends.1 ∙ sym (append_assoc front ends.0 (10 ∷ [])))
 
 cons_ends : (x : ℕ) (text : List ℕ) → EndsLine text → EndsLine (x ∷ text)
 cons_ends x text ends = (x ∷ ends.0, ap (λ l. x ∷ l) ends.1)
@@ -57,9 +57,9 @@ cons_ends x text ends = (x ∷ ends.0, ap (λ l. x ∷ l) ends.1)
 head_ends : (h : RequestHead) → EndsLine (print_request h)
 head_ends h =
     let last : EndsLine (print_section h.fields h.last ++ []) = subst EndsLine (sym (append-nil (print_section h.fields h.last))) (section_ends h.fields h.last) in
-    let version = behind_ends (print_version h.minor) _ (behind_ends (print_end h.line_end) _ last) in
-    let line = behind_ends h.method _ (cons_ends 32 _ (behind_ends h.target _ (cons_ends 32 _ version))) in
-    subst EndsLine (sym (print_request-append h []) ∙ append-nil (print_request h)) (behind_ends (print_blank h.blank) _ line)
+    let version = after_ends (print_version h.minor) _ (after_ends (print_end h.line_end) _ last) in
+    let line = after_ends h.method _ (cons_ends 32 _ (after_ends h.target _ (cons_ends 32 _ version))) in
+    subst EndsLine (sym (print_request-append h []) ∙ append-nil (print_request h)) (after_ends (print_blank h.blank) _ line)
 
 trailer_ends : (text : List ℕ) → IsTrailer text → EndsLine text
 trailer_ends text is = subst EndsLine (sym is.text_is) (section_ends is.fields is.last)
@@ -76,7 +76,7 @@ none_longer Is seen part ends none new text rest is e =
     let cut = cut_before seen part text rest (ends text is) e new in
     none text cut.0 is cut.1
 
-head_longer : (seen part : List ℕ) → AwaitsHead seen → has_feed part ≡ false → length (seen ++ part) < MOST_HEAD_BYTES → AwaitsHead (seen ++ part)
+head_longer : (seen part : List ℕ) → AwaitsHead seen → has_feed part ≡ false → length (seen ++ part) < MAX_HEAD_BYTES → AwaitsHead (seen ++ part)
 head_longer seen part awaits new short = record {
   none = λ h rest takes. let cut = cut_before seen part (print_request h) rest (head_ends h) takes.reads.1 new in
       awaits.none h cut.0 (record { reads = (takes.reads.0, cut.1); size = takes.size; fields = takes.fields });
@@ -85,7 +85,7 @@ head_longer seen part awaits new short = record {
       awaits.may lines cut.0 cut.1 ends;
 }
 
--- where no such text is due there are fewer bytes, and no line ended behind the seen ones
+-- where no such text is due there are fewer bytes, and no line ended after the seen ones
 not_due : (bytes : List ℕ) (seen most : ℕ) → is_due bytes seen most ≡ false → (length bytes < most) × (has_feed (drop seen bytes) ≡ false)
 not_due bytes seen most not = by (nat_le most (length bytes)) refl not
   where
@@ -93,15 +93,15 @@ not_due bytes seen most not = by (nat_le most (length bytes)) refl not
     by true is e = absurd (cc e)
     by false is e = (grind (arith, nat_tests, is), e)
 
-pub head_not_due : (bytes : List ℕ) (seen : ℕ) → AwaitsHead (take seen bytes) → is_due bytes seen MOST_HEAD_BYTES ≡ false → AwaitsHead bytes
+pub head_not_due : (bytes : List ℕ) (seen : ℕ) → AwaitsHead (take seen bytes) → is_due bytes seen MAX_HEAD_BYTES ≡ false → AwaitsHead bytes
 head_not_due bytes seen awaits not =
-    let new = not_due bytes seen MOST_HEAD_BYTES not in
+    let new = not_due bytes seen MAX_HEAD_BYTES not in
     let all = take-append-drop seen bytes in
     subst AwaitsHead all (head_longer (take seen bytes) (drop seen bytes) awaits new.1 (omega (arith, new.0, ap length all)))
 
-pub trailer_not_due : (bytes : List ℕ) (seen : ℕ) → HasNone IsTrailer (take seen bytes) → is_due bytes seen MOST_TRAILER_BYTES ≡ false → HasNone IsTrailer bytes
+pub trailer_not_due : (bytes : List ℕ) (seen : ℕ) → HasNone IsTrailer (take seen bytes) → is_due bytes seen MAX_TRAILER_BYTES ≡ false → HasNone IsTrailer bytes
 trailer_not_due bytes seen none not =
-    let new = not_due bytes seen MOST_TRAILER_BYTES not in
+    let new = not_due bytes seen MAX_TRAILER_BYTES not in
     subst (HasNone IsTrailer) (take-append-drop seen bytes) (none_longer IsTrailer (take seen bytes) (drop seen bytes) trailer_ends none new.1)
 
 -- where one byte makes a look due there are none
@@ -129,7 +129,7 @@ no_trailer_yet = none_yet IsTrailer trailer_ends
 
 size_line_ends : (l : ChunkLine) → EndsLine (print_chunk_line l)
 unfolding print_chunk_line
-size_line_ends l = behind_ends ((l.digits ++ l.pad) ++ print_extension l.extension) crlf_bytes (13 ∷ [], refl)
+size_line_ends l = after_ends ((l.digits ++ l.pad) ++ print_extension l.extension) crlf_bytes (13 ∷ [], refl)
 
 pub no_line_yet : AwaitsLine []
 no_line_yet = (none_yet IsSomeSizeLine (λ text is. subst EndsLine (sym is.1.text_is) (size_line_ends is.1.line)), refl)

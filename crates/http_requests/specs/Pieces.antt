@@ -1,10 +1,10 @@
--- What one read gives.
+-- What one read returns.
 use Rattle.std.specs.Prelude.{◌≡◌, ℕ, ◌≤◌, List, ◌++◌, length}
 use Rattle.std.specs.Io.KnownBytes.{Consumes, IsAtEnd}
 use Rattle.http_requests.specs.Waiting.{Source}
 use Rattle.http_requests.specs.declared.room.TheConstants.{PIECE}
 
--- one read gave so many bytes, a piece at most, behind those that were there; none at the end of the input
+-- one read appended this number of bytes, at most a piece, and none at the end of the input
 pub record GetsPiece {R : Type 0} (source : Source R) (s t : R) (old new : List ℕ) (count : ℕ) : Type 0 where
   pub piece : List ℕ
   pub size : length piece ≡ count

@@ -1,95 +1,95 @@
--- A request as a text, and why there is none.
+-- The text of a request, and why bytes are malformed.
 use Rattle.std.specs.Prelude.{◌≡◌, ℕ, ◌<◌, ◌≤◌, ◌⊎◌, List, ◌++◌, length, slice_range}
 use Rattle.httparse.specs.Grammar.{RequestHead, IsRequestHead, print_request}
 use Rattle.chunked_bodies.specs.Chunks.{IsBody, IsTooLarge, IsDecided, IsSized, BeginsWith, HasNone, NeverHas, Lacks}
-use Rattle.http_requests.specs.declared.asked.TheConstants.{MOST_BODY_BYTES}
+use Rattle.http_requests.specs.declared.asked.TheConstants.{MAX_BODY_BYTES}
 use Rattle.http_requests.specs.Heads.{TakesHead, HasNoHead, NeverHasHead, EndsLine, AwaitsHead}
 use Rattle.http_requests.specs.Asked.{asked_by, body_length}
 use Rattle.http_requests.specs.declared.asked.BodyLength.{BodyLength}
 use Rattle.http_requests.specs.declared.asked.BodyLength.TheVariants.{Bytes, Chunked, Unreadable, TooLarge}
-use Rattle.http_requests.specs.declared.asked.Breach.{Breach}
-use Rattle.http_requests.specs.declared.asked.Breach.TheVariants as breach
+use Rattle.http_requests.specs.declared.asked.BadRequest.{BadRequest}
+use Rattle.http_requests.specs.declared.asked.BadRequest.TheVariants as bad_request
 use Rattle.http_requests.specs.declared.asked.Request.{Request}
 
--- the text behind a head that says such a body follows: the body itself, or its chunks
+-- the text after a head that announces a body of this length: the body itself, or its chunks
 abbrev pub HasBody : BodyLength → List ℕ → List ℕ → Type 0
 HasBody (Bytes n) text body = (text ≡ body) × (length body ≡ n)
-HasBody Chunked text body = IsBody MOST_BODY_BYTES text body
+HasBody Chunked text body = IsBody MAX_BODY_BYTES text body
 HasBody Unreadable text body = ⊥
 HasBody TooLarge text body = ⊥
 
--- the text is a head that a session takes, and a body as the head says
+-- the text is a head that a session accepts, and the body that it announces
 pub record Spells (text : List ℕ) (head : RequestHead) (body : List ℕ) : Type 0 where
   pub after : List ℕ
   pub takes : TakesHead text head after
   pub body_is : HasBody (body_length head) after body
 
--- the head says that no body is read, the input ended inside it, or what follows is no chunked one
+-- the head announces no readable body, the input ended inside the body, or what follows is no chunked body
 abbrev pub IsUnreadable : Type 0 → BodyLength → List ℕ → Type 0
 IsUnreadable AtEnd (Bytes n) after = (length after < n) × AtEnd
-IsUnreadable AtEnd Chunked after = Lacks AtEnd (IsDecided MOST_BODY_BYTES) after
+IsUnreadable AtEnd Chunked after = Lacks AtEnd (IsDecided MAX_BODY_BYTES) after
 IsUnreadable AtEnd Unreadable after = Unit {0}
 IsUnreadable AtEnd TooLarge after = ⊥
 
--- the head says that the body is too large, or the size line of a chunk does
+-- by the head or by the size line of a chunk the body is too large
 abbrev pub PassesMost : BodyLength → List ℕ → Type 0
 PassesMost (Bytes n) after = ⊥
-PassesMost Chunked after = BeginsWith (IsTooLarge MOST_BODY_BYTES) after
+PassesMost Chunked after = BeginsWith (IsTooLarge MAX_BODY_BYTES) after
 PassesMost Unreadable after = ⊥
 PassesMost TooLarge after = Unit {0}
 
-abbrev pub BodyBreaks : Type 0 → Breach → BodyLength → List ℕ → Type 0
-BodyBreaks AtEnd breach.Head size after = ⊥
-BodyBreaks AtEnd breach.Body size after = IsUnreadable AtEnd size after
-BodyBreaks AtEnd breach.TooLarge size after = PassesMost size after
+abbrev pub BodyBreaks : Type 0 → BadRequest → BodyLength → List ℕ → Type 0
+BodyBreaks AtEnd bad_request.Head size after = ⊥
+BodyBreaks AtEnd bad_request.Body size after = IsUnreadable AtEnd size after
+BodyBreaks AtEnd bad_request.TooLarge size after = PassesMost size after
 
--- there is a head, and behind it no body for that reason
-pub record BreaksBehind (AtEnd : Type 0) (rest : List ℕ) (why : Breach) : Type 0 where
+-- there is a head, and no body after it for this reason
+pub record BreaksAfter (AtEnd : Type 0) (rest : List ℕ) (why : BadRequest) : Type 0 where
   pub head : RequestHead
   pub after : List ℕ
   pub takes : TakesHead rest head after
   pub breaks : BodyBreaks AtEnd why (body_length head) after
 
--- There is no request at the beginning of the bytes: no continuation has a head, or one whose body can be
--- read, or the input ended inside.
-abbrev pub IsBroken : Type 0 → List ℕ → Breach → Type 0
-IsBroken AtEnd rest breach.Head = NeverHasHead rest ⊎ (AtEnd × (0 < length rest) × HasNoHead rest)
-IsBroken AtEnd rest breach.Body = BreaksBehind AtEnd rest breach.Body
-IsBroken AtEnd rest breach.TooLarge = BreaksBehind AtEnd rest breach.TooLarge
+-- The bytes don't start with a request for this reason: no continuation starts with a head, or with one whose body can
+-- be read, or the input ended inside the request.
+abbrev pub IsMalformed : Type 0 → List ℕ → BadRequest → Type 0
+IsMalformed AtEnd rest bad_request.Head = NeverHasHead rest ⊎ (AtEnd × (0 < length rest) × HasNoHead rest)
+IsMalformed AtEnd rest bad_request.Body = BreaksAfter AtEnd rest bad_request.Body
+IsMalformed AtEnd rest bad_request.TooLarge = BreaksAfter AtEnd rest bad_request.TooLarge
 
 -- ---- what is awaited
 
 abbrev pub IsShorter : ℕ → List ℕ → Type 0
 IsShorter n bytes = length bytes < n
 
--- No body in chunks stands at the beginning, and no size line says that it is too large; and there is no reason in
--- the lines received whole why none can come: some continuation of them begins with all chunks of a body, or
--- with those up to the line that says that it is too large.
+-- The bytes don't start with a chunked body, no size line makes it too large, and the complete lines received don't
+-- rule one out: some continuation of them starts with all chunks of a body, or with those up to the size line that
+-- makes it too large.
 pub record AwaitsChunks (after : List ℕ) : Type 0 where
-  pub none : HasNone (IsDecided MOST_BODY_BYTES) after
-  pub may : (lines rest : List ℕ) → after ≡ lines ++ rest → EndsLine lines → NeverHas (IsSized MOST_BODY_BYTES) lines → ⊥
+  pub none : HasNone (IsDecided MAX_BODY_BYTES) after
+  pub may : (lines rest : List ℕ) → after ≡ lines ++ rest → EndsLine lines → NeverHas (IsSized MAX_BODY_BYTES) lines → ⊥
 
--- what is awaited behind a head that says such a body follows; where the head alone decides, nothing
+-- what is awaited after a head that announces a body of this length; nothing if the head alone decides
 abbrev pub AwaitsBody : BodyLength → List ℕ → Type 0
 AwaitsBody (Bytes n) after = IsShorter n after
 AwaitsBody Chunked after = AwaitsChunks after
 AwaitsBody Unreadable after = ⊥
 AwaitsBody TooLarge after = ⊥
 
--- a head stands at the beginning, and the body behind it is awaited
-pub record AwaitsBehind (bytes : List ℕ) : Type 0 where
+-- the bytes start with a head, and the body after it is awaited
+pub record AwaitsAfter (bytes : List ℕ) : Type 0 where
   pub head : RequestHead
   pub after : List ℕ
   pub takes : TakesHead bytes head after
   pub awaits : AwaitsBody (body_length head) after
 
--- the bytes received don't decide yet what request stands at their beginning, or why there is none
+-- the bytes received don't decide yet which request they start with, or why they are malformed
 abbrev pub AwaitsRequest : List ℕ → Type 0
-AwaitsRequest bytes = AwaitsHead bytes ⊎ AwaitsBehind bytes
+AwaitsRequest bytes = AwaitsHead bytes ⊎ AwaitsAfter bytes
 
--- ---- what is reported of a head
+-- ---- what is reported about a head
 
--- what was reported of a head; the target is a part of its text
+-- what was reported about a head; the target is a part of its text
 pub record Describes (head : RequestHead) (r : Request) : Type 0 where
   pub asked : asked_by head ≡ record { method = r.method; target = slice_range (print_request head) r.target.start r.target.end; has_batch_type = r.has_batch_type; closes = r.closes }
   pub ordered : r.target.start ≤ r.target.end

@@ -5,15 +5,15 @@ ghost use Rattle.http_requests.specs.Framing.{Frames};
 ghost use Rattle.http_requests.specs.Heads.{IsWholeHead};
 
 use crate::fields::{Fields, Values, cut, is_named, trimmed};
-use crate::head::MOST_HEAD_BYTES;
-use chunked_bodies::beginning_of;
+use crate::head::MAX_HEAD_BYTES;
+use chunked_bodies::prefix_of;
 use decimal_digits::{is_number, value_of};
 use httparse::spans::{HeaderSpan, RequestSpans, Span};
 
-/// How many bytes a body has at most, as its data: a limit of a session's own.
-pub(crate) const MOST_BODY_BYTES: u64 = 4_194_304;
+/// The limit of a body's data, in bytes: a limit of the session.
+pub(crate) const MAX_BODY_BYTES: u64 = 4_194_304;
 
-/// The methods that some path takes.
+/// The methods that some path accepts.
 #[derive(Clone, Copy, Debug, PartialEq, Eq)]
 pub enum Method {
     Get,
@@ -21,39 +21,39 @@ pub enum Method {
     Other,
 }
 
-/// How long a body is, as the head says.
+/// The length of a body, by its head.
 #[derive(Clone, Copy, Debug, PartialEq, Eq)]
 pub enum BodyLength {
     Bytes(u64),
-    /// As its chunks say (RFC 9112, section 7.1).
+    /// By its chunks (RFC 9112, section 7.1).
     Chunked,
-    /// The head says it in no way that is read: a Transfer-Encoding that isn't `chunked`, two of them, or
-    /// one beside a Content-Length; two Content-Lengths, or one that isn't 1 to 19 digits.
+    /// Can't be read: a Transfer-Encoding other than `chunked`, two of them, or one beside a Content-Length; two
+    /// Content-Lengths, or one that isn't 1 to 19 digits.
     Unreadable,
-    /// Of more bytes than a body may have.
+    /// More bytes than a body may have.
     TooLarge,
 }
 
-/// Why there is no request.
+/// Why bytes are not a request that can be read.
 #[derive(Clone, Copy, Debug, PartialEq, Eq)]
-pub enum Breach {
-    /// There is no head, and none can come.
+pub enum BadRequest {
+    /// They don't start with a head, whatever follows.
     Head,
-    /// There is a head, and its body can't be read.
+    /// The body after the head can't be read.
     Body,
-    /// There is a head, and its body is too large.
+    /// The body after the head is too large.
     TooLarge,
 }
 
-/// A request, as its head says. It goes with the bytes of the head.
+/// What a session reads from the head of a request. It refers to the bytes of the head.
 #[derive(Clone, Copy, Debug)]
 pub struct Request {
     pub method: Method,
-    /// Where the target is in the head.
+    /// The position of the target in the head.
     pub target: Span,
-    /// The body may be a batch: it is in no content coding, and of a type of Thrift's binary protocol.
+    /// The body may be a batch: it has no content coding, and its type is one of the binary Thrift protocol.
     pub has_batch_type: bool,
-    /// The session is to close behind the response.
+    /// The session closes after the response.
     pub closes: bool,
 }
 
@@ -71,14 +71,14 @@ fn body_of_size(size: u64) -> BodyLength
     ensures length { result ≡ body_of_size size }
     ensures bound { IsBounded result }
 {
-    if size <= MOST_BODY_BYTES {
+    if size <= MAX_BODY_BYTES {
         BodyLength::Bytes(size)
     } else {
         BodyLength::TooLarge
     }
 }
 
-/// How long the body is, by Content-Length alone.
+/// Returns the length of the body by Content-Length alone.
 fn length_by(fields: &Fields<'_>) -> BodyLength
     ensures length { result ≡ length_by (values_of (codes "content-length") fields.now) }
     ensures bound { IsBounded result }
@@ -90,7 +90,7 @@ fn length_by(fields: &Fields<'_>) -> BodyLength
     }
 }
 
-/// How long the body is, by the fields of the head.
+/// Returns the length of the body by the fields of the head.
 fn body_length(fields: &Fields<'_>) -> BodyLength
     ensures length { result ≡ body_by fields.now }
     ensures bound { IsBounded result }
@@ -113,12 +113,12 @@ fn body_length(fields: &Fields<'_>) -> BodyLength
     }
 }
 
-/// What stands before any `;`, without white space around it.
+/// Returns the text before the first `;`, without surrounding white space.
 fn media_type(value: &[u8]) -> &[u8]
     ensures { result.now ≡ media_type value.now }
 {
     match cut(value, b';') {
-        Some((beginning, _)) => trimmed(beginning),
+        Some((prefix, _)) => trimmed(prefix),
         None => trimmed(value),
     }
 }
@@ -131,7 +131,7 @@ fn is_thrift(value: &[u8]) -> bool
         || is_named(media, "application/vnd.apache.thrift.binary")
 }
 
-/// Whether the body may be a batch, by the fields of the head.
+/// Returns whether the body may be a batch, by the fields of the head.
 fn has_batch_type(fields: &Fields<'_>) -> bool
     ensures { result ≡ has_batch_type fields.now }
 {
@@ -144,14 +144,14 @@ fn has_batch_type(fields: &Fields<'_>) -> bool
     }
 }
 
-/// Whether the session is to close behind the response: after HTTP/1.0, and where it is asked to.
+/// Returns whether the session closes after the response: for HTTP/1.0, or if the request asks for it.
 fn closes(version: u8, fields: &Fields<'_>) -> bool
     ensures { result ≡ (version == 0 || closes_by fields.now) }
 {
     version == 0 || fields.have_token("connection", "close")
 }
 
-/// What a session asks of the head that stands at the beginning of the bytes, and how long the body is.
+/// Returns what the head at the start of the bytes asks, and the length of the body.
 pub(crate) fn frame(
     bytes: &[u8],
     headers: &[HeaderSpan],
@@ -160,10 +160,10 @@ pub(crate) fn frame(
     requires { IsWholeHead bytes.now headers.now spans }
     ensures { Frames bytes.now spans.len result.0 result.1 }
 {
-    let beginning = beginning_of(bytes, MOST_HEAD_BYTES);
-    let fields = Fields::new(beginning, &headers[..spans.headers]);
+    let prefix = prefix_of(bytes, MAX_HEAD_BYTES);
+    let fields = Fields::new(prefix, &headers[..spans.headers]);
     let request = Request {
-        method: method_of(spans.method.of(beginning)),
+        method: method_of(spans.method.of(prefix)),
         target: spans.path,
         has_batch_type: has_batch_type(&fields),
         closes: closes(spans.version, &fields),

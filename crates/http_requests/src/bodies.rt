@@ -4,26 +4,25 @@ ghost use Rattle.http_requests.specs.Waiting.{source_of};
 ghost use Rattle.http_requests.specs.Receiving.{KnowsItsEnd, StopsWhile, SameUnlessReading};
 ghost use Rattle.http_requests.specs.Bodies.{ReadsBody};
 
-use crate::asked::{BodyLength, Breach};
+use crate::asked::{BadRequest, BodyLength};
 use crate::body_reader::{BodyLook, BodyReader};
 use crate::read_buffer::{ReadBuffer, ReadError};
 use crate::sink::Sink;
 use session_devices::Input;
 
-/// Takes the body that the head announces, and puts it into the sink as it comes; it is never held whole.
-/// Where there is none for a stated reason, what was put before is a part of what came. It reads nothing where
-/// the bytes received decide: the body is whole, or the head or a size line says that it is too large or can't
-/// be read.
+/// Reads the body that the head announces, and pushes it into the sink piece by piece. The body is never held as a
+/// whole. If it is malformed, the sink got a part of what was received. Nothing is read once the bytes received decide:
+/// the body is complete, too large, or can't be read.
 ///
 /// # Errors
 ///
-/// The input failed, or memory ran out for what is read at once, before it was read.
+/// The input failed, or memory ran out for the buffer of a read, before the read.
 pub fn read_body<R: Input, S: Sink>(
     input: &mut R,
     received: &mut ReadBuffer,
     sink: &mut S,
     size: BodyLength,
-) -> Result<Result<(), Breach>, ReadError>
+) -> Result<Result<(), BadRequest>, ReadError>
     requires end { KnowsItsEnd received.old.ended (R.remaining input.old) }
     ensures body { IfOk result (ReadsBody S.takes (source_of R.remaining R.gives)
         input.old input.new received.old received.new sink.old sink.new size) }
@@ -35,9 +34,9 @@ pub fn read_body<R: Input, S: Sink>(
     'reads: loop {
         match reader.take_from(received, sink) {
             BodyLook::Whole => return Ok(Ok(())),
-            BodyLook::Broken(why) => return Ok(Err(why)),
-            BodyLook::More if received.has_ended() => return Ok(Err(Breach::Body)),
-            BodyLook::More => received.read_on(input)?,
+            BodyLook::Malformed(why) => return Ok(Err(why)),
+            BodyLook::More if received.has_ended() => return Ok(Err(BadRequest::Body)),
+            BodyLook::More => received.read_more(input)?,
         }
     }
 }

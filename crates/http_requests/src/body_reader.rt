@@ -1,4 +1,4 @@
-//! A body that is taken as it comes: what is known of it between two reads.
+//! A body that is read piece by piece: its state between two reads.
 
 ghost use Rattle.std.specs.Prelude.{◌≡◌, ◌<◌, ℕ, List, [], length, take, drop, min, IfNone};
 ghost use Rattle.chunked_bodies.specs.Chunks.{IsTrailer, HasNone, NeverHas};
@@ -7,55 +7,55 @@ ghost use Rattle.http_requests.specs.Bodies.{AwaitsRest, IsLineEnd, Begins, begi
 ghost use Rattle.http_requests.specs.InParts.{IsPart, HasLooked, Comes, ComesOr, Leaves, LeavesOr, TakesOn, TakesText};
 ghost use Rattle.http_requests.specs.declared.body_reader.Stage.TheVariants as stage;
 
-use crate::asked::{BodyLength, Breach, MOST_BODY_BYTES};
+use crate::asked::{BadRequest, BodyLength, MAX_BODY_BYTES};
 use crate::read_buffer::ReadBuffer;
-use crate::searching::{Sought, look_when_due};
+use crate::searching::{Search, look_when_due};
 use crate::sink::Sink;
-use chunked_bodies::{Look, MOST_TRAILER_BYTES, look_for_size, look_for_trailer};
+use chunked_bodies::{Look, MAX_TRAILER_BYTES, look_for_size, look_for_trailer};
 
-/// What the bytes received so far say of a body.
+/// What became of a body with the bytes received so far.
 #[derive(Clone, Copy, Debug, PartialEq, Eq)]
 pub enum BodyLook {
-    /// It was taken whole.
+    /// It was taken completely.
     Whole,
-    /// Nothing yet: more of it is awaited.
+    /// More of it is awaited.
     More,
-    /// There is none, whatever follows.
-    Broken(Breach),
+    /// It can't be read, whatever follows.
+    Malformed(BadRequest),
 }
 
-/// What comes next of a body.
+/// The next part of a body.
 #[derive(Clone, Copy, Debug)]
 enum Stage {
-    /// So many bytes, as the head says.
+    /// This number of bytes, by the head.
     Length(u64),
     SizeLine,
-    /// So many data of a chunk, and CR LF.
+    /// This number of bytes of a chunk's data, then CR LF.
     Data(u64),
-    /// The trailer. None stands in so many bytes received.
+    /// The trailer. This number of bytes received was examined, and they hold none.
     Trailer(usize),
-    /// No body is read.
-    Refused(Breach),
+    /// The body isn't read.
+    Refused(BadRequest),
 }
 
-/// A body of which a part was taken. It holds no byte of it.
+/// A body of which a part was taken. It holds none of the bytes.
 #[derive(Clone, Copy, Debug)]
 pub struct BodyReader {
     stage: Stage,
-    /// How many data may still come in chunks.
+    /// How many bytes of data may still come in chunks.
     left: u64,
 }
 
-/// A trailer.
+/// The search for a trailer.
 #[derive(Drop)]
 struct Trailer;
 
-impl Sought for Trailer {
+impl Search for Trailer {
     ghost use Rattle.http_requests.specs.LineLaws.{no_trailer_yet, trailer_not_due};
 
     type Found = usize;
 
-    const DUE: usize = MOST_TRAILER_BYTES;
+    const DUE: usize = MAX_TRAILER_BYTES;
 
     ghost DUE = { 8192 };
 
@@ -74,21 +74,21 @@ impl Sought for Trailer {
     }
 }
 
-/// Whether the bytes begin with CR LF.
+/// Returns whether the bytes start with CR LF.
 fn begins_line_end(bytes: &[u8]) -> bool
     ensures { result ≡ begins_line_end bytes.now }
 {
     matches!(bytes, [b'\r', b'\n', ..])
 }
 
-/// Whether they may be the beginning of CR LF: CR alone, or nothing.
+/// Returns whether the bytes may become CR LF: they are CR alone, or none.
 fn may_begin_line_end(bytes: &[u8]) -> bool
     ensures { result ≡ may_begin_line_end bytes.now }
 {
     matches!(bytes, [] | [b'\r'])
 }
 
-/// Looks for CR LF at the beginning of the bytes.
+/// Looks for CR LF at the start of the bytes.
 fn look_for_line_end(bytes: &[u8]) -> Look<usize>
     ensures { LooksFor (AwaitsRest IsLineEnd) (Begins IsLineEnd) (NeverHas IsLineEnd)
         bytes.now result }
@@ -102,8 +102,8 @@ fn look_for_line_end(bytes: &[u8]) -> Look<usize>
     }
 }
 
-/// Puts the first bytes into the sink, at most so many; how many there were.
-fn put_some<S: Sink>(received: &mut ReadBuffer, sink: &mut S, most: u64) -> u64
+/// Moves the first bytes, at most `most`, into the sink, and returns how many there were.
+fn push_some<S: Sink>(received: &mut ReadBuffer, sink: &mut S, most: u64) -> u64
     ensures count { result ≡ min (length received.old.held) most }
     ensures put { S.takes sink.old (take result received.old.held) sink.new }
     ensures rest { received.new ≡ record received.old { held = drop result received.old.held } }
@@ -116,7 +116,7 @@ fn put_some<S: Sink>(received: &mut ReadBuffer, sink: &mut S, most: u64) -> u64
 }
 
 impl BodyReader {
-    /// Before the first byte of a body that is so long.
+    /// Creates a reader before the first byte of a body of this length.
     pub fn new(size: BodyLength) -> Self
         ensures part { IsPart size [] [] result }
         ensures looked { (held : List ℕ) → HasLooked result held }
@@ -124,12 +124,12 @@ impl BodyReader {
         let stage = match size {
             BodyLength::Bytes(count) => Stage::Length(count),
             BodyLength::Chunked => Stage::SizeLine,
-            BodyLength::Unreadable => Stage::Refused(Breach::Body),
-            BodyLength::TooLarge => Stage::Refused(Breach::TooLarge),
+            BodyLength::Unreadable => Stage::Refused(BadRequest::Body),
+            BodyLength::TooLarge => Stage::Refused(BadRequest::TooLarge),
         };
         BodyReader {
             stage,
-            left: MOST_BODY_BYTES,
+            left: MAX_BODY_BYTES,
         }
     }
 
@@ -145,7 +145,7 @@ impl BodyReader {
             Look::Whole((length, size)) => {
                 received.take(length);
                 if size > self.left {
-                    return Some(BodyLook::Broken(Breach::TooLarge));
+                    return Some(BodyLook::Malformed(BadRequest::TooLarge));
                 }
                 if size == 0 {
                     self.stage = Stage::Trailer(0);
@@ -156,11 +156,11 @@ impl BodyReader {
                 None
             }
             Look::More => Some(BodyLook::More),
-            Look::Never => Some(BodyLook::Broken(Breach::Body)),
+            Look::Never => Some(BodyLook::Malformed(BadRequest::Body)),
         }
     }
 
-    /// Takes the CR LF behind the data of a chunk.
+    /// Takes the CR LF after the data of a chunk.
     fn take_line_end(&mut self, received: &mut ReadBuffer) -> Option<BodyLook>
         requires stage { self.old.stage ≡ stage.Data 0 }
         ensures took { TakesText received.old received.new self.old
@@ -175,11 +175,11 @@ impl BodyReader {
                 None
             }
             Look::More => Some(BodyLook::More),
-            Look::Never => Some(BodyLook::Broken(Breach::Body)),
+            Look::Never => Some(BodyLook::Malformed(BadRequest::Body)),
         }
     }
 
-    /// Takes the trailer, of which none stands in so many bytes received.
+    /// Takes the trailer. The first `seen` bytes received hold none.
     fn take_trailer(&mut self, received: &mut ReadBuffer, seen: usize) -> BodyLook
         requires stage { self.old.stage ≡ stage.Trailer seen }
         requires looked { HasLooked self.old received.old.held }
@@ -197,11 +197,11 @@ impl BodyReader {
                 self.stage = Stage::Trailer(bytes.len());
                 BodyLook::More
             }
-            Look::Never => BodyLook::Broken(Breach::Body),
+            Look::Never => BodyLook::Malformed(BadRequest::Body),
         }
     }
 
-    /// Takes so many bytes of a body by its length.
+    /// Takes the next bytes of a body that has a Content-Length and `count` bytes left.
     fn take_length<S: Sink>(
         &mut self,
         received: &mut ReadBuffer,
@@ -213,7 +213,7 @@ impl BodyReader {
             (λ size text content. Comes size text content received.new.held self.new result) }
         ensures leaves { Leaves self.new received.new.held result }
     {
-        let put = put_some(received, sink, count);
+        let put = push_some(received, sink, count);
         if put == count {
             return BodyLook::Whole;
         }
@@ -221,7 +221,7 @@ impl BodyReader {
         BodyLook::More
     }
 
-    /// Takes so many data of a chunk.
+    /// Takes the next data of a chunk that has `count` bytes left.
     fn take_data<S: Sink>(
         &mut self,
         received: &mut ReadBuffer,
@@ -235,7 +235,7 @@ impl BodyReader {
         ensures leaves { LeavesOr self.new received.new.held result }
         ensures fewer { IfNone result (length received.new.held < length received.old.held) }
     {
-        let put = put_some(received, sink, count);
+        let put = push_some(received, sink, count);
         self.stage = Stage::Data(count - put);
         if put == count {
             None
@@ -244,7 +244,8 @@ impl BodyReader {
         }
     }
 
-    /// Takes what comes next of the body, as far as it stands whole at the beginning of the bytes received.
+    /// Takes the next part of the body, as far as the bytes received go. Returns `None` if another part may follow at
+    /// once.
     fn step<S: Sink>(&mut self, received: &mut ReadBuffer, sink: &mut S) -> Option<BodyLook>
         requires looked { HasLooked self.old received.old.held }
         ensures took { TakesOn S.takes received.old received.new sink.old sink.new self.old
@@ -258,12 +259,12 @@ impl BodyReader {
             Stage::Data(0) => self.take_line_end(received),
             Stage::Data(count) => self.take_data(received, sink, count),
             Stage::Trailer(seen) => Some(self.take_trailer(received, seen)),
-            Stage::Refused(why) => Some(BodyLook::Broken(why)),
+            Stage::Refused(why) => Some(BodyLook::Malformed(why)),
         }
     }
 
-    /// Takes what has come of the body, and puts its data into the sink. Nothing is read: where more is awaited, the
-    /// bytes received behind those that were taken are looked at again with what comes next.
+    /// Takes the received part of the body, and pushes its data into the sink. Nothing is read. If more is awaited, the
+    /// bytes that were not taken are examined again together with the next ones.
     pub fn take_from<S: Sink>(&mut self, received: &mut ReadBuffer, sink: &mut S) -> BodyLook
         requires looked { HasLooked self.old received.old.held }
         ensures took { TakesOn S.takes received.old received.new sink.old sink.new self.old

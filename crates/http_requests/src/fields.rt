@@ -32,14 +32,14 @@ pub(crate) enum Values<'a> {
     Many,
 }
 
-/// The same name, in any ASCII case.
+/// Returns whether the name is the wanted one, in any ASCII case.
 pub(crate) fn is_named(name: &[u8], wanted: &str) -> bool
     ensures { result ≡ same_name name.now wanted.now }
 {
     name.eq_ignore_ascii_case(wanted.as_bytes())
 }
 
-/// The bytes without the spaces and tabs at both ends.
+/// Returns the bytes without spaces and tabs at both ends.
 #[tactic(auto, unfolding(httparse::specs::Grammar::trim_ows))]
 pub(crate) fn trimmed(bytes: &[u8]) -> &[u8]
     ensures { result.now ≡ trim_ows bytes.now }
@@ -54,7 +54,7 @@ pub(crate) fn trimmed(bytes: &[u8]) -> &[u8]
     rest
 }
 
-/// What stands before the first such byte, and what stands behind it.
+/// Splits the bytes at the first byte equal to `at`, which is in neither part.
 pub(crate) fn cut(bytes: &[u8], at: u8) -> Option<(&[u8], &[u8])>
     ensures { option_map (λ p. (p.0.now, p.1.now)) result ≡ cut_at at bytes.now }
 {
@@ -66,7 +66,7 @@ pub(crate) fn cut(bytes: &[u8], at: u8) -> Option<(&[u8], &[u8])>
     None
 }
 
-/// Some item of a list that is parted by commas is that token, in any ASCII case.
+/// Returns whether some item of a comma-separated list is the token, in any ASCII case.
 #[tactic(auto, using(crate::proofs::Cuts::more_items, crate::proofs::Cuts::last_item))]
 pub(crate) fn has_token(list: &[u8], token: &str) -> bool
     ensures { result ≡ has_token token.now list.now }
@@ -82,7 +82,7 @@ pub(crate) fn has_token(list: &[u8], token: &str) -> bool
 }
 
 impl<'a> Fields<'a> {
-    /// The fields whose names and values the spans cover.
+    /// Creates the fields whose names and values the spans cover.
     pub(crate) fn new(bytes: &'a [u8], spans: &'a [HeaderSpan]) -> Self
         requires { All (IsHeaderWithin (length bytes.now)) spans.now }
         ensures { result ≡ map (header_bytes bytes.now) spans.now }
@@ -90,7 +90,7 @@ impl<'a> Fields<'a> {
         Fields { bytes, spans }
     }
 
-    /// The values of the fields of that name.
+    /// Returns the values of the fields with this name.
     pub(crate) fn values(&self, name: &str) -> Values<'a>
         ensures { AreValues result (values_of name.now self.now) }
     {
@@ -106,7 +106,7 @@ impl<'a> Fields<'a> {
         found
     }
 
-    /// The value of the first field of that name.
+    /// Returns the value of the first field with this name.
     pub(crate) fn first(&self, name: &str) -> Option<&'a [u8]>
         ensures { MatchOption result (values_of name.now self.now ≡ [])
             (λ v. (more : List (List ℕ)) × (values_of name.now self.now ≡ v.now ∷ more)) }
@@ -119,7 +119,7 @@ impl<'a> Fields<'a> {
         None
     }
 
-    /// Whether some field of that name has the token in its list.
+    /// Returns whether some field with this name has the token in its list.
     pub(crate) fn have_token(&self, name: &str, token: &str) -> bool
         ensures { result ≡ have_token name.now token.now self.now }
     {
@@ -133,7 +133,7 @@ impl<'a> Fields<'a> {
         false
     }
 
-    /// Whether each field of that name has that very value.
+    /// Returns whether every field with this name has exactly this value.
     pub(crate) fn all_are(&self, name: &str, value: &str) -> bool
         ensures { result ≡ all_are name.now value.now self.now }
     {

@@ -1,19 +1,19 @@
 ghost use Rattle.http_requests.specs.Heads.{AwaitsHead};
 
-use crate::searching::Sought;
-use chunked_bodies::{Look, beginning_of, look_by};
+use crate::searching::Search;
+use chunked_bodies::{Look, look_by, prefix_of};
 use httparse::spans::{EMPTY_HEADER_SPAN, HeaderSpan, RequestSpans, parse_request};
 
-/// How many bytes a head has at most, with its empty line. RFC 9112 sets no limit; this is a session's own.
-pub(crate) const MOST_HEAD_BYTES: usize = 8192;
+/// The length limit of a head, with its empty line. RFC 9112 sets none; this is a limit of the session.
+pub(crate) const MAX_HEAD_BYTES: usize = 8192;
 
-/// How many fields a head has at most: a limit of a session's own too.
-pub(crate) const MOST_FIELDS: usize = 64;
+/// The number of fields that a head may have: a limit of the session.
+pub(crate) const MAX_FIELDS: usize = 64;
 
-/// Room for one field more than a head may have.
+/// Room for one field more than a head may have, so that one too many is noticed.
 const FIELD_ROOM: usize = 65;
 
-/// A head, and room for its fields.
+/// The search for a head, with room for its fields.
 #[derive(Drop)]
 pub(crate) struct HeadSearch {
     pub(crate) headers: [HeaderSpan; FIELD_ROOM],
@@ -27,13 +27,13 @@ impl HeadSearch {
     }
 }
 
-impl Sought for HeadSearch {
+impl Search for HeadSearch {
     ghost use Rattle.http_requests.specs.Heads.{NeverHasHead, IsWholeHead};
     ghost use Rattle.http_requests.specs.LineLaws.{no_bytes_await, head_not_due};
 
     type Found = RequestSpans;
 
-    const DUE: usize = MOST_HEAD_BYTES;
+    const DUE: usize = MAX_HEAD_BYTES;
 
     ghost DUE = { 8192 };
 
@@ -48,9 +48,9 @@ impl Sought for HeadSearch {
     ghost awaited_still = { head_not_due };
 
     fn look(&mut self, bytes: &[u8]) -> Look<RequestSpans> {
-        let parsed = parse_request(beginning_of(bytes, MOST_HEAD_BYTES), &mut self.headers);
-        match look_by(parsed, bytes.len(), MOST_HEAD_BYTES) {
-            Look::Whole(spans) if spans.headers > MOST_FIELDS => Look::Never,
+        let parsed = parse_request(prefix_of(bytes, MAX_HEAD_BYTES), &mut self.headers);
+        match look_by(parsed, bytes.len(), MAX_HEAD_BYTES) {
+            Look::Whole(spans) if spans.headers > MAX_FIELDS => Look::Never,
             Look::Whole(spans) => Look::Whole(spans),
             Look::More => Look::More,
             Look::Never => Look::Never,

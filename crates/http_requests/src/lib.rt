@@ -1,27 +1,27 @@
-//! The requests of an HTTP/1.x session, read one after the other (RFC 9112).
+//! Reads the requests of an HTTP/1.x session one after the other (RFC 9112).
 //!
-//! A request is a head by `httparse`'s grammar, of at most 8,192 bytes and 64 fields, and a body: as long as
-//! the head says, or in chunks. What stood at the beginning of the bytes received is proved to be a request,
-//! or to be none for a stated reason: no continuation can begin with one, or the input ended inside. A
-//! request is taken in two steps: its head, whose bytes are handed on ([`next_head`]), and its body, which is
-//! put into a [`Sink`] as it comes ([`read_body`]). No body is held whole. The input is read only while the
-//! bytes received don't decide: no request stands at their beginning, and no reason why there can be none.
+//! A request is a head by `httparse`'s grammar, of at most 8,192 bytes and 64 fields, and a body: of the length that
+//! the head announces, or in chunks. The bytes received are proved to start with a request, or to be malformed for a
+//! reason that is returned: no continuation can start with one, or the input ended inside. A request is read in two
+//! steps: its head, which the caller gets ([`next_head`]), and its body, which is pushed into a [`Sink`] piece by piece
+//! ([`read_body`]). No body is held as a whole. The input is read only while the bytes received don't decide: they are
+//! not malformed, and don't start with a complete request.
 //!
-//! Both are loops of a step and a read. The steps read nothing and keep what they have found between two reads
-//! ([`HeadWait`], [`BodyReader`]), so a caller that does not wait for a client can pause before each read.
+//! Both functions are loops of a step and a read. The steps read nothing and keep their state between two reads
+//! ([`HeadWait`], [`BodyReader`]), so a caller that must not block can pause before each read.
 //!
-//! * `head`: looking for a head at the beginning of bytes.
+//! * `head`: finds a head at the start of bytes.
 //! * `fields`: the fields of a head, by name.
-//! * `asked`: what a session asks of a head: method, target, how long the body is, whether it closes.
-//! * `bodies`: taking a body, by its length or in chunks.
-//! * `body_reader`: a body that is taken step by step.
-//! * `read_buffer`: the bytes that were read and are not taken yet.
-//! * `room`: the room that they lie in, which is used again.
-//! * `line_ends`: when a text that ends with a line is looked for.
-//! * `searching`: looking for a text that ends with a line, once one may have come.
-//! * `reading`: the head of the next request of an input.
-//! * `sink`: what a body is put into.
-//! * `laws`: facts about what stands at the beginning of bytes.
+//! * `asked`: what a session reads from a head: method, target, length of the body, whether it closes.
+//! * `bodies`: reads a body, by its length or in chunks.
+//! * `body_reader`: a body that is read step by step.
+//! * `read_buffer`: the bytes that were read and not yet taken.
+//! * `room`: the memory of these bytes, which sessions reuse.
+//! * `line_ends`: when to search for a text that ends with a line.
+//! * `searching`: the search for such a text.
+//! * `reading`: reads the head of the next request.
+//! * `sink`: takes the pieces of a body.
+//! * `laws`: laws of what bytes start with.
 #![tactic(auto)]
 
 mod asked;
@@ -37,11 +37,11 @@ mod room;
 mod searching;
 mod sink;
 
-pub use asked::{BodyLength, Breach, Method, Request};
+pub use asked::{BadRequest, BodyLength, Method, Request};
 pub use bodies::read_body;
 pub use body_reader::{BodyLook, BodyReader};
 pub use chunked_bodies::Look;
-pub use read_buffer::{MOST_READS, ReadBuffer, ReadError};
+pub use read_buffer::{MAX_READS, ReadBuffer, ReadError};
 pub use reading::{HeadWait, Next, next_head};
 pub use room::{PIECE, SpareRoom};
 pub use sink::Sink;

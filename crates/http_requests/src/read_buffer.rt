@@ -7,13 +7,13 @@ use session_devices::Input;
 use std::alloc::{AllocError, Global};
 use std::marker::Model;
 
-/// How many reads one session makes at most; one more counts as a failed one.
-pub const MOST_READS: u64 = 1_099_511_627_776;
+/// The number of reads that one session may make. One more counts as a failed read.
+pub const MAX_READS: u64 = 1_099_511_627_776;
 
-/// Why no more bytes could be had.
+/// Why no more bytes could be read.
 #[derive(Clone, Copy, Debug, PartialEq, Eq)]
 pub enum ReadError {
-    /// The input failed, or was to be read more often than a session may.
+    /// The input failed, or the limit of reads was reached.
     Reading,
     Memory,
 }
@@ -29,8 +29,7 @@ impl From<AllocError> for ReadError {
     }
 }
 
-/// The bytes that were read from an input and are not taken yet, how many reads may still be made,
-/// and whether the input has ended.
+/// The bytes that were read from an input and not yet taken, the number of reads left, and whether the input has ended.
 #[derive(Drop)]
 pub struct ReadBuffer {
     room: Room,
@@ -48,32 +47,32 @@ impl Model for ReadBuffer {
 }
 
 impl ReadBuffer {
-    /// Nothing yet.
+    /// Creates a buffer before the first read.
     pub fn new(alloc: Global) -> Self
-        ensures { result ≡ record { held = []; left = MOST_READS; ended = false } }
+        ensures { result ≡ record { held = []; left = MAX_READS; ended = false } }
     {
         ReadBuffer {
             room: Room::new(alloc),
-            left: MOST_READS,
+            left: MAX_READS,
             ended: false,
         }
     }
 
-    /// The bytes that are not taken yet.
+    /// Returns the bytes that are not yet taken.
     pub fn as_slice(&self) -> &[u8]
         ensures { result.now ≡ self.now.held }
     {
         self.room.as_slice()
     }
 
-    /// Whether a read has found the end of the input.
+    /// Returns whether a read has found the end of the input.
     pub fn has_ended(&self) -> bool
         ensures { result ≡ self.now.ended }
     {
         self.ended
     }
 
-    /// Takes bytes from the beginning.
+    /// Removes `count` bytes from the start.
     pub fn take(&mut self, count: usize)
         requires { count ≤ length self.old.held }
         ensures { self.new ≡ record self.old { held = drop count self.old.held } }
@@ -81,22 +80,23 @@ impl ReadBuffer {
         self.room.take(count);
     }
 
-    /// Takes the spare room, if it has none of its own.
+    /// Takes the spare room, unless it has room of its own.
     pub fn borrow_room(&mut self, spare: &mut SpareRoom)
         ensures { self.new ≡ self.old }
     {
         self.room.borrow_from(spare);
     }
 
-    /// Gives its room back, if no bytes are held. It keeps none then.
+    /// Returns its room to `spare` if no bytes are held. It keeps none then.
     pub fn return_room(&mut self, spare: &mut SpareRoom)
         ensures { self.new ≡ self.old }
     {
         self.room.return_to(spare);
     }
 
-    /// Makes one read, of an input that has not ended. Memory is taken before it: a read's bytes always find room.
-    pub fn read_on<R: Input>(&mut self, input: &mut R) -> Result<(), ReadError>
+    /// Makes one read of an input that has not ended. Memory is allocated before it, so the bytes of a read always have
+    /// room.
+    pub fn read_more<R: Input>(&mut self, input: &mut R) -> Result<(), ReadError>
         requires { self.old.ended ≡ false }
         ensures ok { OnOk result (ReadsOn (R.remaining input.old) (R.remaining input.new)
             self.old self.new) }

@@ -13,33 +13,33 @@ use crate::searching::look_when_due;
 use chunked_bodies::Look;
 use session_devices::Input;
 
-/// What stood at the beginning of the bytes received, after reading as far as it takes.
+/// What the bytes received start with, after reading as far as necessary.
 #[derive(Clone, Copy, Debug)]
 pub enum Next {
-    /// The head of a request, how many bytes it has, and how long the body is by it.
+    /// The head of a request, its length, and the length of the body.
     One(Request, usize, BodyLength),
-    /// Nothing, and the input has ended.
+    /// The input has ended between two requests.
     Clean,
-    /// No head, and none can come.
-    Broken,
+    /// They don't start with a head, and none can come.
+    Malformed,
 }
 
-/// A head that is awaited: none stands in so many bytes received.
+/// A head that is awaited: the first `seen` bytes received hold none.
 #[derive(Clone, Copy, Debug)]
 pub struct HeadWait {
     seen: usize,
 }
 
 impl HeadWait {
-    /// Before the first look.
+    /// Creates the state before the first search.
     pub fn new() -> Self
         ensures { result ≡ record { seen = 0 } }
     {
         HeadWait { seen: 0 }
     }
 
-    /// Looks for the head of a request at the beginning of the bytes received: the request, how many bytes its head has,
-    /// and how long the body is by it. Bytes that were looked at are not looked at again until a line ends behind them.
+    /// Looks for the head of a request at the start of the bytes received. Finds the request, the length of its head,
+    /// and the length of its body. Bytes that were examined are not examined again before a line ends after them.
     pub fn look(&mut self, bytes: &[u8]) -> Look<(Request, usize, BodyLength)>
         requires seen { HasSeen self.old bytes.now }
         ensures found { LooksFor AwaitsHead (λ bytes found. Frames bytes found.1 found.0 found.2)
@@ -61,14 +61,14 @@ impl HeadWait {
     }
 }
 
-/// Reads until the head of a request stands at the beginning of the bytes received, or there is none: the input
-/// has ended, or no continuation begins with one. Once the caller has taken the head, the body is what follows, for
-/// [`read_body`](crate::read_body). It reads nothing of an input that has ended, nor where the bytes received decide:
-/// a head stands at their beginning, or no continuation of the lines received whole begins with one.
+/// Reads until the bytes received start with the head of a request, or can't: the input has ended, or no continuation
+/// starts with one. Once the caller has taken the head, the body follows, for [`read_body`](crate::read_body). Nothing
+/// is read after the end of the input, or if the bytes received decide: they start with a head, or no continuation of
+/// the complete lines received does.
 ///
 /// # Errors
 ///
-/// The input failed, or memory ran out for what is read at once, before it was read.
+/// The input failed, or memory ran out for the buffer of a read, before the read.
 pub fn next_head<R: Input>(input: &mut R, received: &mut ReadBuffer) -> Result<Next, ReadError>
     requires end { KnowsItsEnd received.old.ended (R.remaining input.old) }
     ensures found { IfOk result (Finds (source_of R.remaining R.gives) input.old input.new
@@ -81,9 +81,9 @@ pub fn next_head<R: Input>(input: &mut R, received: &mut ReadBuffer) -> Result<N
     'reads: loop {
         match wait.look(received.as_slice()) {
             Look::Whole((request, length, size)) => return Ok(Next::One(request, length, size)),
-            Look::More if !received.has_ended() => received.read_on(input)?,
+            Look::More if !received.has_ended() => received.read_more(input)?,
             Look::More if received.as_slice().is_empty() => return Ok(Next::Clean),
-            Look::More | Look::Never => return Ok(Next::Broken),
+            Look::More | Look::Never => return Ok(Next::Malformed),
         }
     }
 }

@@ -7,10 +7,10 @@ use session_devices::{Failed, Input};
 use std::alloc::{AllocError, Global};
 use std::mem;
 
-/// How many bytes one read asks for.
+/// The number of bytes that one read asks for.
 pub const PIECE: usize = 16_384;
 
-/// Room that holds nothing: the sessions of one thread use it one after the other.
+/// An empty buffer that the sessions of one thread use in turn.
 #[derive(Drop)]
 pub struct SpareRoom {
     bytes: Vec<u8>,
@@ -18,7 +18,7 @@ pub struct SpareRoom {
 }
 
 impl SpareRoom {
-    /// No room.
+    /// Creates a spare without room.
     pub fn new(alloc: Global) -> Self {
         SpareRoom {
             bytes: Vec::new(alloc),
@@ -26,12 +26,12 @@ impl SpareRoom {
         }
     }
 
-    /// Hands the room out.
+    /// Takes the room out.
     fn take(&mut self) -> Vec<u8> {
         mem::replace(&mut self.bytes, Vec::new(self.alloc))
     }
 
-    /// Keeps this room, unless there is some.
+    /// Keeps this room, unless it has some already.
     fn keep(&mut self, bytes: Vec<u8>) {
         if self.bytes.is_empty() {
             self.bytes = bytes;
@@ -39,7 +39,7 @@ impl SpareRoom {
     }
 }
 
-/// Room for bytes, all of it initialised, and the bytes held in it: those from `start` to `end`.
+/// A buffer, all of it initialized, and the bytes held in it: those from `start` to `end`.
 #[derive(Drop)]
 pub(crate) struct Room {
     bytes: Vec<u8>,
@@ -52,7 +52,7 @@ pub(crate) struct Room {
 impl Room {
     ghost use Rattle.http_requests.specs.Rooms.{held};
 
-    /// No room, and nothing held.
+    /// Creates a buffer without room.
     pub(crate) fn new(alloc: Global) -> Self
         ensures { held result ≡ [] }
     {
@@ -63,14 +63,14 @@ impl Room {
         }
     }
 
-    /// The bytes held.
+    /// Returns the bytes held.
     pub(crate) fn as_slice(&self) -> &[u8]
         ensures { result.now ≡ held self.now }
     {
         &self.bytes.as_slice()[self.start..self.end]
     }
 
-    /// Takes bytes from the beginning.
+    /// Removes `count` bytes from the start.
     pub(crate) fn take(&mut self, count: usize)
         requires { count ≤ length (held self.old) }
         ensures { held self.new ≡ drop count (held self.old) }
@@ -78,8 +78,8 @@ impl Room {
         self.start += count;
     }
 
-    /// Moves the bytes held to the beginning of the room, where something was taken in front of them.
-    fn move_to_beginning(&mut self)
+    /// Moves the bytes held to the start of the buffer, if bytes before them were removed.
+    fn move_to_start(&mut self)
         ensures { held self.new ≡ held self.old }
     {
         if self.start > 0 {
@@ -90,7 +90,7 @@ impl Room {
         }
     }
 
-    /// Takes the spare room, if it has none of its own.
+    /// Takes the spare room, unless it has room of its own.
     pub(crate) fn borrow_from(&mut self, spare: &mut SpareRoom)
         ensures { held self.new ≡ held self.old }
     {
@@ -99,7 +99,7 @@ impl Room {
         }
     }
 
-    /// Gives its room back, if no bytes are held.
+    /// Returns its room to `spare` if no bytes are held.
     pub(crate) fn return_to(&mut self, spare: &mut SpareRoom)
         ensures same { held self.new ≡ held self.old }
         ensures none { held self.old ≡ [] → vec_len self.new.bytes ≡ 0 }
@@ -113,11 +113,11 @@ impl Room {
         spare.keep(bytes);
     }
 
-    /// Makes room for a piece behind the bytes held. Where it is short, they are moved to the beginning, and where it is
-    /// short then too, the room grows to those bytes and a piece.
+    /// Makes room for a piece after the bytes held. If there is too little, they are moved to the start. If that isn't
+    /// enough, the buffer grows to those bytes and a piece.
     ///
-    /// Bytes that were moved begin no whole text, or none would be read. The next one that is taken covers them, so that no
-    /// byte is moved twice.
+    /// The bytes moved don't start with a complete text, or nothing would be read. The next text that is taken covers
+    /// them, so no byte is moved twice.
     pub(crate) fn make_room(&mut self) -> Result<(), AllocError>
         ensures same { held self.new ≡ held self.old }
         ensures room { OnOk result (self.new.end + PIECE ≤ vec_len self.new.bytes) }
@@ -125,14 +125,14 @@ impl Room {
         if self.bytes.len() - self.end >= PIECE {
             return Ok(());
         }
-        self.move_to_beginning();
+        self.move_to_start();
         if self.bytes.len() - self.end >= PIECE {
             return Ok(());
         }
         self.bytes.resize(self.end + PIECE, 0)
     }
 
-    /// Reads once, a piece at most, behind the bytes held; how many bytes came.
+    /// Reads once, at most a piece, after the bytes held. Returns the number of bytes read.
     pub(crate) fn read_from<R: Input>(&mut self, input: &mut R) -> Result<usize, Failed>
         requires room { self.old.end + PIECE ≤ vec_len self.old.bytes }
         ensures ok { IfOk result (GetsPiece (source_of R.remaining R.gives) input.old input.new

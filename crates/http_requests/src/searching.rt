@@ -5,39 +5,41 @@ ghost use Rattle.http_requests.specs.Searching.{LooksFor};
 use crate::line_ends::is_due;
 use chunked_bodies::Look;
 
-/// What is looked for at the beginning of the bytes received.
-pub(crate) trait Sought {
-    /// What is reported of it.
+/// A search for a text at the start of the bytes received.
+pub(crate) trait Search {
+    /// What is returned about the text.
     type Found;
 
-    /// With so many bytes a look is due wherever lines end.
+    /// The length limit of the text. Once this number of bytes is received, a search is due whether or not a line
+    /// ended.
     const DUE: usize;
 
     ghost DUE: { ℕ };
 
-    /// It has not come, and still may.
+    /// The text has not come, and still may.
     ghost awaits: { List ℕ → Type 0 };
 
-    /// It stands at the beginning of the bytes, and that is reported of it.
+    /// The bytes start with the text, and this is returned about it.
     ghost finds: { Self → List ℕ → Self.Found → Type 0 };
 
-    /// It doesn't come, whatever follows the bytes.
+    /// The text doesn't come, whatever follows the bytes.
     ghost never_has: { List ℕ → Type 0 };
 
-    /// Looks at the bytes received so far.
+    /// Searches the bytes received so far.
     fn look(&mut self, bytes: &[u8]) -> Look<Self::Found>
         ensures { LooksFor awaits (finds self.new) never_has bytes.now result };
 
-    /// It is awaited before any byte.
+    /// The text is awaited before the first byte.
     ghost awaited_first: { awaits [] };
 
-    /// Where it was awaited, it still is until a look is due.
+    /// While no search is due, the text stays awaited.
     ghost awaited_still: { (bytes : List ℕ) (seen : ℕ) → awaits (take seen bytes) →
         is_due bytes seen DUE ≡ false → awaits bytes };
 }
 
-/// Looks where it may have come with what wasn't seen, or can't come later. In what was seen it was awaited.
-pub(crate) fn look_when_due<S: Sought>(bytes: &[u8], seen: usize, sought: &mut S) -> Look<S::Found>
+/// Searches if the text may have come with the bytes after the first `seen`, or can't come later. It was awaited in the
+/// first `seen` bytes.
+pub(crate) fn look_when_due<S: Search>(bytes: &[u8], seen: usize, sought: &mut S) -> Look<S::Found>
     requires seen { seen ≤ length bytes.now }
     requires before { S.awaits (take seen bytes.now) }
     ensures { LooksFor S.awaits (S.finds sought.new) S.never_has bytes.now result }

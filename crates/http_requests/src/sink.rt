@@ -1,18 +1,18 @@
 ghost use Rattle.std.specs.Prelude.{ℕ, List};
 ghost use Rattle.session_devices.specs.Takings.{TakesNothing, TakesJoined};
 
-/// What a body is handed to as it is read.
+/// Takes a body piece by piece as it is read.
 pub trait Sink {
-    /// From which state these bytes lead to which.
+    /// Relates the states before and after these bytes.
     ghost takes: { Self → List ℕ → Self → Type 0 };
 
-    /// Takes the next piece of the body, whichever it is: what goes wrong with it the sink keeps to itself.
+    /// Takes the next piece of the body. It can't fail: the sink remembers what is wrong with the bytes.
     fn put(&mut self, piece: &[u8])
         ensures { takes self.old piece.now self.new };
 
-    /// No bytes change nothing.
+    /// Taking no bytes changes nothing.
     ghost takes_nothing: { TakesNothing Self takes };
 
-    /// It is all one how the bytes are cut.
+    /// The body may come in any number of pieces.
     ghost takes_joined: { TakesJoined Self takes };
 }

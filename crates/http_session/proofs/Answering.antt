@@ -4,31 +4,31 @@ use Rattle.std.specs.Io.KnownBytes.{Appends}
 use Rattle.http_requests.specs.declared.room.TheConstants.{PIECE}
 use Rattle.http_requests.specs.Receiving.{ReadBuffer, put_back}
 use Rattle.http_requests.proofs.Once.{request_is_some}
-use Rattle.http_session.specs.Hearing.{HearsOne}
+use Rattle.http_session.specs.Incoming.{ReceivesOne}
 use Rattle.http_session.specs.Replies.{closes, takes_no_memory, response_of}
-use Rattle.http_session.specs.Sessions.{Exchange, IsExchange, Submits, Reads, Step, Says}
+use Rattle.http_session.specs.Sessions.{Exchange, IsExchange, Submits, Reads, Step, WritesResponse}
 use Rattle.http_session.specs.InOrder.{Line, IsTwoWay, EndsOver, FailsOver}
 use Rattle.http_session.specs.Underway.{SoFar}
 use Rattle.http_session.specs.declared.verdict.Verdict.{Verdict}
 use Rattle.http_session.specs.declared.reply.Reply.{Reply}
 use Rattle.http_session.specs.declared.exchanges.SessionErrorKind.TheVariants.{Memory}
-use Rattle.http_session.specs.declared.exchanges.Silence.{Silence}
+use Rattle.http_session.specs.declared.exchanges.PartialWrite.{PartialWrite}
 use Rattle.http_session.proofs.Turns.{reads_on, goes_on, ends_closing, fails_due}
 
 -- a request has a byte
-some_text : (old here : ReadBuffer) (v : Verdict) (asked : Bool) (found : HearsOne old here v asked) → 0 < length found.text
+some_text : (old here : ReadBuffer) (v : Verdict) (asked : Bool) (found : ReceivesOne old here v asked) → 0 < length found.text
 some_text old here v asked found = request_is_some found.text found.head found.body found.spells
 
--- fewer bytes are left behind a request, and as many reads
-pub fewer_left : (old here : ReadBuffer) (v : Verdict) (asked : Bool) (found : HearsOne old here v asked) → PIECE * here.left + length here.held < PIECE * old.left + length old.held
+-- fewer bytes are left after a request, and as many reads
+pub fewer_left : (old here : ReadBuffer) (v : Verdict) (asked : Bool) (found : ReceivesOne old here v asked) → PIECE * here.left + length here.held < PIECE * old.left + length old.held
 fewer_left old here v asked found =
     let held : length old.held ≡ length (found.text ++ here.held) = ap (λ (b : ReadBuffer). length b.held) found.cut in
     let left : old.left ≡ here.left = ap (λ (b : ReadBuffer). b.left) found.cut in
     rw left (omega (arith, some_text old here v asked found, held, length-append found.text here.held))
 
 module _ {S C : Type 0} (submits : Submits S) (reads : Reads S) (line : Line C) (two : IsTwoWay line) (c0 c2 : C) (s t : S) (old here : ReadBuffer) (answered : ℕ)
-    (v : Verdict) (asked : Bool) (so : SoFar submits reads line c0 c2 s t old answered) (found : HearsOne old here v asked) where
-  -- with the request's text in front again
+    (v : Verdict) (asked : Bool) (so : SoFar submits reads line c0 c2 s t old answered) (found : ReceivesOne old here v asked) where
+  -- with the request's text put back
   abbrev pub whole : ReadBuffer
   whole = put_back found.text here
 
@@ -57,11 +57,11 @@ module _ {S C : Type 0} (submits : Submits S) (reads : Reads S) (line : Line C) 
         (subst (λ (b : Bool). Appends (line.contents c2) (line.contents c3) (response_of reply b)) close_is wrote)
         (subst (λ (b : Bool). line.takes c2 (response_of reply b) c3) close_is took)
 
-    pub answered_not : (silence : Silence) → Says (line.contents c2) (line.contents c3) false (line.out_failed c3) (response_of reply close) (Err silence)
-        → line.takes c2 (take silence.written (response_of reply close)) c3 → line.in_failed c2 ≡ false
-        → (takes_no_memory reply ≡ true → silence.cause ≢ Memory)
-        → FailsOver submits reads line c0 c3 s u (record { answered = answered; written = silence.written; cause = silence.cause })
-    answered_not silence said took in_works spared =
-        fails_due submits reads line two c0 c2 c3 s t u whole here.held answered turn silence so_whole is_turn refl step
-        (subst (λ (b : Bool). Says (line.contents c2) (line.contents c3) false (line.out_failed c3) (response_of reply b) (Err silence)) close_is said)
-        (subst (λ (b : Bool). line.takes c2 (take silence.written (response_of reply b)) c3) close_is took) in_works spared
+    pub answered_not : (partial_write : PartialWrite) → WritesResponse (line.contents c2) (line.contents c3) false (line.out_failed c3) (response_of reply close) (Err partial_write)
+        → line.takes c2 (take partial_write.written (response_of reply close)) c3 → line.in_failed c2 ≡ false
+        → (takes_no_memory reply ≡ true → partial_write.cause ≢ Memory)
+        → FailsOver submits reads line c0 c3 s u (record { answered = answered; written = partial_write.written; cause = partial_write.cause })
+    answered_not partial_write said took in_works spared =
+        fails_due submits reads line two c0 c2 c3 s t u whole here.held answered turn partial_write so_whole is_turn refl step
+        (subst (λ (b : Bool). WritesResponse (line.contents c2) (line.contents c3) false (line.out_failed c3) (response_of reply b) (Err partial_write)) close_is said)
+        (subst (λ (b : Bool). line.takes c2 (take partial_write.written (response_of reply b)) c3) close_is took) in_works spared

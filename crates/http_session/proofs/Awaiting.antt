@@ -7,9 +7,9 @@ use Rattle.http_session.specs.Sessions.{Exchange, texts, responses}
 use Rattle.http_session.specs.InTurn.{AwaitsNext, ReadsInTurn}
 use Rattle.http_session.specs.InOrder.{Act, got, put, pieces, Moment, ActsWhile, AwaitsAnswered, AnswersInTurn}
 
--- behind all of them, when all are answered
-behind_all : (opens : List Exchange) (held : List ℕ) → AwaitsRequest held → AwaitsAnswered opens (texts opens ++ held) (responses opens)
-behind_all opens held awaits = record {
+-- after all of them, when all are answered
+after_all : (opens : List Exchange) (held : List ℕ) → AwaitsRequest held → AwaitsAnswered opens (texts opens ++ held) (responses opens)
+after_all opens held awaits = record {
   next = record { before = opens; later = []; rest = held; opens_are = sym (append-nil opens); bytes_are = refl; awaits = awaits };
   answered = refl;
 }
@@ -49,7 +49,7 @@ module _ {C : Type 0} (gives : Gives C) (takes : Takings C) where
   acts_weaker A B weaker (got p ∷ xs) s t acts = (weaker s.received s.written acts.0, acts.1, acts.2, acts_weaker A B weaker xs _ t acts.3)
   acts_weaker A B weaker (put w ∷ xs) s t acts = (acts.0, acts.1, acts_weaker A B weaker xs _ t acts.2)
 
-  -- reads alone, behind a text and while so much was written
+  -- reads alone, after a text and while so much was written
   acts_of_reads : (A : List ℕ → List ℕ → Type 0) (front written : List ℕ) → ((h : List ℕ) → AwaitsRequest h → A (front ++ h) written) → (ps : List (List ℕ)) (s t : C) (old new : List ℕ)
       → GivesWhile gives AwaitsRequest s t old new ps
       → ActsWhile gives takes A (record { state = s; received = front ++ old; written = written }) (record { state = t; received = front ++ new; written = written }) (map got ps)
@@ -62,15 +62,15 @@ module _ {C : Type 0} (gives : Gives C) (takes : Takings C) where
         (sym (append_assoc front old p)) (acts_of_reads A front written more ps each.1 t (old ++ p) new each.3),
   )
 
-  -- more was read for the request behind them, when all were answered
-  pub read_on : (s m t : C) (opens : List Exchange) (taken held here after : List ℕ) (first : AnswersInTurn gives takes s m opens taken (responses opens)) → taken ≡ texts opens ++ held
+  -- more was read for the request after them, when all were answered
+  pub read_more : (s m t : C) (opens : List Exchange) (taken held here after : List ℕ) (first : AnswersInTurn gives takes s m opens taken (responses opens)) → taken ≡ texts opens ++ held
       → (second : ReadsWhile gives AwaitsRequest m t held here) → after ≡ texts opens ++ here
       → (all : AnswersInTurn gives takes s t opens after (responses opens)) × (length (pieces all.acts) ≡ length (pieces first.acts) + length second.pieces)
-  read_on s m t opens taken held here after first split second after_is =
+  read_more s m t opens taken held here after first split second after_is =
       let said = responses opens in
       let acts = map got second.pieces in
       let more : ActsWhile gives takes (AwaitsAnswered opens) (record { state = m; received = texts opens ++ held; written = said }) (record { state = t; received = texts opens ++ here; written = said }) acts =
-      acts_of_reads (AwaitsAnswered opens) (texts opens) said (behind_all opens) second.pieces m t held here second.each in
+      acts_of_reads (AwaitsAnswered opens) (texts opens) said (after_all opens) second.pieces m t held here second.each in
       let moved : ActsWhile gives takes (AwaitsAnswered opens) (record { state = m; received = taken; written = said }) (record { state = t; received = after; written = said }) acts =
       subst₂ (λ (l r : List ℕ). ActsWhile gives takes (AwaitsAnswered opens) (record { state = m; received = l; written = said }) (record { state = t; received = r; written = said }) acts)
       (sym split) (sym after_is) more in

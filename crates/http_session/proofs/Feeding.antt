@@ -9,9 +9,9 @@ use Rattle.batch_feeder.specs.Continuing.{Faults}
 use Rattle.http_session.specs.Verdicts.{JudgesBatch}
 use Rattle.http_session.specs.Questions.{JudgesRead}
 use Rattle.http_session.specs.Fed.{Follows}
-use Rattle.http_session.specs.declared.verdict.Remark.TheVariants.{NoSuchPath, NotAllowed, UnsupportedType, BatchRefused, BadParameter, NoMemory}
+use Rattle.http_session.specs.declared.verdict.ErrorReply.TheVariants.{NoSuchPath, NotAllowed, UnsupportedType, BatchRefused, BadParameter, NoMemory}
 use Rattle.http_session.specs.declared.verdict.Verdict.{Verdict}
-use Rattle.http_session.specs.declared.verdict.Verdict.TheVariants.{Submit, Ask, Say}
+use Rattle.http_session.specs.declared.verdict.Verdict.TheVariants.{Submit, Ask, Reject}
 
 module _ (old new : List ℕ → Result Reported DecodeError) (piece : List ℕ) where
   -- a fault that isn't that memory ran out is the bytes'
@@ -33,11 +33,11 @@ module _ (old new : List ℕ → Result Reported DecodeError) (body : List ℕ) 
   pub batch_verdict : (v : Verdict) → Follows old body new → JudgesRead (new []) v → JudgesBatch true body v
   batch_verdict (Submit b) (inl same) is = (refl, sym (all same) ∙ is)
   batch_verdict (Submit b) (inr want) is = absurd (cc (want.0.all [], is))
-  batch_verdict (Say (BatchRefused f)) (inl same) is = (refl, sym (all same) ∙ is.0)
-  batch_verdict (Say (BatchRefused f)) (inr want) is = absurd (is.1 (cc (want.0.all [], is.0)))
-  batch_verdict (Say NoMemory) follows is = refl
-  batch_verdict (Say UnsupportedType) follows is = absurd is
-  batch_verdict (Say NoSuchPath) follows is = absurd is
-  batch_verdict (Say (NotAllowed e)) follows is = absurd is
-  batch_verdict (Say (BadParameter p)) follows is = absurd is
+  batch_verdict (Reject (BatchRefused f)) (inl same) is = (refl, sym (all same) ∙ is.0)
+  batch_verdict (Reject (BatchRefused f)) (inr want) is = absurd (is.1 (cc (want.0.all [], is.0)))
+  batch_verdict (Reject NoMemory) follows is = refl
+  batch_verdict (Reject UnsupportedType) follows is = absurd is
+  batch_verdict (Reject NoSuchPath) follows is = absurd is
+  batch_verdict (Reject (NotAllowed e)) follows is = absurd is
+  batch_verdict (Reject (BadParameter p)) follows is = absurd is
   batch_verdict (Ask q) follows is = absurd is

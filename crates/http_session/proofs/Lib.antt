@@ -1,7 +1,7 @@
 pub mod Judging
 pub mod Texts
 pub mod Feeding
-pub mod Hearings
+pub mod IncomingParts
 pub mod Awaiting
 pub mod Turns
 pub mod Answering

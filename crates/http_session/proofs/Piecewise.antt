@@ -1,4 +1,5 @@
--- One piece of a session: what it has come to, wherever it began, and also where others used the store since the piece before.
+-- One piece of a session: what it has come to, wherever it began, and also where others used the store since the piece
+-- before.
 use Rattle.std.proofs.Common.{◌≡◌, ◌≢◌, ℕ, ◌+◌, ◌||◌, Bool, true, false, List, [], ◌++◌, length, take, Option, Some, None, Result, Ok, Err, refl, sym, ap, ◌∙◌, subst, arith, inl, inr, length-append}
 use Rattle.std.specs.Io.KnownBytes.{Appends, IsAtEnd}
 use Rattle.jaeger_model.specs.declared.batch.Batch.{Batch}
@@ -8,33 +9,33 @@ use Rattle.trace_model.specs.declared.answer.Answer.{Answer}
 use Rattle.trace_model.specs.declared.refusal.Refusal.{Refusal}
 use Rattle.store_backend.specs.Knowing.{History, Keeps, SubmitKnows, ReadKnows}
 use Rattle.http_requests.specs.declared.read_buffer.ReadError.{ReadError}
-use Rattle.http_requests.specs.declared.asked.Breach.{Breach}
+use Rattle.http_requests.specs.declared.asked.BadRequest.{BadRequest}
 use Rattle.http_requests.specs.declared.read_buffer.ReadError.TheVariants as why
 use Rattle.http_requests.specs.Requests.{AwaitsRequest}
 use Rattle.http_requests.specs.LineLaws.{no_bytes_await}
 use Rattle.http_requests.specs.Receiving.{ReadBuffer, ReadsOn, ReadsOnWhile, IsRead, ReadFails, StopsWhile, SameUnlessReading, put_back}
-use Rattle.http_requests.proofs.Readings.{nothing_yet, read_behind, stops_reading}
+use Rattle.http_requests.proofs.Readings.{nothing_yet, read_after, stops_reading}
 use Rattle.http_session.specs.Verdicts.{BeginsWithQuery}
-use Rattle.http_session.specs.Hearing.{before_a_request, HasHeard, WaitsBehind, HearsOne, HearsEnd, HearsBreach, HearsPart, HearsNothing}
+use Rattle.http_session.specs.Incoming.{before_a_request, HasReceived, WaitsAfter, ReceivesOne, ReceivesEnd, ReceivesBadRequest, ReceivesPart, ReceivesNothing}
 use Rattle.http_session.specs.Underway.{SoFar}
 use Rattle.http_session.specs.Replies.{closes, takes_no_memory, response_of}
-use Rattle.http_session.specs.Sessions.{Submits, Reads, Step, Says, cause_by}
+use Rattle.http_session.specs.Sessions.{Submits, Reads, Step, WritesResponse, cause_by}
 use Rattle.http_session.specs.InOrder.{Line, IsTwoWay, EndsOver, FailsOver}
 use Rattle.http_session.specs.Between.{Store, store_of, EndsServed, FailsServed}
 use Rattle.http_session.specs.Pieces.{AsksOnce, AnswersSoFar, StaysUnderway, OutlastsWrites, ForgetsNothing, SubmitsSome, ReadsSome, no_requests_yet, CanContinue, AwaitsMore, shared, Underway, ComesTo, UnderwayAmong, GoesOn}
 use Rattle.http_session.specs.declared.pieces.Session.{Session}
-use Rattle.http_session.specs.declared.hearing.Stage.{Stage}
+use Rattle.http_session.specs.declared.receiving.Stage.{Stage}
 use Rattle.http_session.specs.declared.verdict.Verdict.{Verdict}
-use Rattle.http_session.specs.declared.verdict.Verdict.TheVariants.{Submit, Ask, Say}
+use Rattle.http_session.specs.declared.verdict.Verdict.TheVariants.{Submit, Ask, Reject}
 use Rattle.http_session.specs.declared.reply.Reply.{Reply}
-use Rattle.http_session.specs.declared.reply.Reply.TheVariants.{Accepted, Answered, Refused, Said, Broken}
+use Rattle.http_session.specs.declared.reply.Reply.TheVariants.{Accepted, Answered, Refused, Error, Malformed}
 use Rattle.http_session.specs.declared.exchanges.Ended.{Ended}
 use Rattle.http_session.specs.declared.exchanges.SessionError.{SessionError}
 use Rattle.http_session.specs.declared.exchanges.SessionErrorKind.TheVariants.{Memory}
-use Rattle.http_session.specs.declared.exchanges.Silence.{Silence}
+use Rattle.http_session.specs.declared.exchanges.PartialWrite.{PartialWrite}
 use Rattle.http_session.proofs.Points.{related_all}
-use Rattle.http_session.proofs.Hearings.{broken_if, waits_for_request, looked_by, looked_still}
-use Rattle.http_session.proofs.Turns.{begins, reads_on, stays, ends_clean, ends_broken, fails_reading, fails_stopped, fails_parting, works_heard}
+use Rattle.http_session.proofs.IncomingParts.{malformed_if, waits_for_request, looked_by, looked_still}
+use Rattle.http_session.proofs.Turns.{begins, reads_on, stays, ends_clean, ends_malformed, fails_reading, fails_stopped, fails_malformed, works_received}
 use Rattle.http_session.proofs.Answering.{fewer_left, answered_open, answered_last, answered_not}
 
 -- ---- what a store promises, and that it promises it also where others use it
@@ -63,7 +64,7 @@ module _ {S : Type 0} (store : Store S) where
   stepped m t u (Submit b) (Refused r) keeps step = (u, (t, keeps, step), keeps_all u)
   stepped m t u (Ask q) (Answered a) keeps step = (u, (t, keeps, step), keeps_all u)
   stepped m t u (Ask q) (Refused r) keeps step = (u, (t, keeps, step), keeps_all u)
-  stepped m t u (Say remark) (Said said) keeps step = (m, (step.0, refl), subst (λ (x : S). Keeps store.limits store.knows m x) (sym step.1) keeps)
+  stepped m t u (Reject error) (Error said) keeps step = (m, (step.0, refl), subst (λ (x : S). Keeps store.limits store.knows m x) (sym step.1) keeps)
   stepped m t u _ _ keeps step = absurd step
 
   module _ (promises : Promises store) where
@@ -116,59 +117,59 @@ module _ {S C : Type 0} (store : Store S) (promises : Promises store) (line : Li
   }
 
   -- memory ran out for a query
-  pub hears_no_query : line.in_failed c1 ≡ false → line.out_failed c1 ≡ false → ((text : List ℕ) → HasHeard old.stage text → BeginsWithQuery (text ++ old.received.held))
+  pub receives_no_query : line.in_failed c1 ≡ false → line.out_failed c1 ≡ false → ((text : List ℕ) → HasReceived old.stage text → BeginsWithQuery (text ++ old.received.held))
       → GoesOn store line c1 c1 t t old new (Err (record { answered = old.answered; written = 0; cause = Memory }))
-  hears_no_query in_works out_works none =
+  receives_no_query in_works out_works none =
       unasked c1 (Err (record { answered = old.answered; written = 0; cause = Memory }))
       (λ other kept c0 s m so.
       let here = put_back so.text old.received in
-      let nothing : HearsNothing line.source c1 c1 (line.in_failed c1) here why.Memory =
-      inr (record { here = here; reads = nothing_yet line.source AwaitsRequest c1 here; query = none so.text so.heard }) in
+      let nothing : ReceivesNothing line.source c1 c1 (line.in_failed c1) here why.Memory =
+      inr (record { here = here; reads = nothing_yet line.source AwaitsRequest c1 here; query = none so.text so.incoming }) in
       fails_served other kept line c0 c1 s m _ (fails_reading other.submits other.reads line two (Unit {0}) c0 c1 c1 s m here old.answered false why.Memory so.so_far nothing in_works refl out_works))
 
   -- no more could be read
-  pub hears_nothing : (A : Type 0) (c2 : C) (before : Bool) (stop : ReadError)
-      → ((text : List ℕ) → HasHeard old.stage text → StopsWhile line.source AwaitsRequest c1 c2 (line.in_failed c2) (put_back text old.received) stop)
+  pub receives_nothing : (A : Type 0) (c2 : C) (before : Bool) (stop : ReadError)
+      → ((text : List ℕ) → HasReceived old.stage text → StopsWhile line.source AwaitsRequest c1 c2 (line.in_failed c2) (put_back text old.received) stop)
       → SameUnlessReading {A = A} before (line.in_failed c2) (Err stop) → before ≡ false → line.out_failed c1 ≡ false
       → GoesOn store line c1 c2 t t old new (Err (record { answered = old.answered; written = 0; cause = cause_by stop }))
-  hears_nothing A c2 before stop stops same was out =
+  receives_nothing A c2 before stop stops same was out =
       unasked c2 (Err (record { answered = old.answered; written = 0; cause = cause_by stop }))
       (λ other kept c0 s m so.
       fails_served other kept line c0 c2 s m _
-      (fails_stopped other.submits other.reads line two A c0 c1 c2 s m (put_back so.text old.received) old.answered before stop so.so_far (stops so.text so.heard) same was out))
+      (fails_stopped other.submits other.reads line two A c0 c1 c2 s m (put_back so.text old.received) old.answered before stop so.so_far (stops so.text so.incoming) same was out))
 
-  pub hears_end : (here : ReadBuffer) → ((text : List ℕ) → HasHeard old.stage text → HearsEnd (put_back text old.received) here)
+  pub receives_end : (here : ReadBuffer) → ((text : List ℕ) → HasReceived old.stage text → ReceivesEnd (put_back text old.received) here)
       → GoesOn store line c1 c1 t t old new (Ok (Some (record { answered = old.answered; clean = true })))
-  hears_end here found =
+  receives_end here found =
       unasked c1 (Ok (Some (record { answered = old.answered; clean = true })))
       (λ other kept c0 s m so.
-      let end = found so.text so.heard in
+      let end = found so.text so.incoming in
       let here_so = subst (λ (b : ReadBuffer). SoFar other.submits other.reads line c0 c1 s m b old.answered) end.same so.so_far in
       ends_served other kept line c0 c1 s m _ (ends_clean other.submits other.reads line two c0 c1 s m here old.answered here_so (here_so.end end.ended, end.nothing)))
 
-  pub parts : (c2 : C) (here : ReadBuffer) (b : Breach) → ((text : List ℕ) → HasHeard old.stage text → HearsBreach (put_back text old.received) here b)
-      → Appends (line.contents c1) (line.contents c2) (response_of (Broken b) true) → line.takes c1 (response_of (Broken b) true) c2
+  pub parts : (c2 : C) (here : ReadBuffer) (b : BadRequest) → ((text : List ℕ) → HasReceived old.stage text → ReceivesBadRequest (put_back text old.received) here b)
+      → Appends (line.contents c1) (line.contents c2) (response_of (Malformed b) true) → line.takes c1 (response_of (Malformed b) true) c2
       → GoesOn store line c1 c2 t t old new (Ok (Some (record { answered = old.answered + 1; clean = false })))
   parts c2 here b found wrote took =
       unasked c2 (Ok (Some (record { answered = old.answered + 1; clean = false })))
       (λ other kept c0 s m so.
-      let breach = found so.text so.heard in
-      let here_so = subst (λ (r : ReadBuffer). SoFar other.submits other.reads line c0 c1 s m r old.answered) breach.cut so.so_far in
-      ends_served other kept line c0 c2 s m _ (ends_broken other.submits other.reads line two c0 c1 c2 s m _ old.answered b here_so (broken_if _ _ b _ here_so.end breach.broken) wrote took))
+      let bad_request = found so.text so.incoming in
+      let here_so = subst (λ (r : ReadBuffer). SoFar other.submits other.reads line c0 c1 s m r old.answered) bad_request.cut so.so_far in
+      ends_served other kept line c0 c2 s m _ (ends_malformed other.submits other.reads line two c0 c1 c2 s m _ old.answered b here_so (malformed_if _ _ b _ here_so.end bad_request.malformed) wrote took))
 
-  pub parts_not : (c2 : C) (here : ReadBuffer) (b : Breach) (silence : Silence) → ((text : List ℕ) → HasHeard old.stage text → HearsBreach (put_back text old.received) here b)
-      → Says (line.contents c1) (line.contents c2) false (line.out_failed c2) (response_of (Broken b) true) (Err silence)
-      → line.takes c1 (take silence.written (response_of (Broken b) true)) c2 → line.in_failed c1 ≡ false
-      → GoesOn store line c1 c2 t t old new (Err (record { answered = old.answered; written = silence.written; cause = silence.cause }))
-  parts_not c2 here b silence found said took works =
-      unasked c2 (Err (record { answered = old.answered; written = silence.written; cause = silence.cause }))
+  pub parts_not : (c2 : C) (here : ReadBuffer) (b : BadRequest) (partial_write : PartialWrite) → ((text : List ℕ) → HasReceived old.stage text → ReceivesBadRequest (put_back text old.received) here b)
+      → WritesResponse (line.contents c1) (line.contents c2) false (line.out_failed c2) (response_of (Malformed b) true) (Err partial_write)
+      → line.takes c1 (take partial_write.written (response_of (Malformed b) true)) c2 → line.in_failed c1 ≡ false
+      → GoesOn store line c1 c2 t t old new (Err (record { answered = old.answered; written = partial_write.written; cause = partial_write.cause }))
+  parts_not c2 here b partial_write found said took works =
+      unasked c2 (Err (record { answered = old.answered; written = partial_write.written; cause = partial_write.cause }))
       (λ other kept c0 s m so.
-      let breach = found so.text so.heard in
-      let here_so = subst (λ (r : ReadBuffer). SoFar other.submits other.reads line c0 c1 s m r old.answered) breach.cut so.so_far in
-      fails_served other kept line c0 c2 s m _ (fails_parting other.submits other.reads line two c0 c1 c2 s m _ old.answered b silence here_so (broken_if _ _ b _ here_so.end breach.broken) said took works))
+      let bad_request = found so.text so.incoming in
+      let here_so = subst (λ (r : ReadBuffer). SoFar other.submits other.reads line c0 c1 s m r old.answered) bad_request.cut so.so_far in
+      fails_served other kept line c0 c2 s m _ (fails_malformed other.submits other.reads line two c0 c1 c2 s m _ old.answered b partial_write here_so (malformed_if _ _ b _ here_so.end bad_request.malformed) said took works))
 
   module _ (c2 : C) (u : S) (here : ReadBuffer) (v : Verdict) (ask : Bool) (reply : Reply) (close : Bool)
-      (found : (text : List ℕ) → HasHeard old.stage text → HearsOne (put_back text old.received) here v ask)
+      (found : (text : List ℕ) → HasReceived old.stage text → ReceivesOne (put_back text old.received) here v ask)
       (step : Step store.submits store.reads t v reply u) (close_is : close ≡ (ask || closes reply)) where
     pub answers_last : Appends (line.contents c1) (line.contents c2) (response_of reply close) → line.takes c1 (response_of reply close) c2 → close ≡ true
         → GoesOn store line c1 c2 t u old new (Ok (Some (record { answered = old.answered + 1; clean = false })))
@@ -176,21 +177,21 @@ module _ {S C : Type 0} (store : Store S) (promises : Promises store) (line : Li
         asked c2 u v reply (Ok (Some (record { answered = old.answered + 1; clean = false }))) step
         (λ other kept c0 s m n one so.
         ends_served other kept line c0 c2 s n _
-        (answered_last other.submits other.reads line two c0 c1 s m (put_back so.text old.received) here old.answered v ask so.so_far (found so.text so.heard) c2 n reply close one close_is wrote took leaves))
+        (answered_last other.submits other.reads line two c0 c1 s m (put_back so.text old.received) here old.answered v ask so.so_far (found so.text so.incoming) c2 n reply close one close_is wrote took leaves))
 
-    pub answers_not : (silence : Silence) → Says (line.contents c1) (line.contents c2) false (line.out_failed c2) (response_of reply close) (Err silence)
-        → line.takes c1 (take silence.written (response_of reply close)) c2 → line.in_failed c1 ≡ false
-        → (takes_no_memory reply ≡ true → silence.cause ≢ Memory)
-        → GoesOn store line c1 c2 t u old new (Err (record { answered = old.answered; written = silence.written; cause = silence.cause }))
-    answers_not silence said took works spared =
-        asked c2 u v reply (Err (record { answered = old.answered; written = silence.written; cause = silence.cause })) step
+    pub answers_not : (partial_write : PartialWrite) → WritesResponse (line.contents c1) (line.contents c2) false (line.out_failed c2) (response_of reply close) (Err partial_write)
+        → line.takes c1 (take partial_write.written (response_of reply close)) c2 → line.in_failed c1 ≡ false
+        → (takes_no_memory reply ≡ true → partial_write.cause ≢ Memory)
+        → GoesOn store line c1 c2 t u old new (Err (record { answered = old.answered; written = partial_write.written; cause = partial_write.cause }))
+    answers_not partial_write said took works spared =
+        asked c2 u v reply (Err (record { answered = old.answered; written = partial_write.written; cause = partial_write.cause })) step
         (λ other kept c0 s m n one so.
         fails_served other kept line c0 c2 s n _
-        (answered_not other.submits other.reads line two c0 c1 s m (put_back so.text old.received) here old.answered v ask so.so_far (found so.text so.heard) c2 n reply close one close_is silence said took works spared))
+        (answered_not other.submits other.reads line two c0 c1 s m (put_back so.text old.received) here old.answered v ask so.so_far (found so.text so.incoming) c2 n reply close one close_is partial_write said took works spared))
 
 -- a response was written, and the session stays open
 module _ {S C : Type 0} (store : Store S) (promises : Promises store) (line : Line C) (two : IsTwoWay line) (c1 c2 : C) (t u : S) (old : Session) (here : ReadBuffer) (v : Verdict) (ask : Bool) (reply : Reply)
-    (close : Bool) (found : (text : List ℕ) → HasHeard old.stage text → HearsOne (put_back text old.received) here v ask) where
+    (close : Bool) (found : (text : List ℕ) → HasReceived old.stage text → ReceivesOne (put_back text old.received) here v ask) where
   pub answers_open : Step store.submits store.reads t v reply u → close ≡ (ask || closes reply)
       → Appends (line.contents c1) (line.contents c2) (response_of reply close) → line.takes c1 (response_of reply close) c2 → close ≡ false
       → GoesOn store line c1 c2 t u old (record { received = here; stage = before_a_request; answered = old.answered + 1 }) (Ok None)
@@ -198,18 +199,18 @@ module _ {S C : Type 0} (store : Store S) (promises : Promises store) (line : Li
       asked store promises line two c1 t old (record { received = here; stage = before_a_request; answered = old.answered + 1 }) c2 u v reply (Ok None) step
       (λ other kept c0 s m n one so. record {
         text = [];
-        heard = refl;
-        so_far = answered_open other.submits other.reads line two c0 c1 s m (put_back so.text old.received) here old.answered v ask so.so_far (found so.text so.heard) c2 n reply close one close_is wrote took stays;
+        incoming = refl;
+        so_far = answered_open other.submits other.reads line two c0 c1 s m (put_back so.text old.received) here old.answered v ask so.so_far (found so.text so.incoming) c2 n reply close one close_is wrote took stays;
       })
 
   -- and it can be gone on with
   pub still_continues : (bytes : List ℕ) → line.takes c1 bytes c2 → CanContinue (line.source.remaining c1) old
       → CanContinue (line.source.remaining c2) (record { received = here; stage = before_a_request; answered = old.answered + 1 })
   still_continues bytes took can =
-      let one = found can.text can.heard in
+      let one = found can.text can.incoming in
       record {
         text = [];
-        heard = refl;
+        incoming = refl;
         looked = (omega arith, no_bytes_await);
         end = λ e. subst IsAtEnd (sym (two.writes_leave c1 c2 bytes took).0) (can.end (ap (λ (b : ReadBuffer). b.ended) one.cut ∙ e));
         most = omega (arith, can.most, fewer_left (put_back can.text old.received) here v ask one);
@@ -218,32 +219,32 @@ module _ {S C : Type 0} (store : Store S) (promises : Promises store) (line : Li
 -- ---- a pause inside a request
 
 module _ {S C : Type 0} (store : Store S) (promises : Promises store) (line : Line C) (two : IsTwoWay line) (c1 : C) (t : S) (old : Session) (here : ReadBuffer) (stage : Stage)
-    (found : (text : List ℕ) → HasHeard old.stage text → HearsPart (put_back text old.received) here stage) where
+    (found : (text : List ℕ) → HasReceived old.stage text → ReceivesPart (put_back text old.received) here stage) where
   abbrev paused : Session
   paused = record { received = here; stage = stage; answered = old.answered }
 
   pub pauses : GoesOn store line c1 c1 t t old paused (Ok None)
   pauses = unasked store promises line two c1 t old paused c1 (Ok None)
       (λ other kept c0 s m so.
-      let part = found so.text so.heard in
-      record { text = part.text; heard = part.heard; so_far = subst (λ (b : ReadBuffer). SoFar other.submits other.reads line c0 c1 s m b old.answered) part.cut so.so_far })
+      let part = found so.text so.incoming in
+      record { text = part.text; incoming = part.incoming; so_far = subst (λ (b : ReadBuffer). SoFar other.submits other.reads line c0 c1 s m b old.answered) part.cut so.so_far })
 
-  pub paused_continues : WaitsBehind stage here.held → CanContinue (line.source.remaining c1) old → CanContinue (line.source.remaining c1) paused
+  pub paused_continues : WaitsAfter stage here.held → CanContinue (line.source.remaining c1) old → CanContinue (line.source.remaining c1) paused
   paused_continues waits can =
-      let part = found can.text can.heard in
+      let part = found can.text can.incoming in
       let held : length (can.text ++ old.received.held) ≡ length (part.text ++ here.held) = ap (λ (b : ReadBuffer). length b.held) part.cut in
       let left : old.received.left ≡ here.left = ap (λ (b : ReadBuffer). b.left) part.cut in
       record {
         text = part.text;
-        heard = part.heard;
+        incoming = part.incoming;
         looked = looked_still stage here.held waits;
         end = λ e. can.end (ap (λ (b : ReadBuffer). b.ended) part.cut ∙ e);
         most = rw (sym held, sym left) can.most;
       }
 
-pub awaits_more : (session : Session) → WaitsBehind session.stage session.received.held → session.received.ended ≡ false → AwaitsMore session
+pub awaits_more : (session : Session) → WaitsAfter session.stage session.received.held → session.received.ended ≡ false → AwaitsMore session
 awaits_more session waits open_still =
-    record { open_still = open_still; waits = waits; awaits = λ text heard. waits_for_request session.stage text session.received.held heard waits }
+    record { open_still = open_still; waits = waits; awaits = λ text incoming. waits_for_request session.stage text session.received.held incoming waits }
 
 -- ---- one read
 
@@ -252,16 +253,16 @@ module _ {S C : Type 0} (store : Store S) (promises : Promises store) (line : Li
   abbrev with_more : Session
   with_more = record old { received = new }
 
-  read_with : (text : List ℕ) → HasHeard old.stage text → ReadsOnWhile line.source AwaitsRequest c1 c2 (put_back text old.received) (put_back text new)
-  read_with text heard =
-      read_behind line.source AwaitsRequest c1 c1 c2 (put_back text old.received) old.received new text (nothing_yet line.source AwaitsRequest c1 (put_back text old.received)) (awaits.awaits text heard) on read
+  read_with : (text : List ℕ) → HasReceived old.stage text → ReadsOnWhile line.source AwaitsRequest c1 c2 (put_back text old.received) (put_back text new)
+  read_with text incoming =
+      read_after line.source AwaitsRequest c1 c1 c2 (put_back text old.received) old.received new text (nothing_yet line.source AwaitsRequest c1 (put_back text old.received)) (awaits.awaits text incoming) on read
 
   pub goes_on_reading : GoesOn store line c1 c2 t t old with_more (Ok None)
   goes_on_reading = unasked store promises line two c1 t old with_more c2 (Ok None)
       (λ other kept c0 s m so. record {
         text = so.text;
-        heard = so.heard;
-        so_far = reads_on other.submits other.reads line two c0 c1 c2 s m (put_back so.text old.received) (put_back so.text new) old.answered so.so_far (read_with so.text so.heard);
+        incoming = so.incoming;
+        so_far = reads_on other.submits other.reads line two c0 c1 c2 s m (put_back so.text old.received) (put_back so.text new) old.answered so.so_far (read_with so.text so.incoming);
       })
 
   pub read_continues : CanContinue (line.source.remaining c1) old → CanContinue (line.source.remaining c2) with_more
@@ -269,23 +270,23 @@ module _ {S C : Type 0} (store : Store S) (promises : Promises store) (line : Li
       let held : length new.held ≡ length old.received.held + length on.more = ap length on.held ∙ length-append old.received.held on.more in
       record {
         text = can.text;
-        heard = can.heard;
+        incoming = can.incoming;
         looked = looked_by old.stage old.received.held new.held read.0 read.2 awaits.waits;
         end = on.end can.end;
         most = omega (arith, can.most, on.most, held, length-append can.text old.received.held, length-append can.text new.held);
       }
 
   -- the devices that worked work still
-  pub works_read : line.in_failed c2 ≡ line.in_failed c1 → (line.in_failed c1 ≡ false) × (line.out_failed c1 ≡ false) → (text : List ℕ) → HasHeard old.stage text
+  pub works_read : line.in_failed c2 ≡ line.in_failed c1 → (line.in_failed c1 ≡ false) × (line.out_failed c1 ≡ false) → (text : List ℕ) → HasReceived old.stage text
       → (line.in_failed c2 ≡ false) × (line.out_failed c2 ≡ false)
-  works_read same works text heard = works_heard line two c1 c2 (put_back text old.received) (put_back text new) (read_with text heard) same works
+  works_read same works text incoming = works_received line two c1 c2 (put_back text old.received) (put_back text new) (read_with text incoming) same works
 
 -- a read that gave nothing
 pub stops_with : {C : Type 0} (line : Line C) (c1 c2 : C) (old : Session) (stop : ReadError) → AwaitsMore old → ReadFails line.source c1 c2 (line.in_failed c2) old.received stop
-    → (text : List ℕ) → HasHeard old.stage text → StopsWhile line.source AwaitsRequest c1 c2 (line.in_failed c2) (put_back text old.received) stop
-stops_with line c1 c2 old stop awaits last text heard =
+    → (text : List ℕ) → HasReceived old.stage text → StopsWhile line.source AwaitsRequest c1 c2 (line.in_failed c2) (put_back text old.received) stop
+stops_with line c1 c2 old stop awaits last text incoming =
     stops_reading line.source AwaitsRequest c1 c1 c2 (line.in_failed c2) (put_back text old.received) old.received text stop
-    (nothing_yet line.source AwaitsRequest c1 (put_back text old.received)) (awaits.awaits text heard) last
+    (nothing_yet line.source AwaitsRequest c1 (put_back text old.received)) (awaits.awaits text incoming) last
 
 -- one piece and then another
 pub goes_on_then : {S C : Type 0} (store : Store S) (line : Line C) (c1 c2 c3 : C) (t u w : S) (old mid new : Session) (result : Result (Option Ended) SessionError)
@@ -296,14 +297,14 @@ goes_on_then store line c1 c2 c3 t u w old mid new result first second =
 -- ---- before the first piece
 
 pub can_begin : (input : Option (List ℕ)) → CanContinue input no_requests_yet
-can_begin input = record { text = []; heard = refl; looked = (omega arith, no_bytes_await); end = λ e. absurd (cc e); most = omega arith }
+can_begin input = record { text = []; incoming = refl; looked = (omega arith, no_bytes_await); end = λ e. absurd (cc e); most = omega arith }
 
 module _ {S C : Type 0} (store : Store S) (line : Line C) (two : IsTwoWay line) (c : C) (s : S) where
   pub begins_alone : Underway store line c c s s no_requests_yet
-  begins_alone = record { text = []; heard = refl; so_far = begins store.submits store.reads line two c s }
+  begins_alone = record { text = []; incoming = refl; so_far = begins store.submits store.reads line two c s }
 
   pub begins_among : UnderwayAmong store line c c s s no_requests_yet
-  begins_among = (s, record { text = []; heard = refl; so_far = begins (shared store).submits (shared store).reads line two c s }, keeps_all store s)
+  begins_among = (s, record { text = []; incoming = refl; so_far = begins (shared store).submits (shared store).reads line two c s }, keeps_all store s)
 
 -- ---- in a pause
 
@@ -330,7 +331,7 @@ module _ {S C : Type 0} (store : Store S) (promises : Promises store) (line : Li
   step_keeps t u (Submit b) (Refused r) step = submit_keeps t u b (Err r) step
   step_keeps t u (Ask q) (Answered a) step = read_keeps t u q (Ok a) step
   step_keeps t u (Ask q) (Refused r) step = read_keeps t u q (Err r) step
-  step_keeps t u (Say remark) (Said said) step = subst (λ (x : S). Keeps store.limits store.knows t x) (sym step.1) (keeps_all store t)
+  step_keeps t u (Reject error) (Error said) step = subst (λ (x : S). Keeps store.limits store.knows t x) (sym step.1) (keeps_all store t)
   step_keeps t u _ _ step = absurd step
 
   pub others_go_on : StaysUnderway store line (AsksOnce store)
@@ -343,7 +344,7 @@ module _ {S C : Type 0} (store : Store S) (promises : Promises store) (line : Li
     under.0,
     record {
       text = under.1.text;
-      heard = under.1.heard;
+      incoming = under.1.incoming;
       so_far = stays (shared store).submits (shared store).reads line two c0 c1 c2 s under.0 (put_back under.1.text session.received) session.answered under.1.so_far took kept;
     },
     under.2,

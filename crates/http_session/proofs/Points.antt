@@ -8,16 +8,16 @@ use Rattle.trace_model.specs.declared.answer.Answer.{Answer}
 use Rattle.trace_model.specs.declared.refusal.Refusal.{Refusal}
 use Rattle.trace_model.specs.Histories.{IsLegal}
 use Rattle.trace_model.specs.Answers.{answer}
-use Rattle.store_backend.specs.Knowing.{History, IsBeginning, HasAt, Keeps, Places, AnswersAt, SubmitKnows, ReadKnows}
+use Rattle.store_backend.specs.Knowing.{History, IsPrefixOf, HasAt, Keeps, Places, AnswersAt, SubmitKnows, ReadKnows}
 use Rattle.http_session.specs.Sessions.{Exchange, Submits, Reads, Step, Run}
 use Rattle.http_session.specs.Related.{Seen, IsPoint, Gets, Related, nothing_seen}
 use Rattle.http_session.specs.declared.verdict.Verdict.{Verdict}
-use Rattle.http_session.specs.declared.verdict.Verdict.TheVariants.{Submit, Ask, Say}
+use Rattle.http_session.specs.declared.verdict.Verdict.TheVariants.{Submit, Ask, Reject}
 use Rattle.http_session.specs.declared.reply.Reply.{Reply}
-use Rattle.http_session.specs.declared.reply.Reply.TheVariants.{Accepted, Answered, Refused, Said}
+use Rattle.http_session.specs.declared.reply.Reply.TheVariants.{Accepted, Answered, Refused, Error}
 
 -- a list that goes on from one that has the batch has it too
-still_has : (h long : History) (place : ℕ) (b : Batch) → HasAt h place b → IsBeginning h long → HasAt long place b
+still_has : (h long : History) (place : ℕ) (b : Batch) → HasAt h place b → IsPrefixOf h long → HasAt long place b
 still_has h long place b has goes = record {
   before = has.before;
   entry = has.entry;
@@ -51,8 +51,8 @@ module _ {S : Type 0} (limits : S → Limits) (knows : S → History → Type 0)
     placed = All-weaker (Placed s) (Placed t) (λ pair p. (p.0, p.1, keeps.knowledge p.0 p.2)) seen.accepted holds.placed;
   }
 
-  behind : (knew : History → Type 0) (s : S) (o : Option History) (h : History) → ((l : History) → knew l → knows s l) → IfSome o (λ l. knows s l) → ((l : History) → knows s l → IsBeginning l h)
-      → MatchOption o ((l : History) → knew l → IsBeginning l h) (λ before. IsBeginning before h)
+  behind : (knew : History → Type 0) (s : S) (o : Option History) (h : History) → ((l : History) → knew l → knows s l) → IfSome o (λ l. knows s l) → ((l : History) → knows s l → IsPrefixOf l h)
+      → MatchOption o ((l : History) → knew l → IsPrefixOf l h) (λ before. IsPrefixOf before h)
   behind knew s None h old last all = λ l k. all l (old l k)
   behind knew s (Some before) h old last all = all before last
 
@@ -86,7 +86,7 @@ module _ {S : Type 0} (limits : S → Limits) (knows : S → History → Type 0)
       let (keeps, at) = read_knows s q (Ok a) t step in
       pointed under knew s t seen q a holds keeps at
   goes under knew s t seen (Ask q) (Refused r) holds step = (seen, refl, kept under knew s t seen holds (read_knows s q (Err r) t step))
-  goes under knew s t seen (Say remark) (Said said) holds step = (seen, (step.0, refl), subst (λ (x : S). Holds under knew x seen) (sym step.1) holds)
+  goes under knew s t seen (Reject error) (Error said) holds step = (seen, (step.0, refl), subst (λ (x : S). Holds under knew x seen) (sym step.1) holds)
   goes under knew s t seen _ _ holds step = absurd step
 
   related : (under : Limits) (knew : History → Type 0) (s t : S) (seen : Seen) (xs : List Exchange) → Holds under knew s seen → Run submits reads s xs t → Related knew under seen xs
@@ -98,6 +98,6 @@ module _ {S : Type 0} (limits : S → Limits) (knows : S → History → Type 0)
   begin : (s : S) → Holds (limits s) (λ h. knows s h) s nothing_seen
   begin s = record { same = refl; old = λ h k. k; last = tt; placed = All-nil (Placed s) }
 
-  -- from the beginning, when nothing was seen
+  -- from the start, when nothing was seen
   pub related_all : (s t : S) (xs : List Exchange) → Run submits reads s xs t → Related (λ h. knows s h) (limits s) nothing_seen xs
   related_all s t xs run = related (limits s) (λ h. knows s h) s t nothing_seen xs (begin s) run

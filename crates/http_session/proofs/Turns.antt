@@ -5,25 +5,25 @@ use Rattle.std.proofs.KnownBytes.{Consumes-trans, Consumes-kept, Appends-trans, 
 use Rattle.std.proofs.lemmas.List.{flat_map_more}
 use Rattle.std.proofs.lemmas.List.Elements.{All-append, All-cons, All-nil}
 use Rattle.session_devices.specs.Takings.{Takings, LeavesOther}
-use Rattle.http_requests.specs.declared.read_buffer.TheConstants.{MOST_READS}
-use Rattle.http_requests.specs.Requests.{IsBroken, AwaitsRequest}
+use Rattle.http_requests.specs.declared.read_buffer.TheConstants.{MAX_READS}
+use Rattle.http_requests.specs.Requests.{IsMalformed, AwaitsRequest}
 use Rattle.http_requests.specs.Waiting.{Gives, Source, FailsToRead}
 use Rattle.http_requests.specs.Receiving.{ReadBuffer, ReadsOnWhile, StopsWhile, SameUnlessReading}
-use Rattle.http_requests.specs.declared.asked.Breach.{Breach}
+use Rattle.http_requests.specs.declared.asked.BadRequest.{BadRequest}
 use Rattle.http_requests.specs.declared.read_buffer.ReadError.{ReadError}
 use Rattle.http_requests.specs.declared.read_buffer.ReadError.TheVariants as why
 use Rattle.http_requests.proofs.Awaiting.{uncounted}
 use Rattle.http_requests.specs.LineLaws.{no_bytes_await}
-use Rattle.http_session.specs.Hearing.{HearsNothing}
+use Rattle.http_session.specs.Incoming.{ReceivesNothing}
 use Rattle.http_session.specs.Replies.{response_of, takes_no_memory}
-use Rattle.http_session.specs.Sessions.{Exchange, IsExchange, IsOpen, texts, response_to, responses, Submits, Reads, Step, Run, Ending, clean, closing, broken, last_of, IsEnding, parting, partings, is_clean, Due, none_yet, due, due_parting, exchange_due, NothingWasDue, IsDue, bytes_due, is_spared, IsCause, Says, cause_by}
+use Rattle.http_session.specs.Sessions.{Exchange, IsExchange, IsOpen, texts, response_to, responses, Submits, Reads, Step, Run, Ending, clean, closing, malformed, last_of, IsEnding, malformed_response, malformed_responses, is_clean, Due, none_yet, due, due_malformed, exchange_due, NothingWasDue, IsDue, bytes_due, is_spared, IsCause, WritesResponse, cause_by}
 use Rattle.http_session.specs.InOrder.{Line, line_of, IsTwoWay, pieces, EndsOver, FailsOver}
 use Rattle.http_session.specs.Underway.{SoFar}
-use Rattle.http_session.specs.declared.reply.Reply.TheVariants.{Broken}
+use Rattle.http_session.specs.declared.reply.Reply.TheVariants.{Malformed}
 use Rattle.http_session.specs.declared.exchanges.SessionErrorKind.{SessionErrorKind}
 use Rattle.http_session.specs.declared.exchanges.SessionErrorKind.TheVariants.{Reading, Writing, Memory}
-use Rattle.http_session.specs.declared.exchanges.Silence.{Silence}
-use Rattle.http_session.proofs.Awaiting.{read_on, said_before, said_on, said_as, reads_left}
+use Rattle.http_session.specs.declared.exchanges.PartialWrite.{PartialWrite}
+use Rattle.http_session.proofs.Awaiting.{read_more, said_before, said_on, said_as, reads_left}
 
 responses_more : (xs : List Exchange) (x : Exchange) → responses (xs ++ x ∷ []) ≡ responses xs ++ response_to x
 responses_more xs x = sym (flat_map_more response_to [] xs x)
@@ -71,9 +71,9 @@ module _ {C : Type 0} (line : Line C) (two : IsTwoWay line) where
   output_still c1 c2 failed (inr fails) = two.reads_leave c1 c2 [] fails.2
 
   -- a connection that worked works still: where a request was awaited and this went on
-  pub works_heard : (c1 c2 : C) (old new : ReadBuffer) → ReadsOnWhile line.source AwaitsRequest c1 c2 old new → line.in_failed c2 ≡ line.in_failed c1
+  pub works_received : (c1 c2 : C) (old new : ReadBuffer) → ReadsOnWhile line.source AwaitsRequest c1 c2 old new → line.in_failed c2 ≡ line.in_failed c1
       → (line.in_failed c1 ≡ false) × (line.out_failed c1 ≡ false) → (line.in_failed c2 ≡ false) × (line.out_failed c2 ≡ false)
-  works_heard c1 c2 old new more same works = (same ∙ works.0, (output_kept c1 c2 old new more).1 ∙ works.1)
+  works_received c1 c2 old new more same works = (same ∙ works.0, (output_kept c1 c2 old new more).1 ∙ works.1)
 
   -- and where bytes were written and the output works as before
   pub works_said : (c1 c2 : C) (bytes : List ℕ) → line.takes c1 bytes c2 → line.out_failed c2 ≡ line.out_failed c1
@@ -81,7 +81,7 @@ module _ {C : Type 0} (line : Line C) (two : IsTwoWay line) where
   works_said c1 c2 bytes took same works = ((two.writes_leave c1 c2 bytes took).1 ∙ works.0, same ∙ works.1)
 
 module _ {S C : Type 0} (submits : Submits S) (reads : Reads S) (line : Line C) (two : IsTwoWay line) where
-  pub begins : (c : C) (s : S) → SoFar submits reads line c c s s (record { held = []; left = MOST_READS; ended = false }) 0
+  pub begins : (c : C) (s : S) → SoFar submits reads line c c s s (record { held = []; left = MAX_READS; ended = false }) 0
   begins c s = record {
     taken = [];
     opens = [];
@@ -108,7 +108,7 @@ module _ {S C : Type 0} (submits : Submits S) (reads : Reads S) (line : Line C) 
       let held : length new.held ≡ length old.held + length on.more = ap length on.held ∙ length-append old.held on.more in
       let split : so.taken ++ on.more ≡ texts so.opens ++ new.held =
       ap (λ l. l ++ on.more) so.split ∙ append_assoc (texts so.opens) old.held on.more ∙ ap (λ l. texts so.opens ++ l) (sym on.held) in
-      let answers = read_on line.source.gives line.takes c0 c1 c2 so.opens so.taken old.held new.held (so.taken ++ on.more) so.answers so.split alone.0 split in
+      let answers = read_more line.source.gives line.takes c0 c1 c2 so.opens so.taken old.held new.held (so.taken ++ on.more) so.answers so.split alone.0 split in
       record {
         taken = so.taken ++ on.more;
         opens = so.opens;
@@ -197,12 +197,12 @@ module _ {S C : Type 0} (submits : Submits S) (reads : Reads S) (line : Line C) 
         said_as line.source.gives line.takes c0 c1 so.opens so.taken (responses so.opens) (responses (so.opens ++ []) ++ []) so.answers same,
       )
 
-  -- a response was written, and the session ends behind it
+  -- a response was written, and the session ends after it
   ends_saying : (c0 c1 c2 : C) (s t u : S) (old : ReadBuffer) (answered : ℕ) (ending : Ending) (rest said : List ℕ)
       → (so : SoFar submits reads line c0 c1 s t old answered) → so.taken ≡ texts (so.opens ++ last_of ending) ++ rest
       → IsEnding (IsAtEnd (line.source.remaining c1)) rest ending → Run submits reads s (so.opens ++ last_of ending) u
-      → responses (so.opens ++ last_of ending) ++ parting ending ≡ responses so.opens ++ said
-      → length (last_of ending) + partings ending ≡ 1 → false ≡ is_clean ending
+      → responses (so.opens ++ last_of ending) ++ malformed_response ending ≡ responses so.opens ++ said
+      → length (last_of ending) + malformed_responses ending ≡ 1 → false ≡ is_clean ending
       → Appends (line.contents c1) (line.contents c2) said → line.takes c1 said c2
       → EndsOver submits reads line c0 c2 s u (record { answered = answered + 1; clean = false })
   ends_saying c0 c1 c2 s t u old answered ending rest said so split is run all one unclean wrote took =
@@ -222,16 +222,16 @@ module _ {S C : Type 0} (submits : Submits S) (reads : Reads S) (line : Line C) 
           count = omega (arith, so.count, one, length-append so.opens (last_of ending));
           clean_is = unclean;
         },
-        (said_on line.source.gives line.takes c0 c1 c2 so.opens so.taken (responses so.opens) said (responses (so.opens ++ last_of ending) ++ parting ending) so.answers took all).0,
+        (said_on line.source.gives line.takes c0 c1 c2 so.opens so.taken (responses so.opens) said (responses (so.opens ++ last_of ending) ++ malformed_response ending) so.answers took all).0,
       )
 
-  pub ends_broken : (c0 c1 c2 : C) (s t : S) (old : ReadBuffer) (answered : ℕ) (b : Breach)
-      → SoFar submits reads line c0 c1 s t old answered → IsBroken (IsAtEnd (line.source.remaining c1)) old.held b
-      → Appends (line.contents c1) (line.contents c2) (response_of (Broken b) true) → line.takes c1 (response_of (Broken b) true) c2
+  pub ends_malformed : (c0 c1 c2 : C) (s t : S) (old : ReadBuffer) (answered : ℕ) (b : BadRequest)
+      → SoFar submits reads line c0 c1 s t old answered → IsMalformed (IsAtEnd (line.source.remaining c1)) old.held b
+      → Appends (line.contents c1) (line.contents c2) (response_of (Malformed b) true) → line.takes c1 (response_of (Malformed b) true) c2
       → EndsOver submits reads line c0 c2 s t (record { answered = answered + 1; clean = false })
-  ends_broken c0 c1 c2 s t old answered b so is wrote took =
-      ends_saying c0 c1 c2 s t t old answered (broken b) old.held (response_of (Broken b) true) so (split_all so.taken old.held so.opens so.split) is (run_all submits reads s t so.opens so.run)
-      (ap (λ (l : List Exchange). responses l ++ response_of (Broken b) true) (append-nil so.opens)) refl refl wrote took
+  ends_malformed c0 c1 c2 s t old answered b so is wrote took =
+      ends_saying c0 c1 c2 s t t old answered (malformed b) old.held (response_of (Malformed b) true) so (split_all so.taken old.held so.opens so.split) is (run_all submits reads s t so.opens so.run)
+      (ap (λ (l : List Exchange). responses l ++ response_of (Malformed b) true) (append-nil so.opens)) refl refl wrote took
 
   pub ends_closing : (c0 c1 c2 : C) (s t u : S) (old : ReadBuffer) (rest : List ℕ) (answered : ℕ) (x : Exchange)
       → SoFar submits reads line c0 c1 s t old answered → IsExchange x → x.close ≡ true → old.held ≡ x.text ++ rest
@@ -246,7 +246,7 @@ module _ {S C : Type 0} (submits : Submits S) (reads : Reads S) (line : Line C) 
   -- where nothing was due
   fails_none : (c0 c1 c2 : C) (s t : S) (here : ReadBuffer) (answered : ℕ) (cause : SessionErrorKind)
       → (so : SoFar submits reads line c0 c1 s t here answered) → NothingWasDue cause here.held → (c2 ≡ c1) ⊎ FailsToRead line.source c1 c2 (line.in_failed c2)
-      → ((made : ℕ) → here.left + made ≡ MOST_READS → IsCause cause (line.in_failed c2) (line.out_failed c2) so.taken made)
+      → ((made : ℕ) → here.left + made ≡ MAX_READS → IsCause cause (line.in_failed c2) (line.out_failed c2) so.taken made)
       → FailsOver submits reads line c0 c2 s t (record { answered = answered; written = 0; cause = cause })
   fails_none c0 c1 c2 s t here answered cause so nothing last is_cause =
       let same = (output_still line two c1 c2 (line.in_failed c2) last).0 in (
@@ -300,7 +300,7 @@ module _ {S C : Type 0} (submits : Submits S) (reads : Reads S) (line : Line C) 
       fails_none c0 stops.before c2 s t stops.here answered Memory all (inl stops.awaits) (inl stops.last) (λ made sum. (same ∙ was, works))
 
   pub fails_reading : (A : Type 0) (c0 c1 c2 : C) (s t : S) (old : ReadBuffer) (answered : ℕ) (before : Bool) (stop : ReadError)
-      → SoFar submits reads line c0 c1 s t old answered → HearsNothing line.source c1 c2 (line.in_failed c2) old stop
+      → SoFar submits reads line c0 c1 s t old answered → ReceivesNothing line.source c1 c2 (line.in_failed c2) old stop
       → SameUnlessReading {A = A} before (line.in_failed c2) (Err stop) → before ≡ false → line.out_failed c1 ≡ false
       → FailsOver submits reads line c0 c2 s t (record { answered = answered; written = 0; cause = cause_by stop })
   fails_reading A c0 c1 c2 s t old answered before why.Reading so stops same was out =
@@ -315,30 +315,30 @@ module _ {S C : Type 0} (submits : Submits S) (reads : Reads S) (line : Line C) 
   pub fails_to_begin : (c : C) (s : S) → line.in_failed c ≡ false → line.out_failed c ≡ false
       → FailsOver submits reads line c c s s (record { answered = 0; written = 0; cause = Memory })
   fails_to_begin c s in_works out_works =
-      fails_none c c c s s (record { held = []; left = MOST_READS; ended = false }) 0 Memory (begins c s) nothing_was_due (inl refl) (λ made sum. (in_works, out_works))
+      fails_none c c c s s (record { held = []; left = MAX_READS; ended = false }) 0 Memory (begins c s) nothing_was_due (inl refl) (λ made sum. (in_works, out_works))
 
-  cause_of_silence : (cause : SessionErrorKind) (written : ℕ) (in_failed out_failed : Bool) (taken : List ℕ) (made : ℕ) → in_failed ≡ false → cause ≢ Reading → (cause ≡ Writing → out_failed ≡ true)
+  cause_of_partial_write : (cause : SessionErrorKind) (written : ℕ) (in_failed out_failed : Bool) (taken : List ℕ) (made : ℕ) → in_failed ≡ false → cause ≢ Reading → (cause ≡ Writing → out_failed ≡ true)
       → (cause ≡ Memory → (out_failed ≡ false) × (written ≡ 0)) → IsCause cause in_failed out_failed taken made
-  cause_of_silence Reading written in_failed out_failed taken made i r w m = absurd (r refl)
-  cause_of_silence Writing written in_failed out_failed taken made i r w m = (w refl, i)
-  cause_of_silence Memory written in_failed out_failed taken made i r w m = (i, (m refl).0)
+  cause_of_partial_write Reading written in_failed out_failed taken made i r w m = absurd (r refl)
+  cause_of_partial_write Writing written in_failed out_failed taken made i r w m = (w refl, i)
+  cause_of_partial_write Memory written in_failed out_failed taken made i r w m = (i, (m refl).0)
 
-  unwritten_of_silence : (cause : SessionErrorKind) (written : ℕ) (out_failed : Bool) → cause ≢ Reading → (cause ≡ Memory → (out_failed ≡ false) × (written ≡ 0))
+  unwritten_of_partial_write : (cause : SessionErrorKind) (written : ℕ) (out_failed : Bool) → cause ≢ Reading → (cause ≡ Memory → (out_failed ≡ false) × (written ≡ 0))
       → cause ≢ Writing → written ≡ 0
-  unwritten_of_silence Reading written out_failed r m n = absurd (r refl)
-  unwritten_of_silence Writing written out_failed r m n = absurd (n refl)
-  unwritten_of_silence Memory written out_failed r m n = (m refl).1
+  unwritten_of_partial_write Reading written out_failed r m n = absurd (r refl)
+  unwritten_of_partial_write Writing written out_failed r m n = absurd (n refl)
+  unwritten_of_partial_write Memory written out_failed r m n = (m refl).1
 
   -- where a response was due, of which a part was written
-  fails_saying : (c0 c1 c2 : C) (s t u : S) (old : ReadBuffer) (answered : ℕ) (next : Due) (rest : List ℕ) (silence : Silence)
+  fails_saying : (c0 c1 c2 : C) (s t u : S) (old : ReadBuffer) (answered : ℕ) (next : Due) (rest : List ℕ) (partial_write : PartialWrite)
       → (so : SoFar submits reads line c0 c1 s t old answered) → so.taken ≡ texts (so.opens ++ exchange_due next) ++ rest
-      → IsDue (IsAtEnd (line.source.remaining c1)) silence.cause rest next → Run submits reads s (so.opens ++ exchange_due next) u
-      → Says (line.contents c1) (line.contents c2) false (line.out_failed c2) (bytes_due next) (Err silence)
-      → line.takes c1 (take silence.written (bytes_due next)) c2 → line.in_failed c1 ≡ false
-      → (is_spared next ≡ true → silence.cause ≢ Memory)
-      → FailsOver submits reads line c0 c2 s u (record { answered = answered; written = silence.written; cause = silence.cause })
-  fails_saying c0 c1 c2 s t u old answered next rest silence so split is run said took in_works spared =
-      let part = take silence.written (bytes_due next) in
+      → IsDue (IsAtEnd (line.source.remaining c1)) partial_write.cause rest next → Run submits reads s (so.opens ++ exchange_due next) u
+      → WritesResponse (line.contents c1) (line.contents c2) false (line.out_failed c2) (bytes_due next) (Err partial_write)
+      → line.takes c1 (take partial_write.written (bytes_due next)) c2 → line.in_failed c1 ≡ false
+      → (is_spared next ≡ true → partial_write.cause ≢ Memory)
+      → FailsOver submits reads line c0 c2 s u (record { answered = answered; written = partial_write.written; cause = partial_write.cause })
+  fails_saying c0 c1 c2 s t u old answered next rest partial_write so split is run said took in_works spared =
+      let part = take partial_write.written (bytes_due next) in
       let same = two.writes_leave c1 c2 part took in
       let made = length (pieces so.answers.acts) in
       let answers = said_on line.source.gives line.takes c0 c1 c2 so.opens so.taken (responses so.opens) part (responses so.opens ++ part) so.answers took refl in (
@@ -350,33 +350,33 @@ module _ {S C : Type 0} (submits : Submits S) (reads : Reads S) (line : Line C) 
           read = subst (λ (r : Option (List ℕ)). Consumes (line.source.remaining c0) r so.taken) (sym same.0) so.read;
           split = split;
           each = so.each;
-          next_is = subst (λ (r : Option (List ℕ)). IsDue (IsAtEnd r) silence.cause rest next) (sym same.0) is;
+          next_is = subst (λ (r : Option (List ℕ)). IsDue (IsAtEnd r) partial_write.cause rest next) (sym same.0) is;
           run = run;
           within = said.0;
           written = Appends-trans (line.contents c0) (line.contents c1) (line.contents c2) (responses so.opens) part so.written said.1;
           count = so.count;
           made = made;
-          cause = cause_of_silence silence.cause silence.written (line.in_failed c2) (line.out_failed c2) so.taken made (same.1 ∙ in_works) said.2 said.3 said.4;
-          unwritten = unwritten_of_silence silence.cause silence.written (line.out_failed c2) said.2 said.4;
+          cause = cause_of_partial_write partial_write.cause partial_write.written (line.in_failed c2) (line.out_failed c2) so.taken made (same.1 ∙ in_works) said.2 said.3 said.4;
+          unwritten = unwritten_of_partial_write partial_write.cause partial_write.written (line.out_failed c2) said.2 said.4;
           spared = spared;
         },
         record { before = c2; answers = answers.0; count = answers.1; last = inl refl },
       )
 
-  pub fails_due : (c0 c1 c2 : C) (s t u : S) (old : ReadBuffer) (rest : List ℕ) (answered : ℕ) (x : Exchange) (silence : Silence)
+  pub fails_due : (c0 c1 c2 : C) (s t u : S) (old : ReadBuffer) (rest : List ℕ) (answered : ℕ) (x : Exchange) (partial_write : PartialWrite)
       → SoFar submits reads line c0 c1 s t old answered → IsExchange x → old.held ≡ x.text ++ rest
-      → Step submits reads t x.verdict x.reply u → Says (line.contents c1) (line.contents c2) false (line.out_failed c2) (response_to x) (Err silence)
-      → line.takes c1 (take silence.written (response_to x)) c2 → line.in_failed c1 ≡ false
-      → (takes_no_memory x.reply ≡ true → silence.cause ≢ Memory)
-      → FailsOver submits reads line c0 c2 s u (record { answered = answered; written = silence.written; cause = silence.cause })
-  fails_due c0 c1 c2 s t u old rest answered x silence so is cut step said took in_works spared =
-      fails_saying c0 c1 c2 s t u old answered (due x) rest silence so (split_more so.taken old.held rest so.opens x so.split cut) (is, said.2) (run_more submits reads s t u so.opens x so.run step) said took in_works spared
+      → Step submits reads t x.verdict x.reply u → WritesResponse (line.contents c1) (line.contents c2) false (line.out_failed c2) (response_to x) (Err partial_write)
+      → line.takes c1 (take partial_write.written (response_to x)) c2 → line.in_failed c1 ≡ false
+      → (takes_no_memory x.reply ≡ true → partial_write.cause ≢ Memory)
+      → FailsOver submits reads line c0 c2 s u (record { answered = answered; written = partial_write.written; cause = partial_write.cause })
+  fails_due c0 c1 c2 s t u old rest answered x partial_write so is cut step said took in_works spared =
+      fails_saying c0 c1 c2 s t u old answered (due x) rest partial_write so (split_more so.taken old.held rest so.opens x so.split cut) (is, said.2) (run_more submits reads s t u so.opens x so.run step) said took in_works spared
 
-  pub fails_parting : (c0 c1 c2 : C) (s t : S) (old : ReadBuffer) (answered : ℕ) (b : Breach) (silence : Silence)
-      → SoFar submits reads line c0 c1 s t old answered → IsBroken (IsAtEnd (line.source.remaining c1)) old.held b
-      → Says (line.contents c1) (line.contents c2) false (line.out_failed c2) (response_of (Broken b) true) (Err silence)
-      → line.takes c1 (take silence.written (response_of (Broken b) true)) c2 → line.in_failed c1 ≡ false
-      → FailsOver submits reads line c0 c2 s t (record { answered = answered; written = silence.written; cause = silence.cause })
-  fails_parting c0 c1 c2 s t old answered b silence so is said took in_works =
-      fails_saying c0 c1 c2 s t t old answered (due_parting b) old.held silence so (split_all so.taken old.held so.opens so.split) (is, said.2) (run_all submits reads s t so.opens so.run) said took in_works
+  pub fails_malformed : (c0 c1 c2 : C) (s t : S) (old : ReadBuffer) (answered : ℕ) (b : BadRequest) (partial_write : PartialWrite)
+      → SoFar submits reads line c0 c1 s t old answered → IsMalformed (IsAtEnd (line.source.remaining c1)) old.held b
+      → WritesResponse (line.contents c1) (line.contents c2) false (line.out_failed c2) (response_of (Malformed b) true) (Err partial_write)
+      → line.takes c1 (take partial_write.written (response_of (Malformed b) true)) c2 → line.in_failed c1 ≡ false
+      → FailsOver submits reads line c0 c2 s t (record { answered = answered; written = partial_write.written; cause = partial_write.cause })
+  fails_malformed c0 c1 c2 s t old answered b partial_write so is said took in_works =
+      fails_saying c0 c1 c2 s t t old answered (due_malformed b) old.held partial_write so (split_all so.taken old.held so.opens so.split) (is, said.2) (run_all submits reads s t so.opens so.run) said took in_works
       (λ e. absurd (cc e))

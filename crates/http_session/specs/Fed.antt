@@ -1,19 +1,19 @@
--- What a body is put into: nothing is made of it, or a batch is read of it as it comes.
+-- The sinks of a body: it is discarded, or decoded as a batch piece by piece.
 use Rattle.std.specs.Prelude.{◌≡◌, ℕ, ◌⊎◌, List, ◌++◌, Result}
 use Rattle.jaeger_model.specs.declared.batch.Batch.{Batch}
 use Rattle.batch_codec.specs.declared.fault.DecodeError.{DecodeError}
 use Rattle.batch_codec.specs.declared.fault.DecodeError.TheVariants.{Memory}
 use Rattle.batch_feeder.specs.Feeding.{HasRefused, Repeats}
-use Rattle.http_session.specs.declared.hearing.PassedOver.{PassedOver}
+use Rattle.http_session.specs.declared.receiving.Discard.{Discard}
 
--- ---- a body that nothing is made of
+-- ---- a body that is discarded
 
-abbrev pub Passes : PassedOver → List ℕ → PassedOver → Type 0
+abbrev pub Passes : Discard → List ℕ → Discard → Type 0
 Passes s w t = Unit {0}
 
 -- ---- a batch
 
--- Whatever comes behind these bytes is answered as it would have been with them; or memory ran out, where no other fault
--- was refused before, and that is answered from then on.
+-- The result for any later bytes is that for these bytes followed by them. Or memory ran out before any other fault,
+-- and that is the result from then on.
 abbrev pub Follows : (List ℕ → Result Batch DecodeError) → List ℕ → (List ℕ → Result Batch DecodeError) → Type 0
 Follows old w new = ((rest : List ℕ) → old (w ++ rest) ≡ new rest) ⊎ (HasRefused new Memory × Repeats old Memory)

@@ -1,16 +1,16 @@
--- Laws that the impls of this crate name, and their lemmas. A clause can name nothing of its own crate's proofs/, so they stand in specs/.
--- What a body is put into is as it was after no bytes, and takes two pieces as it takes the bytes of both.
+-- Laws that the impls of this crate name, and their lemmas. A clause can't name its own crate's proofs/, so they are in
+-- specs/. A sink doesn't change by no bytes, and takes two pieces like the bytes of both.
 use Rattle.std.specs.Prelude.{ℕ, List, [], ◌++◌, Result, refl}
 use Rattle.std.proofs.Common.{append_assoc, sym, ◌∙◌, ap, inl, inr}
 use Rattle.jaeger_model.specs.declared.batch.Batch.{Batch}
 use Rattle.batch_codec.specs.declared.fault.DecodeError.{DecodeError}
-use Rattle.http_session.specs.declared.hearing.PassedOver.{PassedOver}
+use Rattle.http_session.specs.declared.receiving.Discard.{Discard}
 use Rattle.http_session.specs.Fed.{Passes, Follows}
 
-pub passes_nothing : (s : PassedOver) → Passes s [] s
+pub passes_nothing : (s : Discard) → Passes s [] s
 passes_nothing s = tt
 
-pub passes_joined : (s t u : PassedOver) (front back : List ℕ) → Passes s front t → Passes t back u → Passes s (front ++ back) u
+pub passes_joined : (s t u : Discard) (front back : List ℕ) → Passes s front t → Passes t back u → Passes s (front ++ back) u
 passes_joined s t u front back one two = tt
 
 pub follows_nothing : (f : List ℕ → Result Batch DecodeError) → Follows f [] f

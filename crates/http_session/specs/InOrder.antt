@@ -1,13 +1,13 @@
--- That a session has written the responses to all requests before it reads for the next one.
+-- A session has written the responses to all earlier requests before it reads for the next one.
 use Rattle.std.specs.Prelude.{◌≡◌, ℕ, ◌⊎◌, Bool, List, [], ◌∷◌, ◌++◌, length, take, Option}
 use Rattle.session_devices.specs.Takings.{Takings, LeavesOther}
 use Rattle.http_requests.specs.Waiting.{Gives, Source, source_of, FailsToRead}
-use Rattle.http_session.specs.Sessions.{Exchange, responses, Submits, Reads, EndsAs, FailsAs, last_of, parting, bytes_due}
+use Rattle.http_session.specs.Sessions.{Exchange, responses, Submits, Reads, EndsAs, FailsAs, last_of, malformed_response, bytes_due}
 use Rattle.http_session.specs.InTurn.{AwaitsNext}
 use Rattle.http_session.specs.declared.exchanges.Ended.{Ended}
 use Rattle.http_session.specs.declared.exchanges.SessionError.{SessionError}
 
--- what is known of a connection in each of its states
+-- what is known about a connection in each of its states
 pub record Line (C : Type 0) : Type 1 where
   pub source : Source C
   pub contents : C → Option (List ℕ)
@@ -19,17 +19,17 @@ abbrev pub line_of : {C : Type 0} → (C → Option (List ℕ)) → Gives C → 
 line_of remaining gives in_failed contents takes out_failed =
     record { source = source_of remaining gives; contents = contents; takes = takes; in_failed = in_failed; out_failed = out_failed }
 
--- reads leave what was written, and writes what is still to be read
+-- reads don't change what was written, and writes don't change what is still to be read
 pub record IsTwoWay {C : Type 0} (line : Line C) : Type 0 where
   pub reads_leave : LeavesOther C line.source.gives line.contents line.out_failed
   pub writes_leave : LeavesOther C line.takes line.source.remaining line.in_failed
 
--- what is done with a connection: a read that gives these bytes, or writes that take these
+-- what is done with a connection: a read that returns these bytes, or writes that take them
 pub data Act : Type 0 where
   got : List ℕ → Act
   put : List ℕ → Act
 
--- what the reads gave
+-- what the reads returned
 abbrev pub pieces : List Act → List (List ℕ)
 pieces [] = []
 pieces (got p ∷ acts) = p ∷ pieces acts
@@ -41,8 +41,8 @@ pub record Moment (C : Type 0) : Type 0 where
   pub received : List ℕ
   pub written : List ℕ
 
--- These acts led from one moment to another, one after the other: before each read more was awaited, for what had been
--- received and written by then.
+-- These acts, in order, led from one moment to another. Before each read more was awaited, given the bytes received and
+-- written by then.
 abbrev pub ActsWhile : {C : Type 0} → Gives C → Takings C → (List ℕ → List ℕ → Type 0) → Moment C → Moment C → List Act → Type 0
 ActsWhile gives takes Awaits s t [] = s ≡ t
 ActsWhile {C = C} gives takes Awaits s t (got p ∷ acts) =
@@ -52,20 +52,20 @@ ActsWhile {C = C} gives takes Awaits s t (put w ∷ acts) =
     (m : C) × takes s.state w m
     × ActsWhile gives takes Awaits (record { state = m; received = s.received; written = s.written ++ w }) t acts
 
--- The bytes received are the first of these requests and a rest, of which the next one is awaited. Exactly the responses
--- to those first ones are written.
+-- The bytes received are the first of these requests and a rest, in which the next one is awaited. Exactly the
+-- responses to those first ones are written.
 pub record AwaitsAnswered (opens : List Exchange) (received written : List ℕ) : Type 0 where
   pub next : AwaitsNext opens received
   pub answered : written ≡ responses next.before
 
--- What was done with a connection between two of its states: before each read the responses to all requests before the
--- one that is awaited were written.
+-- What was done with a connection between two of its states. Before each read the responses to all requests before the
+-- awaited one were written.
 pub record AnswersInTurn {C : Type 0} (gives : Gives C) (takes : Takings C) (s t : C) (opens : List Exchange) (received written : List ℕ) : Type 0 where
   pub acts : List Act
   pub each : ActsWhile gives takes (AwaitsAnswered opens) (record { state = s; received = []; written = [] }) (record { state = t; received = received; written = written }) acts
 
--- The same of a session that failed, in which so many reads gave something, or the end. One more may have failed, as the
--- last.
+-- Like AnswersInTurn, for a session that failed. The count is of the reads that returned bytes or found the end. One
+-- more, the last one, may have failed.
 pub record AnswersInTurnUpTo {C : Type 0} (line : Line C) (s t : C) (opens : List Exchange) (received written : List ℕ) (made : ℕ) : Type 0 where
   pub before : C
   pub answers : AnswersInTurn line.source.gives line.takes s before opens received written
@@ -78,7 +78,7 @@ pub record AnswersInTurnUpTo {C : Type 0} (line : Line C) (s t : C) (opens : Lis
 abbrev pub EndsOver : {S C : Type 0} → Submits S → Reads S → Line C → C → C → S → S → Ended → Type 0
 EndsOver submits reads line c0 c1 s t ended =
     (ends : EndsAs submits reads (line.source.remaining c0) (line.source.remaining c1) (line.contents c0) (line.contents c1) s t ended.answered ended.clean)
-    × AnswersInTurn line.source.gives line.takes c0 c1 ends.opens ends.taken (responses (ends.opens ++ last_of ends.ending) ++ parting ends.ending)
+    × AnswersInTurn line.source.gives line.takes c0 c1 ends.opens ends.taken (responses (ends.opens ++ last_of ends.ending) ++ malformed_response ends.ending)
 
 -- a session over a connection that failed
 abbrev pub FailsOver : {S C : Type 0} → Submits S → Reads S → Line C → C → C → S → S → SessionError → Type 0

@@ -2,7 +2,7 @@ pub mod Verdicts
 pub mod Questions
 pub mod Fed
 pub mod FedLaws
-pub mod Hearing
+pub mod Incoming
 pub mod Replies
 pub mod Responses
 pub mod Sessions

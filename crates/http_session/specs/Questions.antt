@@ -1,4 +1,4 @@
--- What the head of a request asks, and what its body makes of that.
+-- The question of a request's head, and the verdict with its body.
 use Rattle.std.specs.Prelude.{◌≡◌, ◌≢◌, ℕ, true, List, Result, Ok, Err}
 use Rattle.jaeger_model.specs.declared.batch.Batch.{Batch as BatchValue}
 use Rattle.batch_codec.specs.declared.fault.DecodeError.{DecodeError}
@@ -7,26 +7,26 @@ use Rattle.http_requests.specs.Asked.{Asked}
 use Rattle.http_session.specs.Verdicts.{JudgesBatch, Judges}
 use Rattle.http_session.specs.declared.question.Question.{Question}
 use Rattle.http_session.specs.declared.question.Question.TheVariants.{Settled, Batch}
-use Rattle.http_session.specs.declared.verdict.Remark.TheVariants.{NoSuchPath, NotAllowed, UnsupportedType, BatchRefused, BadParameter, NoMemory}
+use Rattle.http_session.specs.declared.verdict.ErrorReply.TheVariants.{NoSuchPath, NotAllowed, UnsupportedType, BatchRefused, BadParameter, NoMemory}
 use Rattle.http_session.specs.declared.verdict.Verdict.{Verdict}
-use Rattle.http_session.specs.declared.verdict.Verdict.TheVariants.{Submit, Ask, Say}
+use Rattle.http_session.specs.declared.verdict.Verdict.TheVariants.{Submit, Ask, Reject}
 
 -- the verdict on a body
 abbrev pub Decides : Question → List ℕ → Verdict → Type 0
 Decides (Settled settled) body v = v ≡ settled
 Decides Batch body v = JudgesBatch true body v
 
--- whatever the body is
+-- the verdict, whatever the body is
 abbrev pub Asks : Asked → Question → Type 0
 Asks a q = (body : List ℕ) (v : Verdict) → Decides q body v → Judges a body v
 
--- a batch that was read, or why there is none
+-- the verdict on a batch that was decoded, or on the fault
 abbrev pub JudgesRead : Result BatchValue DecodeError → Verdict → Type 0
 JudgesRead read (Submit b) = read ≡ Ok b
-JudgesRead read (Say (BatchRefused f)) = (read ≡ Err f) × (f ≢ Memory)
-JudgesRead read (Say NoMemory) = read ≡ Err Memory
-JudgesRead read (Say UnsupportedType) = ⊥
-JudgesRead read (Say NoSuchPath) = ⊥
-JudgesRead read (Say (NotAllowed e)) = ⊥
-JudgesRead read (Say (BadParameter p)) = ⊥
+JudgesRead read (Reject (BatchRefused f)) = (read ≡ Err f) × (f ≢ Memory)
+JudgesRead read (Reject NoMemory) = read ≡ Err Memory
+JudgesRead read (Reject UnsupportedType) = ⊥
+JudgesRead read (Reject NoSuchPath) = ⊥
+JudgesRead read (Reject (NotAllowed e)) = ⊥
+JudgesRead read (Reject (BadParameter p)) = ⊥
 JudgesRead read (Ask q) = ⊥

@@ -1,4 +1,4 @@
--- What is answered, and the bytes of its response.
+-- Replies, and the bytes of their responses.
 use Rattle.std.specs.Prelude.{ℕ, ◌==◌, ◌||◌, List, [], ◌++◌, Bool, true, false, Some, None, codes}
 use Rattle.serde_json.specs.Written.{compact_text}
 use Rattle.batch_codec.specs.Faults.{fault_text}
@@ -6,17 +6,17 @@ use Rattle.trace_model.specs.declared.answer.Answer.{Answer}
 use Rattle.trace_model.specs.declared.answer.Answer.TheVariants as give
 use Rattle.trace_model.specs.declared.refusal.Refusal.{Refusal}
 use Rattle.trace_model.specs.declared.refusal.Refusal.TheVariants as why
-use Rattle.http_requests.specs.declared.asked.Breach.{Breach}
-use Rattle.http_requests.specs.declared.asked.Breach.TheVariants as breach
+use Rattle.http_requests.specs.declared.asked.BadRequest.{BadRequest}
+use Rattle.http_requests.specs.declared.asked.BadRequest.TheVariants as bad_request
 use Rattle.query_http.specs.declared.paths.Endpoint.{Endpoint}
 use Rattle.query_http.specs.declared.paths.Endpoint.TheVariants as at
 use Rattle.query_http.specs.Faults.{parameter_name}
 use Rattle.query_http.specs.Responses.{response}
 use Rattle.query_json.specs.Trees.{answer_tree, error_tree}
-use Rattle.http_session.specs.declared.verdict.Remark.{Remark}
-use Rattle.http_session.specs.declared.verdict.Remark.TheVariants.{NoSuchPath, NotAllowed, UnsupportedType, BatchRefused, BadParameter, NoMemory}
+use Rattle.http_session.specs.declared.verdict.ErrorReply.{ErrorReply}
+use Rattle.http_session.specs.declared.verdict.ErrorReply.TheVariants.{NoSuchPath, NotAllowed, UnsupportedType, BatchRefused, BadParameter, NoMemory}
 use Rattle.http_session.specs.declared.reply.Reply.{Reply}
-use Rattle.http_session.specs.declared.reply.Reply.TheVariants.{Accepted, Answered, Refused, Said, Broken}
+use Rattle.http_session.specs.declared.reply.Reply.TheVariants.{Accepted, Answered, Refused, Error, Malformed}
 
 abbrev pub refusal_status : Refusal → ℕ
 refusal_status (why.JournalFull batches spans) = 503
@@ -44,31 +44,31 @@ refusal_message (why.Behind front) = codes "internal error"
 refusal_message (why.Conflict place) = codes "conflict"
 refusal_message why.Gone = codes "internal error"
 
-abbrev pub remark_status : Remark → ℕ
-remark_status NoSuchPath = 404
-remark_status (NotAllowed e) = 405
-remark_status UnsupportedType = 415
-remark_status (BatchRefused f) = 400
-remark_status (BadParameter p) = 400
-remark_status NoMemory = 500
+abbrev pub error_status : ErrorReply → ℕ
+error_status NoSuchPath = 404
+error_status (NotAllowed e) = 405
+error_status UnsupportedType = 415
+error_status (BatchRefused f) = 400
+error_status (BadParameter p) = 400
+error_status NoMemory = 500
 
-abbrev pub remark_message : Remark → List ℕ
-remark_message NoSuchPath = codes "no such path"
-remark_message (NotAllowed e) = codes "method not allowed"
-remark_message UnsupportedType = codes "unsupported content type"
-remark_message (BatchRefused f) = codes "batch refused: " ++ fault_text f
-remark_message (BadParameter p) = codes "bad parameter: " ++ parameter_name p
-remark_message NoMemory = codes "out of memory"
+abbrev pub error_message : ErrorReply → List ℕ
+error_message NoSuchPath = codes "no such path"
+error_message (NotAllowed e) = codes "method not allowed"
+error_message UnsupportedType = codes "unsupported content type"
+error_message (BatchRefused f) = codes "batch refused: " ++ fault_text f
+error_message (BadParameter p) = codes "bad parameter: " ++ parameter_name p
+error_message NoMemory = codes "out of memory"
 
-abbrev pub breach_status : Breach → ℕ
-breach_status breach.Head = 400
-breach_status breach.Body = 400
-breach_status breach.TooLarge = 413
+abbrev pub bad_request_status : BadRequest → ℕ
+bad_request_status bad_request.Head = 400
+bad_request_status bad_request.Body = 400
+bad_request_status bad_request.TooLarge = 413
 
-abbrev pub breach_message : Breach → List ℕ
-breach_message breach.Head = codes "bad request head"
-breach_message breach.Body = codes "bad request body"
-breach_message breach.TooLarge = codes "body too large"
+abbrev pub bad_request_message : BadRequest → List ℕ
+bad_request_message bad_request.Head = codes "bad request head"
+bad_request_message bad_request.Body = codes "bad request body"
+bad_request_message bad_request.TooLarge = codes "body too large"
 
 abbrev pub answer_status : Answer → ℕ
 answer_status (give.Trace None) = 404
@@ -83,8 +83,8 @@ abbrev pub status_of : Reply → ℕ
 status_of Accepted = 202
 status_of (Answered a) = answer_status a
 status_of (Refused r) = refusal_status r
-status_of (Said remark) = remark_status remark
-status_of (Broken b) = breach_status b
+status_of (Error error) = error_status error
+status_of (Malformed b) = bad_request_status b
 
 abbrev pub error_body : ℕ → List ℕ → List ℕ
 error_body status message = compact_text (error_tree status message)
@@ -93,10 +93,10 @@ abbrev pub body_of : Reply → List ℕ
 body_of Accepted = []
 body_of (Answered a) = compact_text (answer_tree a)
 body_of (Refused r) = error_body (refusal_status r) (refusal_message r)
-body_of (Said remark) = error_body (remark_status remark) (remark_message remark)
-body_of (Broken b) = error_body (breach_status b) (breach_message b)
+body_of (Error error) = error_body (error_status error) (error_message error)
+body_of (Malformed b) = error_body (bad_request_status b) (bad_request_message b)
 
--- the methods of the endpoint, where the request's is none of them
+-- the methods of the endpoint, if the request's is none of them
 abbrev pub methods_of : Endpoint → List ℕ
 methods_of at.Traces = codes "GET, POST"
 methods_of at.Trace = codes "GET"
@@ -105,7 +105,7 @@ methods_of at.OperationNames = codes "GET"
 methods_of at.Operations = codes "GET"
 methods_of at.Dependencies = codes "GET"
 
-abbrev pub allowed_by : Remark → List ℕ
+abbrev pub allowed_by : ErrorReply → List ℕ
 allowed_by (NotAllowed e) = methods_of e
 allowed_by NoSuchPath = []
 allowed_by UnsupportedType = []
@@ -114,13 +114,13 @@ allowed_by (BadParameter p) = []
 allowed_by NoMemory = []
 
 abbrev pub allow_of : Reply → List ℕ
-allow_of (Said remark) = allowed_by remark
+allow_of (Error error) = allowed_by error
 allow_of Accepted = []
 allow_of (Answered a) = []
 allow_of (Refused r) = []
-allow_of (Broken b) = []
+allow_of (Malformed b) = []
 
-abbrev pub closes_by : Remark → Bool
+abbrev pub closes_by : ErrorReply → Bool
 closes_by (NotAllowed e) = true
 closes_by NoSuchPath = false
 closes_by UnsupportedType = false
@@ -128,15 +128,15 @@ closes_by (BatchRefused f) = false
 closes_by (BadParameter p) = false
 closes_by NoMemory = false
 
--- the session closes behind these whatever the request asks
+-- the session closes after these, whatever the request asks
 abbrev pub closes : Reply → Bool
-closes (Said remark) = closes_by remark
-closes (Broken b) = true
+closes (Error error) = closes_by error
+closes (Malformed b) = true
 closes Accepted = false
 closes (Answered a) = false
 closes (Refused r) = false
 
--- the responses 202 and 500 take no memory
+-- the responses 202 and 500 need no memory
 abbrev pub takes_no_memory : Reply → Bool
 takes_no_memory r = status_of r == 202 || status_of r == 500
 

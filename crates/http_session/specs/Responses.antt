@@ -1,8 +1,8 @@
--- A response as it goes out.
+-- A response that is written in parts.
 use Rattle.std.specs.Prelude.{ℕ, List, [], ◌∷◌, ◌++◌, Option, Some, None}
 use Rattle.query_json.specs.Parts.{Parted, to_come}
 
--- what comes next of a head, or of what was left of one, and of the answer behind it
+-- the next part of a response: its head, or what is left of it, and then the answer's parts
 abbrev pub parted_by : List ℕ → Option Parted → Parted
 parted_by [] None = record { part = []; rest = [] }
 parted_by [] (Some answer) = answer

@@ -7,24 +7,24 @@ use Rattle.jaeger_model.specs.declared.batch.Batch.{Batch}
 use Rattle.trace_model.specs.declared.query.Query.{Query}
 use Rattle.trace_model.specs.declared.answer.Answer.{Answer}
 use Rattle.trace_model.specs.declared.refusal.Refusal.{Refusal}
-use Rattle.http_requests.specs.declared.read_buffer.TheConstants.{MOST_READS}
+use Rattle.http_requests.specs.declared.read_buffer.TheConstants.{MAX_READS}
 use Rattle.http_requests.specs.Asked.{asked_by}
-use Rattle.http_requests.specs.Requests.{Spells, IsBroken, AwaitsRequest}
+use Rattle.http_requests.specs.Requests.{Spells, IsMalformed, AwaitsRequest}
 use Rattle.http_requests.specs.declared.read_buffer.ReadError.{ReadError}
 use Rattle.http_requests.specs.declared.read_buffer.ReadError.TheVariants as why
-use Rattle.http_requests.specs.declared.asked.Breach.{Breach}
+use Rattle.http_requests.specs.declared.asked.BadRequest.{BadRequest}
 use Rattle.http_session.specs.Verdicts.{Judges, BeginsWithQuery}
 use Rattle.http_session.specs.Replies.{closes, takes_no_memory, response_of}
 use Rattle.http_session.specs.declared.verdict.Verdict.{Verdict}
-use Rattle.http_session.specs.declared.verdict.Verdict.TheVariants.{Submit, Ask, Say}
+use Rattle.http_session.specs.declared.verdict.Verdict.TheVariants.{Submit, Ask, Reject}
 use Rattle.http_session.specs.declared.reply.Reply.{Reply}
-use Rattle.http_session.specs.declared.reply.Reply.TheVariants.{Accepted, Answered, Refused, Said, Broken}
+use Rattle.http_session.specs.declared.reply.Reply.TheVariants.{Accepted, Answered, Refused, Error, Malformed}
 use Rattle.http_session.specs.declared.exchanges.SessionErrorKind.{SessionErrorKind}
 use Rattle.http_session.specs.declared.exchanges.SessionErrorKind.TheVariants.{Reading, Writing, Memory}
 use Rattle.http_session.specs.declared.exchanges.SessionError.{SessionError}
-use Rattle.http_session.specs.declared.exchanges.Silence.{Silence}
+use Rattle.http_session.specs.declared.exchanges.PartialWrite.{PartialWrite}
 
--- a request, what it asks, what is answered, and whether the session closes behind that
+-- a request, its verdict, the reply, and whether the session closes after it
 pub record Exchange : Type 0 where
   pub text : List ℕ
   pub head : RequestHead
@@ -33,7 +33,7 @@ pub record Exchange : Type 0 where
   pub reply : Reply
   pub close : Bool
 
--- the text is the request's, the verdict is on it, and it closes where the request or the reply wants it
+-- the text and the verdict are the request's, and it closes the session if the request or the reply asks for that
 pub record IsExchange (x : Exchange) : Type 0 where
   pub spells : Spells x.text x.head x.body
   pub verdict_follows : Judges (asked_by x.head) x.body x.verdict
@@ -60,13 +60,13 @@ Submits S = S → Batch → Result ℕ Refusal → S → Type 0
 abbrev pub Reads : Type 0 → Type 1
 Reads S = S → Query → Result Answer Refusal → S → Type 0
 
--- the store goes from s to t where this verdict gets this reply
+-- the store goes from s to t when this verdict gets this reply
 abbrev pub Step : {S : Type 0} → Submits S → Reads S → S → Verdict → Reply → S → Type 0
 Step submits reads s (Submit b) Accepted t = (place : ℕ) × submits s b (Ok place) t
 Step submits reads s (Submit b) (Refused r) t = submits s b (Err r) t
 Step submits reads s (Ask q) (Answered a) t = reads s q (Ok a) t
 Step submits reads s (Ask q) (Refused r) t = reads s q (Err r) t
-Step submits reads s (Say remark) (Said said) t = (said ≡ remark) × (t ≡ s)
+Step submits reads s (Reject error) (Error said) t = (said ≡ error) × (t ≡ s)
 Step submits reads s _ _ t = ⊥
 
 abbrev pub Run : {S : Type 0} → Submits S → Reads S → S → List Exchange → S → Type 0
@@ -75,41 +75,41 @@ Run {S = S} submits reads s (x ∷ xs) t = (m : S) × Step submits reads s x.ver
 
 -- ---- ends
 
--- how a session ends: the input between two requests, a response that closes, or no request
+-- how a session ends: the input ends between two requests, a response closes it, or the request is malformed
 pub data Ending : Type 0 where
   clean : Ending
   closing : Exchange → Ending
-  broken : Breach → Ending
+  malformed : BadRequest → Ending
 
 -- the exchange that closes the session, if one does
 abbrev pub last_of : Ending → List Exchange
 last_of clean = []
 last_of (closing x) = x ∷ []
-last_of (broken b) = []
+last_of (malformed b) = []
 
 abbrev pub IsEnding : Type 0 → List ℕ → Ending → Type 0
 IsEnding AtEnd rest clean = AtEnd × (rest ≡ [])
 IsEnding AtEnd rest (closing x) = IsExchange x × (x.close ≡ true)
-IsEnding AtEnd rest (broken b) = IsBroken AtEnd rest b
+IsEnding AtEnd rest (malformed b) = IsMalformed AtEnd rest b
 
--- the last response where there was no request
-abbrev pub parting : Ending → List ℕ
-parting clean = []
-parting (closing x) = []
-parting (broken b) = response_of (Broken b) true
+-- the last response, if the request was malformed
+abbrev pub malformed_response : Ending → List ℕ
+malformed_response clean = []
+malformed_response (closing x) = []
+malformed_response (malformed b) = response_of (Malformed b) true
 
-abbrev pub partings : Ending → ℕ
-partings clean = 0
-partings (closing x) = 0
-partings (broken b) = 1
+abbrev pub malformed_responses : Ending → ℕ
+malformed_responses clean = 0
+malformed_responses (closing x) = 0
+malformed_responses (malformed b) = 1
 
 abbrev pub is_clean : Ending → Bool
 is_clean clean = true
 is_clean (closing x) = false
-is_clean (broken b) = false
+is_clean (malformed b) = false
 
--- A session that ended. The bytes read are the requests and a rest, the bytes written are their responses
--- and a parting one where there was no request.
+-- A session ended. The bytes read are the requests and a rest, and the bytes written are their responses, and a last
+-- one if the rest was malformed.
 pub record EndsAs {S : Type 0} (submits : Submits S) (reads : Reads S) (in0 in1 out0 out1 : Option (List ℕ)) (s t : S) (answered : ℕ) (clean : Bool) : Type 0 where
   pub taken : List ℕ
   pub opens : List Exchange
@@ -120,58 +120,58 @@ pub record EndsAs {S : Type 0} (submits : Submits S) (reads : Reads S) (in0 in1 
   pub each : All IsOpen opens
   pub ends : IsEnding (IsAtEnd in1) rest ending
   pub run : Run submits reads s (opens ++ last_of ending) t
-  pub written : Appends out0 out1 (responses (opens ++ last_of ending) ++ parting ending)
-  pub count : answered ≡ length (opens ++ last_of ending) + partings ending
+  pub written : Appends out0 out1 (responses (opens ++ last_of ending) ++ malformed_response ending)
+  pub count : answered ≡ length (opens ++ last_of ending) + malformed_responses ending
   pub clean_is : clean ≡ is_clean ending
 
 -- ---- errors
 
--- what was to be written when a session failed: nothing, a response, or the parting one
+-- what was to be written when a session failed: nothing, a response, or the one to a malformed request
 pub data Due : Type 0 where
   none_yet : Due
   due : Exchange → Due
-  due_parting : Breach → Due
+  due_malformed : BadRequest → Due
 
 abbrev pub exchange_due : Due → List Exchange
 exchange_due none_yet = []
 exchange_due (due x) = x ∷ []
-exchange_due (due_parting b) = []
+exchange_due (due_malformed b) = []
 
--- Nothing was due: the next request was awaited, or memory ran out for a query whose head stood at the beginning. A request
--- that came whole and hands in a batch is answered, whatever memory there is.
+-- Nothing was due: the next request was awaited, or memory ran out for a query whose head was received. A complete
+-- request that submits a batch is answered even if memory runs out.
 abbrev pub NothingWasDue : SessionErrorKind → List ℕ → Type 0
 NothingWasDue Reading rest = AwaitsRequest rest
 NothingWasDue Writing rest = ⊥
 NothingWasDue Memory rest = AwaitsRequest rest ⊎ BeginsWithQuery rest
 
--- where a response was due, nothing was read before it was written
+-- if a response was due, nothing was read before it was written
 abbrev pub IsDue : Type 0 → SessionErrorKind → List ℕ → Due → Type 0
 IsDue AtEnd cause rest none_yet = NothingWasDue cause rest
 IsDue AtEnd cause rest (due x) = IsExchange x × (cause ≢ Reading)
-IsDue AtEnd cause rest (due_parting b) = IsBroken AtEnd rest b × (cause ≢ Reading)
+IsDue AtEnd cause rest (due_malformed b) = IsMalformed AtEnd rest b × (cause ≢ Reading)
 
 abbrev pub bytes_due : Due → List ℕ
 bytes_due none_yet = []
 bytes_due (due x) = response_to x
-bytes_due (due_parting b) = response_of (Broken b) true
+bytes_due (due_malformed b) = response_of (Malformed b) true
 
--- the response that is due takes no memory
+-- the response that is due needs no memory
 abbrev pub is_spared : Due → Bool
 is_spared none_yet = false
 is_spared (due x) = takes_no_memory x.reply
-is_spared (due_parting b) = false
+is_spared (due_malformed b) = false
 
--- each cause comes only with its device, or where all reads were made, each of which gave a byte; and with no failure of
--- another device
+-- each cause comes only with a failure of its device and of no other one, or if no read is left, each having returned a
+-- byte
 abbrev pub IsCause : SessionErrorKind → Bool → Bool → List ℕ → ℕ → Type 0
 IsCause Reading in_failed out_failed taken made =
-    ((in_failed ≡ true) ⊎ ((made ≡ MOST_READS) × (MOST_READS ≤ length taken))) × (out_failed ≡ false)
+    ((in_failed ≡ true) ⊎ ((made ≡ MAX_READS) × (MAX_READS ≤ length taken))) × (out_failed ≡ false)
 IsCause Writing in_failed out_failed taken made = (out_failed ≡ true) × (in_failed ≡ false)
 IsCause Memory in_failed out_failed taken made = (in_failed ≡ false) × (out_failed ≡ false)
 
--- A session that failed: the responses before are written whole, the next one as far as is reported. The
--- store has gone on by the exchange that is due, so an accepted batch stays accepted. Running out of memory holds
--- back no response that takes none.
+-- A session failed: the earlier responses were written completely, the next one as far as is reported. The store has
+-- made the step of the exchange that is due, so an accepted batch stays accepted. A response that needs no memory isn't
+-- held back when memory runs out.
 pub record FailsAs {S : Type 0} (submits : Submits S) (reads : Reads S) (in0 in1 out0 out1 : Option (List ℕ)) (s t : S) (in_failed out_failed : Bool) (error : SessionError) : Type 0 where
   pub taken : List ℕ
   pub opens : List Exchange
@@ -192,10 +192,10 @@ pub record FailsAs {S : Type 0} (submits : Submits S) (reads : Reads S) (in0 in1
 
 -- ---- on the way
 
--- a response was written whole, or as far as is reported
-abbrev pub Says : Option (List ℕ) → Option (List ℕ) → Bool → Bool → List ℕ → Result (Unit {0}) Silence → Type 0
-Says out0 out1 failed0 failed1 bytes (Ok _) = Appends out0 out1 bytes × (failed1 ≡ failed0)
-Says out0 out1 failed0 failed1 bytes (Err e) =
+-- a response was written completely, or as far as is reported
+abbrev pub WritesResponse : Option (List ℕ) → Option (List ℕ) → Bool → Bool → List ℕ → Result (Unit {0}) PartialWrite → Type 0
+WritesResponse out0 out1 failed0 failed1 bytes (Ok _) = Appends out0 out1 bytes × (failed1 ≡ failed0)
+WritesResponse out0 out1 failed0 failed1 bytes (Err e) =
     (e.written ≤ length bytes) × Appends out0 out1 (take e.written bytes)
     × (e.cause ≢ Reading) × (e.cause ≡ Writing → failed1 ≡ true)
     × (e.cause ≡ Memory → (failed1 ≡ failed0) × (e.written ≡ 0))
@@ -206,9 +206,9 @@ part_sent bytes (Ok _) = bytes
 part_sent bytes (Err n) = take n bytes
 
 -- what was written of a response
-abbrev pub part_said : List ℕ → Result (Unit {0}) Silence → List ℕ
-part_said bytes (Ok _) = bytes
-part_said bytes (Err e) = take e.written bytes
+abbrev pub part_written : List ℕ → Result (Unit {0}) PartialWrite → List ℕ
+part_written bytes (Ok _) = bytes
+part_written bytes (Err e) = take e.written bytes
 
 abbrev pub cause_by : ReadError → SessionErrorKind
 cause_by why.Reading = Reading

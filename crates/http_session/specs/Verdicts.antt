@@ -1,4 +1,4 @@
--- What a request asks: by its path, its method, its content, and its body or its parameters.
+-- The verdict on a request: by its path, its method, its content type, and its body or its parameters.
 use Rattle.std.specs.Prelude.{◌≡◌, ℕ, ◌⊎◌, Bool, true, false, List, slice_range, Result, Ok, Err}
 use Rattle.batch_codec.specs.BatchReading.{decoded}
 use Rattle.trace_model.specs.declared.query.Query.{Query}
@@ -14,15 +14,15 @@ use Rattle.query_http.specs.declared.paths.Endpoint.TheVariants.{Traces, Trace, 
 use Rattle.query_http.specs.Paths.{IsPath, IsNoPath}
 use Rattle.query_http.specs.Forms.{pairs_of}
 use Rattle.query_http.specs.Queries.{query_at, path_of, form_of}
-use Rattle.http_session.specs.declared.verdict.Remark.TheVariants.{NoSuchPath, NotAllowed, UnsupportedType, BatchRefused, BadParameter, NoMemory}
+use Rattle.http_session.specs.declared.verdict.ErrorReply.TheVariants.{NoSuchPath, NotAllowed, UnsupportedType, BatchRefused, BadParameter, NoMemory}
 use Rattle.http_session.specs.declared.verdict.Verdict.{Verdict}
-use Rattle.http_session.specs.declared.verdict.Verdict.TheVariants.{Submit, Ask, Say}
+use Rattle.http_session.specs.declared.verdict.Verdict.TheVariants.{Submit, Ask, Reject}
 
 -- what a head asks, by its bytes
 abbrev pub asked_of : List ℕ → Request → Asked
 asked_of bytes r = record { method = r.method; target = slice_range bytes r.target.start r.target.end; has_batch_type = r.has_batch_type; closes = r.closes }
 
--- each endpoint takes GET, and the one of traces takes POST too
+-- each endpoint accepts GET, and the one of traces accepts POST too
 abbrev pub allows : Endpoint → Method → Bool
 allows e Get = true
 allows Traces Post = true
@@ -36,26 +36,26 @@ allows e Other = false
 -- a query, or the first parameter that can't be read
 abbrev pub JudgesQuery : Result Query Parameter → Verdict → Type 0
 JudgesQuery read (Ask q) = read ≡ Ok q
-JudgesQuery read (Say (BadParameter p)) = read ≡ Err p
-JudgesQuery read (Say NoSuchPath) = ⊥
-JudgesQuery read (Say (NotAllowed e)) = ⊥
-JudgesQuery read (Say UnsupportedType) = ⊥
-JudgesQuery read (Say (BatchRefused f)) = ⊥
-JudgesQuery read (Say NoMemory) = ⊥
+JudgesQuery read (Reject (BadParameter p)) = read ≡ Err p
+JudgesQuery read (Reject NoSuchPath) = ⊥
+JudgesQuery read (Reject (NotAllowed e)) = ⊥
+JudgesQuery read (Reject UnsupportedType) = ⊥
+JudgesQuery read (Reject (BatchRefused f)) = ⊥
+JudgesQuery read (Reject NoMemory) = ⊥
 JudgesQuery read (Submit b) = ⊥
 
--- a batch that is handed in: its content first, then its bytes; memory may be wanting for it
+-- a batch that is submitted: its content type first, then its bytes; memory may run out for it
 abbrev pub JudgesBatch : Bool → List ℕ → Verdict → Type 0
 JudgesBatch has_type body (Submit b) = (has_type ≡ true) × (decoded body ≡ Ok b)
-JudgesBatch has_type body (Say (BatchRefused f)) = (has_type ≡ true) × (decoded body ≡ Err f)
-JudgesBatch has_type body (Say NoMemory) = has_type ≡ true
-JudgesBatch has_type body (Say UnsupportedType) = has_type ≡ false
-JudgesBatch has_type body (Say NoSuchPath) = ⊥
-JudgesBatch has_type body (Say (NotAllowed e)) = ⊥
-JudgesBatch has_type body (Say (BadParameter p)) = ⊥
+JudgesBatch has_type body (Reject (BatchRefused f)) = (has_type ≡ true) × (decoded body ≡ Err f)
+JudgesBatch has_type body (Reject NoMemory) = has_type ≡ true
+JudgesBatch has_type body (Reject UnsupportedType) = has_type ≡ false
+JudgesBatch has_type body (Reject NoSuchPath) = ⊥
+JudgesBatch has_type body (Reject (NotAllowed e)) = ⊥
+JudgesBatch has_type body (Reject (BadParameter p)) = ⊥
 JudgesBatch has_type body (Ask q) = ⊥
 
--- the endpoint that the request's path has, with its part
+-- the endpoint of the request's path, with its part
 pub record AtEndpoint (a : Asked) (Then : Endpoint → List ℕ → Type 0) : Type 0 where
   pub endpoint : Endpoint
   pub part : List ℕ
@@ -66,20 +66,20 @@ pub record AtEndpoint (a : Asked) (Then : Endpoint → List ℕ → Type 0) : Ty
 abbrev pub AsksQuery : Asked → Type 0
 AsksQuery a = AtEndpoint a (λ e part. a.method ≡ Get)
 
--- such a head stands at the beginning
+-- the bytes start with the head of a query
 pub record BeginsWithQuery (bytes : List ℕ) : Type 0 where
   pub head : RequestHead
   pub after : List ℕ
   pub takes : TakesHead bytes head after
   pub asks : AsksQuery (asked_by head)
 
--- by the method: a query, a batch, or none that the endpoint takes
+-- by the method: a query, a batch, or a method that the endpoint doesn't accept
 abbrev pub JudgesMethod : Asked → List ℕ → Verdict → Endpoint → List ℕ → Type 0
 JudgesMethod a body v e part =
     ((a.method ≡ Get) × JudgesQuery (query_at e part (pairs_of (form_of a.target))) v)
     ⊎ ((e ≡ Traces) × (a.method ≡ Post) × JudgesBatch a.has_batch_type body v)
-    ⊎ ((allows e a.method ≡ false) × (v ≡ Say (NotAllowed e)))
+    ⊎ ((allows e a.method ≡ false) × (v ≡ Reject (NotAllowed e)))
 
--- no endpoint has the path, or what its endpoint makes of it
+-- no endpoint has the path, or the verdict is that of its endpoint
 abbrev pub Judges : Asked → List ℕ → Verdict → Type 0
-Judges a body v = (IsNoPath (path_of a.target) × (v ≡ Say NoSuchPath)) ⊎ AtEndpoint a (JudgesMethod a body v)
+Judges a body v = (IsNoPath (path_of a.target) × (v ≡ Reject NoSuchPath)) ⊎ AtEndpoint a (JudgesMethod a body v)

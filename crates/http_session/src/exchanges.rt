@@ -3,7 +3,7 @@ ghost use Rattle.query_http.specs.Paths.{endpoint_rows};
 ghost use Rattle.query_json.specs.Parts.{to_come};
 ghost use Rattle.http_session.specs.Replies.{response_of, closes, takes_no_memory};
 ghost use Rattle.http_session.specs.declared.exchanges.SessionErrorKind.TheVariants.{Writing, Memory};
-ghost use Rattle.http_session.specs.Sessions.{Step, Says, part_said, cause_by};
+ghost use Rattle.http_session.specs.Sessions.{Step, WritesResponse, part_written, cause_by};
 ghost use Rattle.http_session.specs.InOrder.{line_of};
 ghost use Rattle.http_session.specs.Between.{store_of, devices_of, EndsBetween, FailsBetween, EndsServed, FailsServed};
 
@@ -11,8 +11,8 @@ use crate::pieces::Session;
 use crate::reply::Reply;
 use crate::respond::Respond;
 use crate::response::Response;
-use crate::send::send;
 use crate::verdict::Verdict;
+use crate::writing::write_all;
 use http_requests::ReadError;
 use matchit::Router;
 use query_http::{Endpoint, endpoints};
@@ -24,40 +24,40 @@ use store_backend::Backend;
 /// How a session ended.
 #[derive(Clone, Copy, Debug, PartialEq, Eq)]
 pub struct Ended {
-    /// How many responses were written.
+    /// The number of responses written.
     pub answered: u64,
     /// The input ended between two requests.
     pub clean: bool,
 }
 
-/// Why a session could not go on.
+/// Why a session failed.
 #[derive(Clone, Copy, Debug, PartialEq, Eq)]
 pub enum SessionErrorKind {
-    /// The input failed, or was to be read more often than a session may.
+    /// The input failed, or the limit of reads was reached.
     Reading,
     /// The output failed.
     Writing,
     Memory,
 }
 
-/// A session that could not go on.
+/// The failure of a session.
 #[derive(Clone, Copy, Debug, PartialEq, Eq)]
 pub struct SessionError {
-    /// How many responses were written whole.
+    /// The number of responses that were written completely.
     pub answered: u64,
-    /// How many bytes of the next one were written.
+    /// The number of bytes of the next response that were written.
     pub written: u64,
     pub cause: SessionErrorKind,
 }
 
-/// Why a response wasn't written whole.
+/// A response that was not written completely: how many of its bytes were, and why not more.
 #[derive(Clone, Copy, Debug)]
-pub(crate) struct Silence {
+pub(crate) struct PartialWrite {
     pub(crate) written: usize,
     pub(crate) cause: SessionErrorKind,
 }
 
-impl Silence {
+impl PartialWrite {
     pub(crate) fn after(self, answered: u64) -> SessionError
         ensures { result ≡
             record { answered = answered; written = self.written; cause = self.cause } }
@@ -79,7 +79,7 @@ pub(crate) fn cause_of(why: ReadError) -> SessionErrorKind
     }
 }
 
-/// Asks the store where the request needs it.
+/// Returns the reply to a request. Asks the store if necessary.
 pub(crate) fn answer<T, B: Backend<T>>(
     rt: &T,
     alloc: Global,
@@ -97,74 +97,74 @@ pub(crate) fn answer<T, B: Backend<T>>(
             Ok(found) => Reply::Answered(found),
             Err(refusal) => Reply::Refused(refusal),
         },
-        Verdict::Say(remark) => Reply::Said(remark),
+        Verdict::Reject(error) => Reply::Error(error),
     }
 }
 
-/// Whether the session closes behind the reply to a request, which may ask for it.
-pub(crate) fn closes_behind(asked: bool, reply: &Reply) -> bool
+/// Returns whether the session closes after the reply: the request asked for it, or the reply closes it.
+pub(crate) fn closes_after(asked: bool, reply: &Reply) -> bool
     ensures { result ≡ (asked || closes reply.now) }
 {
     asked || reply.closes()
 }
 
-/// Writes a response, and takes no memory.
-fn speak<W: Output>(output: &mut W, response: &[u8]) -> Result<(), Silence>
-    ensures says { Says (W.contents output.old) (W.contents output.new) (W.has_failed output.old)
-        (W.has_failed output.new) response.now result }
-    ensures took { W.takes output.old (part_said response.now result) output.new }
+/// Writes the bytes of a response. Allocates nothing.
+fn write_fixed<W: Output>(output: &mut W, response: &[u8]) -> Result<(), PartialWrite>
+    ensures wrote { WritesResponse (W.contents output.old) (W.contents output.new)
+        (W.has_failed output.old) (W.has_failed output.new) response.now result }
+    ensures took { W.takes output.old (part_written response.now result) output.new }
     ensures writing { IfErr result (λ e. e.cause ≡ Writing) }
 {
-    match send(output, response) {
+    match write_all(output, response) {
         Ok(()) => Ok(()),
-        Err(written) => Err(Silence {
+        Err(written) => Err(PartialWrite {
             written,
             cause: SessionErrorKind::Writing,
         }),
     }
 }
 
-/// Hands a response over.
-fn hand_over<C: Respond>(connection: &mut C, response: Response) -> Result<(), Silence>
-    ensures says { Says (C.contents connection.old) (C.contents connection.new)
+/// Writes a response, or hands it over to be written later.
+fn write_response<C: Respond>(connection: &mut C, response: Response) -> Result<(), PartialWrite>
+    ensures wrote { WritesResponse (C.contents connection.old) (C.contents connection.new)
         (C.Output.has_failed connection.old) (C.Output.has_failed connection.new)
         (to_come response) result }
-    ensures took { C.takes connection.old (part_said (to_come response) result) connection.new }
+    ensures took { C.takes connection.old (part_written (to_come response) result) connection.new }
     ensures writing { IfErr result (λ e. e.cause ≡ Writing) }
 {
     match connection.respond(response) {
         Ok(()) => Ok(()),
-        Err(written) => Err(Silence {
+        Err(written) => Err(PartialWrite {
             written,
             cause: SessionErrorKind::Writing,
         }),
     }
 }
 
-/// Says what a reply comes to; it takes no memory where that is 202 or 500.
-pub(crate) fn say<C: Respond>(
+/// Writes the response of a reply. Allocates nothing if that is 202 or 500.
+pub(crate) fn write_reply<C: Respond>(
     alloc: Global,
     connection: &mut C,
     reply: Reply,
     close: bool,
-) -> Result<(), Silence>
-    ensures says { Says (C.contents connection.old) (C.contents connection.new)
+) -> Result<(), PartialWrite>
+    ensures wrote { WritesResponse (C.contents connection.old) (C.contents connection.new)
         (C.Output.has_failed connection.old) (C.Output.has_failed connection.new)
         (response_of reply close) result }
-    ensures took { C.takes connection.old (part_said (response_of reply close) result)
+    ensures took { C.takes connection.old (part_written (response_of reply close) result)
         connection.new }
     ensures spared { takes_no_memory reply ≡ true → IfErr result (λ e. e.cause ≢ Memory) }
 {
     if let Some(bytes) = reply.fixed(close) {
-        return speak(connection, bytes);
+        return write_fixed(connection, bytes);
     }
     let Ok(response) = reply.into_response(alloc, close) else {
-        return Err(Silence {
+        return Err(PartialWrite {
             written: 0,
             cause: SessionErrorKind::Memory,
         });
     };
-    hand_over(connection, response)
+    write_response(connection, response)
 }
 
 /// Answers the requests of the connection one after the other.
@@ -188,6 +188,7 @@ fn run_session<T, C: Respond, B: Backend<T>>(
         connection.old connection.new backend.old backend.new) }
 {
     let mut session = Session::new(alloc);
+    // For the prover: explicit drops are cheaper than one at the end of the block.
     'requests: loop {
         match session.answer_next(rt, alloc, router, connection, backend) {
             Ok(None) => {}
@@ -203,26 +204,25 @@ fn run_session<T, C: Respond, B: Backend<T>>(
     }
 }
 
-/// Answers the requests of a connection one after the other, until the input ends between two of them or a
-/// response closes the session.
+/// Answers the requests of a connection one after the other, until the input ends between two of them or a response
+/// closes the session.
 ///
-/// The bytes read are the texts of requests and a rest, the bytes written one response to each, and a
-/// parting one where there is no request. A batch is accepted where the response says so, and each
-/// answer is the plain store's, at a point of one growing history: never before the point of an earlier
-/// answer, nor before a batch that was accepted.
+/// The bytes read are the texts of requests and a rest. The bytes written are one response to each request, and a last
+/// response if the rest is malformed. A batch is accepted if and only if the response says so. Each answer is the plain
+/// store's at a point of one growing history. That point is never before the point of an earlier answer, nor before a
+/// batch that was accepted.
 ///
-/// Before each read the bytes received by then were requests behind which the session stays open, and a rest of
-/// which the next request was awaited: no whole request stood at its beginning, nor a reason in its lines why
-/// there can be none; nothing is read behind a request whose response closes it. And exactly the responses to
-/// those requests were written by then: no response waits for what the client sends next. Of a session that failed
-/// this is said too, and of the read that failed, if one did.
+/// Before each read, the bytes received by then were requests after which the session stays open, and a rest that
+/// didn't decide the next request: it didn't start with a complete request, and its complete lines didn't rule one out.
+/// Nothing is read after a request whose response closes the session. Exactly the responses to those requests were
+/// written by then, so no response waits for what the client sends next. All this also holds for a session that failed,
+/// and for the read that failed, if one did.
 ///
 /// # Errors
 ///
-/// A device failed, the input was to be read more often than a session may (`http_requests::MOST_READS`), or
-/// memory ran out: for what is read at once, while a request was awaited, for a query, or for a response other than
-/// 202 and 500. A batch that came whole is answered, with 500 where memory ran out for it. A batch that was accepted
-/// before stays so.
+/// A device failed, the limit of reads (`http_requests::MAX_READS`) was reached, or memory ran out: for the buffer of a
+/// read, for a query, or for a response other than 202 and 500. A batch that was received completely is answered, with
+/// 500 if memory ran out for it. Batches that were accepted before stay accepted.
 pub fn serve_connection<T, C: Respond, B: Backend<T>>(
     rt: &T,
     alloc: Global,
@@ -250,13 +250,14 @@ pub fn serve_connection<T, C: Respond, B: Backend<T>>(
             cause: SessionErrorKind::Memory,
         });
     };
+    // For the prover: the match takes the clauses `ended` and `error` apart.
     match run_session(rt, alloc, &router, connection, backend) {
         Ok(ended) => Ok(ended),
         Err(error) => Err(error),
     }
 }
 
-/// [`serve_connection`] over an input and an output that were joined; they stay joined.
+/// Like [`serve_connection`], over a joined input and output, which stay joined.
 fn serve_joined<T, R: Input, W: Output, B: Backend<T>>(
     rt: &T,
     alloc: Global,
@@ -278,20 +279,21 @@ fn serve_joined<T, R: Input, W: Output, B: Backend<T>>(
         connection.old.input.now connection.new.input.now
         connection.old.output.now connection.new.output.now backend.old backend.new) }
 {
+    // For the prover: the match takes the clauses `ended` and `error` apart.
     match serve_connection(rt, alloc, connection, backend) {
         Ok(ended) => Ok(ended),
         Err(error) => Err(error),
     }
 }
 
-/// [`serve_connection`] over an input and an output that are joined to one connection.
+/// Like [`serve_connection`], over an input and an output, which it joins into one connection.
 ///
-/// What was written before which read, a clause can say of a connection alone: that of `serve_connection` does. Of the
-/// input by itself it is said that it is read only while the next request is awaited.
+/// Only the contract of a connection can say what was written before each read, as that of `serve_connection` does. The
+/// contract here says that the input is read only while the next request is awaited.
 ///
 /// # Errors
 ///
-/// As `serve_connection`.
+/// Like `serve_connection`.
 pub fn session<T, R: Input, W: Output, B: Backend<T>>(
     rt: &T,
     alloc: Global,
@@ -314,6 +316,7 @@ pub fn session<T, R: Input, W: Output, B: Backend<T>>(
         input.old input.new output.old output.new backend.old backend.new) }
 {
     let mut connection = Join::new(input, output);
+    // For the prover: the match takes the clauses `ended` and `error` apart.
     match serve_joined(rt, alloc, &mut connection, backend) {
         Ok(ended) => Ok(ended),
         Err(error) => Err(error),

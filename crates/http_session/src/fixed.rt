@@ -1,4 +1,4 @@
-//! The responses 202 and 500, whose bytes are known beforehand: they take no memory.
+//! The responses 202 and 500, whose bytes are constants: they need no memory.
 
 ghost use Rattle.std.specs.Prelude.{◌≡◌, [], codes};
 ghost use Rattle.query_http.specs.Responses.{response};

@@ -1,4 +1,4 @@
-//! Facts about sessions that go on in pieces. Each function does nothing, and its contract is the fact.
+//! Laws of sessions that run in pieces. Each function does nothing, and its contract is the law.
 
 ghost use Rattle.http_session.specs.InOrder.{line_of};
 ghost use Rattle.http_session.specs.Between.{store_of};
@@ -7,7 +7,7 @@ ghost use Rattle.http_session.specs.Pieces.{no_requests_yet, CanContinue, Underw
 use session_devices::Connection;
 use store_backend::Backend;
 
-/// A session of which nothing was read is underway from wherever its connection and its store are.
+/// A new session is underway from the present state of its connection and its store.
 pub fn a_new_session_is_underway<T, C: Connection, B: Backend<T>>(connection: &C, backend: &B)
     ensures ready { CanContinue (C.remaining connection.now) no_requests_yet }
 
@@ -20,8 +20,9 @@ pub fn a_new_session_is_underway<T, C: Connection, B: Backend<T>>(connection: &C
         connection.now connection.now backend.now backend.now no_requests_yet }
 {}
 
-/// A session that pauses stays underway while others hand batches in or ask the store, while other sessions go on by a piece
-/// ([`Session::answer_next`](crate::Session::answer_next): `asks`), or after anything else by which the store forgets nothing.
+/// A session that pauses stays underway while others submit batches or query the store, while other sessions run a
+/// piece ([`Session::answer_next`](crate::Session::answer_next): `asks`), and after anything else that makes the store
+/// forget nothing.
 pub fn a_pause_keeps_a_session_underway<T, C: Connection, B: Backend<T>>()
     ensures submits { StaysUnderway (store_of B.submits B.reads B.knows B.limits)
         (line_of C.remaining C.gives C.Input.has_failed C.contents C.takes C.Output.has_failed)
@@ -40,16 +41,16 @@ pub fn a_pause_keeps_a_session_underway<T, C: Connection, B: Backend<T>>()
         (ForgetsNothing (store_of B.submits B.reads B.knows B.limits)) }
 {}
 
-/// A session stays underway while its connection writes what it had kept of a response: nothing new is taken, and what was
-/// handed over stays as it was.
+/// A session stays underway while its connection writes the waiting part of a response: nothing new is handed over, and
+/// what was handed over doesn't change.
 pub fn late_writes_keep_a_session_underway<T, C: Connection, B: Backend<T>>()
     ensures { OutlastsWrites (store_of B.submits B.reads B.knows B.limits)
         (line_of C.remaining C.gives C.Input.has_failed C.contents C.takes C.Output.has_failed) }
 {}
 
-/// The answers so far of a session that is underway are those of one growing history, though others use the store too: each
-/// answer is the plain store's at a point that is never before the point of an earlier answer of this session, nor before a
-/// batch that was accepted from it.
+/// The answers so far of a session that is underway belong to one growing history, although others use the store too.
+/// Each answer is the plain store's at a point that is never before the point of an earlier answer of this session, nor
+/// before a batch accepted from it.
 pub fn answers_so_far_are_of_one_history<T, C: Connection, B: Backend<T>>()
     ensures { AnswersSoFar (store_of B.submits B.reads B.knows B.limits)
         (line_of C.remaining C.gives C.Input.has_failed C.contents C.takes C.Output.has_failed) }

@@ -1,33 +1,32 @@
-//! An HTTP session: requests of an input answered one after the other on an output, over a store.
+//! An HTTP session: answers the requests of an input one after the other on an output, over a store.
 //!
-//! What is written is proved to be related to what is read: the bytes read are requests and a rest, the
-//! bytes written are one response each, and every answer of the store is that of the plain store at a
-//! point of one growing history ([`session`]). Before it reads for the next request, it has written the responses to
-//! all before it ([`serve_connection`]).
+//! The bytes read are proved to be requests and a rest, the bytes written one response to each, and every answer of the
+//! store that of the plain store at a point of one growing history ([`session`]). The responses to all earlier requests
+//! are written before the session reads for the next one ([`serve_connection`]).
 //!
-//! * `verdict`: what a request asks of the store, or what is said to it without asking.
+//! * `verdict`: what a request asks of the store, or the error reply without asking.
 //! * `question`: what the head of a request asks.
-//! * `hearing`: what the bytes received come to: a head, and a body as it comes, which is never held whole.
-//! * `reply`: what is answered, and its response. `response`: a response as it is written.
-//! * `respond`: connections that take whole responses.
-//! * `fixed`: the responses 202 and 500, which take no memory.
-//! * `send`: writing all of a piece, or all parts of a response.
-//! * `pieces`: a session that goes on in pieces, with pauses between two requests or inside one.
-//! * `exchanges`: the session, one exchange after the other.
-//! * `laws`: facts about sessions that go on in pieces.
+//! * `receiving`: takes requests from the bytes received, with the body piece by piece.
+//! * `reply`: the reply to a request, and its response. `response`: a response that is written in parts.
+//! * `respond`: connections that take complete responses.
+//! * `fixed`: the responses 202 and 500, which need no memory.
+//! * `writing`: writes all of some bytes, or all parts of a response.
+//! * `pieces`: a session that runs in pieces, with pauses between two requests or inside one.
+//! * `exchanges`: the whole session.
+//! * `laws`: laws of sessions that run in pieces.
 #![tactic(auto)]
 
 mod exchanges;
 mod fixed;
-mod hearing;
 pub mod laws;
 mod pieces;
 mod question;
+mod receiving;
 mod reply;
 mod respond;
 mod response;
-mod send;
 mod verdict;
+mod writing;
 
 pub use exchanges::{Ended, SessionError, SessionErrorKind, serve_connection, session};
 pub use http_requests::SpareRoom;
@@ -35,4 +34,4 @@ pub use pieces::{Progress, Session};
 pub use reply::Reply;
 pub use respond::Respond;
 pub use response::Response;
-pub use verdict::{Remark, Verdict};
+pub use verdict::{ErrorReply, Verdict};

@@ -1,4 +1,4 @@
-//! A session that goes on in pieces, with pauses between two requests or inside one.
+//! A session that runs in pieces, with pauses between two requests or inside one.
 
 ghost use Rattle.std.specs.Prelude.{◌≡◌, ◌≢◌, ◌+◌, ◌↔◌, [], IsTrue, false, OnOk};
 ghost use Rattle.query_http.specs.Paths.{endpoint_rows};
@@ -7,9 +7,9 @@ ghost use Rattle.http_session.specs.Between.{store_of};
 ghost use Rattle.http_session.specs.Pieces.{no_requests_yet, CanContinue, IfOpen, IfAnswered, IfPaused, AwaitsMore, piece_of, AsksOnce, GoesOn};
 
 use crate::exchanges::{
-    Ended, SessionError, SessionErrorKind, answer, cause_of, closes_behind, say,
+    Ended, SessionError, SessionErrorKind, answer, cause_of, closes_after, write_reply,
 };
-use crate::hearing::{Heard, Stage, hear};
+use crate::receiving::{Incoming, Stage, receive};
 use crate::reply::Reply;
 use crate::respond::Respond;
 use http_requests::{ReadBuffer, SpareRoom};
@@ -18,9 +18,9 @@ use query_http::Endpoint;
 use std::alloc::{AllocError, Global};
 use store_backend::Backend;
 
-/// A session that pauses: the bytes received that were not taken yet, what it waits for, and the number of responses
-/// written. Of a request that has come in part it keeps what was made of that part. The connection and the store are not
-/// part of it, so other sessions may use the same store during a pause.
+/// A session that can pause: the bytes received and not yet taken, what it awaits, and the number of responses written.
+/// Of a request that was received in part it keeps the decoded part. The connection and the store are not part of it,
+/// so other sessions may use the same store during a pause.
 #[derive(Drop)]
 pub struct Session {
     received: ReadBuffer,
@@ -28,7 +28,7 @@ pub struct Session {
     answered: u64,
 }
 
-/// What became of a session by a piece of it.
+/// The result of a piece of a session.
 #[derive(Clone, Copy, Debug, PartialEq, Eq)]
 pub enum Progress {
     /// More of a request is awaited. Nothing was written, and nothing was asked of the store.
@@ -39,7 +39,7 @@ pub enum Progress {
 }
 
 impl Session {
-    /// Creates a session of which nothing was read.
+    /// Creates a session before the first read.
     pub fn new(alloc: Global) -> Self
         ensures { result ≡ no_requests_yet }
     {
@@ -57,30 +57,30 @@ impl Session {
         self.answered
     }
 
-    /// Returns whether bytes were received that no response has answered yet, such as those of a pipelined request.
-    /// The connection need not become readable again for them: continue such a session before it pauses.
+    /// Returns whether bytes were received that were not answered yet, such as those of a pipelined request. The
+    /// connection need not become readable again for them: continue such a session before it pauses.
     pub fn holds_bytes(&self) -> bool
         ensures { IsTrue result ↔ (self.now.received.held ≢ []) }
     {
         !self.received.as_slice().is_empty()
     }
 
-    /// Takes the spare room, if the session has none of its own.
+    /// Takes the spare room, unless the session has room of its own.
     pub fn borrow_room(&mut self, spare: &mut SpareRoom)
         ensures { self.new ≡ self.old }
     {
         self.received.borrow_room(spare);
     }
 
-    /// Gives its room back, if the session holds no bytes.
+    /// Returns its room to `spare` if the session holds no bytes.
     pub fn return_room(&mut self, spare: &mut SpareRoom)
         ensures { self.new ≡ self.old }
     {
         self.received.return_room(spare);
     }
 
-    /// Answers a request if the bytes received decide it: it asks the store if needed, and writes the one response.
-    /// Nothing is read. `Paused` says that more of the request is awaited.
+    /// Answers a request if the bytes received decide it: asks the store if necessary, and writes one response. Nothing
+    /// is read. `Paused` means that more of the request is awaited.
     ///
     /// # Errors
     ///
@@ -119,7 +119,7 @@ impl Session {
             × (connection.new ≡ connection.old) × (backend.new ≡ backend.old)) }
     {
         let answered = self.answered;
-        let heard = match hear(alloc, router, &mut self.stage, &mut self.received) {
+        let incoming = match receive(alloc, router, &mut self.stage, &mut self.received) {
             Err(AllocError) => {
                 return Err(SessionError {
                     answered,
@@ -128,31 +128,36 @@ impl Session {
                 });
             }
             Ok(None) => return Ok(Progress::Paused),
-            Ok(Some(heard)) => heard,
+            Ok(Some(incoming)) => incoming,
         };
-        let (verdict, asked) = match heard {
-            Heard::Clean => {
+        let (verdict, asked) = match incoming {
+            Incoming::Clean => {
                 return Ok(Progress::Ended(Ended {
                     answered,
                     clean: true,
                 }));
             }
-            Heard::Broken(breach) => {
-                if let Err(silence) = say(alloc, connection, Reply::Broken(breach), true) {
-                    return Err(silence.after(answered));
+            Incoming::Malformed(bad_request) => {
+                if let Err(partial_write) = write_reply(
+                    alloc,
+                    connection,
+                    Reply::Malformed(bad_request),
+                    true,
+                ) {
+                    return Err(partial_write.after(answered));
                 }
                 return Ok(Progress::Ended(Ended {
                     answered: answered + 1,
                     clean: false,
                 }));
             }
-            Heard::One(verdict, asked) => (verdict, asked),
+            Incoming::One(verdict, asked) => (verdict, asked),
         };
         let reply = answer(rt, alloc, backend, verdict);
-        let close = closes_behind(asked, &reply);
-        let said = say(alloc, connection, reply, close);
-        if let Err(silence) = said {
-            return Err(silence.after(answered));
+        let close = closes_after(asked, &reply);
+        let said = write_reply(alloc, connection, reply, close);
+        if let Err(partial_write) = said {
+            return Err(partial_write.after(answered));
         }
         self.answered = answered + 1;
         if close {
@@ -164,9 +169,9 @@ impl Session {
         Ok(Progress::Answered)
     }
 
-    /// Goes on by one read at most: answers a request if the bytes received decide it, with what one read gives where they
-    /// don't. `Paused` says that more of the request is awaited: continue when the connection is readable. A connection
-    /// that is readable when this is called is never waited for.
+    /// Runs a piece with at most one read: answers a request if the bytes received decide it, if necessary with those
+    /// of one read. `Paused` means that more of the request is awaited: continue when the connection is readable. This
+    /// doesn't block if the connection is readable when it is called.
     ///
     /// # Errors
     ///
@@ -209,25 +214,26 @@ impl Session {
             Ok(progress) => return Ok(progress),
             Err(error) => return Err(error),
         }
-        if let Err(why) = self.received.read_on(connection) {
+        if let Err(why) = self.received.read_more(connection) {
             return Err(SessionError {
                 answered: self.answered,
                 written: 0,
                 cause: cause_of(why),
             });
         }
+        // For the prover: the match takes the cases of the clause `goes_on` apart.
         match self.answer_held(rt, alloc, router, connection, backend) {
             Ok(progress) => Ok(progress),
             Err(error) => Err(error),
         }
     }
 
-    /// Hears one request, asks the store if needed, and writes the one response. Returns how the session ended, or
-    /// `None` while it stays open. Waits for the client until the request has come.
+    /// Reads one request, asks the store if necessary, and writes one response. Returns how the session ended, or
+    /// `None` while it stays open. Blocks until the client has sent the request.
     ///
-    /// The pieces of a session add up to what [`serve_connection`](crate::serve_connection) promises: wherever the session
-    /// began, it is underway from there after `None`, and has ended or failed from there otherwise. This holds even if other
-    /// sessions used the store since the last piece, provided that the store has forgotten nothing it knew.
+    /// The pieces of a session add up to what [`serve_connection`](crate::serve_connection) promises: from the state in
+    /// which the session began it is underway after `None`, and has ended or failed otherwise. This holds even if other
+    /// sessions used the store since the last piece, provided that the store has forgotten nothing that it knew.
     ///
     /// # Errors
     ///

@@ -6,22 +6,22 @@ ghost use Rattle.query_http.specs.Queries.{query_at};
 ghost use Rattle.http_session.specs.Verdicts.{JudgesQuery, AsksQuery, asked_of};
 ghost use Rattle.http_session.specs.Questions.{Asks};
 
-use crate::verdict::{Remark, Verdict};
+use crate::verdict::{ErrorReply, Verdict};
 use http_requests::{Method, Request};
 use matchit::Router;
 use query_http::{Endpoint, QueryFault, find_endpoint, path_and_form, read_query};
 use std::alloc::{AllocError, Global};
 
-/// What the head of a request asks.
+/// The question that the head of a request asks.
 #[derive(Debug, Drop)]
 pub(crate) enum Question {
-    /// The verdict is this, whatever the body is.
+    /// The verdict, whatever the body is.
     Settled(Verdict),
-    /// A batch is handed in, and the body is to spell it.
+    /// A batch is submitted, and the body is its text.
     Batch,
 }
 
-/// What a GET of an endpoint asks.
+/// Returns the verdict on a GET of an endpoint.
 ///
 /// # Errors
 ///
@@ -36,13 +36,13 @@ fn judge_query(
 {
     match read_query(alloc, endpoint, part, form) {
         Ok(query) => Ok(Verdict::Ask(query)),
-        Err(QueryFault::Bad(parameter)) => Ok(Verdict::Say(Remark::BadParameter(parameter))),
+        Err(QueryFault::Bad(parameter)) => Ok(Verdict::Reject(ErrorReply::BadParameter(parameter))),
         Err(QueryFault::NoMemory) => Err(AllocError),
         Err(QueryFault::NoPath) => unreachable!(),
     }
 }
 
-/// The target of the request that has this head.
+/// Returns the target of the request with this head.
 fn target_of<'b>(head: &'b [u8], request: &Request) -> &'b str
     requires { IsHeadOf head.now request.now }
     ensures { result.now ≡ slice_range head.now request.now.target.start request.now.target.end }
@@ -53,7 +53,8 @@ fn target_of<'b>(head: &'b [u8], request: &Request) -> &'b str
     }
 }
 
-/// What the head of a request asks: by its path, its method, and its parameters or the kind of its body.
+/// Returns the question that the head of a request asks, by its path, its method, and its parameters or the type of its
+/// body.
 ///
 /// # Errors
 ///
@@ -71,7 +72,7 @@ pub(crate) fn question_of(
 {
     let (path, form) = path_and_form(target_of(head, request));
     let Some((endpoint, part)) = find_endpoint(router, path) else {
-        return Ok(Question::Settled(Verdict::Say(Remark::NoSuchPath)));
+        return Ok(Question::Settled(Verdict::Reject(ErrorReply::NoSuchPath)));
     };
     match (request.method, endpoint) {
         (Method::Get, _) => match judge_query(alloc, endpoint, part, form) {
@@ -82,9 +83,9 @@ pub(crate) fn question_of(
             if request.has_batch_type {
                 Ok(Question::Batch)
             } else {
-                Ok(Question::Settled(Verdict::Say(Remark::UnsupportedType)))
+                Ok(Question::Settled(Verdict::Reject(ErrorReply::UnsupportedType)))
             }
         }
-        _ => Ok(Question::Settled(Verdict::Say(Remark::NotAllowed(endpoint)))),
+        _ => Ok(Question::Settled(Verdict::Reject(ErrorReply::NotAllowed(endpoint)))),
     }
 }

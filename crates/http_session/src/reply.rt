@@ -1,45 +1,47 @@
 ghost use Rattle.std.specs.Prelude.{◌≡◌, ◌++◌, [], IfOk, IfSome, is_some, string_bytes};
 ghost use Rattle.serde_json.specs.Written.{compact_text};
 ghost use Rattle.query_http.specs.Responses.{response};
+ghost use Rattle.query_http.specs.Statuses.{code_of};
 ghost use Rattle.query_json.specs.Parts.{to_come};
 ghost use Rattle.query_json.specs.Trees.{answer_tree};
-ghost use Rattle.http_session.specs.Replies.{status_of, allow_of, closes, takes_no_memory, response_of, remark_message, remark_status, refusal_status, refusal_message, breach_status, breach_message, error_body};
+ghost use Rattle.http_session.specs.Replies.{status_of, allow_of, closes, takes_no_memory, response_of, error_message, error_status, refusal_status, refusal_message, bad_request_status, bad_request_message, error_body};
 ghost use Rattle.http_session.specs.declared.reply.Reply.TheVariants as reply;
 
 use crate::fixed::{accepted, internal_error, out_of_memory};
 use crate::response::Response;
-use crate::verdict::Remark;
-use http_requests::Breach;
-use query_http::{Endpoint, respond, response_head_of};
+use crate::verdict::ErrorReply;
+use http_requests::BadRequest;
+use query_http::{Endpoint, Status, respond, response_head_of};
 use query_json::{AnswerParts, error_bytes};
 use std::alloc::{AllocError, Global};
 use trace_model::{Answer, Refusal};
 
-/// What is answered to a request.
+/// The reply to a request.
 #[derive(Debug, Drop)]
 pub enum Reply {
     /// The batch was accepted.
     Accepted,
     /// The store's answer to a query.
     Answered(Answer),
-    /// The store took the batch not, or gave no answer.
+    /// The store refused the batch, or could not answer.
     Refused(Refusal),
-    /// The store wasn't asked.
-    Said(Remark),
-    /// There is no request to answer.
-    Broken(Breach),
+    /// An error, without asking the store.
+    Error(ErrorReply),
+    /// The bytes are no request that can be read.
+    Malformed(BadRequest),
 }
 
-/// The most bytes of an answer that are copied behind their head, so that one write takes both.
-const JOINED: usize = 16_384;
+/// The size up to which an answer is copied after its head, so that one write takes both.
+const MAX_JOINED: usize = 16_384;
 
-fn refusal_status(refusal: Refusal) -> u16
-    ensures { result ≡ refusal_status refusal }
+fn refusal_status(refusal: Refusal) -> Status
+    ensures { code_of result ≡ refusal_status refusal }
 {
     match refusal {
-        Refusal::JournalFull { .. } | Refusal::Deferred | Refusal::Busy | Refusal::Closed => 503,
-        Refusal::Conflict { .. } => 409,
-        _ => 500,
+        Refusal::JournalFull { .. } | Refusal::Deferred | Refusal::Busy | Refusal::Closed =>
+            Status::ServiceUnavailable,
+        Refusal::Conflict { .. } => Status::Conflict,
+        _ => Status::InternalServerError,
     }
 }
 
@@ -57,62 +59,62 @@ fn refusal_message(refusal: Refusal) -> &'static str
     }
 }
 
-fn remark_status(remark: Remark) -> u16
-    ensures { result ≡ remark_status remark }
+fn error_status(error: ErrorReply) -> Status
+    ensures { code_of result ≡ error_status error }
 {
-    match remark {
-        Remark::NoSuchPath => 404,
-        Remark::NotAllowed(_) => 405,
-        Remark::UnsupportedType => 415,
-        Remark::BatchRefused(_) | Remark::BadParameter(_) => 400,
-        Remark::NoMemory => 500,
+    match error {
+        ErrorReply::NoSuchPath => Status::NotFound,
+        ErrorReply::NotAllowed(_) => Status::MethodNotAllowed,
+        ErrorReply::UnsupportedType => Status::UnsupportedMediaType,
+        ErrorReply::BatchRefused(_) | ErrorReply::BadParameter(_) => Status::BadRequest,
+        ErrorReply::NoMemory => Status::InternalServerError,
     }
 }
 
-fn remark_message(alloc: Global, remark: Remark) -> Result<String, AllocError>
-    ensures { IfOk result (λ s. string_bytes s ≡ remark_message remark) }
+fn error_message(alloc: Global, error: ErrorReply) -> Result<String, AllocError>
+    ensures { IfOk result (λ s. string_bytes s ≡ error_message error) }
 {
-    match remark {
-        Remark::NoSuchPath => String::from_str(alloc, "no such path"),
-        Remark::NotAllowed(_) => String::from_str(alloc, "method not allowed"),
-        Remark::UnsupportedType => String::from_str(alloc, "unsupported content type"),
-        Remark::BatchRefused(fault) => format!(in alloc; "batch refused: {fault}"),
-        Remark::BadParameter(parameter) => {
+    match error {
+        ErrorReply::NoSuchPath => String::from_str(alloc, "no such path"),
+        ErrorReply::NotAllowed(_) => String::from_str(alloc, "method not allowed"),
+        ErrorReply::UnsupportedType => String::from_str(alloc, "unsupported content type"),
+        ErrorReply::BatchRefused(fault) => format!(in alloc; "batch refused: {fault}"),
+        ErrorReply::BadParameter(parameter) => {
             let name = parameter.name();
             format!(in alloc; "bad parameter: {name}")
         }
-        Remark::NoMemory => String::from_str(alloc, "out of memory"),
+        ErrorReply::NoMemory => String::from_str(alloc, "out of memory"),
     }
 }
 
-fn breach_status(breach: Breach) -> u16
-    ensures { result ≡ breach_status breach }
+fn bad_request_status(bad_request: BadRequest) -> Status
+    ensures { code_of result ≡ bad_request_status bad_request }
 {
-    match breach {
-        Breach::Head | Breach::Body => 400,
-        Breach::TooLarge => 413,
+    match bad_request {
+        BadRequest::Head | BadRequest::Body => Status::BadRequest,
+        BadRequest::TooLarge => Status::ContentTooLarge,
     }
 }
 
-fn breach_message(breach: Breach) -> &'static str
-    ensures { result.now ≡ breach_message breach }
+fn bad_request_message(bad_request: BadRequest) -> &'static str
+    ensures { result.now ≡ bad_request_message bad_request }
 {
-    match breach {
-        Breach::Head => "bad request head",
-        Breach::Body => "bad request body",
-        Breach::TooLarge => "body too large",
+    match bad_request {
+        BadRequest::Head => "bad request head",
+        BadRequest::Body => "bad request body",
+        BadRequest::TooLarge => "body too large",
     }
 }
 
-fn remark_body(alloc: Global, remark: Remark) -> Result<Vec<u8>, AllocError>
+fn error_reply_body(alloc: Global, error: ErrorReply) -> Result<Vec<u8>, AllocError>
     ensures { IfOk result (λ v. v.items ≡
-        error_body (remark_status remark) (remark_message remark)) }
+        error_body (error_status error) (error_message error)) }
 {
-    let message = remark_message(alloc, remark)?;
-    error_bytes(alloc, remark_status(remark), message.as_str())
+    let message = error_message(alloc, error)?;
+    error_bytes(alloc, error_status(error).code(), message.as_str())
 }
 
-/// Returns the head, followed by all that is still to come of an answer.
+/// Returns the head, followed by the remaining parts of an answer.
 fn joined(head: Vec<u8>, mut parts: AnswerParts) -> Result<Vec<u8>, AllocError>
     ensures { IfOk result (λ v. v.items ≡ head.items ++ to_come parts) }
 {
@@ -125,21 +127,26 @@ fn joined(head: Vec<u8>, mut parts: AnswerParts) -> Result<Vec<u8>, AllocError>
     Ok(whole)
 }
 
-/// Returns the response of an answer, which is given out in parts if it is large.
-fn answered(alloc: Global, status: u16, answer: Answer, close: bool) -> Result<Response, AllocError>
+/// Returns the response of an answer, which is written in parts if it is large.
+fn answered(
+    alloc: Global,
+    status: Status,
+    answer: Answer,
+    close: bool,
+) -> Result<Response, AllocError>
     ensures { IfOk result (λ r. to_come r ≡
-        response status (compact_text (answer_tree answer)) [] close) }
+        response (code_of status) (compact_text (answer_tree answer)) [] close) }
 {
     let parts = AnswerParts::new(alloc, answer)?;
     let head = response_head_of(alloc, status, parts.remaining(), "", close)?;
-    if parts.remaining() > JOINED {
+    if parts.remaining() > MAX_JOINED {
         return Response::in_parts(head, parts);
     }
     let whole = joined(head, parts)?;
     Ok(Response::whole(whole))
 }
 
-/// The response of a refusal, where it takes no memory.
+/// Returns the response of a refusal, if it needs no memory.
 #[tactic(auto, unfolding(crate::specs::Replies::response_of))]
 fn fixed_refusal(refusal: Refusal, close: bool) -> Option<&'static [u8]>
     ensures response { IfSome result (λ bytes.
@@ -154,53 +161,56 @@ fn fixed_refusal(refusal: Refusal, close: bool) -> Option<&'static [u8]>
     }
 }
 
-/// The response of a remark, where it takes no memory.
+/// Returns the response of an error reply, if it needs no memory.
 #[tactic(auto, unfolding(crate::specs::Replies::response_of))]
-fn fixed_remark(remark: Remark, close: bool) -> Option<&'static [u8]>
-    ensures response { IfSome result (λ bytes. bytes.now ≡ response_of (reply.Said remark) close) }
-    ensures which { is_some result ≡ takes_no_memory (reply.Said remark) }
+fn fixed_error(error: ErrorReply, close: bool) -> Option<&'static [u8]>
+    ensures response { IfSome result (λ bytes. bytes.now ≡ response_of (reply.Error error) close) }
+    ensures which { is_some result ≡ takes_no_memory (reply.Error error) }
 {
-    match remark {
-        Remark::NoMemory => Some(out_of_memory(close)),
+    match error {
+        ErrorReply::NoMemory => Some(out_of_memory(close)),
         _ => None,
     }
 }
 
 impl Reply {
-    /// The status of its response.
-    pub fn status(&self) -> u16
-        ensures { result ≡ status_of self.now }
+    /// Returns the status of the response.
+    pub fn status(&self) -> Status
+        ensures { code_of result ≡ status_of self.now }
     {
         match self {
-            Reply::Accepted => 202,
-            Reply::Answered(Answer::Trace(None)) => 404,
-            Reply::Answered(_) => 200,
+            Reply::Accepted => Status::Accepted,
+            Reply::Answered(Answer::Trace(None)) => Status::NotFound,
+            Reply::Answered(_) => Status::Success,
             Reply::Refused(refusal) => refusal_status(*refusal),
-            Reply::Said(remark) => remark_status(*remark),
-            Reply::Broken(breach) => breach_status(*breach),
+            Reply::Error(error) => error_status(*error),
+            Reply::Malformed(bad_request) => bad_request_status(*bad_request),
         }
     }
 
-    /// The methods that the endpoint takes, where the request's is none of them; else nothing.
+    /// Returns the methods that the endpoint accepts, if the request's is none of them; otherwise an empty text.
     fn allow(&self) -> &'static str
         ensures { result.now ≡ allow_of self.now }
     {
         match self {
-            Reply::Said(Remark::NotAllowed(Endpoint::Traces)) => "GET, POST",
-            Reply::Said(Remark::NotAllowed(_)) => "GET",
+            Reply::Error(ErrorReply::NotAllowed(Endpoint::Traces)) => "GET, POST",
+            Reply::Error(ErrorReply::NotAllowed(_)) => "GET",
             _ => "",
         }
     }
 
-    /// Whether the session closes behind it, whatever the request asks.
+    /// Returns whether the session closes after this reply, whatever the request asks.
     pub fn closes(&self) -> bool
         ensures { result ≡ closes self.now }
     {
-        matches!(self, Reply::Said(Remark::NotAllowed(_)) | Reply::Broken(_))
+        matches!(
+            self,
+            Reply::Error(ErrorReply::NotAllowed(_)) | Reply::Malformed(_)
+        )
     }
 
-    /// The bytes of its response, where they take no memory: a batch was accepted, memory ran out, or
-    /// there was an internal error.
+    /// Returns the bytes of the response, if they need no memory: a batch was accepted, memory ran out, or there was an
+    /// internal error.
     #[tactic(auto, unfolding(crate::specs::Replies::response_of))]
     pub fn fixed(&self, close: bool) -> Option<&'static [u8]>
         ensures response { IfSome result (λ bytes. bytes.now ≡ response_of self.now close) }
@@ -209,13 +219,12 @@ impl Reply {
         match self {
             Reply::Accepted => Some(accepted(close)),
             Reply::Refused(refusal) => fixed_refusal(*refusal, close),
-            Reply::Said(remark) => fixed_remark(*remark, close),
-            Reply::Answered(_) | Reply::Broken(_) => None,
+            Reply::Error(error) => fixed_error(*error, close),
+            Reply::Answered(_) | Reply::Malformed(_) => None,
         }
     }
 
-    /// Returns its response, which keeps the answer if that is given out in parts. All the memory that it takes is taken
-    /// here.
+    /// Returns the response, which keeps the answer if that is written in parts. All memory for it is allocated here.
     ///
     /// # Errors
     ///
@@ -228,9 +237,13 @@ impl Reply {
         let body = match self {
             Reply::Accepted => Vec::new(alloc),
             Reply::Answered(answer) => return answered(alloc, status, answer, close),
-            Reply::Refused(refusal) => error_bytes(alloc, status, refusal_message(refusal))?,
-            Reply::Said(remark) => remark_body(alloc, remark)?,
-            Reply::Broken(breach) => error_bytes(alloc, status, breach_message(breach))?,
+            Reply::Refused(refusal) => error_bytes(alloc, status.code(), refusal_message(refusal))?,
+            Reply::Error(error) => error_reply_body(alloc, error)?,
+            Reply::Malformed(bad_request) => error_bytes(
+                alloc,
+                status.code(),
+                bad_request_message(bad_request),
+            )?,
         };
         let whole = respond(alloc, status, body.as_slice(), allow, close)?;
         Ok(Response::whole(whole))

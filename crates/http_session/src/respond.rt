@@ -1,4 +1,4 @@
-//! Connections that take whole responses.
+//! Connections that take complete responses.
 
 ghost use Rattle.std.specs.Prelude.{◌≡◌, ◌≤◌, true, OnOk, IfErr, length, take};
 ghost use Rattle.std.specs.Io.KnownBytes.{Appends};
@@ -6,16 +6,16 @@ ghost use Rattle.query_json.specs.Parts.{to_come};
 ghost use Rattle.http_session.specs.Sessions.{part_sent};
 
 use crate::response::Response;
-use crate::send::send_response;
+use crate::writing::write_parts;
 use session_devices::{Connection, Input, Join, Output};
 
-/// A connection that takes whole responses. It may keep what can't be written yet, and write it later.
+/// A connection that takes complete responses. It may keep what can't be written yet, and write it later.
 pub trait Respond: Connection {
-    /// Takes a response, and writes it or keeps it to be written later.
+    /// Writes a response, or keeps it to be written later.
     ///
     /// # Errors
     ///
-    /// The output failed; how many of the bytes it took before.
+    /// The output failed. Returns how many of the bytes it took before.
     fn respond(&mut self, response: Response) -> Result<(), usize>
         ensures ok { OnOk result (Appends (Self.contents self.old) (Self.contents self.new)
             (to_come response)) }
@@ -28,9 +28,9 @@ pub trait Respond: Connection {
             × (Self.Output.has_failed self.new ≡ true)) };
 }
 
-/// Writes all of the response before it returns, and takes no memory.
+/// Writes all of the response before it returns. Allocates nothing.
 impl<'a, R: Input, W: Output> Respond for Join<'a, R, W> {
     fn respond(&mut self, response: Response) -> Result<(), usize> {
-        send_response(self, response)
+        write_parts(self, response)
     }
 }

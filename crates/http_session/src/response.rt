@@ -1,4 +1,4 @@
-//! A response as it is written.
+//! A response that is written in parts.
 
 ghost use Rattle.std.specs.Prelude.{◌≡◌, ◌++◌, ◌<◌, ◌^◌, [], IfOk, length};
 ghost use Rattle.query_json.specs.Parts.{to_come};
@@ -7,11 +7,11 @@ use query_json::AnswerParts;
 use std::alloc::AllocError;
 use std::marker::Model;
 
-/// A response that is given out part by part, so that the text of a large answer is never held as a whole. Contracts see the
-/// part that comes next, and the bytes after it.
+/// A response that is written part by part, so the text of a large answer is never held as a whole. Contracts see the
+/// next part, and the bytes after it.
 #[derive(Drop)]
 pub struct Response {
-    /// The head, or all of a response that has no more parts. Empty once it was given out.
+    /// The head, or all of a response without more parts. Empty once it was written.
     head: Vec<u8>,
     answer: Option<AnswerParts>,
 }
@@ -39,8 +39,7 @@ impl Response {
         }
     }
 
-    /// Creates a response of a head and the answer after it. More bytes than a text in memory may have count as out of
-    /// memory.
+    /// Creates a response of a head and an answer. More than `i64::MAX` bytes count as out of memory.
     pub fn in_parts(head: Vec<u8>, answer: AnswerParts) -> Result<Response, AllocError>
         ensures { IfOk result (λ r. to_come r ≡ head.items ++ to_come answer) }
     {
@@ -78,7 +77,7 @@ impl Response {
         }
     }
 
-    /// Moves past that part. Takes no memory.
+    /// Moves past the current part. Allocates nothing.
     pub fn advance(&mut self)
         ensures { to_come self.new ≡ self.old.rest }
     {

@@ -3,24 +3,24 @@ use jaeger_model::Batch;
 use query_http::{Endpoint, Parameter};
 use trace_model::Query;
 
-/// What is said to a request without asking the store.
+/// An error reply that doesn't ask the store.
 #[derive(Clone, Copy, Debug, PartialEq, Eq)]
-pub enum Remark {
+pub enum ErrorReply {
     NoSuchPath,
-    /// The endpoint takes other methods.
+    /// The endpoint accepts other methods.
     NotAllowed(Endpoint),
-    /// The body is in a content coding, or of another type than Thrift's binary protocol.
+    /// The body has a content coding, or another type than the binary Thrift protocol.
     UnsupportedType,
     BatchRefused(DecodeError),
     BadParameter(Parameter),
-    /// There was no memory for the batch.
+    /// Memory ran out for the batch.
     NoMemory,
 }
 
-/// What a request asks of the store, or what is said to it.
+/// What a request asks of the store, or the error reply to it.
 #[derive(Debug, Drop)]
 pub enum Verdict {
     Submit(Batch),
     Ask(Query),
-    Say(Remark),
+    Reject(ErrorReply),
 }

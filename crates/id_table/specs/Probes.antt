@@ -15,7 +15,7 @@ hash_of keys id = sip.finish (fold sip.write (initial_hasher keys) (fed.u64 id.h
 abbrev pub hashes_of : RandomState → List TraceId → List ℕ
 hashes_of keys ids = map (hash_of keys) ids
 
--- no id has two rows, the places lead to those of the ids, and the capacity of the ids is enough for the room
+-- no id has two rows, the places lead to the rows of the ids, and the capacity of the ids is enough for the room
 pub record IsHoused (keys : RandomState) (places : Places) (most : ℕ) (ids : List TraceId) : Type 0 where
   pub fits : places.room < 2 ^ 32
   pub ids_fit : places.room ≤ most

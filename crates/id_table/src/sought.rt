@@ -5,7 +5,7 @@ use jaeger_model::TraceId;
 use row_places::Sought;
 use std::hash::{BuildHasher, Hasher, RandomState};
 
-/// The hash of an id.
+/// Returns the hash of an id.
 pub(crate) fn id_hash(keys: RandomState, id: TraceId) -> u64
     ensures { result ≡ hash_of keys id }
 {
@@ -15,7 +15,7 @@ pub(crate) fn id_hash(keys: RandomState, id: TraceId) -> u64
     state.finish()
 }
 
-/// An id that is sought among ids.
+/// The id to find, and the ids that are searched.
 #[derive(Drop)]
 pub(crate) struct SoughtId<'a> {
     pub(crate) keys: RandomState,

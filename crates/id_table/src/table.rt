@@ -13,17 +13,17 @@ use std::marker::Model;
 /// The row of an id that was entered.
 #[derive(Clone, Copy, Debug, PartialEq, Eq)]
 pub enum Entered {
-    /// It was in the table.
+    /// The id was in the table.
     Known(u32),
-    /// It was added.
+    /// The id was added.
     Added(u32),
 }
 
-/// Ids in the order of adding.
+/// Ids in the order in which they were added.
 #[derive(Drop)]
 pub struct IdTable {
     keys: RandomState,
-    /// Lead to the rows of the ids by their hashes.
+    /// Leads to the rows of the ids by their hashes.
     places: RowPlaces,
     ids: Vec<TraceId>,
 }
@@ -41,7 +41,7 @@ impl Model for IdTable {
 }
 
 impl IdTable {
-    /// A table with no id and room for so many.
+    /// Makes an empty table with room for `room` ids.
     ///
     /// # Errors
     ///
@@ -55,7 +55,7 @@ impl IdTable {
         Ok(IdTable { keys, places, ids })
     }
 
-    /// How many ids were added.
+    /// Returns the number of ids.
     pub fn used(&self) -> u32
         ensures used { result ≡ length self.now.ids }
         ensures within { result ≤ self.now.room }
@@ -63,14 +63,14 @@ impl IdTable {
         self.ids.len() as u32
     }
 
-    /// One more id may be added.
+    /// Whether one more id may be added.
     pub fn has_room(&self) -> bool
         ensures { IsTrue result ↔ (length self.now.ids < self.now.room) }
     {
         self.used() < self.places.room()
     }
 
-    /// The id of a row.
+    /// Returns the id of a row.
     pub fn id(&self, row: u32) -> TraceId
         requires { row < length self.now.ids }
         ensures { result ≡ id_at self.now.ids row }
@@ -78,7 +78,7 @@ impl IdTable {
         self.ids[row as usize]
     }
 
-    /// The row of the id, if it was added.
+    /// Returns the row of the id, if it was added.
     pub fn find(&self, id: TraceId) -> Option<u32>
         ensures { result ≡ position (same_trace id) self.now.ids }
     {
@@ -90,16 +90,15 @@ impl IdTable {
         self.places.find(id_hash(self.keys, id), &sought)
     }
 
-    /// Whether the id has this row, without looking it up.
+    /// Whether the id has this row, without a lookup.
     fn has_row(&self, row: u32, id: TraceId) -> bool
         ensures { OnTrue result (position (same_trace id) self.now.ids ≡ Some row) }
     {
         (row as usize) < self.ids.len() && self.ids[row as usize] == id
     }
 
-    /// The row of the id, if it was added. The row that is given is a guess: where it is right, the id isn't
-    /// looked up.
-    pub fn find_near(&self, row: u32, id: TraceId) -> Option<u32>
+    /// Returns the row of the id, if it was added. The given row is a guess; if it is right, there is no lookup.
+    pub fn find_with_guess(&self, row: u32, id: TraceId) -> Option<u32>
         ensures { result ≡ position (same_trace id) self.now.ids }
     {
         if self.has_row(row, id) {
@@ -109,9 +108,9 @@ impl IdTable {
         }
     }
 
-    /// Adds an id unless it is in the table. No memory is taken. The row that is given is a guess: where it is right, the
-    /// id isn't looked up. Its hash is taken once at most.
-    pub fn enter_near(&mut self, row: u32, id: TraceId) -> Entered
+    /// Adds an id unless it is in the table. Allocates nothing. The given row is a guess; if it is right, there is
+    /// no lookup. Hashes the id at most once.
+    pub fn enter_with_guess(&mut self, row: u32, id: TraceId) -> Entered
         requires { length self.old.ids < self.old.room }
         ensures entered { IsEntered self.old.ids id result self.new.ids }
         ensures room { self.new.room ≡ self.old.room }

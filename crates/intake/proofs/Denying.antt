@@ -1,4 +1,4 @@
--- What the keeper turns an entry away for is true of all that it had accepted.
+-- The keeper's refusal of an entry is true of all that it had accepted.
 use Rattle.std.proofs.Common.{◌≡◌, ℕ, List, refl, subst, sym, ap, ◌∙◌, ⊎_elim, Some, None, Option, Result, Ok, Err}
 use Rattle.std.specs.Option.{unwrap_or}
 use Rattle.std.specs.Result.{result_err}
@@ -34,7 +34,7 @@ left-unacknowledged limits list e NoMemory d = tt
 left-unacknowledged limits list e Deferred d = tt
 left-unacknowledged limits list e why d = absurd d
 
--- a denial's reason is one of those for which a job goes without an acknowledgement
+-- the reason of a denial is one of those for which a job isn't acknowledged
 pub denied-unacknowledged : (limits : Limits) (e : Entry) (why : Refusal) (list : Option (List Entry)) → IsDenied limits e why list → IsUnacknowledged why
 denied-unacknowledged limits e why (Some list) d = left-unacknowledged limits list e why d
 denied-unacknowledged limits e why None d = ⊎_elim (λ c. subst IsUnacknowledged (sym c) tt) (λ n. subst IsUnacknowledged (sym n) tt) d

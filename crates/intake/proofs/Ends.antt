@@ -1,4 +1,4 @@
--- What an ended seat handed in.
+-- What an ended seat submitted.
 use Rattle.std.proofs.Common.{◌≡◌, ℕ, ◌+◌, ⊎_elim, List, [], ◌∷◌, ◌++◌, length, refl, subst, sym, ap, ◌∙◌, arith, length-append, eq-eqb}
 use Rattle.std.proofs.lemmas.List.{append-nil}
 use Rattle.trace_model.specs.declared.entry.Entry.{Entry}
@@ -11,7 +11,7 @@ pub whole-of : (ks : List EndedSeat) (s : ℕ) (js all : List Entry) → HasEnde
 whole-of [] s js all h w = absurd h
 whole-of (k ∷ ks) s js all h w = ⊎_elim (λ t. (ap (λ n. jobs_of n all) (sym t.0) ∙ (w.0.0 ∙ t.1), subst (CountUp 1) t.1 w.0.1)) (λ t. whole-of ks s js all t w.1) h
 
--- the queue held nothing
+-- the queue was empty
 pub emptied : (ks : List EndedSeat) (s : ℕ) (js taken items : List Entry) → HasEnded ks s js → AreWhole ks (taken ++ items) → length items ≡ 0 → AllTaken s js taken
 emptied ks s js taken [] h w none = let p = whole-of ks s js (taken ++ []) h w in (ap (jobs_of s) (sym (append-nil taken)) ∙ p.0, p.1)
 emptied ks s js taken (i ∷ is) h w none = absurd (omega (arith, none))

@@ -1,4 +1,4 @@
--- How many jobs of each seat were taken.
+-- The number of jobs of each seat that were taken.
 use Rattle.std.proofs.Common.{◌≡◌, ◌≢◌, ℕ, zero, suc, ◌==◌, ◌<◌, ◌≤◌, ◌||◌, Bool, true, false, List, [], ◌∷◌, ◌++◌, length, set, replicate, refl, subst, sym, ap, ◌∙◌, arith, length-append, ne_eqb}
 use Rattle.std.specs.Prelude.{slice_index}
 use Rattle.std.proofs.lemmas.List.{append-nil, get_or-set_same, get_or-set_other, length-set}
@@ -25,7 +25,7 @@ none_taken made jobs numbers none is size = record {
   each = (λ s. ap (λ (z : List ℕ). slice_index z s) is ∙ (zeros made s ∙ ap (λ (z : List Entry). length (jobs_of s z)) (sym none)));
 }
 
--- one more was taken, and its number is kept
+-- one more was taken, and its number is stored
 pub one_taken : (made : ℕ) (jobs : List Entry) (numbers : List ℕ) (j : Entry) → AreLast made jobs numbers → j.seat < made → AllCountUp (jobs ++ j ∷ []) → AreLast made (jobs ++ j ∷ []) (set numbers j.seat j.number)
 one_taken made jobs numbers j l within counts = record {
   one_for_each = same_size ∙ l.one_for_each;
@@ -61,7 +61,7 @@ one_taken made jobs numbers j l within counts = record {
         (let apart : s ≢ j.seat = λ same. grind (arith, nat_tests, is, same) in
         get_or-set_other numbers j.seat s j.number 0 apart ∙ (l.each s ∙ ap length (sym (others s (λ same. apart (sym same))))))
 
--- the job was taken where so many of the seat were
+-- the job was taken if that many of the seat were
 pub has_so_many : (made : ℕ) (jobs : List Entry) (numbers : List ℕ) (s n k : ℕ) → AreLast made jobs numbers → k ≡ length (jobs_of s jobs) → leb n k ≡ ((n == 0) || has_job s n jobs)
 has_so_many made jobs numbers s n k l is = go (leb n k) refl (n == 0) refl (has_job s n jobs) refl
   where

@@ -37,7 +37,7 @@ all-answered limits k [] (b ∷ bs) end r = absurd r
 all-answered limits k (j ∷ js) [] end r = absurd r
 all-answered limits k (j ∷ js) (b ∷ bs) end r = (judged-answered limits k j b.answer r.0 end.published r.1 (all-shown limits r.0 js bs end r.2), all-answered limits r.0 js bs end r.2)
 
--- what is gained where one job is gained or not, and then others
+-- what is gained if one job is gained or not, and then others
 gained-then : (c : Bool) (before after : List Entry) (j : Entry) (js : List Entry) (bs : List Account) → after ≡ before ++ (if c then j ∷ [] else [])
     → after ++ gained_jobs after js bs ≡ before ++ (if c then j ∷ gained_jobs (before ++ j ∷ []) js bs else gained_jobs before js bs)
 gained-then true before after j js bs e =
@@ -52,7 +52,7 @@ all-accepted limits k (j ∷ js) (b ∷ bs) end r =
     all-accepted limits r.0 js bs end r.2
     ∙ gained-then (is_accepted b.answer && not (is_sent (accepted k) j)) (accepted k) (accepted r.0) j js bs (judged-accepted limits k j b.answer r.0 r.1)
 
--- what a run leaves, by what was judged
+-- the books after a run, by what was judged
 pub ran : (limits : Limits) (before : List Entry) (accounts : List Account) (start : Lists) (taken : List Entry) (after : List Account) (end : Lists) (js : List Entry) (bs : List Account)
     → taken ≡ before ++ js → after ≡ accounts ++ bs → Accounted taken after → JudgedInTurn limits start js bs end → Ran limits before accounts start taken after end
 ran limits before accounts start taken after end js bs t a each judged = record {

@@ -19,12 +19,12 @@ pub counted-left : (k : ℕ) (xs ys : List Entry) → CountUp k (xs ++ ys) → C
 counted-left k [] ys c = tt
 counted-left k (x ∷ xs) ys c = (c.0, counted-left (k + 1) xs ys c.1)
 
--- the jobs of each seat are numbered from 1 on in the front part, where they are so in the whole
+-- the jobs of each seat are numbered from 1 on in the front part, if they are in all of them
 pub counted-front : (handed : ℕ → List Entry) (front items : List Entry) → ((s : ℕ) → jobs_of s (front ++ items) ≡ handed s) → ((s : ℕ) → CountUp 1 (handed s)) → AllCountUp front
 counted-front handed front items same counts s =
     counted-left 1 (jobs_of s front) (jobs_of s items) (subst (CountUp 1) (sym (same s) ∙ jobs_of-append s front items) (counts s))
 
--- a seat of which some job was handed in has jobs
+-- a seat of which some job was submitted has jobs
 pub some-of : (s : ℕ) (before : List Entry) (j : Entry) (after : List Entry) → j.seat ≡ s → jobs_of s (before ++ j ∷ after) ≡ [] → ⊥
 some-of s before j after is gone =
     let here : jobs_of s (j ∷ after) ≡ j ∷ jobs_of s after = rw (eq-eqb j.seat s is) refl in
@@ -60,7 +60,7 @@ pub count-snoc : (n : ℕ) (js : List Entry) (j : Entry) → CountUp n js → j.
 count-snoc n [] j h e = (omega (arith, e), tt)
 count-snoc n (x ∷ xs) j h e = (h.0, count-snoc (n + 1) xs j h.1 (omega (arith, e)))
 
--- the lists after seat `at` has handed in one more
+-- the lists after seat `at` has submitted one more
 abbrev pub more : (ℕ → List Entry) → ℕ → Entry → ℕ → List Entry
 more handed at j s = cond (s == at) (handed s ++ j ∷ []) (handed s)
 
@@ -86,7 +86,7 @@ more-count handed at j s h e = go (s == at) refl
     go true is = count-snoc 1 (handed s) j h (e (grind (arith, nat_tests)))
     go false is = h
 
--- ended seats stay so where only seats that some view is of change
+-- ended seats stay so if only seats change that some view is of
 pub ended-on : (holder holder' : ℕ → Option ℕ) (handed handed' : ℕ → List Entry) (m n : ℕ) (ks : List EndedSeat) → m < n + 1
     → ((s : ℕ) → s < m → holder s ≡ none → (holder' s ≡ none) × (handed' s ≡ handed s)) → AreEnded holder handed m ks → AreEnded holder' handed' n ks
 ended-on holder holder' handed handed' m n [] le keep h = tt
@@ -134,14 +134,14 @@ seat_given-here holder at pass = rw (eq-eqb at at refl) refl
 pub seat_given-else : (holder : ℕ → Option ℕ) (at : ℕ) (pass : Option ℕ) (s : ℕ) → s ≢ at → seat_given holder at pass s ≡ holder s
 seat_given-else holder at pass s n = rw (ne_eqb s at n) refl
 
--- what stands in a list that is one longer
+-- what is in a list that is one longer
 pub at_end : {A : Type 0} (l : List A) (a b : A) (j : ℕ) → get_elem? (l ++ a ∷ []) j ≡ some b → ((get_elem? l j ≡ some b) × (j < length l)) ⊎ ((j ≡ length l) × (a ≡ b))
 at_end [] a b zero e = inr (refl, some-injective a b e)
 at_end [] a b (suc j) e = absurd (some-ne-none b (sym e))
 at_end (x ∷ xs) a b zero e = inl (e, omega arith)
 at_end (x ∷ xs) a b (suc j) e = ⊎_elim (λ t. inl (t.0, (let l = t.1 in omega (arith, l)))) (λ t. inr (ap suc t.0, t.1)) (at_end xs a b j e)
 
--- each view of a list in which one has become another and one stands at the end: those two, and each other one
+-- each view of a list in which one was replaced and one is appended: those two, and each other one
 each_forked : (Q : ℕ → QueueView → Type 0) (views : List QueueView) (pass : ℕ) (w new : QueueView) → Q pass w → Q (length (set views pass w)) new
     → ((k : ℕ) (u : QueueView) → k ≢ pass → get_elem? views k ≡ some u → Q k u) → (k : ℕ) (u : QueueView) → get_elem? (set views pass w ++ new ∷ []) k ≡ some u → Q k u
 each_forked Q views pass w new changed added others k u e =
@@ -153,7 +153,7 @@ each_forked Q views pass w new changed added others k u e =
     (λ t. subst (λ (z : QueueView). Q k z) t.1 (subst (λ (j : ℕ). Q j new) (sym t.0) added))
     (at_end (set views pass w) new u k e)
 
--- the same jobs, where seats have other views: each view has to fit
+-- the same jobs, if seats have other views: each view has to fit
 reheld : (items : List Entry) (views views' : List QueueView) (b : Balanced items views) (holder' : ℕ → Option ℕ)
     → ((k : ℕ) (u : QueueView) → get_elem? views' k ≡ some u → FitsSeat holder' b.2 k u × FitsClerk b.0 holder' b.2 b.3 k u) → Balanced items views'
 reheld items views views' b holder' fits = (b.0, holder', b.2, b.3, b.4, b.5, fits)
@@ -185,7 +185,7 @@ seats pass v may not items views b at =
       (λ y. absurd (apart ((f.1 y).0 ∙ sym mine.0))),
     )))
 
--- a seat's right to hand in goes to a new view
+-- a seat's right to submit goes to a new view
 pub resigns : (pass : ℕ) (v : QueueView) → v.submits ≡ true → v.takes ≡ false → Forks Balanced pass v (retired v) v
 resigns pass v may not items views b at =
     let w = retired v in
@@ -204,7 +204,7 @@ resigns pass v may not items views b at =
       (λ y. ((f.1 y).0, (f.1 y).1, (λ s le. let g = (f.1 y).2 s le in (other s g.0, g.1)), ended-on holder holder' handed handed u.made u.made u.ended (omega arith) (λ s l free. (other s free, refl)) (f.1 y).3)),
     )))
 
--- the clerk takes a seat in
+-- the clerk takes over a seat
 pub takes_in : (pass : ℕ) (v : QueueView) (other : ℕ) (w : QueueView) → v.takes ≡ true → v.submits ≡ false → w.submits ≡ true → w.takes ≡ false → Merges Balanced pass v other w (took_in v w) spent
 takes_in pass v other w may not theirs quiet items views b at apart its =
     let both = took_in v w in
@@ -247,11 +247,11 @@ takes_in pass v other w may not theirs quiet items views b at apart its =
     stays-none true h e = refl
     stays-none false h e = e
 
--- what a push says of the queue
+-- what a push implies for the queue
 pub full : (pass : ℕ) (v : QueueView) → v.submits ≡ true → Learns Balanced pass v (Queued v)
 full pass v may items views b at = (b.3, b.4 v.seat ∙ sym ((b.6 pass v at).0 may).1)
 
--- what a pop says of the queue
+-- what a pop implies for the queue
 pub waits : (pass : ℕ) (v : QueueView) → v.takes ≡ true → Learns Balanced pass v (Waiting v)
 waits pass v may items views b at = let mine = (b.6 pass v at).1 may in
     go b.1 b.2 v.made v.ended (v.taken ++ items) (λ s. ap (λ z. jobs_of s (z ++ items)) mine.1 ∙ b.4 s) b.5 mine.3

@@ -1,4 +1,4 @@
--- Which jobs of a seat were taken, and what taking it in moves.
+-- Which jobs of a seat were taken, and what taking over the seat moves.
 use Rattle.std.proofs.Common.{◌≡◌, ℕ, ◌+◌, ◌==◌, ◌<◌, ◌≤◌, ◌&&◌, ◌||◌, Bool, true, false, List, [], ◌∷◌, ◌++◌, length, refl, subst, sym, ap, ◌∙◌, arith, append_assoc, length-append, cond, map}
 use Rattle.std.specs.List.{list_any}
 use Rattle.std.proofs.lemmas.List.{append-nil, map-append}
@@ -41,7 +41,7 @@ counted-has k n (j ∷ js) c le lt = go (j.number == n) refl (λ more. counted-h
         let other : k < n = grind (arith, nat_tests, is, at, le) in
         ap (λ z. z || numbered n js) is ∙ rest other)
 
--- where all jobs of a seat were taken its last one was
+-- if all jobs of a seat were taken, its last one was
 pub last-among : (s : ℕ) (js taken : List Entry) → AllTaken s js taken → 0 < length js → has_job s (length js) taken ≡ true
 last-among s js taken a some = job-of-seat s (length js) taken ∙ (ap (numbered (length js)) a.0 ∙ counted-has 1 (length js) js a.1 (omega (arith, some)) (omega arith))
 
@@ -50,7 +50,7 @@ not-yet s n js taken is some not a =
     let P : ℕ → Type 0 = λ z. has_job s z taken ≡ false in
     absurd (cc (subst P is not, last-among s js taken a (omega (arith, some, is))))
 
--- where the last job of an ended seat was taken all of them were
+-- if the last job of an ended seat was taken, all of them were
 pub taken-already : (ks : List EndedSeat) (s n : ℕ) (js taken items : List Entry) → HasEnded ks s js → AreWhole ks (taken ++ items) → n ≡ length js → ((n == 0) || has_job s n taken) ≡ true → AllTaken s js taken
 taken-already ks s n js taken items h w is last = go (n == 0) refl
   where

@@ -1,4 +1,4 @@
--- What the clerk leaves.
+-- What the clerk returns when it ends.
 use Rattle.std.specs.Prelude.{◌≡◌, ℕ, ◌⊎◌, ◌==◌, ◌&&◌, not, Bool, true, false, if◌then◌else◌, List, [], ◌∷◌, ◌++◌, Result, Ok, Err, count_by, is_ok, is_err}
 use Rattle.std.specs.List.{list_any}
 use Rattle.trace_model.specs.declared.entry.Entry.{Entry}
@@ -26,7 +26,8 @@ is_accepted (Ok place) = true
 is_accepted (Err Deferred) = true
 is_accepted (Err _) = false
 
--- what a list gained by these jobs, in order: of those that were accepted, the ones that no earlier entry answers for
+-- the entries that a list gained by these jobs, in order: of those that were accepted, the ones that no earlier
+-- entry answers for
 abbrev pub gained_jobs : List Entry → List Entry → List Account → List Entry
 gained_jobs list [] accounts = []
 gained_jobs list (j ∷ js) [] = []
@@ -44,11 +45,11 @@ AllAnswered list [] [] = Unit {0}
 AllAnswered list (j ∷ js) (a ∷ rest) = AnsweredIfPlaced list j a.answer × AllAnswered list js rest
 AllAnswered list _ _ = ⊥
 
--- how many were acknowledged
+-- the number of acknowledged jobs
 abbrev pub acknowledged : List Account → ℕ
 acknowledged accounts = count_by (λ (a : Account). is_ok a.answer) accounts
 
--- how many were refused
+-- the number of refused jobs
 abbrev pub refused : List Account → ℕ
 refused accounts = count_by (λ (a : Account). is_err a.answer) accounts
 
@@ -63,7 +64,7 @@ pub record Ran (limits : Limits) (before : List Entry) (accounts : List Account)
   pub gained : accepted end ≡ accepted start ++ gained_jobs (accepted start) jobs answers
   pub answered : AllAnswered end.published jobs answers
 
--- the jobs that were judged, each with its account, and behind them those that are left
+-- the jobs that were judged, each with its account, followed by those that are left
 pub record Balances (taken : List Entry) (accounts : List Account) (left : List Entry) : Type 0 where
   pub judged_jobs : List Entry
   pub each : Accounted judged_jobs accounts
@@ -74,7 +75,7 @@ abbrev pub HasEnded : List EndedSeat → ℕ → List Entry → Type 0
 HasEnded [] seat jobs = ⊥
 HasEnded (k ∷ ks) seat jobs = ((k.seat ≡ seat) × (k.jobs ≡ jobs)) ⊎ HasEnded ks seat jobs
 
--- all that the seat handed in was taken, whole, in order, each job once, numbered from 1 on
+-- all that the seat submitted was taken, in order, each job once, numbered from 1 on
 abbrev pub AllTaken : ℕ → List Entry → List Entry → Type 0
 AllTaken seat jobs taken = (jobs_of seat taken ≡ jobs) × CountUp 1 jobs
 
@@ -94,7 +95,7 @@ EachNeeded seat jobs taken [] = Unit {0}
 EachNeeded seat jobs taken (j ∷ js) =
     (AllTaken seat jobs taken → ⊥) × EachNeeded seat jobs (taken ++ j ∷ []) js
 
--- these jobs were moved from the queue to those that are left, since the seat had jobs there
+-- these jobs were moved from the queue to those that are left, because the seat had jobs there
 pub record MovesFor (seat : ℕ) (jobs : List Entry) (taken left taken' left' : List Entry) : Type 0 where
   pub moved : List Entry
   pub taken_is : taken' ≡ taken ++ moved

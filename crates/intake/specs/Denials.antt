@@ -1,4 +1,4 @@
--- What a denial says: by which list an entry is refused, and that the reason is true of it.
+-- The claim of a denial: by which list an entry is refused, and that the reason is true of it.
 use Rattle.std.specs.Prelude.{◌≡◌, ◌⊎◌, List, Option, Some, None, Ok}
 use Rattle.trace_model.specs.declared.admission.Admission.{Admission}
 use Rattle.trace_model.specs.declared.entry.Entry.{Entry}
@@ -7,11 +7,11 @@ use Rattle.trace_model.specs.declared.refusal.Refusal.{Refusal}
 use Rattle.trace_model.specs.declared.refusal.Refusal.TheVariants.{JournalFull, Stale, NoMemory, Deferred, Closed, NoReply, Conflict}
 use Rattle.trace_model.specs.Refusals.{admission, refusal_of}
 
--- the list would take the entry, or has its batch already
+-- the list would accept the entry, or has its batch already
 abbrev pub IsTaken : Limits → List Entry → Entry → Type 0
 IsTaken limits list e = (a : Admission) × (admission limits list e ≡ Ok a)
 
--- the list leaves the entry out for this reason, or would take it and there was no memory
+-- the list leaves the entry out for this reason, or would accept it and there was no memory
 abbrev pub IsLeftOut : Limits → List Entry → Entry → Refusal → Type 0
 IsLeftOut limits list e (JournalFull batches spans) = refusal_of limits list e ≡ Some (JournalFull batches spans)
 IsLeftOut limits list e (Stale last) = refusal_of limits list e ≡ Some (Stale last)

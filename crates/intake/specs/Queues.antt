@@ -15,11 +15,12 @@ abbrev pub CountUp : ℕ → List Entry → Type 0
 CountUp n [] = Unit {0}
 CountUp n (j ∷ js) = (j.number ≡ n) × CountUp (n + 1) js
 
--- of each seat the jobs among these are numbered from 1 on
+-- for each seat, its jobs among these are numbered from 1 on
 abbrev pub AllCountUp : List Entry → Type 0
 AllCountUp jobs = (s : ℕ) → CountUp 1 (jobs_of s jobs)
 
--- so many seats were made, and of each one this is the number of its last job among the jobs, 0 where it has none
+-- this number of seats was made, and for each one this is the number of its last job among the jobs, 0 if it has
+-- none
 pub record AreLast (made : ℕ) (jobs : List Entry) (numbers : List ℕ) : Type 0 where
   pub one_for_each : length numbers ≡ made
   pub counted : AllCountUp jobs
@@ -36,7 +37,7 @@ ended_seat seat jobs = record { seat = seat; jobs = jobs }
 abbrev pub first_view : QueueView
 first_view = queue_view false true 0 0 [] [] []
 
--- a view that submits has its seat to itself, and its list is the seat's
+-- a view that submits is the only one of its seat, and its list is the seat's
 abbrev pub FitsSeat : (ℕ → Option ℕ) → (ℕ → List Entry) → ℕ → QueueView → Type 0
 FitsSeat holder handed pass v =
     v.submits ≡ true → (holder v.seat ≡ some pass) × (v.handed ≡ handed v.seat)
@@ -58,7 +59,7 @@ FitsClerk clerk holder handed taken pass v =
     v.takes ≡ true → (pass ≡ clerk) × (v.taken ≡ taken)
     × NotYetMade holder handed v.made × AreEnded holder handed v.made v.ended
 
--- for each seat its jobs taken, followed by those queued, are the jobs that it handed in, numbered from 1 on
+-- for each seat its jobs taken, followed by those queued, are the jobs that it submitted, numbered from 1 on
 abbrev pub Balanced : List Entry → List QueueView → Type 0
 Balanced items views =
     (clerk : ℕ) × (holder : ℕ → Option ℕ) × (handed : ℕ → List Entry) × (taken : List Entry)
@@ -69,11 +70,11 @@ Balanced items views =
 
 -- ---- what a step does to the view of the one who makes it
 
--- the job stands at the end of the seat's list
+-- the job is added at the end of the seat's list
 abbrev pub Puts : QueueView → Entry → QueueView → Type 0
 Puts v j w = w ≡ record v { handed = v.handed ++ j ∷ [] }
 
--- the job stands at the end of what was taken; it is of a seat that was made, and has that seat's next number
+-- the job is added at the end of what was taken; it is of a seat that was made, and has that seat's next number
 abbrev pub Takes : QueueView → Entry → QueueView → Type 0
 Takes v j w =
     (w ≡ record v { taken = v.taken ++ j ∷ [] }) × (j.seat < v.made) × AllCountUp (v.taken ++ j ∷ [])
@@ -99,11 +100,11 @@ took_in v w = record v { ended = ended_seat w.seat w.handed ∷ v.ended }
 
 -- ---- what a step says of the queue
 
--- behind some jobs that were taken, these queued ones end with all that the seat handed in
+-- after some jobs that were taken, these queued ones end with all that the seat submitted
 abbrev pub Queued : QueueView → List Entry → Type 0
 Queued v items = (taken : List Entry) × (jobs_of v.seat (taken ++ items) ≡ v.handed)
 
--- of each ended seat these are just the jobs that it handed in, numbered from 1 on
+-- for each ended seat these are just the jobs that it submitted, numbered from 1 on
 abbrev pub AreWhole : List EndedSeat → List Entry → Type 0
 AreWhole [] jobs = Unit {0}
 AreWhole (k ∷ ks) jobs = ((jobs_of k.seat jobs ≡ k.jobs) × CountUp 1 k.jobs) × AreWhole ks jobs

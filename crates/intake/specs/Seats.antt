@@ -1,4 +1,4 @@
--- What contracts see of seats, jobs and tickets.
+-- The values of seats, jobs and tickets.
 use Rattle.std.specs.Prelude.{◌≡◌, ℕ, ◌+◌, ◌-◌, ◌<◌, ◌^◌, ◌⊎◌, Bool, true, false, List, [], ◌∷◌, ◌++◌, length}
 use Rattle.atomic_table.specs.Seated.{TableId}
 use Rattle.crossbeam_queue.specs.Passes.{Pass, view}
@@ -9,8 +9,8 @@ use Rattle.trace_model.specs.declared.refusal.Refusal.TheVariants.{JournalFull, 
 use Rattle.intake.specs.declared.queue.QueueView.{QueueView}
 use Rattle.intake.specs.Queues.{jobs_of}
 
--- a seat: its desk, how many jobs the queue has room for, the seat's number, the jobs that it handed in,
--- and whether it may hand in more
+-- a seat: its desk, the number of jobs that the queue has room for, the seat's number, the jobs that it submitted,
+-- and whether it may submit more
 pub record SeatValue : Type 0 where
   pub desk : TableId
   pub capacity : ℕ
@@ -22,21 +22,20 @@ abbrev pub seat_value : TableId → ℕ → ℕ → QueueView → SeatValue
 seat_value desk capacity number v =
     record { desk = desk; capacity = capacity; seat = number; jobs = v.handed; hands_in = v.submits }
 
--- a seat of this desk that has handed in nothing yet
+-- a seat of this desk that has submitted nothing yet
 abbrev pub IsNewSeat : TableId → ℕ → SeatValue → Type 0
 IsNewSeat desk capacity s =
     (s.desk ≡ desk) × (s.capacity ≡ capacity) × (s.jobs ≡ []) × (s.hands_in ≡ true)
 
--- the entry that the seat makes of the work: it has the seat's next number, the first one being 1
+-- the entry that the seat makes of the work: it has the seat's next number, counted from 1
 abbrev pub next_job : SeatValue → Work → Entry
 next_job s w = record { seat = s.seat; number = length s.jobs + 1; work = w }
 
--- one more job was handed in
+-- one more job was submitted
 abbrev pub with_job : SeatValue → Entry → SeatValue
 with_job s e = record s { jobs = s.jobs ++ e ∷ [] }
 
--- at one moment the queue held as many jobs as it has room for: behind what was taken they had all of this
--- seat's
+-- at one moment the queue was full; with what was taken before, it had all jobs of this seat
 abbrev pub WasFull : SeatValue → Type 0
 WasFull s = (items : List Entry) × (length items ≡ s.capacity)
     × (taken : List Entry) × (jobs_of s.seat (taken ++ items) ≡ s.jobs)
@@ -45,14 +44,14 @@ WasFull s = (items : List Entry) × (length items ≡ s.capacity)
 abbrev pub HasNextNumber : SeatValue → Type 0
 HasNextNumber s = (s.hands_in ≡ true) × (length s.jobs < 2 ^ 64 - 1)
 
--- why a batch was not handed in; a seat that has ended, or has no number left, says only that the desk is closed
+-- why a batch was not submitted; a seat that has ended, or has no number left, only says that the desk is closed
 abbrev pub IsNotTaken : SeatValue → Refusal → Type 0
 IsNotTaken s why =
     (why ≡ Closed)
     ⊎ ((why ≡ NoMemory) × HasNextNumber s)
     ⊎ ((why ≡ Busy) × HasNextNumber s × WasFull s)
 
--- why a job that was handed in was not acknowledged: its keeper's refusal, or there is no reply
+-- why a submitted job was not acknowledged: its keeper's refusal, or there is no reply
 abbrev pub IsUnacknowledged : Refusal → Type 0
 IsUnacknowledged (JournalFull batches spans) = Unit {0}
 IsUnacknowledged (Stale last) = Unit {0}
@@ -63,7 +62,7 @@ IsUnacknowledged NoReply = Unit {0}
 IsUnacknowledged (Conflict place) = Unit {0}
 IsUnacknowledged _ = ⊥
 
--- a seat's right to hand in, and its list
+-- a seat's right to submit, and its list
 abbrev pub IsEndOf : {A : Type 0} → SeatValue → Pass A QueueView → Type 0
 IsEndOf s e =
     (e.table_id ≡ s.desk) × (e.me.1 ≡ [])

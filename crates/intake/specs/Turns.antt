@@ -1,4 +1,4 @@
--- What contracts see of the clerk, and what a turn does.
+-- The value of the clerk, and the effect of a turn.
 use Rattle.std.specs.Prelude.{◌≡◌, ℕ, List, [], ◌∷◌, ◌++◌, length, Result, Ok, Err}
 use Rattle.atomic_table.specs.Seated.{TableId}
 use Rattle.trace_model.specs.declared.entry.Entry.{Entry}
@@ -12,7 +12,7 @@ use Rattle.intake.specs.declared.queue.QueueView.{QueueView}
 use Rattle.intake.specs.declared.queue.EndedSeat.{EndedSeat}
 use Rattle.intake.specs.Queues.{AreWhole}
 
--- the clerk's end of the queue: its desk, all that was taken, and what ended seats handed in
+-- the clerk's end of the queue: its desk, all that was taken, and what ended seats submitted
 pub record InboxValue : Type 0 where
   pub desk : TableId
   pub taken : List Entry
@@ -38,7 +38,7 @@ IsNewInbox i = (i.taken ≡ []) × (i.ended ≡ [])
 abbrev pub IsNewClerk : ClerkValue → Type 0
 IsNewClerk c = (c.taken ≡ []) × (c.ended ≡ []) × (c.accounts ≡ [])
 
--- at one moment nothing was queued: all that the ended seats handed in had been taken
+-- at one moment nothing was queued: all that the ended seats submitted had been taken
 abbrev pub WasEmpty : List EndedSeat → List Entry → Type 0
 WasEmpty ended taken = (items : List Entry) × (length items ≡ 0) × AreWhole ended (taken ++ items)
 
@@ -48,7 +48,7 @@ Accounted [] [] = Unit {0}
 Accounted (j ∷ js) (a ∷ rest) = (a.seat ≡ j.seat) × (a.number ≡ j.number) × Accounted js rest
 Accounted _ _ = ⊥
 
--- the place alone, or the refusal
+-- only the place, or the refusal
 abbrev pub place_or_refusal : {A B : Type 0} → (A → ℕ) → (B → Refusal) → Result A B → Result ℕ Refusal
 place_or_refusal place why (Ok a) = Ok (place a)
 place_or_refusal place why (Err d) = Err (why d)
@@ -61,7 +61,7 @@ abbrev pub with_account : ClerkValue → Entry → Result ℕ Refusal → ClerkV
 with_account c job answer =
     record c { taken = c.taken ++ job ∷ []; accounts = c.accounts ++ account_of job answer ∷ [] }
 
--- one job of this seat and number was taken, and judged as one admit does
+-- one job of this seat and number was taken, and judged as one call of admit does
 abbrev pub Serves : Limits → ClerkValue → Lists → ℕ → ℕ → ClerkValue → Lists → Type 0
 Serves limits old lists seat number new lists' =
     (job : Entry) × (answer : Result ℕ Refusal) × (job.seat ≡ seat) × (job.number ≡ number)

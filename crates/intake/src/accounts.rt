@@ -8,13 +8,13 @@ use read_side::{CountedLog, EmptyLog};
 use std::marker::Model;
 use std::sync::Wait;
 
-/// How many accounts there are at most.
-const MOST: u64 = 4_611_686_018_427_387_904;
+/// The greatest number of accounts.
+const MAX_ACCOUNTS: u64 = 4_611_686_018_427_387_904;
 
 /// An account of each job that a clerk took, in the order taken.
 ///
-/// Contracts see all of them. Kept are how many there are and how many were acknowledged, so that they take no more
-/// memory as jobs come. There are at most 4,611,686,018,427,387,904.
+/// Contracts see all of them. Only the number of accounts and of acknowledged jobs are stored, so that they need no
+/// more memory as jobs come. There are at most 4,611,686,018,427,387,904.
 #[derive(Drop)]
 pub struct Accounts {
     log: CountedLog<Account>,
@@ -35,7 +35,7 @@ impl Model for Accounts {
 }
 
 impl Accounts {
-    /// None yet.
+    /// Makes an empty list.
     pub(crate) fn new() -> Accounts
         ensures { result ≡ [] }
     {
@@ -45,21 +45,21 @@ impl Accounts {
         }
     }
 
-    /// How many there are.
+    /// Returns the number of accounts.
     pub fn count(&self) -> u64
         ensures { result ≡ length self.now }
     {
         self.log.len()
     }
 
-    /// How many of the jobs were acknowledged.
+    /// Returns the number of acknowledged jobs.
     pub fn acknowledged(&self) -> u64
         ensures { result ≡ acknowledged self.now }
     {
         self.acknowledged
     }
 
-    /// How many of the jobs were refused.
+    /// Returns the number of refused jobs.
     #[tactic(auto, using(crate::proofs::Accounting::both_counted))]
     pub fn refused(&self) -> u64
         ensures { result ≡ refused self.now }
@@ -67,14 +67,14 @@ impl Accounts {
         self.count() - self.acknowledged
     }
 
-    /// Whether there are as many as there may be.
+    /// Whether there is no room for another account.
     pub fn is_full(&self) -> bool
         ensures { IsTrue result ↔ (2 ^ 62 ≤ length self.now) }
     {
-        self.count() >= MOST
+        self.count() >= MAX_ACCOUNTS
     }
 
-    /// Adds an account. The answer is false, and nothing was added, only where another had added one; there is no
+    /// Appends an account. Returns false, with nothing added, only if another owner had added one; there is no
     /// other.
     #[tactic(auto, using(crate::proofs::Accounting::both_counted))]
     fn is_added(&mut self, account: &Account) -> bool
@@ -90,11 +90,12 @@ impl Accounts {
         true
     }
 
-    /// Adds an account. It takes no memory.
+    /// Appends an account. Allocates nothing.
     pub(crate) fn add<R: Wait>(&mut self, rt: &R, account: &Account)
         requires { length self.old < 2 ^ 62 }
         ensures { self.new ≡ self.old ++ account.now ∷ [] }
     {
+        // The first try succeeds: nobody else adds accounts.
         for _ in rt.forever() {
             if self.is_added(account) {
                 return;

@@ -1,4 +1,4 @@
-//! What the clerk leaves.
+//! What the clerk returns when it ends.
 
 ghost use Rattle.std.specs.Prelude.{◌≡◌, ◌⊎◌, true, false, length, map, IfErr, OnOk};
 ghost use Rattle.std.specs.Arc.{arc_value};
@@ -12,17 +12,16 @@ use read_side::{Keeper, StoreName};
 use std::sync::{Arc, Wait};
 use trace_model::{Entry, Refusal};
 
-/// What the clerk leaves: the keeper, what became of each job that was judged, and the jobs that are
-/// left.
+/// What the clerk returns when it ends: the keeper, the result of each judged job, and the jobs that are left.
 ///
 /// It is not `Drop`, since the keeper isn't: [`Books::close`] it, or take it apart and close the keeper.
 pub struct Books<N: StoreName> {
     pub keeper: Keeper<N>,
-    /// One for each job that was judged, in the order taken.
+    /// One for each judged job, in the order taken.
     pub accounts: Accounts,
-    /// How many were acknowledged.
+    /// The number of acknowledged jobs.
     pub acknowledged: u64,
-    /// How many were refused.
+    /// The number of refused jobs.
     pub refused: u64,
     /// The jobs that were taken and not judged, in the order taken.
     pub left: Vec<Arc<Entry>>,
@@ -37,16 +36,16 @@ fn is_job(entry: &Entry, seat: u16, number: u64) -> bool
 }
 
 impl<N: StoreName> Books<N> {
-    /// Ends a seat of this desk, and moves jobs from the queue to `left` until the seat's last one was
-    /// taken. Where it was taken before, judged or left, none is moved. After an error a further call goes
-    /// on; after `Ok` a further call changes nothing.
+    /// Ends a seat of this desk, and moves jobs from the queue to `left` until the seat's last one was taken. If
+    /// that was taken before, judged or left, none is moved. After an error a further call continues; after `Ok` a
+    /// further call changes nothing.
     ///
-    /// The seat's jobs among those judged, followed by those in `left`, are then all that it handed in, in
-    /// order, each once, with the numbers 1, 2 and so on.
+    /// The seat's jobs among those judged, followed by those in `left`, are then all that it submitted, in order,
+    /// each once, with the numbers 1, 2 and so on.
     ///
     /// # Errors
     ///
-    /// [`Refusal::NoMemory`]: the seat has ended, and what was moved stands in `left`.
+    /// [`Refusal::NoMemory`]: the seat has ended, and what was moved is in `left`.
     pub fn take_in<R: Wait>(&mut self, rt: &R, seat: &mut Seat<N>) -> Result<(), Refusal>
         requires desk { self.old.inbox.desk ≡ seat.old.desk }
         requires books { Balances self.old.inbox.taken self.old.accounts
@@ -76,9 +75,9 @@ impl<N: StoreName> Books<N> {
         ensures reason { IfErr result (λ why. why ≡ NoMemory) }
     {
         self.inbox.end(seat);
-        let (number, last) = (seat.number(), seat.handed());
+        let (number, last) = (seat.number(), seat.submitted());
         if self.inbox.has_taken(number, last) {
-            self.inbox.look();
+            self.inbox.observe();
             return Ok(());
         }
         for _ in rt.forever() {
@@ -93,13 +92,13 @@ impl<N: StoreName> Books<N> {
             let is_last = is_job(&entry, number, last);
             self.left.push_reserved(entry);
             if is_last {
-                self.inbox.look();
+                self.inbox.observe();
                 return Ok(());
             }
         }
         unreachable!()
     }
-    /// Closes the store, and gives how many jobs are left.
+    /// Closes the store, and returns the number of jobs that are left.
     pub fn close<R: Wait>(self, rt: &R) -> u64
         ensures { result ≡ length (map arc_value self.left.items) }
     {

@@ -1,4 +1,4 @@
-//! Where the answer to a job is laid down.
+//! Where the answer to a job is stored for its ticket.
 
 ghost use Rattle.std.specs.Prelude.{◌≡◌, IfOk, IfErr, IfSome};
 ghost use Rattle.std.specs.Arc.{arc_value};
@@ -13,14 +13,14 @@ use std::marker::Model;
 use std::sync::Arc;
 use trace_model::Entry;
 
-/// What became of an entry.
+/// The outcome of an entry.
 #[derive(Drop)]
 pub(crate) struct JobOutcome<N: StoreName> {
     pub(crate) answer: Result<Ack<N>, Denial<N>>,
 }
 
-/// It is the outcome of this entry: an acknowledgement's list has at its place an entry that answers for it, and a denial's list
-/// leaves it out for the reason that is given.
+/// It is the outcome of this entry: an acknowledgement's list has at its place an entry that answers for it, and a
+/// denial's list leaves it out for the given reason.
 impl<N: StoreName> Fits for JobOutcome<N> {
     ghost use Rattle.std.specs.Prelude.{IfOk, IfErr};
     ghost use Rattle.std.specs.Arc.{arc_value};
@@ -35,7 +35,7 @@ impl<N: StoreName> Fits for JobOutcome<N> {
 }
 
 impl<N: StoreName> JobOutcome<N> {
-    /// The receipt of an acknowledgement.
+    /// Returns the receipt of an acknowledgement.
     pub(crate) fn receipt(&self) -> Option<Arc<Receipt<N>>> {
         match &self.answer {
             Ok(ack) => Arc::try_clone(&ack.receipt).ok(),
@@ -44,7 +44,7 @@ impl<N: StoreName> JobOutcome<N> {
     }
 }
 
-/// Where the outcome of one entry is laid down, and no other. Contracts see the entry, which it doesn't hold.
+/// A cell for the outcome of one entry, and of no other. Contracts see the entry, which it doesn't hold.
 #[derive(Drop)]
 pub(crate) struct Cell<N: StoreName> {
     slot: Counted<Option<JobOutcome<N>>>,
@@ -59,7 +59,7 @@ impl<N: StoreName> Model for Cell<N> {
 }
 
 impl<N: StoreName> Cell<N> {
-    /// An empty cell of the entry.
+    /// Makes an empty cell for the entry.
     pub(crate) fn new(entry: &Entry) -> Cell<N>
         ensures { result ≡ entry.now }
     {
@@ -68,8 +68,8 @@ impl<N: StoreName> Cell<N> {
         }
     }
 
-    /// Lays the entry's outcome down, unless one lies there.
-    pub(crate) fn lay_down(&self, outcome: JobOutcome<N>)
+    /// Stores the entry's outcome, unless the cell has one.
+    pub(crate) fn store_outcome(&self, outcome: JobOutcome<N>)
         requires answered { IfOk outcome.answer (λ a.
             AnsweredAt (arc_value a.receipt).entries a.place self.now) }
         requires denied { IfErr outcome.answer (λ d.
@@ -83,7 +83,7 @@ impl<N: StoreName> Cell<N> {
         drop(claim.put(Some(outcome), PRESENT));
     }
 
-    /// The answer, if it lies there.
+    /// Takes the answer, if there is one.
     pub(crate) fn take(&self) -> Option<Result<Ack<N>, Denial<N>>>
         ensures answered { IfSome result (λ r. IfOk r (λ a.
             AnsweredAt (arc_value a.receipt).entries a.place self.now)) }

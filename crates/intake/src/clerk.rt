@@ -1,4 +1,4 @@
-//! The one that takes the jobs and has them judged.
+//! The clerk, which takes the jobs and has them judged.
 
 ghost use Rattle.std.specs.Prelude.{◌≡◌, ◌≤◌, ◌^◌, map, [], length, IfOk, IfErr, OnErr};
 ghost use Rattle.std.specs.Arc.{arc_value};
@@ -24,14 +24,14 @@ use std::marker::Model;
 use std::sync::{Arc, Wait};
 use trace_model::Refusal;
 
-/// The clerk expects another job soon once it has served this many since it last slept. After fewer it sleeps at once:
-/// a sender that waits for its answer doesn't hand in the next job so soon.
+/// The clerk expects another job soon after it has served this number of jobs since it last slept. After fewer it
+/// sleeps at once: a sender that waits for its answer doesn't submit its next job that soon.
 const BURST: u64 = 3;
 
-/// How often the clerk looks for a job that it expects soon before it sleeps.
-const LOOKS: u32 = 40;
+/// The number of spins for a job that is expected soon, before the clerk sleeps.
+const SPINS: u32 = 40;
 
-/// What a turn did.
+/// The result of a turn.
 #[derive(Clone, Copy, PartialEq, Eq, Debug)]
 pub enum Turn {
     /// The queue was empty.
@@ -44,8 +44,8 @@ pub enum Turn {
 
 /// The clerk of a desk. Contracts see all jobs that it took, and an account of each one.
 ///
-/// Where it goes without [`run`](Self::run) or [`leave`](Self::leave), each ticket that still waits gets
-/// the answer that no reply comes.
+/// If it is dropped without [`run`](Self::run) or [`leave`](Self::leave), each ticket that still waits is told that
+/// no reply comes.
 #[derive(Drop)]
 pub struct Clerk<N: StoreName> {
     inbox: Inbox<N>,
@@ -54,7 +54,7 @@ pub struct Clerk<N: StoreName> {
     alloc: Global,
 }
 
-/// Lets the tickets know, when it goes, that the clerk has ended.
+/// Tells the tickets, when it is dropped, that the clerk has ended.
 pub(crate) struct Ending<N: StoreName> {
     shared: Arc<Shared<N>>,
 }
@@ -76,7 +76,7 @@ impl<N: StoreName> Model for Clerk<N> {
     ghost invariant = { λ c. Accounted c.inbox.taken c.accounts };
 }
 
-/// Puts the receipt where there is room for it.
+/// Fills the place that was made for the receipt.
 fn fill<N: StoreName, R: Wait>(
     rt: &R,
     room: Arc<Receipt<N>>,
@@ -94,7 +94,7 @@ fn fill<N: StoreName, R: Wait>(
     unreachable!()
 }
 
-/// Has an entry judged. Where there is no room for a receipt it isn't admitted.
+/// Has an entry judged. If there is no memory for a receipt, it isn't admitted.
 fn judge_entry<N: StoreName, R: Wait>(
     rt: &R,
     alloc: Global,
@@ -110,7 +110,7 @@ fn judge_entry<N: StoreName, R: Wait>(
     let accepted = keeper.history();
     let Ok(room) = Arc::new(alloc, keeper.receipt()) else {
         return Err(Denial {
-            refusal: keeper.turn_away(&entry),
+            refusal: keeper.refusal_without_receipt(&entry),
             list: Some(accepted),
         });
     };
@@ -132,7 +132,7 @@ fn judge_entry<N: StoreName, R: Wait>(
     })
 }
 
-/// The place alone, or the refusal.
+/// Returns only the place, or the refusal.
 fn place_or_refusal<N: StoreName>(answer: &Result<Ack<N>, Denial<N>>) -> Result<u64, Refusal>
     ensures { result ≡ place_or_refusal (λ a. a.place) (λ d. d.refusal) answer.now }
 {
@@ -156,14 +156,15 @@ impl<N: StoreName> Clerk<N> {
         }
     }
 
-    /// Takes one job, if there is one, has the keeper judge it, and answers its ticket. A job for whose receipt
-    /// there is no memory is answered so, unless the keeper has another reason to refuse it.
+    /// Takes one job, if there is one, has the keeper judge it, and answers its ticket. If there is no memory for
+    /// its receipt, the job is refused with [`Refusal::NoMemory`], unless the keeper has another reason to refuse
+    /// it.
     ///
-    /// It takes no memory where there is no job.
+    /// Allocates nothing if there is no job.
     ///
     /// # Errors
     ///
-    /// [`Refusal::NoMemory`]: there are as many accounts as there may be, and no job was taken.
+    /// [`Refusal::NoMemory`]: there is no room for another account, and no job was taken.
     pub fn turn<R: Wait>(&mut self, rt: &R, keeper: &mut Keeper<N>) -> Result<Turn, Refusal>
         ensures served { IfServed result
             (λ seat number. Serves N.limits self.old keeper.old seat number self.new keeper.new) }
@@ -189,11 +190,11 @@ impl<N: StoreName> Clerk<N> {
         };
         self.accounts.add(rt, &account);
         let outcome = JobOutcome { answer };
-        self.ending.shared.lay_down(rt, seat, &cell, outcome);
+        self.ending.shared.store_outcome(rt, seat, &cell, outcome);
         Ok(Turn::Served { seat, number })
     }
 
-    /// What became of each job that it took.
+    /// Returns the accounts of the jobs that it took.
     pub fn accounts(&self) -> &Accounts
         ensures same { result.now ≡ self.now.accounts }
         ensures each { Accounted self.now.taken self.now.accounts }
@@ -201,17 +202,16 @@ impl<N: StoreName> Clerk<N> {
         &self.accounts
     }
 
-    /// Waits for the next ring after this many. It looks for it before it sleeps if the clerk has served
-    /// at least [`BURST`] jobs since it last slept. Returns whether it slept.
+    /// Waits until the bell has rung more often than `rings`. Looks for a ring before it sleeps if the clerk has
+    /// served at least [`BURST`] jobs since it last slept. Returns whether it slept.
     fn await_job<R: Wait>(&self, rt: &R, rings: u64, served: u64) -> bool {
-        let looks = if served >= BURST { LOOKS } else { 0 };
-        self.ending.shared.jobs.wait(rt, rings, looks)
+        let spins = if served >= BURST { SPINS } else { 0 };
+        self.ending.shared.jobs.wait(rt, rings, spins)
     }
 
-    /// Serves until the desk is closed and the queue is empty, and leaves the books.
+    /// Serves until the desk is closed and the queue is empty, and returns the books.
     ///
-    /// Where there is nothing to do, or there are as many accounts as there may be, it sleeps until a job is handed
-    /// in.
+    /// If there is nothing to do, or no room for another account, it sleeps until a job is submitted.
     pub fn run<R: Wait>(self, rt: &R, keeper: Keeper<N>) -> Books<N>
         ensures judged { Ran N.limits self.taken self.accounts keeper
             result.inbox.taken result.accounts result.keeper }
@@ -225,6 +225,7 @@ impl<N: StoreName> Clerk<N> {
     {
         let mut clerk = self;
         let mut keeper = keeper;
+        // For the prover: the clause `each` of `accounts` is used below.
         let _each = clerk.accounts().count();
         let mut served: u64 = 0;
         for _ in rt.forever() {
@@ -242,8 +243,8 @@ impl<N: StoreName> Clerk<N> {
         unreachable!()
     }
 
-    /// Leaves the books at once. Jobs that wait stay in the queue, from where [`Books::take_in`] hands them
-    /// back; their tickets get the answer that no reply comes, or that the desk was closed.
+    /// Returns the books at once. Waiting jobs stay in the queue, from which [`Books::take_in`] returns them; their
+    /// tickets are told that no reply comes, or that the desk was closed.
     pub fn leave(self, keeper: Keeper<N>) -> Books<N>
         ensures taken { result.inbox.taken ≡ self.taken }
         ensures accounts { result.accounts ≡ self.accounts }

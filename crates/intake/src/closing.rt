@@ -19,12 +19,12 @@ impl<N: StoreName> Desk<N> {
         Desk { shared }
     }
 
-    /// No seat hands anything in from then on. The clerk still serves what is queued.
+    /// Closes the desk: no seat submits anything from then on. The clerk still serves what is queued.
     pub fn close<R: Wait>(&self, _rt: &R) {
         self.shared.close();
     }
 
-    /// The last receipt that the clerk laid down, or the one that the desk was opened with.
+    /// Returns the last receipt that the clerk stored, or the one with which the desk was opened.
     ///
     /// # Errors
     ///

@@ -9,20 +9,19 @@ ghost use Rattle.intake.specs.Turns.{inbox_value, WasEmpty};
 ghost use Rattle.intake.specs.Books.{HasEnded, StillEnded, has_job};
 
 use crate::job::Job;
-use crate::queue::{QueueEnd, TakeIn, TakeJob};
+use crate::queue::{PopJob, QueueEnd, TakeIn};
 use crate::seat::Seat;
 use crate::shared::Shared;
 use read_side::StoreName;
 use std::marker::Model;
 use std::sync::{Arc, Wait};
 
-/// The clerk's end of the queue. Contracts see all jobs that were taken, and what ended seats handed
-/// in.
+/// The clerk's end of the queue. Contracts see all jobs that were taken, and what ended seats submitted.
 #[derive(Drop)]
 pub struct Inbox<N: StoreName> {
     shared: Arc<Shared<N>>,
     end: QueueEnd<N>,
-    /// By seat, the number of its last job that was taken; 0 where none was.
+    /// For each seat the number of its last job that was taken; 0 if none was.
     last: Vec<u64>,
 }
 
@@ -43,7 +42,7 @@ impl<N: StoreName> Model for Inbox<N> {
 }
 
 impl<N: StoreName> Inbox<N> {
-    /// The clerk's end, with the number of each seat's last job that was taken.
+    /// Makes the clerk's end, with the number of each seat's last job that was taken.
     pub(crate) fn new(shared: Arc<Shared<N>>, end: QueueEnd<N>, last: Vec<u64>) -> Inbox<N>
         requires queue { IsPassOf (arc_value shared).queue end }
         requires clerk { ((view end).takes ≡ true) × ((view end).submits ≡ false) }
@@ -59,13 +58,13 @@ impl<N: StoreName> Inbox<N> {
             ((self.new ≡ self.old) × WasEmpty self.old.ended self.old.taken)
             (λ j. self.new ≡ record self.old { taken = self.old.taken ++ j ∷ [] }) }
     {
-        let job = self.shared.queue.pop_as::<TakeJob, R>(rt, &mut self.end)?;
+        let job = self.shared.queue.pop_as::<PopJob, R>(rt, &mut self.end)?;
         let (seat, number) = job.name();
         self.last[seat as usize] = number;
         Some(job)
     }
 
-    /// The number of the seat's last job that was taken; 0 where none was.
+    /// Returns the number of the seat's last job that was taken; 0 if none was.
     fn last_taken(&self, seat: u16) -> u64
         ensures { result ≡ length (jobs_of seat self.now.taken) }
     {
@@ -79,11 +78,12 @@ impl<N: StoreName> Inbox<N> {
     pub(crate) fn has_taken(&self, seat: u16, number: u64) -> bool
         ensures { result ≡ ((number == 0) || has_job seat number self.now.taken) }
     {
+        // For the prover: the invariant of `self`, which this read opens, is used below.
         let _counted = &self.last;
         number <= self.last_taken(seat)
     }
 
-    /// Takes in a seat's right to submit.
+    /// Takes over a seat's right to submit.
     fn absorb(&mut self, end: QueueEnd<N>)
         requires queue { (end.table_id ≡ self.old.desk) × (end.me.1 ≡ []) }
         requires seat { ((view end).submits ≡ true) × ((view end).takes ≡ false) }
@@ -94,7 +94,7 @@ impl<N: StoreName> Inbox<N> {
         self.shared.queue.absorb::<TakeIn>(&mut self.end, end);
     }
 
-    /// Ends a seat, if that wasn't done.
+    /// Ends a seat, unless it has ended.
     pub(crate) fn end(&mut self, seat: &mut Seat<N>)
         requires desk { self.old.desk ≡ seat.old.desk }
         requires seat { (seat.old.hands_in ≡ true)
@@ -109,11 +109,11 @@ impl<N: StoreName> Inbox<N> {
         }
     }
 
-    /// Looks at the queue: what was taken begins with it what the ended seats handed in.
-    pub(crate) fn look(&mut self)
+    /// Looks at the queue, which shows that the jobs taken and queued include all those of ended seats.
+    pub(crate) fn observe(&mut self)
         ensures same { self.new ≡ self.old }
         ensures waits { (items : List Entry) × AreWhole self.old.ended (self.old.taken ++ items) }
     {
-        self.shared.queue.learn_as::<TakeJob>(&mut self.end);
+        self.shared.queue.learn_as::<PopJob>(&mut self.end);
     }
 }

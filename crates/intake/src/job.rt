@@ -1,4 +1,4 @@
-//! What is queued.
+//! The items of the queue.
 
 ghost use Rattle.std.specs.Prelude.{◌≡◌, IfOk};
 ghost use Rattle.std.specs.Arc.{arc_value};
@@ -31,8 +31,8 @@ impl<N: StoreName> Model for Job<N> {
 }
 
 impl<N: StoreName> Job<N> {
-    /// The job of an entry, whose answer goes into the entry's cell. It makes the entry's record, with a hash under these
-    /// keys.
+    /// Makes the job of an entry, whose answer goes into the entry's cell. Makes the entry's record, with a hash
+    /// under these keys.
     pub(crate) fn new(
         keys: BatchKeys,
         entry: &Arc<Entry>,
@@ -46,7 +46,7 @@ impl<N: StoreName> Job<N> {
         Ok(Job { entry, cell })
     }
 
-    /// The seat that handed it in, and its number there.
+    /// Returns the seat that submitted it, and its number there.
     pub(crate) fn name(&self) -> (u16, u64)
         ensures { (result.0 ≡ self.now.seat) × (result.1 ≡ self.now.number) }
     {
@@ -54,7 +54,7 @@ impl<N: StoreName> Job<N> {
         (entry.seat, entry.number)
     }
 
-    /// The entry, and where its answer goes.
+    /// Returns the entry, and where its answer goes.
     pub(crate) fn split(self) -> (Record, Arc<Cell<N>>)
         ensures entry { result.0 ≡ self }
         ensures cell { arc_value result.1 ≡ self }

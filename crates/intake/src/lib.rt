@@ -1,17 +1,19 @@
-//! The way of a batch to the one that writes: a desk with seats, a queue, and a clerk.
+//! The way of a batch to the writer: a desk with seats, a queue, and a clerk.
 //!
-//! [`desk`] opens it. A [`Seat`] hands a batch in and gets a [`Ticket`] for it; the [`Clerk`] takes the
-//! jobs in the queue's order and has the store's keeper judge each one; the ticket waits for the answer.
-//! An acknowledgement holds a receipt whose list has, at the place that it names, the ticket's own entry or the one
-//! that had its batch before. A [`Denial`] of the keeper's holds the list by which the entry was refused.
-//! For each seat the jobs that were taken, followed by those in the queue, are the jobs that it handed in,
-//! in order, with the numbers 1, 2 and so on: nothing is lost, doubled or changed on the way.
+//! [`desk`] opens it. A [`Seat`] submits a batch and gets a [`Ticket`] for it; the [`Clerk`] takes the jobs in
+//! the queue's order and has the store's keeper judge each one; the ticket waits for the answer. An
+//! acknowledgement holds a receipt whose list has, at the place that it names, the ticket's own entry or the
+//! one that had its batch before. A [`Denial`] by the keeper holds the list by which the entry was refused. For
+//! each seat, the jobs that were taken, followed by those in the queue, are the jobs that it submitted, in
+//! order, with the numbers 1, 2 and so on: nothing is lost, duplicated or changed on the way.
 //!
-//! * `queue`: the queue, and the rule that holds between any two steps.
-//! * `job`: what is queued. `cell`: where its answer is laid down. `ticket`: the [`Ticket`]. `denial`: the [`Denial`].
+//! * `queue`: the queue and its rule, an invariant.
+//! * `job`: what is queued. `cell`: where its answer is stored. `ticket`: the [`Ticket`]. `denial`: the
+//!   [`Denial`].
 //! * `seat`: the [`Seat`]. `inbox`: the clerk's end of the queue.
-//! * `account`: what became of a job. `accounts`: the same of all. `clerk`: the [`Clerk`]. `books`: what it leaves.
-//! * `shared`: what all of them share. `bell`: how a sleeper is woken.
+//! * `account`: the result of a job. `accounts`: the results of all jobs. `clerk`: the [`Clerk`]. `books`: what
+//!   it returns.
+//! * `shared`: the state that all of them share. `bell`: wakes a sleeping thread.
 //! * `opening`: [`desk`]. `closing`: the [`Desk`], which closes the queue.
 #![tactic(auto)]
 

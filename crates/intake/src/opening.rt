@@ -22,7 +22,7 @@ use std::sync::atomic::AtomicBool;
 use std::sync::{Arc, Mutex};
 use trace_model::Refusal;
 
-/// So many bells.
+/// Makes `count` bells.
 fn bells(alloc: Global, count: u16) -> Result<Vec<CachePadded<Bell>>, AllocError> {
     let mut bells = Vec::with_capacity(alloc, count as usize)?;
     for _made in 0..count {
@@ -31,13 +31,13 @@ fn bells(alloc: Global, count: u16) -> Result<Vec<CachePadded<Bell>>, AllocError
     Ok(bells)
 }
 
-/// Opens a desk of the store that the receipt is of, whose queue has room for 1 to 4,096 jobs, with 1 to
-/// 64 seats and a clerk. The seats have the numbers 0, 1 and so on. The keys are those that the store was opened with: with
-/// others the clerk hashes each batch again.
+/// Opens a desk of the receipt's store, whose queue has room for 1 to 4,096 jobs, with 1 to 64 seats and a clerk.
+/// The seats have the numbers 0, 1 and so on. The keys are those with which the store was opened: with others the
+/// clerk hashes each batch again.
 ///
 /// # Errors
 ///
-/// [`Refusal::NoMemory`]: nothing is left behind.
+/// [`Refusal::NoMemory`]: nothing is left allocated.
 pub fn desk<N: StoreName>(
     alloc: Global,
     keys: RandomState,

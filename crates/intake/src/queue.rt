@@ -8,22 +8,22 @@ use std::collections::LinkedList;
 use std::marker::PhantomData;
 use trace_model::Entry;
 
-/// What a seat that has ended handed in. No value of it is made: contracts alone speak of it.
+/// What an ended seat submitted. No value of it is made: only contracts use it.
 pub struct EndedSeat {
     pub seat: u64,
     pub jobs: LinkedList<Entry>,
 }
 
-/// What a seat or the clerk knows of the queue. No value of it is made: contracts alone speak of it.
+/// What a seat or the clerk knows of the queue. No value of it is made: only contracts use it.
 pub struct QueueView {
-    /// It may hand jobs in, as this seat.
+    /// Whether it may submit jobs, as this seat.
     pub submits: bool,
-    /// It takes the jobs.
+    /// Whether it takes the jobs.
     pub takes: bool,
     pub seat: u64,
-    /// How many seats it has made.
+    /// The number of seats that it has made.
     pub made: u64,
-    /// The jobs that it handed in.
+    /// The jobs that it submitted.
     pub handed: LinkedList<Entry>,
     /// The jobs that it took.
     pub taken: LinkedList<Entry>,
@@ -31,8 +31,8 @@ pub struct QueueView {
     pub ended: LinkedList<EndedSeat>,
 }
 
-/// The rule: for each seat the jobs taken, followed by those queued, are the jobs that it handed in, in
-/// order, numbered from 1 on.
+/// The rule: for each seat the jobs taken, followed by those queued, are the jobs that it submitted, in order,
+/// numbered from 1 on.
 pub struct InOrder<N> {
     of: PhantomData<N>,
 }
@@ -45,37 +45,37 @@ impl<N: StoreName> Protocol<Job<N>, QueueView> for InOrder<N> {
     ghost first = { first_view };
 }
 
-/// The step that hands a job in, and what is returned where the queue is full.
-pub struct PutJob;
+/// The step that submits a job, and what is returned if the queue is full.
+pub struct PushJob;
 
-impl<N: StoreName> Outcome<Job<N>, QueueView> for PutJob {
+impl<N: StoreName> Outcome<Job<N>, QueueView> for PushJob {
     ghost use Rattle.intake.specs.Queues.{Puts};
 
     ghost then = { Puts };
 }
 
-impl<N: StoreName> Lesson<Job<N>, QueueView> for PutJob {
+impl<N: StoreName> Lesson<Job<N>, QueueView> for PushJob {
     ghost use Rattle.intake.specs.Queues.{Queued};
 
     ghost fact = { Queued };
 }
 
-/// The step that takes a job, and what is returned where there is none.
-pub struct TakeJob;
+/// The step that takes a job, and what is returned if there is none.
+pub struct PopJob;
 
-impl<N: StoreName> Outcome<Job<N>, QueueView> for TakeJob {
+impl<N: StoreName> Outcome<Job<N>, QueueView> for PopJob {
     ghost use Rattle.intake.specs.Queues.{Takes};
 
     ghost then = { Takes };
 }
 
-impl<N: StoreName> Lesson<Job<N>, QueueView> for TakeJob {
+impl<N: StoreName> Lesson<Job<N>, QueueView> for PopJob {
     ghost use Rattle.intake.specs.Queues.{Waiting};
 
     ghost fact = { Waiting };
 }
 
-/// One more seat.
+/// The step that makes one more seat.
 pub struct MakeSeat;
 
 impl Split<QueueView> for MakeSeat {
@@ -86,7 +86,7 @@ impl Split<QueueView> for MakeSeat {
     ghost right = { new_seat };
 }
 
-/// A seat gives up its right to submit, and keeps its list.
+/// The step by which a seat gives up its right to submit, and keeps its list.
 pub struct Resign;
 
 impl Split<QueueView> for Resign {
@@ -97,7 +97,7 @@ impl Split<QueueView> for Resign {
     ghost right = { λ v. v };
 }
 
-/// The clerk takes in a right to submit that was given up.
+/// The step by which the clerk takes over a right to submit that was given up.
 pub struct TakeIn;
 
 impl Join<QueueView> for TakeIn {

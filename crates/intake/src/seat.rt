@@ -1,4 +1,4 @@
-//! Where batches and limits are handed in.
+//! Where batches and limits are submitted.
 
 ghost use Rattle.std.specs.Prelude.{◌≡◌, ◌≤◌, ◌+◌, true, false, length, [], MatchOption, OnOk, OnErr, IfOk, IfErr};
 ghost use Rattle.std.specs.Arc.{arc_value};
@@ -8,7 +8,7 @@ ghost use Rattle.intake.specs.Seats.{next_job, with_job, HasNextNumber, IsNotTak
 
 use crate::cell::Cell;
 use crate::job::Job;
-use crate::queue::{PutJob, QueueEnd, Resign};
+use crate::queue::{PushJob, QueueEnd, Resign};
 use crate::shared::Shared;
 use crate::ticket::Ticket;
 use jaeger_model::Batch;
@@ -18,16 +18,15 @@ use std::marker::Model;
 use std::sync::{Arc, Wait};
 use trace_model::{Entry, Refusal, Work};
 
-/// A seat. Contracts see its desk and number, the jobs that it handed in, and whether it may hand in
-/// more.
+/// A seat. Contracts see its desk and number, the jobs that it submitted, and whether it may submit more.
 #[derive(Drop)]
 pub struct Seat<N: StoreName> {
     shared: Arc<Shared<N>>,
     end: QueueEnd<N>,
     number: u16,
-    /// How many jobs it handed in.
+    /// The number of jobs that it submitted.
     handed: u64,
-    /// It may hand in more.
+    /// Whether it may submit more.
     stays: bool,
 }
 
@@ -48,8 +47,8 @@ impl<N: StoreName> Model for Seat<N> {
         × ((view_at s.end).seat ≡ s.number) × (length (view_at s.end).handed ≡ s.handed) };
 }
 
-/// The entry, once it has no other owner.
-fn alone<R: Wait>(rt: &R, entry: Arc<Entry>) -> Entry
+/// Returns the entry when it has no other owner.
+fn unshared<R: Wait>(rt: &R, entry: Arc<Entry>) -> Entry
     ensures { result ≡ arc_value entry }
 {
     let mut shared = entry;
@@ -63,7 +62,7 @@ fn alone<R: Wait>(rt: &R, entry: Arc<Entry>) -> Entry
 }
 
 impl<N: StoreName> Seat<N> {
-    /// A seat that has handed in nothing.
+    /// Makes a seat that has submitted nothing.
     pub(crate) fn new(shared: Arc<Shared<N>>, end: QueueEnd<N>, number: u16) -> Seat<N>
         requires queue { IsPassOf (arc_value shared).queue end }
         requires rights { ((view end).takes ≡ false) × ((view end).submits ≡ true) }
@@ -81,21 +80,21 @@ impl<N: StoreName> Seat<N> {
         }
     }
 
-    /// The seat's number; the first seat of a desk has 0.
+    /// Returns the seat's number; the first seat of a desk has 0.
     pub fn number(&self) -> u16
         ensures { result ≡ self.now.seat }
     {
         self.number
     }
 
-    /// How many jobs it handed in. The last one has this number.
-    pub fn handed(&self) -> u64
+    /// Returns the number of jobs that it submitted, which is the number of the last one.
+    pub fn submitted(&self) -> u64
         ensures { result ≡ length self.now.jobs }
     {
         self.handed
     }
 
-    /// Gives up the right to hand in, if it has it.
+    /// Gives up the right to submit, if it has it.
     pub(crate) fn retire(&mut self) -> Option<QueueEnd<N>>
         ensures { MatchOption result
             ((self.old.hands_in ≡ false) × (self.new ≡ self.old))
@@ -108,10 +107,10 @@ impl<N: StoreName> Seat<N> {
         Some(self.shared.queue.another::<Resign>(&mut self.end))
     }
 
-    /// Hands a batch in, as the entry with the seat's next number.
+    /// Submits a batch, as the entry with the seat's next number.
     ///
-    /// A refused batch comes back with the refusal, and uses no number. The call may wait for other seats
-    /// and for the clerk, never for a reader.
+    /// A refused batch comes back with the refusal, and uses no number. The call may wait for other seats and for
+    /// the clerk, never for a reader.
     ///
     /// # Errors
     ///
@@ -132,15 +131,15 @@ impl<N: StoreName> Seat<N> {
         ensures unchanged { OnErr result (self.new ≡ self.old) }
         ensures reason { IfErr result (λ r. IsNotTaken self.old r.0) }
     {
-        match self.hand_in(rt, alloc, Work::Batch(batch)) {
+        match self.enqueue(rt, alloc, Work::Batch(batch)) {
             Ok(ticket) => Ok(ticket),
             Err((refusal, Work::Batch(batch))) => Err((refusal, batch)),
             Err((_, Work::TraceLimit(_))) => unreachable!(),
         }
     }
 
-    /// Hands a trace limit in, as the entry with the seat's next number: from that entry on so many of the
-    /// newest traces are shown, all where it is 0.
+    /// Submits a trace limit, as the entry with the seat's next number: from that entry on this number of newest
+    /// traces is shown, or all if it is 0.
     ///
     /// A refused limit uses no number. The call may wait as [`submit`](Self::submit) may.
     ///
@@ -163,14 +162,14 @@ impl<N: StoreName> Seat<N> {
         ensures unchanged { OnErr result (self.new ≡ self.old) }
         ensures reason { IfErr result (λ why. IsNotTaken self.old why) }
     {
-        match self.hand_in(rt, alloc, Work::TraceLimit(limit)) {
+        match self.enqueue(rt, alloc, Work::TraceLimit(limit)) {
             Ok(ticket) => Ok(ticket),
             Err((refusal, _)) => Err(refusal),
         }
     }
 
-    /// Hands work in, as the entry with the seat's next number. What was refused comes back.
-    fn hand_in<R: Wait>(
+    /// Submits work, as the entry with the seat's next number. What was refused comes back.
+    fn enqueue<R: Wait>(
         &mut self,
         rt: &R,
         alloc: Global,
@@ -198,12 +197,12 @@ impl<N: StoreName> Seat<N> {
             Err(failed) => return Err((Refusal::NoMemory, failed.value.work)),
         };
         let Ok((ticket, job)) = self.pair(alloc, &entry) else {
-            return Err((Refusal::NoMemory, alone(rt, entry).work));
+            return Err((Refusal::NoMemory, unshared(rt, entry).work));
         };
         match self
             .shared
             .queue
-            .push_as::<PutJob, R>(rt, &mut self.end, job)
+            .push_as::<PushJob, R>(rt, &mut self.end, job)
         {
             Ok(()) => {
                 self.handed = number;
@@ -213,12 +212,12 @@ impl<N: StoreName> Seat<N> {
             Err(job) => {
                 drop(job);
                 drop(ticket);
-                Err((Refusal::Busy, alone(rt, entry).work))
+                Err((Refusal::Busy, unshared(rt, entry).work))
             }
         }
     }
 
-    /// A ticket and its job.
+    /// Makes a ticket and its job.
     fn pair(&self, alloc: Global, entry: &Arc<Entry>) -> Result<(Ticket<N>, Job<N>), Refusal>
         ensures ticket { IfOk result (λ r. r.0 ≡ arc_value entry.now) }
         ensures job { IfOk result (λ r. r.1 ≡ arc_value entry.now) }

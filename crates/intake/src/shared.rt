@@ -1,4 +1,4 @@
-//! What the seats, their tickets, the clerk and the desk share.
+//! The state that the seats, their tickets, the clerk and the desk share.
 
 ghost use Rattle.std.specs.Prelude.{◌≡◌, ◌⊎◌, IfOk, IfErr};
 ghost use Rattle.std.specs.Arc.{arc_value};
@@ -18,18 +18,18 @@ use trace_model::Refusal;
 
 #[derive(Drop)]
 pub(crate) struct Shared<N: StoreName> {
-    /// Those of the store, by which batches are hashed.
+    /// The keys of the store, by which batches are hashed.
     pub(crate) keys: BatchKeys,
     pub(crate) queue: Queue<N>,
-    /// The desk was closed.
+    /// Whether the desk was closed.
     pub(crate) closed: AtomicBool,
-    /// The clerk has ended.
+    /// Whether the clerk has ended.
     pub(crate) ended: AtomicBool,
-    /// Rings where a job was handed in, and where the desk is closed.
+    /// Rings when a job was submitted, and when the desk is closed.
     pub(crate) jobs: CachePadded<Bell>,
-    /// One for each seat: rings where a reply to it is laid down, and where the clerk ends.
+    /// One for each seat: rings when a reply to it is stored, and when the clerk ends.
     pub(crate) replies: Vec<CachePadded<Bell>>,
-    /// The last receipt that was laid down, or the first of all.
+    /// The last receipt that was stored, or the one of the opening.
     pub(crate) last: Mutex<Arc<Receipt<N>>>,
 }
 
@@ -42,14 +42,14 @@ impl<N: StoreName> Shared<N> {
         self.ended.load(Ordering::SeqCst)
     }
 
-    /// The bell of a seat.
+    /// Returns the bell of a seat.
     pub(crate) fn bell(&self, seat: u16) -> Option<&Bell> {
         let bell = self.replies.get(seat as usize)?;
         Some(&**bell)
     }
 
-    /// Why a job has no reply, once the clerk has ended.
-    pub(crate) fn lost(&self) -> Refusal
+    /// Returns why a job has no reply, after the clerk has ended.
+    pub(crate) fn refusal_without_reply(&self) -> Refusal
         ensures { (result ≡ Closed) ⊎ (result ≡ NoReply) }
     {
         if self.is_closed() {
@@ -59,14 +59,14 @@ impl<N: StoreName> Shared<N> {
         }
     }
 
-    /// No seat hands anything in from then on.
+    /// Closes the desk: no seat submits anything from then on.
     pub(crate) fn close(&self) {
         self.closed.store(true, Ordering::SeqCst);
         self.jobs.ring();
     }
 
-    /// Lays the outcome of a seat's job down, and its receipt, if it has one.
-    pub(crate) fn lay_down<R: Wait>(
+    /// Stores the outcome of a seat's job, and its receipt, if it has one.
+    pub(crate) fn store_outcome<R: Wait>(
         &self,
         rt: &R,
         seat: u16,
@@ -81,7 +81,7 @@ impl<N: StoreName> Shared<N> {
         if let Some(receipt) = outcome.receipt() {
             *self.last.lock(rt) = receipt;
         }
-        cell.lay_down(outcome);
+        cell.store_outcome(outcome);
         if let Some(bell) = self.bell(seat) {
             bell.ring();
         }

@@ -15,11 +15,11 @@ use std::sync::{Arc, Wait};
 use std::thread::yield_now;
 use trace_model::{Entry, Refusal};
 
-/// How often a ticket looks for its answer before it sleeps.
-const LOOKS: u32 = 40;
+/// The number of spins of a ticket for its answer before it sleeps.
+const SPINS: u32 = 40;
 
-/// An acknowledgement: a receipt, and the place in its list, the first one being 1, of the entry that answers
-/// for the job's: that one itself, or the one that had its batch before.
+/// An acknowledgement: a receipt, and the place in its list, counted from 1, of the entry that answers for the
+/// job's: that one itself, or the one that had its batch before.
 #[derive(Drop)]
 pub struct Ack<N: StoreName> {
     pub receipt: Arc<Receipt<N>>,
@@ -29,8 +29,8 @@ pub struct Ack<N: StoreName> {
 /// Waits for the answer to one job. Contracts see the job's entry.
 #[derive(Drop)]
 pub struct Ticket<N: StoreName> {
-    /// The job's entry. The clerk gives up its own share before it answers, so the waiting thread frees an entry that the
-    /// store does not keep.
+    /// The job's entry. The clerk gives up its own share before it answers, so the waiting thread frees an entry
+    /// that the store does not keep.
     entry: Arc<Entry>,
     cell: Arc<Cell<N>>,
     shared: Arc<Shared<N>>,
@@ -49,7 +49,7 @@ impl<N: StoreName> Model for Ticket<N> {
 }
 
 impl<N: StoreName> Ticket<N> {
-    /// A ticket for the entry, whose answer comes into the cell.
+    /// Makes a ticket for the entry, whose answer comes into the cell.
     pub(crate) fn new(entry: Arc<Entry>, cell: Arc<Cell<N>>, shared: Arc<Shared<N>>) -> Ticket<N>
         requires { arc_value cell ≡ arc_value entry }
         ensures { result ≡ arc_value entry }
@@ -61,14 +61,14 @@ impl<N: StoreName> Ticket<N> {
         }
     }
 
-    /// Waits for the answer. An acknowledgement's list has at the place an entry that answers for the job's:
-    /// its own, or the one that had its batch before.
+    /// Waits for the answer. An acknowledgement's list has at the place an entry that answers for the job's: its
+    /// own, or the one that had its batch before.
     ///
     /// # Errors
     ///
     /// The keeper's refusals [`Refusal::Conflict`], [`Refusal::Stale`], [`Refusal::JournalFull`],
-    /// [`Refusal::NoMemory`] and [`Refusal::Deferred`]. Where the clerk has ended without an answer: [`Refusal::Closed`] if the desk
-    /// was closed, else [`Refusal::NoReply`].
+    /// [`Refusal::NoMemory`] and [`Refusal::Deferred`]. If the clerk has ended without an answer:
+    /// [`Refusal::Closed`] if the desk was closed, else [`Refusal::NoReply`].
     pub fn wait<R: Wait>(self, rt: &R) -> Result<Ack<N>, Refusal>
         ensures answered { IfOk result (λ a.
             AnsweredAt (arc_value a.receipt).entries a.place self) }
@@ -80,8 +80,8 @@ impl<N: StoreName> Ticket<N> {
         }
     }
 
-    /// Waits for the answer as [`wait`](Self::wait) does. A refusal of the keeper's comes with the list by which the job's
-    /// entry is refused for that reason, so it is true.
+    /// Waits for the answer as [`wait`](Self::wait) does. A refusal by the keeper comes with the list by which the
+    /// job's entry is refused for that reason, so it can be checked.
     ///
     /// # Errors
     ///
@@ -98,7 +98,7 @@ impl<N: StoreName> Ticket<N> {
                 return answer;
             }
             if ended {
-                let refusal = self.shared.lost();
+                let refusal = self.shared.refusal_without_reply();
                 return Err(Denial {
                     refusal,
                     list: None,
@@ -109,20 +109,22 @@ impl<N: StoreName> Ticket<N> {
         unreachable!()
     }
 
-    /// How often the seat's bell has rung.
+    /// Returns the number of rings of the seat's bell.
     fn rings(&self) -> u64 {
         match self.shared.bell(self.entry.seat) {
             Some(bell) => bell.rings(),
+            // Impossible: each seat has a bell.
             None => 0,
         }
     }
 
-    /// Waits until the seat's bell rings once more.
+    /// Waits until the seat's bell rings again.
     fn await_ring<R: Wait>(&self, rt: &R, rings: u64) {
         match self.shared.bell(self.entry.seat) {
             Some(bell) => {
-                let _slept = bell.wait(rt, rings, LOOKS);
+                let _slept = bell.wait(rt, rings, SPINS);
             }
+            // Impossible: each seat has a bell.
             None => yield_now(),
         }
     }

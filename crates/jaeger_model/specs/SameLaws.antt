@@ -1,4 +1,4 @@
--- Laws that the impls of this crate name, and their lemmas. A clause can name nothing of its own crate's proofs/, so they stand in specs/.
+-- Laws that the impls of this crate name, and their lemmas. They are in specs/, since a clause can't name its own crate's proofs/.
 -- Each test of Same decides whether two values are equal.
 use Rattle.std.specs.Prelude.{◌≡◌, ℤ, ◌==◌, Option, Some, None, refl}
 use Rattle.std.specs.Bool.{Decides, beq}

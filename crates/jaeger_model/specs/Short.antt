@@ -1,4 +1,4 @@
--- The bytes of a text, wherever they lie.
+-- The bytes of a text, whether they are stored inline or not.
 use Rattle.std.specs.Prelude.{ℕ, List, string_bytes}
 use Rattle.jaeger_model.specs.declared.text.Bytes.{Bytes}
 use Rattle.jaeger_model.specs.declared.text.Bytes.TheVariants.{Short, Long}

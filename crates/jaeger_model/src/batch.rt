@@ -10,16 +10,16 @@ use crate::tag::Tag;
 use crate::text::Text;
 use std::alloc::AllocError;
 
-/// What a client sends at once: spans of one process (`Batch` of `jaeger.thrift`).
+/// The spans of one process that a client sends in one request (`Batch` of `jaeger.thrift`).
 #[derive(Debug, Drop)]
 pub struct Batch {
     pub process: SharedProcess,
     pub spans: Seq<Span>,
-    /// The sender's own number of the batch, where it gave one.
+    /// The sender's own number for the batch, if it set one.
     pub seq_no: Option<i64>,
 }
 
-/// The service that reports, and what is the same for all of its spans (`Process` of `jaeger.thrift`).
+/// The service that reports the spans, with the tags that all of them share (`Process` of `jaeger.thrift`).
 #[derive(Debug, Drop)]
 pub struct Process {
     pub service: Text,
@@ -78,7 +78,7 @@ impl Eq for Process {
 }
 
 impl Batch {
-    /// Both report the same: the process, each span in order, and the number or that there is none.
+    /// Whether the batches are equal: the process, the spans in order, and the number.
     pub fn is_same(&self, other: &Batch) -> bool
         ensures { IsTrue result ↔ (self.now ≡ other.now) }
     {
@@ -87,7 +87,7 @@ impl Batch {
 }
 
 impl Process {
-    /// The same service with the same tags in the same order.
+    /// Whether the processes are equal: the service, and the tags in order.
     pub fn is_same(&self, other: &Process) -> bool
         ensures { IsTrue result ↔ (self.now ≡ other.now) }
     {

@@ -1,20 +1,19 @@
-//! The values of a trace: a batch of spans as a Jaeger client reports it, and the rules that need
-//! one value alone.
+//! The data model of traces: a batch of spans as a Jaeger client reports it, and the rules about a
+//! single value.
 //!
 //! Contracts see every type here as plain data: a [`Seq`] as the list of its items, a [`Text`] as
-//! its bytes, and everything else as a record or a variant of those. So `≡` on two batches compares
-//! exactly what was reported.
+//! its bytes, and every other type as a record or a variant of those. Two batches are therefore `≡`
+//! exactly if the client reported the same data.
 //!
 //! * `ids`: the ids of traces and spans, and their hexadecimal text.
-//! * `tag`, `span`, `batch`: what `jaeger.thrift` declares, with ids as unsigned numbers, and a tag's
-//!   text.
-//! * `tag_value`: a tag's value as the tag holds it.
+//! * `tag`, `span`, `batch`: the structs of `jaeger.thrift`, with unsigned ids, and a tag's text.
+//! * `tag_value`: a tag's value in the form in which a tag stores it.
 //! * `kind`: a span's kind, by its tag `span.kind`.
-//! * `parent`: which span is the parent of a span.
-//! * `shared_process`: a process that the spans of its batch share.
+//! * `parent`: the rule for a span's parent.
+//! * `shared_process`: a process that all spans of a batch share.
 //! * `placed`: a span together with the process that reported it.
 //! * `text`, `short_text`, `seq`: texts and lists, as contracts see them.
-//! * `laws`: facts about these rules in the subject's own words.
+//! * `laws`: facts about these rules, stated without the code.
 #![tactic(auto)]
 
 mod batch;

@@ -11,15 +11,15 @@ use crate::shared_process::SharedProcess;
 use crate::span::{RefKind, Span, SpanRef};
 use std::alloc::{AllocError, Global};
 
-/// A span with the process that reported it. As a store keeps it, and as [`place_span`] makes it,
-/// its parent is among its references.
+/// A span with the process that reported it. In a store, and as [`place_span`] returns it, its
+/// references include its parent.
 #[derive(Debug, Drop)]
 pub struct Placed {
     pub process: SharedProcess,
     pub span: Span,
 }
 
-/// A [`Placed`] that is only looked at.
+/// A borrowed [`Placed`].
 #[derive(Clone, Copy)]
 pub struct Seen<'a> {
     pub process: &'a Process,
@@ -51,7 +51,7 @@ impl Eq for Placed {
     ghost laws = { decided same_placed same_placed-decides };
 }
 
-/// The reference to a span's parent that is made of the parent's id.
+/// Returns the reference that replaces the parent's id: child-of, to the span's own trace.
 pub fn parent_reference(span: &Span) -> SpanRef
     ensures { result ≡ parent_reference span.now }
 {
@@ -62,8 +62,8 @@ pub fn parent_reference(span: &Span) -> SpanRef
     }
 }
 
-/// The references of a span with one to its parent in front.
-fn with_one_in_front(alloc: Global, span: &Span) -> Result<Seq<SpanRef>, AllocError>
+/// Returns the references of a span after one to its parent.
+fn with_parent_first(alloc: Global, span: &Span) -> Result<Seq<SpanRef>, AllocError>
     ensures { IfOk result (λ s. s ≡ parent_reference span.now ∷ span.now.references) }
 {
     let mut references = Vec::new(alloc);
@@ -72,23 +72,23 @@ fn with_one_in_front(alloc: Global, span: &Span) -> Result<Seq<SpanRef>, AllocEr
     Ok(Seq::from_vec(references))
 }
 
-/// Puts a reference to the span's parent in front of the others, where none of them names it and
-/// the parent's id is not 0.
+/// Inserts a reference to the span's parent before the others, unless one of them names the parent
+/// or the parent's id is 0.
 ///
 /// # Errors
 ///
-/// Running out of memory alone; the span is then as it was.
+/// Only out of memory; the span is then unchanged.
 pub fn refer_to_parent(alloc: Global, span: &mut Span) -> Result<(), AllocError>
     ensures ok { OnOk result (span.new ≡ with_parent span.old) }
     ensures err { OnErr result (span.new ≡ span.old) }
 {
     if !needs_no_reference(span) {
-        span.references = with_one_in_front(alloc, span)?;
+        span.references = with_parent_first(alloc, span)?;
     }
     Ok(())
 }
 
-/// A copy of the span, its parent among its references.
+/// Returns a copy of the span whose references include its parent.
 fn with_reference(alloc: Global, span: &Span) -> Result<Span, AllocError>
     ensures { IfOk result (λ s. s ≡ with_parent span.now) }
 {
@@ -97,7 +97,7 @@ fn with_reference(alloc: Global, span: &Span) -> Result<Span, AllocError>
     Ok(copy)
 }
 
-/// A span with its process, its parent among its references as [`domain`] puts it there.
+/// Returns a copy of the span with its process. Its references include its parent, as in [`domain`].
 ///
 /// # Errors
 ///
@@ -111,10 +111,10 @@ pub fn place_span(alloc: Global, process: &SharedProcess, span: &Span) -> Result
     })
 }
 
-/// The spans of a batch in order, each with its process.
+/// Returns the spans of a batch in order, each with the batch's process.
 ///
-/// A parent id that is not 0 becomes a child-of reference to the span's own trace, in front of the
-/// others, unless a reference to that span of that trace is there already.
+/// A parent's id other than 0 becomes a child-of reference to the span's own trace, before the other
+/// references, unless the span already has a reference to that span of that trace.
 ///
 /// # Errors
 ///

@@ -8,7 +8,7 @@ use std::alloc::{AllocError, Global};
 use std::marker::Model;
 use std::sync::Arc;
 
-/// A process that the spans of its batch share. Contracts see the process.
+/// A reference-counted process, which all spans of a batch share. Contracts see the process.
 #[derive(Debug, Drop)]
 pub struct SharedProcess {
     process: Arc<Process>,
@@ -24,7 +24,7 @@ impl Model for SharedProcess {
 }
 
 impl SharedProcess {
-    /// The process, to be shared from now on.
+    /// Moves the process into an `Arc`.
     ///
     /// # Errors
     ///
@@ -36,14 +36,14 @@ impl SharedProcess {
         Ok(SharedProcess { process })
     }
 
-    /// The process, to look at.
+    /// Returns the process.
     pub fn get(&self) -> &Process
         ensures { result.now ≡ self.now }
     {
         &self.process
     }
 
-    /// Both are the same process.
+    /// Whether the processes are equal.
     pub fn is_same(&self, other: &SharedProcess) -> bool
         ensures { IsTrue result ↔ (self.now ≡ other.now) }
     {
@@ -51,7 +51,7 @@ impl SharedProcess {
     }
 }
 
-/// The same process once more, which takes no memory.
+/// Clones the `Arc`. It doesn't allocate.
 impl Clone for SharedProcess {
     ghost is_clone = { λ s t. t ≡ s };
 

@@ -3,7 +3,7 @@ ghost use Rattle.std.specs.Prelude.{◌≡◌, ◌≤◌, [], length};
 use std::marker::Model;
 use std::str;
 
-/// A text of at most 30 bytes, which lie in the value itself.
+/// A text of at most 30 bytes, stored inline.
 #[derive(Debug, Drop)]
 pub(crate) struct ShortText {
     bytes: [u8; 30],
@@ -21,10 +21,10 @@ impl Model for ShortText {
 }
 
 impl ShortText {
-    /// The most bytes.
-    pub(crate) const MOST: usize = 30;
+    /// The greatest number of bytes.
+    pub(crate) const MAX_LEN: usize = 30;
 
-    /// The empty text.
+    /// Returns the empty text.
     pub(crate) fn empty() -> Self
         ensures { result ≡ [] }
     {
@@ -34,7 +34,7 @@ impl ShortText {
         }
     }
 
-    /// A copy of a short text.
+    /// Copies a text of at most 30 bytes.
     pub(crate) fn new(text: &str) -> Self
         requires { length text.now ≤ 30 }
         ensures { result ≡ text.now }
@@ -48,7 +48,7 @@ impl ShortText {
         }
     }
 
-    /// The same text once more.
+    /// Returns a copy.
     pub(crate) fn copy(&self) -> Self
         ensures { result ≡ self.now }
     {
@@ -58,7 +58,7 @@ impl ShortText {
         }
     }
 
-    /// The text, to look at.
+    /// Returns the text as a `str`.
     pub(crate) fn as_str(&self) -> &str
         ensures { result.now ≡ self.now }
     {

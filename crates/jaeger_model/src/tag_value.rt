@@ -2,7 +2,7 @@ ghost use Rattle.std.specs.Prelude.{◌≡◌};
 ghost use Rattle.std.specs.Cmp.{decided, partial_equiv_from_equiv};
 ghost use Rattle.jaeger_model.specs.Same.{same_value};
 ghost use Rattle.jaeger_model.specs.SameLaws.{same_value-decides};
-ghost use Rattle.jaeger_model.specs.Held.{value_held, value_shown};
+ghost use Rattle.jaeger_model.specs.StoredValues.{stored_value, borrowed_value};
 
 use crate::seq::Seq;
 use crate::short_text::ShortText;
@@ -12,9 +12,10 @@ use std::alloc::AllocError;
 use std::marker::Model;
 use std::mem::size_of;
 
-/// A value as a tag holds it: the bytes of a short text lie beside the mark of its type.
+/// A value in the form in which a tag stores it: a short text is stored inline, beside the variant's
+/// discriminant.
 #[derive(Debug, Drop)]
-pub(crate) enum Held {
+pub(crate) enum StoredValue {
     Short(ShortText),
     Long(String),
     Double([u8; 8]),
@@ -25,13 +26,13 @@ pub(crate) enum Held {
 
 const _: () = prove!(size_of::<TagValue>() == 32);
 
-/// A tag's value in 32 bytes, where a [`Value`] takes 40. Contracts see the `Value`.
+/// A tag's value in 32 bytes; a [`Value`] takes 40. Contracts see the `Value`.
 #[derive(Debug, Drop)]
 pub struct TagValue {
-    held: Held,
+    held: StoredValue,
 }
 
-/// A tag's value, to look at.
+/// A borrowed [`Value`].
 #[derive(Clone, Copy, Debug)]
 pub enum ValueRef<'a> {
     Text(&'a str),
@@ -43,42 +44,42 @@ pub enum ValueRef<'a> {
 
 impl Model for TagValue {
     ghost use Rattle.jaeger_model.specs.declared.tag.Value.{Value as PlainValue};
-    ghost use Rattle.jaeger_model.specs.Held.{value_held};
+    ghost use Rattle.jaeger_model.specs.StoredValues.{stored_value};
 
     ghost Value = { PlainValue };
 
-    ghost view = { λ v. value_held v.held };
+    ghost view = { λ v. stored_value v.held };
 }
 
 impl TagValue {
-    /// The value, to be held by a tag; takes no memory.
+    /// Stores the value. It doesn't allocate.
     pub fn new(value: Value) -> Self
         ensures { result ≡ value }
     {
         let held = match value {
             Value::Text(text) => match text.into_bytes() {
-                Bytes::Short(text) => Held::Short(text),
-                Bytes::Long(text) => Held::Long(text),
+                Bytes::Short(text) => StoredValue::Short(text),
+                Bytes::Long(text) => StoredValue::Long(text),
             },
-            Value::Double(bytes) => Held::Double(bytes),
-            Value::Bool(flag) => Held::Bool(flag),
-            Value::Long(number) => Held::Number(number),
-            Value::Bytes(bytes) => Held::Bytes(bytes),
+            Value::Double(bytes) => StoredValue::Double(bytes),
+            Value::Bool(flag) => StoredValue::Bool(flag),
+            Value::Long(number) => StoredValue::Number(number),
+            Value::Bytes(bytes) => StoredValue::Bytes(bytes),
         };
         TagValue { held }
     }
 
-    /// The value, to look at.
+    /// Borrows the value.
     pub fn get(&self) -> ValueRef<'_>
-        ensures { value_shown result ≡ self.now }
+        ensures { borrowed_value result ≡ self.now }
     {
         match &self.held {
-            Held::Short(text) => ValueRef::Text(text.as_str()),
-            Held::Long(text) => ValueRef::Text(text.as_str()),
-            Held::Double(bytes) => ValueRef::Double(bytes),
-            Held::Bool(flag) => ValueRef::Bool(*flag),
-            Held::Number(number) => ValueRef::Long(*number),
-            Held::Bytes(bytes) => ValueRef::Bytes(bytes.as_slice()),
+            StoredValue::Short(text) => ValueRef::Text(text.as_str()),
+            StoredValue::Long(text) => ValueRef::Text(text.as_str()),
+            StoredValue::Double(bytes) => ValueRef::Double(bytes),
+            StoredValue::Bool(flag) => ValueRef::Bool(*flag),
+            StoredValue::Number(number) => ValueRef::Long(*number),
+            StoredValue::Bytes(bytes) => ValueRef::Bytes(bytes.as_slice()),
         }
     }
 }
@@ -88,12 +89,12 @@ impl Clone for TagValue {
 
     fn clone(&self) -> Result<Self, AllocError> {
         let held = match &self.held {
-            Held::Short(text) => Held::Short(text.copy()),
-            Held::Long(text) => Held::Long(text.clone()?),
-            Held::Double(bytes) => Held::Double(*bytes),
-            Held::Bool(flag) => Held::Bool(*flag),
-            Held::Number(number) => Held::Number(*number),
-            Held::Bytes(bytes) => Held::Bytes(bytes.clone()?),
+            StoredValue::Short(text) => StoredValue::Short(text.copy()),
+            StoredValue::Long(text) => StoredValue::Long(text.clone()?),
+            StoredValue::Double(bytes) => StoredValue::Double(*bytes),
+            StoredValue::Bool(flag) => StoredValue::Bool(*flag),
+            StoredValue::Number(number) => StoredValue::Number(*number),
+            StoredValue::Bytes(bytes) => StoredValue::Bytes(bytes.clone()?),
         };
         Ok(TagValue { held })
     }

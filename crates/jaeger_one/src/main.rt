@@ -1,7 +1,7 @@
-//! The program: a collector of traces that takes `jaeger.thrift` batches.
+//! The program: a trace collector for `jaeger.thrift` batches.
 //!
-//! Its words ask for a command, which `program_run` does over standard input and output, and `serve` over a
-//! socket. Nothing is promised of what a real file, terminal or socket carried.
+//! `program_run` runs the command of its words over standard input and output, and `serve` over sockets. Nothing is
+//! proved about the bytes that a real file, terminal or socket carried.
 #![tactic(auto)]
 
 use program_run::run;

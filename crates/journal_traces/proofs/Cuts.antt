@@ -1,48 +1,47 @@
--- A list of spans that is cut where traces begin grows at its end.
+-- A list of items that is cut at the starts of traces grows at its end.
 use Rattle.std.proofs.Common.{◌≡◌, ℕ, zero, suc, ◌+◌, ◌-◌, ◌<◌, ◌≤◌, List, [], ◌∷◌, ◌++◌, length, take, drop, get_or, refl, sym, ap, subst, ◌∙◌, arith, length-append, length-drop}
 use Rattle.std.specs.Prelude.{slice_range, slice_index_or}
 use Rattle.std.proofs.lemmas.List.{take-append-le, drop-append-le, take_all}
-use Rattle.trace_model.specs.Taking.{Taken}
 use Rattle.journal_traces.specs.Cutting.{next_start, cut_at, AreStarts}
 
 pub next_within : (end : ℕ) (ss : List ℕ) → AreStarts end ss → next_start end ss ≤ end
 next_within end [] a = omega arith
 next_within end (s ∷ ss) a = let first : s ≤ next_start end ss = a.0 in let rest = next_within end ss a.1 in omega arith
 
--- ---- an empty trace begins at the end
+-- ---- an empty trace starts at the end
 pub starts_begin : (end : ℕ) (ss : List ℕ) → AreStarts end ss → AreStarts end (ss ++ end ∷ [])
 starts_begin end [] a = (omega arith, tt)
 starts_begin end (s ∷ []) a = (a.0, (omega arith, tt))
 starts_begin end (s ∷ r ∷ ss) a = (a.0, starts_begin end (r ∷ ss) a.1)
 
-nothing : (xs : List Taken) (n : ℕ) → slice_range xs n n ≡ []
+nothing : {X : Type 0} (xs : List X) (n : ℕ) → slice_range xs n n ≡ []
 nothing xs n = let none : n - n ≡ 0 = omega arith in ap (λ k. take k (drop n xs)) none
 
-pub cut_begin : (xs : List Taken) (ss : List ℕ) → cut_at xs (ss ++ length xs ∷ []) ≡ cut_at xs ss ++ [] ∷ []
+pub cut_begin : {X : Type 0} (xs : List X) (ss : List ℕ) → cut_at xs (ss ++ length xs ∷ []) ≡ cut_at xs ss ++ [] ∷ []
 cut_begin xs [] = ap (λ t. t ∷ []) (nothing xs (length xs))
 cut_begin xs (s ∷ []) = ap (λ t. slice_range xs s (length xs) ∷ t ∷ []) (nothing xs (length xs))
 cut_begin xs (s ∷ r ∷ ss) = ap (λ ts. slice_range xs s r ∷ ts) (cut_begin xs (r ∷ ss))
 
--- ---- the last trace gets one more span
+-- ---- the last trace gets one more item
 pub starts_push : (end : ℕ) (ss : List ℕ) → AreStarts end ss → AreStarts (end + 1) ss
 starts_push end [] a = tt
 starts_push end (s ∷ []) a = let first : s ≤ end = a.0 in (omega arith, tt)
 starts_push end (s ∷ r ∷ ss) a = (a.0, starts_push end (r ∷ ss) a.1)
 
-before : (xs ys : List Taken) (a b : ℕ) → a ≤ b → b ≤ length xs → slice_range (xs ++ ys) a b ≡ slice_range xs a b
+before : {X : Type 0} (xs ys : List X) (a b : ℕ) → a ≤ b → b ≤ length xs → slice_range (xs ++ ys) a b ≡ slice_range xs a b
 before xs ys a b low high =
     let inside : a ≤ length xs = omega arith in
     let short : b - a ≤ length (drop a xs) = omega (arith, length-drop a xs) in
     ap (take (b - a)) (drop-append-le a xs ys inside) ∙ take-append-le (b - a) (drop a xs) ys short
 
-last_more : (xs : List Taken) (x : Taken) (a : ℕ) → a ≤ length xs → slice_range (xs ++ x ∷ []) a (length (xs ++ x ∷ [])) ≡ slice_range xs a (length xs) ++ x ∷ []
+last_more : {X : Type 0} (xs : List X) (x : X) (a : ℕ) → a ≤ length xs → slice_range (xs ++ x ∷ []) a (length (xs ++ x ∷ [])) ≡ slice_range xs a (length xs) ++ x ∷ []
 last_more xs x a low =
     let whole : length (drop a xs ++ x ∷ []) ≤ length (xs ++ x ∷ []) - a = omega (arith, length-append (drop a xs) (x ∷ []), length-append xs (x ∷ []), length-drop a xs) in
     let here : length (drop a xs) ≤ length xs - a = omega (arith, length-drop a xs) in
     ap (take (length (xs ++ x ∷ []) - a)) (drop-append-le a xs (x ∷ []) low) ∙ take_all (length (xs ++ x ∷ []) - a) (drop a xs ++ x ∷ []) whole
     ∙ ap (λ l. l ++ x ∷ []) (sym (take_all (length xs - a) (drop a xs) here))
 
-pub cut_push : (xs : List Taken) (x : Taken) (ss : List ℕ) → AreStarts (length xs) ss → (ts : List (List Taken)) (t : List Taken) → cut_at xs ss ≡ ts ++ t ∷ [] → cut_at (xs ++ x ∷ []) ss ≡ ts ++ (t ++ x ∷ []) ∷ []
+pub cut_push : {X : Type 0} (xs : List X) (x : X) (ss : List ℕ) → AreStarts (length xs) ss → (ts : List (List X)) (t : List X) → cut_at xs ss ≡ ts ++ t ∷ [] → cut_at (xs ++ x ∷ []) ss ≡ ts ++ (t ++ x ∷ []) ∷ []
 cut_push xs x [] a [] t e = absurd (cc e)
 cut_push xs x [] a (u ∷ ts) t e = absurd (cc e)
 cut_push xs x (s ∷ []) a [] t e =
@@ -58,16 +57,16 @@ cut_push xs x (s ∷ r ∷ ss) a (u ∷ ts) t e =
     λ i. same i ∷ cut_push xs x (r ∷ ss) a.1 ts t rest i
 
 -- ---- the trace at a place
-pub cuts : (xs : List Taken) (ss : List ℕ) → length (cut_at xs ss) ≡ length ss
+pub cuts : {X : Type 0} (xs : List X) (ss : List ℕ) → length (cut_at xs ss) ≡ length ss
 cuts xs [] = refl
 cuts xs (s ∷ ss) = ap suc (cuts xs ss)
 
-pub no_cut : (xs : List Taken) (ss : List ℕ) (k : ℕ) → length ss ≤ k → slice_index_or (cut_at xs ss) k [] ≡ []
+pub no_cut : {X : Type 0} (xs : List X) (ss : List ℕ) (k : ℕ) → length ss ≤ k → slice_index_or (cut_at xs ss) k [] ≡ []
 no_cut xs [] k le = refl
 no_cut xs (s ∷ ss) zero le = absurd (omega arith)
 no_cut xs (s ∷ ss) (suc k) le = no_cut xs ss k (omega arith)
 
-pub cut_got : (xs : List Taken) (ss : List ℕ) (k d : ℕ) → k < length ss → slice_range xs (get_or ss k d) (get_or ss (k + 1) (length xs)) ≡ slice_index_or (cut_at xs ss) k []
+pub cut_got : {X : Type 0} (xs : List X) (ss : List ℕ) (k d : ℕ) → k < length ss → slice_range xs (get_or ss k d) (get_or ss (k + 1) (length xs)) ≡ slice_index_or (cut_at xs ss) k []
 cut_got xs [] k d le = absurd (omega arith)
 cut_got xs (s ∷ []) zero d le = refl
 cut_got xs (s ∷ r ∷ ss) zero d le = refl

@@ -1,6 +1,6 @@
 -- The numbers of the services of spans, by the places of their entries.
 use Rattle.std.proofs.Common.{◌≡◌, ℕ, zero, suc, ◌-◌, ◌<◌, ◌≤◌, List, [], ◌∷◌, length, get_or, sym, ap, ◌∙◌, arith}
-use Rattle.std.specs.Prelude.{Option, Some, None, IfSome, option_map, slice_get}
+use Rattle.std.specs.Prelude.{Some, option_map, slice_get}
 use Rattle.std.specs.Option.{option_and_then}
 use Rattle.std.proofs.lemmas.List.Sums.{passes_at_first}
 use Rattle.jaeger_model.specs.declared.batch.Batch.{Batch}
@@ -17,8 +17,7 @@ use Rattle.trace_assembly.specs.Located.{span_at}
 use Rattle.service_places.specs.Reported.{reporters, service_at, group_in, AreGroups}
 use Rattle.service_places.proofs.Grouping.{group_within, as_many_reporters}
 use Rattle.call_links.specs.Seen.{StandsFor}
-use Rattle.trace_model.specs.Taking.{Taken}
-use Rattle.journal_traces.specs.Standing.{process_at, HasNumber}
+use Rattle.journal_traces.specs.Standing.{process_at}
 use Rattle.journal_traces.proofs.Processes.{process_there}
 
 of_work : (w : Work) (p : Process) → Some p ≡ option_map (λ (b : Batch). b.process) (batch_brought w) → p.service ≡ service_brought w
@@ -45,7 +44,7 @@ at_place h (suc n) p e =
 pub place_there : (h : List Entry) (s : Spot) (q : Placed) → Some q ≡ span_at h s → (0 < s.place) × ((s.place - 1 < length h) × (q.process.service ≡ service_at h (s.place - 1)))
 place_there h s q e = at_place h s.place q.process (process_there h s q e)
 
--- and its service has the number that is kept there
+-- and its service has the number that is stored there
 pub number_there : (h : List Entry) (groups : List ℕ) (s : Spot) (q : Placed) → AreGroups h groups → Some q ≡ span_at h s → StandsFor (service_at h) (group_in h) (get_or groups (s.place - 1) 0, q.process.service)
 number_there h groups s q kept e =
     let there = place_there h s q e in
@@ -59,15 +58,3 @@ number_there h groups s q kept e =
     let known : q.process.service ≡ service_at h (group_in h q.process.service) =
     text_is q.process.service (service_at h (group_in h q.process.service)) (passes_at_first (same_text q.process.service) (reporters h) [] (omega (arith, within, first, many, below))) in
     (number, ap (service_at h) number ∙ sym known)
-
--- the number of what is taken at a spot
-pub service_there : (h : List Entry) (groups : List ℕ) (s : Spot) (taken : Option Taken) (n : ℕ) → AreGroups h groups → n ≡ get_or groups (s.place - 1) 0 → option_and_then (λ (x : Taken). x.span) taken ≡ span_at h s → IfSome taken (λ (x : Taken). x.number ≡ n)
-    → IfSome taken (HasNumber h)
-service_there h groups s None n kept group at number = tt
-service_there h groups s (Some x) n kept group at number = by x.span at
-  where
-    by : (o : Option Placed) → o ≡ span_at h s → IfSome o (λ (p : Placed). StandsFor (service_at h) (group_in h) (x.number, p.process.service))
-    by None e = tt
-    by (Some p) e =
-        let stands = number_there h groups s p kept e in
-        (number ∙ group ∙ stands.0, ap (service_at h) (number ∙ group) ∙ stands.1)

@@ -40,7 +40,7 @@ more_at h spans more places next q place at put put_place here =
     ap (map (λ (p : Placed). Some p.process)) put ∙ map_push (λ (p : Placed). Some p.process) spans q ∙ (λ i. at i ++ here i ∷ [])
     ∙ sym (ap (map (process_at h)) put_place ∙ map_push (process_at h) places place)
 
--- the processes of spans are those that the numbers beside them lead to
+-- the processes of spans are those to which their numbers lead
 module _ (f : ℕ → Option Process) where
   -- the process of one of them
   process_got : (spans : List Placed) (numbers : List ℕ) → map (λ (p : Placed). Some p.process) spans ≡ map f numbers → (k : ℕ) (d : Placed) → k < length numbers → Some (get_or spans k d).process ≡ f (get_or numbers k 0)

@@ -1,4 +1,4 @@
--- The spans that spots name, one by one.
+-- The spans at spots, one by one.
 use Rattle.std.proofs.Common.{◌≡◌, ℕ, ℤ, zero, suc, ◌+◌, ◌<◌, Bool, true, false, ◌||◌, List, [], ◌∷◌, ◌++◌, map, length, take, get_or, append_assoc, refl, sym, ap, ◌∙◌, Some, None, Option}
 use denote.Ref.{Bor}
 use Rattle.std.specs.Prelude.{pos, slice_get, slice_index_or, filter, if◌then◌else◌, flat_map}
@@ -27,8 +27,8 @@ use Rattle.trace_assembly.proofs.Lists.{map_filter}
 use Rattle.trace_model.specs.Seeing.{placed_by_its_entry}
 use Rattle.call_links.specs.Seen.{links_in}
 use Rattle.journal_traces.specs.Standing.{batch_at, spans_named, traces_named}
-use Rattle.journal_traces.proofs.Adopting.{start-adopted}
-use Rattle.journal_traces.proofs.Marking.{picked, passed}
+use Rattle.journal_traces.proofs.ParentReferences.{start-adopted}
+use Rattle.journal_traces.proofs.TraceMarks.{picked, passed}
 
 pub named_is : (h : List Entry) (ss : List Spot) (ps : List Placed) → map (span_at h) ss ≡ map Some ps → spans_named h ss ≡ ps
 named_is h [] [] e = refl
@@ -65,7 +65,7 @@ no_span_there h s is = there (entry_at h s.place) is
 abbrev pub no_id : TraceId
 no_id = record { high = 0; low = 0 }
 
--- ---- one spot less is in front
+-- ---- one spot less at the front
 pub named_some : (h : List Entry) (done : List Placed) (s : Spot) (ss : List Spot) (p : Placed) → span_at h s ≡ Some p → (done ++ p ∷ []) ++ spans_named h ss ≡ done ++ spans_named h (s ∷ ss)
 named_some h done s ss p e = append_assoc done (p ∷ []) (spans_named h ss) ∙ ap (λ o. done ++ cons_option o (spans_named h ss)) (sym e)
 

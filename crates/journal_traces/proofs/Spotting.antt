@@ -1,4 +1,4 @@
--- Traces that are taken by their spots among entries that are taken once each.
+-- Traces that are collected by their spots among entries that are collected once each.
 use Rattle.std.proofs.Common.{◌≡◌, ℕ, zero, suc, ◌+◌, ◌-◌, ◌<◌, ◌≤◌, ◌≢◌, Bool, true, false, ◌||◌, ◌&&◌, cond, List, [], ◌∷◌, ◌++◌, map, length, take, drop, get_or, append_assoc, refl, sym, ap, subst, ◌∙◌, arith, Some, None, Option, ⊎_elim}
 use Rattle.std.specs.Prelude.{slice_get, slice_range, slice_index_or, slice_set, filter, IfSome, IfOk, Result, Ok, Err, option_map}
 use Rattle.std.specs.List.{list_any, cons_option, All, AllZip}
@@ -29,7 +29,7 @@ use Rattle.arrival_journal.specs.Outlines.{outline_in}
 use Rattle.trace_assembly.specs.declared.spot.Spot.{Spot}
 use Rattle.trace_assembly.specs.Located.{span_at}
 use Rattle.journal_traces.specs.declared.tag_candidates.TakenEntry.{TakenEntry}
-use Rattle.journal_traces.specs.declared.tag_candidates.TakenSpot.{TakenSpot}
+use Rattle.journal_traces.specs.declared.taken_spot.TakenSpot.{TakenSpot}
 use Rattle.journal_traces.specs.Lasting.{AreTold}
 use Rattle.journal_traces.specs.Picked.{meets, met, met_or_none}
 use Rattle.journal_traces.specs.Pruned.{may_meet}
@@ -37,10 +37,10 @@ use Rattle.journal_traces.specs.Spotted.{entry_shared, entries_shared, process_n
 use Rattle.journal_traces.specs.Standing.{process_at, spans_named}
 use Rattle.journal_traces.specs.Taking.{placed_taken, HasProcess}
 use Rattle.journal_traces.proofs.Processes.{process_there}
-use Rattle.journal_traces.proofs.Adopting.{matches-adopted}
-use Rattle.journal_traces.proofs.Bounds.{passed_there}
+use Rattle.journal_traces.proofs.ParentReferences.{matches-adopted}
+use Rattle.journal_traces.proofs.OutlineBounds.{passed_there}
 use Rattle.journal_traces.proofs.TakingSpans.{IsTaking}
-use Rattle.journal_traces.proofs.Telling.{is_number, is_told}
+use Rattle.journal_traces.proofs.RequestedService.{is_number, is_told}
 
 -- ---- an entry of which no span can meet the search
 another : (q : Find) (b : Batch) (ss : List Span) → same_text q.service b.process.service ≡ false → list_any (matches q) (map (placed b) ss) ≡ false
@@ -199,7 +199,7 @@ zip_push R [] (b ∷ ys) x y all own = absurd all
 zip_push R (a ∷ xs) [] x y all own = absurd all
 zip_push R (a ∷ xs) (b ∷ ys) x y all own = (all.0, zip_push R xs ys x y all.1 own)
 
--- of one more entry it is told
+-- its flag is right for one more entry
 pub told_more : (q : Find) (ts : List TakenEntry) (i : ℕ) (t : TakenEntry) (met next : List Bool) (b : Bool) → i < length ts → t ≡ get_or ts i t → AllZip (IsTellingOf q) (take i ts) met → IsTellingOf q t b → next ≡ met ++ b ∷ []
     → AllZip (IsTellingOf q) (take (i + 1) ts) next
 told_more q ts i t met next b le is before own put =
@@ -207,7 +207,7 @@ told_more q ts i t met next b le is before own put =
     let both = zip_push (IsTellingOf q) (take i ts) met t b before own in
     subst (AllZip (IsTellingOf q) (take (i + 1) ts)) (sym put) (subst (λ l. AllZip (IsTellingOf q) l (met ++ b ∷ [])) (sym more) both)
 
--- ---- the traces that are left match as all
+-- ---- the remaining traces match as all do
 pub matching_found : (q : Find) (a b : List (List Placed)) → matching q a ≡ matching q b → found_in q a ≡ found_in q b
 matching_found q a b e = ap (λ ts. cut q.limit (ranked_by_start first_start ts)) e
 
@@ -235,7 +235,7 @@ module _ {X : Type 0} (w : X → Bool) (xs : List X) (i : ℕ) (x : X) (le : i <
 pub batch_met : (q : Find) (b : Batch) → list_any (meets q b.process) b.spans ≡ list_any (matches q) (map (placed b) b.spans)
 batch_met q b = meets_domain q b b.spans
 
--- ---- what is taken at a spot
+-- ---- what is collected at a spot
 pub there_shared : (ts : List TakenEntry) (s : TakenSpot) (t : TakenEntry) → Some t ≡ slice_get ts s.number → slice_get (placed_brought (entry_shared t).work) s.index ≡ span_at (entries_shared ts) (spot_of s)
 there_shared ts s t at =
     ap (λ (o : Option TakenEntry). option_and_then (λ (e : Entry). slice_get (placed_brought e.work) s.index) (option_map entry_shared o)) at

@@ -1,4 +1,4 @@
--- Taken spans as they are seen.
+-- Taken spans, as they are read.
 use Rattle.std.proofs.Common.{◌≡◌, ℕ, ◌+◌, ◌<◌, ◌≤◌, Bool, true, false, ◌||◌, List, [], ◌∷◌, ◌++◌, map, length, take, drop, get_or, zero, suc, refl, sym, ap, subst, ◌∙◌, arith, Some, None, Option}
 use Rattle.std.specs.Prelude.{IfSome, is_some, slice_index_or}
 use Rattle.std.specs.List.{list_any, cons_option, All}
@@ -19,11 +19,11 @@ use Rattle.trace_model.specs.Taking.{Taken}
 use Rattle.journal_traces.specs.declared.process_classes.ProcessClasses.{ProcessClasses}
 use Rattle.journal_traces.specs.Classes.{Leads}
 use Rattle.journal_traces.specs.Taking.{placed_taken, HasProcess, HaveProcesses}
-use Rattle.journal_traces.proofs.Adopting.{matches-adopted}
-use Rattle.journal_traces.proofs.Marking.{or_same}
+use Rattle.journal_traces.proofs.ParentReferences.{matches-adopted}
+use Rattle.journal_traces.proofs.TraceMarks.{or_same}
 use Rattle.journal_traces.proofs.Processes.{one_process}
 
--- the process of a span that is seen is that which its number leads to
+-- the process of a span that is read is the one to which its number leads
 pub process_seen : (process_of : ℕ → Option Process) (x : Taken) (s : Seen) (n : ℕ) → Some (placed_by_its_entry s) ≡ x.span → n ≡ x.number → HasProcess process_of x → Some s.process.now ≡ process_of n
 process_seen process_of x s n at number has =
     let here : Some s.process.now ≡ process_of x.number = subst (λ (o : Option Placed). IfSome o (λ (p : Placed). Some p.process ≡ process_of x.number)) (sym at) has in
@@ -68,7 +68,7 @@ processes_got process_of (t ∷ ts) zero all = all 0 t (omega arith)
 processes_got process_of (t ∷ ts) (suc k) all = processes_got process_of ts k (λ j d le. all (suc j) d (omega arith))
 
 -- ---- the trace of an answer, span by span
--- the spans up to the index are kept, and where the classes lead to their processes, so do the numbers
+-- the spans up to the index are kept, and if the classes lead to their processes, so do the numbers
 pub record IsKeptUpto (old : ProcessClasses) (xs : List Taken) (i : ℕ) (kept : List (Option Placed)) (numbers : List ℕ) : Type 0 where
   pub spans : spans_there kept ≡ placed_taken (take i xs)
   pub processes : (process_of : ℕ → Option Process) → HaveProcesses process_of xs → Leads process_of old → map (λ (p : Placed). Some p.process) (spans_there kept) ≡ map process_of numbers

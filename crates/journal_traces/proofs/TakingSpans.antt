@@ -1,4 +1,4 @@
--- A trace is taken span by span.
+-- A trace is collected span by span.
 use Rattle.std.proofs.Common.{◌≡◌, List, [], ◌∷◌, ◌++◌, map, refl, sym, ap, ◌∙◌, append_assoc, Some, None, Option}
 use Rattle.std.specs.Prelude.{IfSome}
 use Rattle.std.specs.Option.{option_and_then}
@@ -14,7 +14,7 @@ use Rattle.journal_traces.specs.Standing.{process_at, spans_named}
 use Rattle.journal_traces.specs.Taking.{placed_taken, HasProcess}
 use Rattle.journal_traces.proofs.Processes.{process_there}
 
--- the last trace has the first spans of those that are to be taken; the spots of the rest are left
+-- the last trace has the first of the spans to collect; the spots of the remaining ones are left
 pub record IsTaking (P : Taken → Type 0) (h : List Entry) (old now : List (List Taken)) (left all : List Spot) : Type 0 where
   pub last : List Taken
   pub is : now ≡ old ++ last ∷ []
@@ -57,7 +57,7 @@ taken_spans P h old now left all none t =
 pub taken_numbers : (P : Taken → Type 0) (h : List Entry) (old now : List (List Taken)) (left all : List Spot) → IsTaking P h old now left all → All (λ (t : List Taken). All P t) old → All (λ (t : List Taken). All P t) now
 taken_numbers P h old now left all t before = All-same (λ (t : List Taken). All P t) now (old ++ t.last ∷ []) t.is (All-push (λ (t : List Taken). All P t) old t.last before t.numbers)
 
--- the number of what is taken at a spot leads to its process
+-- the number of what is collected at a spot leads to its process
 pub numbered_there : (h : List Entry) (s : Spot) (taken : Option Taken) → option_and_then (λ (x : Taken). x.span) taken ≡ span_at h s → IfSome taken (λ (x : Taken). x.number ≡ s.place) → IfSome taken (HasProcess (process_at h))
 numbered_there h s None at number = tt
 numbered_there h s (Some x) at number = by x.span at

@@ -1,4 +1,4 @@
--- Where the bounds of the spans' starts don't reach a window, no span of the entry starts in it.
+-- If the bounds of the spans' starts don't reach a window, no span of the entry starts in it.
 use Rattle.std.proofs.Common.{◌≡◌, ℕ, ℤ, zero, suc, ◌≤ℤ◌, Bool, true, false, ◌&&◌, ◌||◌, List, [], ◌∷◌, map, refl, sym, ap, ◌∙◌, arith}
 use Rattle.std.specs.Prelude.{Option, Some, None, pos, ◌-ℤ◌, ◌*ℤ◌, int_lt, option_map, option_and_then, slice_get}
 use Rattle.std.specs.List.{list_any, cons_option, AllByRecursion}
@@ -20,8 +20,8 @@ use Rattle.arrival_journal.specs.Outlines.{outline_of, outline_in}
 use Rattle.trace_assembly.specs.declared.spot.Spot.{Spot}
 use Rattle.journal_traces.specs.Pruned.{may_reach}
 use Rattle.journal_traces.specs.Standing.{spans_named}
-use Rattle.journal_traces.proofs.Adopting.{window-adopted}
-use Rattle.journal_traces.proofs.Bounds.{Within, all_within}
+use Rattle.journal_traces.proofs.ParentReferences.{window-adopted}
+use Rattle.journal_traces.proofs.OutlineBounds.{Within, all_within}
 
 later : (b x y : ℤ) → x ≤ℤ y → int_lt b x ≡ true → int_lt b y ≡ true
 later b x y le e = true_from_ne_false (int_lt b y) (λ f. absurd (omega (arith, ints)))

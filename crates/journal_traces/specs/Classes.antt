@@ -14,7 +14,7 @@ use Rattle.journal_traces.specs.Taking.{HaveProcesses}
 abbrev pub class_of_process : ProcessClasses → ByContent → Option ℕ
 class_of_process c k = get (on (λ (b : ByContent). b.0.now) process_cmp) c.by_process k
 
--- where numbers lead to processes, a class leads to the process that has it, and to that of each number that has it
+-- if numbers lead to processes, a class leads to the process that has it, and to that of each number that has it
 pub record Leads (process_of : ℕ → Option Process) (c : ProcessClasses) : Type 0 where
   pub by_process : (k : ByContent) (class : ℕ) → class_of_process c k ≡ Some class → process_of class ≡ Some k.0.now
   pub by_number : (number class : ℕ) → get nat_cmp c.by_number number ≡ Some class → process_of class ≡ process_of number

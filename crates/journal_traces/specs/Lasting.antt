@@ -1,4 +1,4 @@
--- The process that was judged last, and how the service that a search asks for is told.
+-- The process that was judged last, and how a search's service is identified.
 use Rattle.std.specs.Prelude.{◌≡◌, ◌<◌, ◌^◌, ℕ, List, length, Option, Some, IfSome}
 use Rattle.trace_model.specs.declared.entry.Entry.{Entry}
 use Rattle.trace_model.specs.declared.query.Find.{Find}
@@ -10,7 +10,7 @@ use Rattle.journal_traces.specs.Standing.{process_at}
 abbrev pub IsLast : Find → List Entry → Option LastJudged → Type 0
 IsLast q h last = IfSome last (λ (l : LastJudged). (l.process.query ≡ q) × (Some l.process.process ≡ process_at h l.place))
 
--- the services of the entries have these numbers, and the asked service has this one
+-- the services of the entries have these numbers, and the requested service has this one
 pub record AreTold (q : Find) (h : List Entry) (groups : List ℕ) (service : Option ℕ) : Type 0 where
   pub few : length h < 2 ^ 32
   pub numbers : AreGroups h groups

@@ -8,6 +8,7 @@ pub mod Reporting
 pub mod Cutting
 pub mod Taking
 pub mod Spotted
+pub mod Windowed
 pub mod Classes
 pub mod TakenSearch
 pub mod Meeting

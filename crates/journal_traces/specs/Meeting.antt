@@ -1,4 +1,4 @@
--- The conditions of a search, by what they look at.
+-- The conditions of a search, by what they read.
 use Rattle.std.specs.Prelude.{◌≡◌, Bool, true, false, ◌&&◌, ◌||◌, [], Option, Some, None}
 use Rattle.std.specs.List.{list_all}
 use Rattle.jaeger_model.specs.declared.batch.Process.{Process}
@@ -8,15 +8,15 @@ use Rattle.trace_model.specs.declared.query.Find.{Find}
 use Rattle.trace_model.specs.Searching.{has_tag}
 use Rattle.find_traces.specs.Wanting.{Beside}
 
--- the operation is the asked one; an empty one asks for any
+-- the operation is the requested one; an empty one matches all
 abbrev pub has_operation : Find → Placed → Bool
 has_operation q p = same_text q.operation [] || same_text q.operation p.span.operation
 
--- the service is the asked one, and so are the tags
+-- the service is the requested one, and the tags are there
 abbrev pub of_service_with_tags : Find → Placed → Bool
 of_service_with_tags q p = same_text q.service p.process.service && list_all (has_tag p) q.tags
 
--- a process of another service than the asked one, or one that was judged
+-- a process that is not of the requested service, or one that was judged
 abbrev pub IsJudgedAs : Find → Process → Option Beside → Type 0
 IsJudgedAs q p None = same_text q.service p.service ≡ false
 IsJudgedAs q p (Some j) = (same_text q.service p.service ≡ true) × (j ≡ record { query = q; process = p })

@@ -1,4 +1,4 @@
--- The traces that a service's entries have spans of which meet a search.
+-- The traces of which a service's entries have spans that meet a search.
 use Rattle.std.specs.Prelude.{ℕ, Bool, false, List, [], flat_map, Option, Some, None, filter, slice_get, if◌then◌else◌}
 use Rattle.std.specs.Option.{option_and_then}
 use Rattle.std.specs.List.{list_any}
@@ -17,7 +17,7 @@ use Rattle.arrival_journal.specs.Outlines.{outline_in}
 use Rattle.journal_traces.specs.Pruned.{may_meet}
 use Rattle.journal_traces.specs.Standing.{batch_at}
 
--- the trace at this place of the ring, where it passes the test
+-- the trace at this place of the ring, if it passes the test
 abbrev pub picked : (TraceId → Bool) → List TraceId → ℕ → Option TraceId
 picked p r k = option_and_then (λ (t : TraceId). if p t then Some t else None) (slice_get r k)
 
@@ -45,12 +45,12 @@ met_at q h place = met_or_none q (batch_at h place)
 abbrev pub met_along : Find → List Entry → List ℕ → List Span
 met_along q h places = flat_map (met_at q h) places
 
--- ---- the same without the tags of the search
--- the search that asks for no tags, and is the same otherwise
+-- ---- the definitions without the tags of the search
+-- the search without its tags
 abbrev pub near : Find → Find
 near q = record q { tags = [] }
 
--- those of the entry's spans that meet it; none where the entry is passed over by its outline
+-- those of the entry's spans that meet it; none if the entry is skipped by its outline
 abbrev pub near_in : Find → Entry → List Span
 near_in q e = if may_meet q (outline_in e) then met_or_none (near q) (batch_brought e.work) else []
 
@@ -66,7 +66,7 @@ near_at q h place = near_or_none q (entry_at h place)
 abbrev pub near_along : Find → List Entry → List ℕ → List Span
 near_along q h places = flat_map (near_at q h) places
 
--- the trace is the one before
+-- the trace is the one of the span before
 abbrev pub same_before : Option TraceId → TraceId → Bool
 same_before None t = false
 same_before (Some b) t = same_trace b t

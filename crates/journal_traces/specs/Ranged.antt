@@ -14,14 +14,14 @@ use Rattle.first_starts.specs.Ranges.{IsIn, range_at, reaches}
 abbrev pub StartsIn : Range → Placed → Type 0
 StartsIn r p = IsIn r p.span.start
 
--- each of these spans of a trace starts in the range of the place at which the trace stands
+-- each of these spans of a trace starts in the range of the trace's place
 abbrev pub AreRanged : Starts → List TraceId → (TraceId → List Placed) → Type 0
 AreRanged starts ids spans = (k : ℕ) (t : TraceId) → slice_get ids k ≡ Some t → AllByRecursion (StartsIn (range_at starts k)) (spans t)
 
--- the spots of no trace whose range doesn't reach into the window pass the test
+-- the spots of a trace whose range doesn't reach into the window fail the test
 abbrev pub FailsOutside : Window → Starts → Assembled → (List Spot → Bool) → Type 0
 FailsOutside w starts shown p = (k : ℕ) (t : TraceId) → slice_get shown.newest.ids k ≡ Some t → reaches w (range_at starts k) ≡ false → p (spots_of shown t) ≡ false
 
--- the times strictly between the bounds of a search's starts, which may be at the bounds
-abbrev pub asked_window : Find → Window
-asked_window q = record { after = option_map (λ (t : ℤ). t -ℤ pos 1) q.start_min; before = option_map (λ (t : ℤ). t +ℤ pos 1) q.start_max }
+-- the times strictly between the bounds of a search's starts, widened so that the bounds are included
+abbrev pub search_window : Find → Window
+search_window q = record { after = option_map (λ (t : ℤ). t -ℤ pos 1) q.start_min; before = option_map (λ (t : ℤ). t +ℤ pos 1) q.start_max }

@@ -5,10 +5,10 @@ use Rattle.trace_model.specs.declared.entry.Entry.{Entry}
 use Rattle.trace_model.specs.Places.{entry_at}
 use Rattle.trace_assembly.specs.declared.spot.Spot.{Spot}
 
--- there is an entry at the spot's place, and of the numbers of the services of all entries its own is this
+-- there is an entry at the spot's place, and the number of its service is this one
 abbrev pub is_reported : List Entry → List ℕ → ℕ → Spot → Bool
 is_reported h groups service s = is_some (entry_at h s.place) && (get_or groups (s.place - 1) 0 == service)
 
--- so it is of one of the spots
+-- it is so for one of the spots
 abbrev pub are_reported : List Entry → List ℕ → ℕ → List Spot → Bool
 are_reported h groups service ss = list_any (is_reported h groups service) ss

@@ -1,4 +1,4 @@
--- Traces by the spots of their spans among entries that are taken once each.
+-- Traces by the spots of their spans among entries that are collected once each.
 use Rattle.std.specs.Prelude.{◌≡◌, ◌<◌, ℕ, suc, Bool, false, List, [], ◌∷◌, ◌++◌, map, length, get_or, slice_get, Option, Some}
 use Rattle.std.specs.Arc.{arc_value}
 use Rattle.std.specs.List.{list_any, cons_option, All}
@@ -12,12 +12,13 @@ use Rattle.trace_model.specs.Works.{placed_brought}
 use Rattle.trace_assembly.specs.declared.spot.Spot.{Spot}
 use Rattle.trace_assembly.specs.Located.{span_at}
 use Rattle.journal_traces.specs.declared.tag_candidates.TakenEntry.{TakenEntry}
-use Rattle.journal_traces.specs.declared.tag_candidates.TakenSpot.{TakenSpot}
+use Rattle.journal_traces.specs.declared.taken_spot.TakenSpot.{TakenSpot}
 use Rattle.journal_traces.specs.Cutting.{AreStarts}
 use Rattle.journal_traces.specs.Standing.{process_at}
 use Rattle.journal_traces.specs.Taking.{placed_taken, HaveProcesses}
 
--- a search, the entries that are taken, and the traces that the search looks at, whose spans have the numbers of their entries
+-- a search, the collected entries, and the traces that the search considers, whose spans have the numbers of their
+-- entries
 pub record Spotted : Type 0 where
   pub query : Find
   pub entries : List Entry
@@ -43,18 +44,18 @@ traces_spotted s = map placed_taken s.traces
 abbrev pub is_entry_met : Find → Entry → Bool
 is_entry_met q e = list_any (matches q) (placed_brought e.work)
 
--- none does unless one may
+-- none does if the flag says that none may
 abbrev pub IsToldBy : Find → Entry → Bool → Type 0
 IsToldBy q e may_match = may_match ≡ false → is_entry_met q e ≡ false
 
 abbrev pub IsTold : Find → TakenEntry → Type 0
 IsTold q t = IsToldBy q (arc_value t.entry) t.may_match
 
--- the same of what is known of an entry
+-- the flag of a collected entry says so
 abbrev pub IsTellingOf : Find → TakenEntry → Bool → Type 0
 IsTellingOf q t may_match = IsToldBy q (arc_value t.entry) may_match
 
--- so of the entry of the spot, by what is known of each entry
+-- whether the entry of the spot may, by the flag of each entry
 abbrev pub is_spot_met : List Bool → TakenSpot → Bool
 is_spot_met met s = get_or met s.number false
 
@@ -69,7 +70,7 @@ process_numbered es n = process_at es (suc n)
 abbrev pub AreNumbered : List Entry → List (List Taken) → Type 0
 AreNumbered es traces = All (HaveProcesses (process_numbered es)) traces
 
--- ---- what is kept of them
+-- ---- the value of what is collected
 abbrev pub entry_shared : TakenEntry → Entry
 entry_shared t = arc_value t.entry
 
@@ -85,7 +86,7 @@ pub record IsSpotted (q : Find) (entries : List TakenEntry) (spots : List TakenS
   pub within : All (IsWithin (length entries)) spots
 
 -- ---- entries by their numbers
--- of each entry of a history the number among the entries that are taken, and one more; 0 where it isn't taken
+-- for each entry of a history its number among the collected entries plus one; 0 if it isn't collected
 pub record AreNumbers (h es : List Entry) (numbers : List ℕ) : Type 0 where
   pub as_many : length numbers ≡ length h
   pub each : (k n : ℕ) (e : Entry) → get_or numbers k 0 ≡ suc n → slice_get h k ≡ Some e → slice_get es n ≡ Some e

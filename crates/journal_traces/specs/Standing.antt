@@ -1,4 +1,4 @@
--- Spans and traces where they stand in the entries.
+-- Spans and traces by their spots in the entries.
 use Rattle.std.specs.Prelude.{◌≡◌, ℕ, List, map, filter_map, Option, Some, option_map}
 use Rattle.std.specs.Option.{option_and_then}
 use Rattle.jaeger_model.specs.declared.batch.Batch.{Batch}
@@ -14,15 +14,15 @@ use Rattle.service_places.specs.Reported.{service_at, group_in}
 use Rattle.trace_model.specs.Taking.{Taken}
 use Rattle.call_links.specs.Seen.{IsNumberedBy, AreNumberedBy}
 
--- the batch that the entry at the place brings; a limit brings none
+-- the batch of the entry at the place; a limit has none
 abbrev pub batch_at : List Entry → ℕ → Option Batch
 batch_at h place = option_and_then (λ (e : Entry). batch_brought e.work) (entry_at h place)
 
--- the spans that the spots name, in their order
+-- the spans at the spots, in their order
 abbrev pub spans_named : List Entry → List Spot → List Placed
 spans_named h ss = filter_map (span_at h) ss
 
--- the spans of a trace by the spots that each trace has
+-- the spans of a trace, by the spots of each trace
 abbrev pub trace_named : List Entry → (TraceId → List Spot) → TraceId → List Placed
 trace_named h spots t = spans_named h (spots t)
 
@@ -42,6 +42,6 @@ AreAt h spans places = map (λ (p : Placed). Some p.process) spans ≡ map (proc
 abbrev pub HasNumber : List Entry → Taken → Type 0
 HasNumber h t = IsNumberedBy (service_at h) (group_in h) t
 
--- so is that of each span of the traces
+-- so is the number of each span of the traces
 abbrev pub AreNumberedByService : List Entry → List (List Taken) → Type 0
 AreNumberedByService h traces = AreNumberedBy (service_at h) (group_in h) traces

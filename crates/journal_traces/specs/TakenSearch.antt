@@ -1,4 +1,4 @@
--- A search over traces that were taken out of a store, and the processes that it judged.
+-- A search over traces that were collected from a store, and the processes that it judged.
 use Rattle.std.specs.Prelude.{ℕ, List, map, Option, IfSome}
 use Rattle.std.specs.BTreeMap.{BTreeMap, get}
 use Rattle.std.specs.List.{All}
@@ -11,7 +11,7 @@ use Rattle.find_traces.specs.Wanting.{Beside}
 use Rattle.journal_traces.specs.Meeting.{IsJudgedAs}
 use Rattle.journal_traces.specs.Taking.{placed_taken, HaveProcesses}
 
--- the process that the number leads to was judged so
+-- the process of the number was judged with this result
 abbrev pub IsOfNumber : Find → (ℕ → Option Process) → ℕ → Option Beside → Type 0
 IsOfNumber q process_of n judged = IfSome (process_of n) (λ (p : Process). IsJudgedAs q p judged)
 

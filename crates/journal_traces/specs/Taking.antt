@@ -1,4 +1,4 @@
--- Traces that are taken out of a journal.
+-- Traces that are collected from a journal.
 use Rattle.std.specs.Prelude.{◌≡◌, ℕ, List, filter_map, Option, Some, IfSome}
 use Rattle.std.specs.List.{All}
 use Rattle.jaeger_model.specs.declared.batch.Process.{Process}

@@ -2,27 +2,27 @@ ghost use Rattle.journal_traces.specs.Lasting.{AreTold};
 ghost use Rattle.std.proofs.Props.{props};
 
 use crate::judging::Judging;
-use crate::standing::{first_id, first_start, is_found};
+use crate::spotted_spans::{first_id, first_start, is_found};
 use arrival_journal::Journal;
-use find_traces::{Searched, Wanted};
+use find_traces::{PreparedSearch, Searched};
 use jaeger_model::TraceId;
 use service_places::ServicePlaces;
 use std::alloc::{AllocError, Global};
 use trace_assembly::Spots;
 
-/// A search, and the traces that it looks at, by the spots of their spans in the journal. Which entries are of its
-/// service is told by numbers.
+/// A search, and the traces that it considers, by the spots of their spans in the journal. Numbers tell which
+/// entries are of its service.
 #[derive(Clone, Copy)]
 pub struct Candidates<'a> {
     pub journal: &'a Journal,
     /// The numbers of the services of the journal's entries.
     pub reported: &'a ServicePlaces,
-    /// The number of the service that the search asks for; none where no entry is of it.
+    /// The number of the search's service; none if no entry is of it.
     pub service: Option<u32>,
-    pub wanted: &'a Wanted<'a>,
-    /// The spots of each trace, those of the one opened longest ago first.
+    pub prepared: &'a PreparedSearch<'a>,
+    /// The spots of each trace, those of the one opened first at the front.
     pub spots: &'a [Spots<'a>],
-    pub ghost told: { AreTold wanted.now journal.now.held.entries reported.now.groups
+    pub ghost told: { AreTold prepared.now journal.now.held.entries reported.now.groups
         service } by { Prim.hlevel props },
 }
 
@@ -34,7 +34,7 @@ impl<'a> Searched for Candidates<'a> {
     ghost query = { query_of };
 
     fn limit(&self) -> u64 {
-        self.wanted.query().limit
+        self.prepared.query().limit
     }
 
     fn count(&self) -> usize {
@@ -58,7 +58,12 @@ impl<'a> Searched for Candidates<'a> {
     fn is_found_at(&mut self, alloc: Global, place: usize) -> Result<bool, AllocError> {
         match self.spots.get(place) {
             Some(spots) => {
-                let judging = Judging::new(self.journal, self.reported, self.wanted, self.service);
+                let judging = Judging::new(
+                    self.journal,
+                    self.reported,
+                    self.prepared,
+                    self.service,
+                );
                 is_found(alloc, judging, spots.again())
             }
             None => Ok(false),

@@ -1,4 +1,4 @@
-//! The spans that spots name, where their entries keep them: the entries are shared, and no span is copied.
+//! The spans at spots, in their entries: the entries are shared, and no span is copied.
 
 ghost use Rattle.std.specs.Prelude.{◌≡◌, Some, IfOk, option_map};
 ghost use Rattle.trace_model.specs.Keeping.{spans_there};
@@ -10,7 +10,7 @@ use std::alloc::{AllocError, Global};
 use trace_assembly::{Spot, Spots};
 use trace_model::{KeptSpan, KeptTrace, Limits};
 
-/// The span that a spot names.
+/// Returns the span at a spot.
 fn kept_at(journal: &Journal, spot: Spot) -> Result<Option<KeptSpan>, AllocError>
     ensures { IfOk result (λ k. k ≡ option_map Some (span_at journal.now.held.entries spot)) }
 {
@@ -25,7 +25,7 @@ fn kept_at(journal: &Journal, spot: Spot) -> Result<Option<KeptSpan>, AllocError
     }
 }
 
-/// How many spots there are, for the room that is taken.
+/// Counts the spots, to allocate exactly.
 fn spot_count(spots: Spots<'_>) -> usize {
     let mut count = 0usize;
     for _spot in spots {
@@ -34,8 +34,8 @@ fn spot_count(spots: Spots<'_>) -> usize {
     count
 }
 
-/// The trace of the spans that the spots name, in their order, and how it is to be shown: within the store's limits,
-/// and `raw` as they came. The spots are gone through twice, so that no more memory is taken than they need.
+/// Returns the trace of the spans at the spots, in their order, to be shown within the store's limits, and as
+/// reported if `raw` is set. The spots are read twice, so that no more memory is allocated than they need.
 ///
 /// # Errors
 ///

@@ -9,32 +9,31 @@ ghost use Rattle.trace_model.specs.Seeing.{seen};
 ghost use Rattle.journal_traces.specs.Lasting.{AreTold};
 ghost use Rattle.journal_traces.specs.Standing.{process_at, spans_named};
 
-use crate::meeting::is_met_alone;
-use crate::standing::seen_at;
+use crate::span_conditions::is_met_alone;
+use crate::spotted_spans::seen_at;
 use arrival_journal::Journal;
-use find_traces::{JudgedProcess, Wanted};
+use find_traces::{JudgedProcess, PreparedSearch};
 use jaeger_model::{Process, Seen};
 use service_places::ServicePlaces;
 use std::alloc::{AllocError, Global};
 use std::marker::Model;
 use trace_assembly::Spot;
 
-/// The process of the asked service that was judged last, and the place of its entry.
+/// The process of the requested service that was judged last, and the place of its entry.
 #[derive(Drop)]
 struct LastJudged<'a> {
     place: u64,
     process: JudgedProcess<'a>,
 }
 
-/// A search, and the entries whose spans it judges. Whether an entry is of the asked service is told by the numbers of
-/// services. Its process is judged once for those of its spans that are judged one after the other. Contracts see the
-/// search and the entries.
+/// A search, and the entries whose spans it judges. Numbers tell whether an entry is of the requested service. A
+/// process is judged once for consecutive spans of its entry. Contracts see the search and the entries.
 #[derive(Drop)]
 pub(crate) struct Judging<'a> {
     journal: &'a Journal,
     reported: &'a ServicePlaces,
-    wanted: &'a Wanted<'a>,
-    /// The number of the asked service; none where no entry is of it.
+    prepared: &'a PreparedSearch<'a>,
+    /// The number of the requested service; none if no entry is of it.
     service: Option<u32>,
     last: Option<LastJudged<'a>>,
 }
@@ -47,33 +46,33 @@ impl<'a> Model for Judging<'a> {
 
     ghost Value = { Find × List Entry };
 
-    ghost view = { λ j. (j.wanted.now, j.journal.now.held.entries) };
+    ghost view = { λ j. (j.prepared.now, j.journal.now.held.entries) };
 
-    ghost invariant = { λ j. IsLast j.wanted.now j.journal.now.held.entries j.last
-        × AreTold j.wanted.now j.journal.now.held.entries j.reported.now.groups j.service };
+    ghost invariant = { λ j. IsLast j.prepared.now j.journal.now.held.entries j.last
+        × AreTold j.prepared.now j.journal.now.held.entries j.reported.now.groups j.service };
 }
 
 impl<'a> Judging<'a> {
     pub(crate) fn new(
         journal: &'a Journal,
         reported: &'a ServicePlaces,
-        wanted: &'a Wanted<'a>,
+        prepared: &'a PreparedSearch<'a>,
         service: Option<u32>,
     ) -> Self
-        requires { AreTold wanted.now journal.now.held.entries reported.now.groups service }
-        ensures { result ≡ (wanted.now, journal.now.held.entries) }
+        requires { AreTold prepared.now journal.now.held.entries reported.now.groups service }
+        ensures { result ≡ (prepared.now, journal.now.held.entries) }
     {
         Judging {
             journal,
             reported,
-            wanted,
+            prepared,
             service,
             last: None,
         }
     }
 
-    /// Whether the entry at a place is of the asked service.
-    fn is_asked(&self, place: u64) -> bool
+    /// Whether the entry at a place is of the requested service.
+    fn is_of_service(&self, place: u64) -> bool
         requires { IsSome (process_at self.now.1 place) }
         ensures { (process : ProcessValue) → Some process ≡ process_at self.now.1 place →
             result ≡ same_text self.now.0.service process.service }
@@ -84,7 +83,8 @@ impl<'a> Judging<'a> {
         }
     }
 
-    /// The process of the entry at a place, judged anew unless it was the last that was judged.
+    /// Returns the judged process of the entry at a place. It is judged anew unless it is the last one that was
+    /// judged.
     fn judged_at(
         &mut self,
         alloc: Global,
@@ -101,17 +101,17 @@ impl<'a> Judging<'a> {
                 return Ok(last.process);
             }
         }
-        JudgedProcess::new(alloc, self.wanted, process)
+        JudgedProcess::new(alloc, self.prepared, process)
     }
 
-    /// Whether a span of the entry at a place meets every condition of the search. The process is judged where the
-    /// span has the asked operation, duration and start.
+    /// Whether a span of the entry at a place meets every condition of the search. The process is judged only if
+    /// the span has the requested operation, duration and start.
     fn is_match(&mut self, alloc: Global, place: u64, at: Seen<'a>) -> Result<bool, AllocError>
         requires { Some at.process.now ≡ process_at self.old.1 place }
         ensures found { IfOk result (λ b. b ≡ matches self.old.0 (seen at.entry)) }
         ensures same { self.new ≡ self.old }
     {
-        if !self.is_asked(place) || !is_met_alone(at, self.wanted.query()) {
+        if !self.is_of_service(place) || !is_met_alone(at, self.prepared.query()) {
             return Ok(false);
         }
         let process = self.judged_at(alloc, place, at.process)?;

@@ -1,60 +1,65 @@
-//! Traces where their spans stand in a journal, named by their spots: nothing is copied but what is
-//! asked for.
+//! Traces by the spots of their spans in a journal, without copies: a query copies only what its answer needs.
 //!
-//! * `standing`: the spans that spots name.
-//! * `gathering`: these spans where their entries keep them, which are shared.
-//! * `pruning`: entries that a search passes over by their outlines.
-//! * `searching`: which traces a search by a service looks at.
-//! * `reporting`: which traces a search by a service alone looks at, where many entries are of that service.
-//! * `latest`: the traces that start after some time.
-//! * `meeting`: the conditions of a search, one after the other.
+//! * `spotted_spans`: the spans at spots.
+//! * `gathering`: these spans in their entries, which are shared.
+//! * `pruning`: entries that a search skips by their outlines.
+//! * `search_candidates`: which traces a search by a service considers.
+//! * `service_candidates`: which traces a search by a service alone considers, if many entries are of that
+//!   service.
+//! * `late_candidates`: the traces that start after some time.
+//! * `span_conditions`: the conditions of a search, one after the other.
 //! * `judging`: spans judged one after the other.
-//! * `candidates`: these traces, as a search looks at them.
+//! * `candidates`: these traces, as a search reads them.
 //! * `window`: a window of time in microseconds.
-//! * `reaching`: the traces that may have a span in a window.
-//! * `seeing`: the traces in a window of time, taken with the numbers of their services.
-//! * `tag_candidates`: the traces that a search by tags looks at, with each of their entries taken once.
-//! * `tag_taking`: takes them out of the journal, by numbers alone.
-//! * `taken`: traces whose spans were taken out, to be read after the journal is left.
+//! * `window_candidates`: the traces that may have a span in a window.
+//! * `seeing`: collects the traces in a window of time, with the numbers of their services.
+//! * `window_traces`: these traces, with each of their entries collected once.
+//! * `taken_spot`: where a span is among the collected entries.
+//! * `tag_candidates`: the traces that a search by tags considers, with each of their entries collected once.
+//! * `tag_taking`: collects them from the journal, by numbers alone.
+//! * `taken`: traces whose spans were collected, to be read after the journal is left.
 //! * `taken_search`: a search over such traces, which judges each process once.
 //! * `process_classes`: equal processes of such traces, found once for each entry.
-//! * `recurring`: which entries stand in several traces, so that this is worth a comparison.
+//! * `recurring`: which entries are in several traces, so that comparing their processes pays.
 //! * `taken_answer`: what such a search finds, as it is to be shown.
-//! * `taking`: takes traces out of the journal.
+//! * `taking`: collects traces from the journal.
 #![tactic(auto)]
 
 mod candidates;
 mod gathering;
 mod judging;
-mod latest;
-mod meeting;
+mod late_candidates;
 mod process_classes;
 mod pruning;
-mod reaching;
 mod recurring;
-mod reporting;
-mod searching;
+mod search_candidates;
 mod seeing;
-mod standing;
+mod service_candidates;
+mod span_conditions;
+mod spotted_spans;
 mod tag_candidates;
 mod tag_taking;
 mod taken;
 mod taken_answer;
 mod taken_search;
+mod taken_spot;
 mod taking;
 mod window;
+mod window_candidates;
+mod window_traces;
 
 pub use candidates::Candidates;
 pub use gathering::gather;
-pub use latest::spots_after;
-pub use reaching::spots_within;
-pub use reporting::spots_reported;
-pub use searching::spots_along;
+pub use late_candidates::spots_after;
+pub use search_candidates::spots_along;
 pub use seeing::{ring_ids, take_within};
+pub use service_candidates::spots_reported;
 pub use tag_candidates::TagCandidates;
 pub use tag_taking::take_candidates;
 pub use taken::TakenTraces;
 pub use taken_answer::{find_kept, find_kept_ids, keep_all};
 pub use taken_search::TakenSearch;
 pub use taking::take_trace;
-pub use window::asked_window;
+pub use window::search_window;
+pub use window_candidates::spots_within;
+pub use window_traces::WindowTraces;

@@ -1,4 +1,4 @@
-//! The numbers of entries whose processes are equal, made one.
+//! Classes of the numbers of entries whose processes are equal.
 
 ghost use Rattle.std.specs.Prelude.{◌≡◌, ◌==◌, ℕ, Option, Some, IfOk, OnOk, if◌then◌else◌};
 ghost use Rattle.std.specs.BTreeMap.{get};
@@ -14,9 +14,9 @@ use std::alloc::{AllocError, Global};
 use std::collections::BTreeMap;
 use trace_model::TakenSpan;
 
-/// The classes of the numbers of taken spans: numbers whose processes are equal are of one class, which is the first
-/// of them. A process is compared with the others once for each number. A number that doesn't recur is a class of its
-/// own, and its process isn't compared: that is done in its one trace.
+/// The classes of the numbers of taken spans: numbers whose processes are equal have one class, which is the first
+/// of them. A process is compared with the others once for each number. A number that doesn't recur is a class of
+/// its own, and its process isn't compared here: that is done in its one trace.
 #[derive(Drop)]
 pub(crate) struct ProcessClasses<'a> {
     recurring: Recurring,
@@ -26,14 +26,14 @@ pub(crate) struct ProcessClasses<'a> {
     by_number: BTreeMap<u32, u32>,
 }
 
-/// The class of a number, if it is known.
+/// Returns the class of a number, if it is known.
 fn known(by_number: &BTreeMap<u32, u32>, number: u32) -> Option<u32>
     ensures { result ≡ get nat_cmp by_number.now number }
 {
     by_number.get(&number).copied()
 }
 
-/// Keeps the class of a number.
+/// Stores the class of a number.
 fn keep(by_number: &mut BTreeMap<u32, u32>, number: u32, class: u32) -> Result<(), AllocError>
     ensures { OnOk result ((n : ℕ) → get nat_cmp by_number.new n ≡
         (if number == n then Some class else get nat_cmp by_number.old n)) }
@@ -53,7 +53,7 @@ impl<'a> ProcessClasses<'a> {
         }
     }
 
-    /// The class of a process, which is this number if no equal one has a class yet.
+    /// Returns the class of a process, which is this number if no equal one has a class yet.
     fn class_of_process(&mut self, process: &'a Process, number: u32) -> Result<u32, AllocError>
         ensures class { (process_of : ℕ → Option ProcessValue) →
             process_of number ≡ Some process.now → Leads process_of self.old →
@@ -70,7 +70,7 @@ impl<'a> ProcessClasses<'a> {
         Ok(number)
     }
 
-    /// The class of the number of a span.
+    /// Returns the class of the number of a span.
     pub(crate) fn class_of(&mut self, span: &'a TakenSpan) -> Result<u32, AllocError>
         ensures class { (process_of : ℕ → Option ProcessValue) →
             HasProcess process_of span.now → Leads process_of self.old →

@@ -1,24 +1,24 @@
-//! The numbers that stand in several traces of an answer.
+//! The numbers that are in several traces of an answer.
 
 use std::alloc::{AllocError, Global};
 use std::collections::BTreeMap;
 use trace_model::TakenSpan;
 
-/// In which traces a number stands.
+/// In which traces a number is.
 #[derive(Clone, Copy)]
 enum SeenIn {
-    /// In the one at this place.
+    /// Only in the one at this place.
     One(usize),
     Several,
 }
 
-/// Which numbers of taken spans stand in several traces, of those with several numbers.
+/// The numbers of taken spans that are in several traces, counting only traces with several numbers.
 #[derive(Drop)]
 pub(crate) struct Recurring {
     seen: BTreeMap<u32, SeenIn>,
 }
 
-/// Whether all of the spans have one number.
+/// Whether all of the spans have the same number.
 pub(crate) fn are_of_one_entry(spans: &[TakenSpan]) -> bool {
     match spans.first() {
         Some(first) => spans.iter().all(|span| span.number() == first.number()),
@@ -43,7 +43,7 @@ impl Recurring {
         Ok(())
     }
 
-    /// Takes in the spans of the trace at a place. Those of one entry say nothing: their process isn't compared.
+    /// Adds the spans of the trace at a place. A trace of one entry is ignored, since no process is compared in it.
     pub(crate) fn add(&mut self, spans: &[TakenSpan], place: usize) -> Result<(), AllocError> {
         if are_of_one_entry(spans) {
             return Ok(());
@@ -54,7 +54,7 @@ impl Recurring {
         Ok(())
     }
 
-    /// Whether the number stands in several of the traces.
+    /// Whether the number is in several of the traces.
     pub(crate) fn has(&self, number: u32) -> bool {
         matches!(self.seen.get(&number), Some(SeenIn::Several))
     }

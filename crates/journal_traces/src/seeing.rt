@@ -1,73 +1,140 @@
-//! The traces in a window of time, taken out of the journal with the numbers of their services: no span is copied.
+//! Collects the traces in a window of time from the journal, with the numbers of their services: no span is copied.
 
-ghost use Rattle.std.specs.Prelude.{◌≡◌, ◌<◌, ◌^◌, ◌++◌, ◌∷◌, [], IfOk, IfSome, OnOk, map, filter, length};
+ghost use Rattle.std.specs.Prelude.{◌≡◌, ◌<◌, ◌^◌, ◌++◌, ◌∷◌, [], IfOk, OnOk, Some, map, filter, length, slice_get};
+ghost use Rattle.std.specs.Arc.{arc_value};
 ghost use Rattle.std.specs.List.{list_any};
-ghost use Rattle.std.specs.Option.{option_and_then};
 ghost use Rattle.trace_model.specs.Linking.{in_window};
+ghost use Rattle.trace_model.specs.Places.{entry_at};
 ghost use Rattle.trace_assembly.specs.Located.{span_at};
 ghost use Rattle.trace_assembly.specs.Rows.{spots_of};
 ghost use Rattle.service_places.specs.Reported.{AreGroups};
 ghost use Rattle.journal_traces.specs.Ranged.{AreRanged};
-ghost use Rattle.journal_traces.specs.Standing.{spans_named, trace_named, HasNumber, AreNumberedByService};
+ghost use Rattle.journal_traces.specs.Spotted.{AddsSpan};
+ghost use Rattle.journal_traces.specs.Standing.{spans_named, trace_named, AreNumberedByService};
 ghost use Rattle.journal_traces.specs.Taking.{placed_taken};
+ghost use Rattle.journal_traces.specs.Windowed.{entries_in, entries_seen, traces_reported, AreWindowed};
 
-use crate::standing::reaches_window;
-use crate::taken::TakenTraces;
+use crate::spotted_spans::reaches_window;
+use crate::taken_spot::TakenSpot;
 use crate::window::window_of;
+use crate::window_traces::{WindowSpots, WindowTraces};
 use arrival_journal::Journal;
 use first_starts::FirstStarts;
 use jaeger_model::TraceId;
 use service_places::ServicePlaces;
 use std::alloc::{AllocError, Global};
+use std::sync::Arc;
 use trace_assembly::{Assembly, Spot, Spots};
-use trace_model::TakenSpan;
+use trace_model::Entry;
 use trace_ring::Ring;
 
-/// Takes the span at a spot. Its number is that of its service.
-fn taken_at(
+/// Returns the number of the entry at a place, which is collected unless it was before, with the number of its
+/// service.
+fn number_of(
+    taken: &mut WindowSpots,
+    numbers: &mut [u32],
+    journal: &Journal,
+    reported: &ServicePlaces,
+    entry: &Arc<Entry>,
+    place: u64,
+) -> Result<u32, AllocError>
+    requires few { length journal.now.held.entries < 2 ^ 32 }
+    requires groups { AreGroups journal.now.held.entries reported.now.groups }
+    requires there { Some (arc_value entry.now) ≡ entry_at journal.now.held.entries place }
+    requires taken { AreWindowed journal.now.held.entries taken.old numbers.old }
+    ensures number { IfOk result (λ n.
+        slice_get (entries_in (entries_seen taken.new.entries.items)) n ≡
+        Some (arc_value entry.now)) }
+    ensures taken { OnOk result (AreWindowed journal.now.held.entries taken.new numbers.new) }
+    ensures traces { OnOk result (traces_reported taken.new ≡ traces_reported taken.old) }
+{
+    let before = (place - 1) as usize;
+    let known = numbers[before];
+    if known > 0 {
+        return Ok(known - 1);
+    }
+    let Ok(number) = u32::try_from(taken.entries.len()) else {
+        // Impossible: a store has at most 1,000,000 entries.
+        return Err(AllocError);
+    };
+    let Some(next) = number.checked_add(1) else {
+        // Impossible: a store has at most 1,000,000 entries.
+        return Err(AllocError);
+    };
+    taken.share(entry, reported.group_at(before as u32))?;
+    numbers[before] = next;
+    Ok(number)
+}
+
+/// Appends a spot to the last trace.
+fn push_spot(taken: &mut WindowSpots, spot: TakenSpot) -> Result<(), AllocError>
+    ensures entries { taken.new.entries ≡ taken.old.entries }
+    ensures spots { OnOk result (taken.new.spots.items ≡ taken.old.spots.items ++ spot ∷ []) }
+    ensures starts { taken.new.starts ≡ taken.old.starts }
+{
+    taken.spots.push(spot)?;
+    Ok(())
+}
+
+/// Appends a trace with no spots.
+fn begin(taken: &mut WindowSpots) -> Result<(), AllocError>
+    ensures entries { taken.new.entries ≡ taken.old.entries }
+    ensures spots { taken.new.spots ≡ taken.old.spots }
+    ensures starts { OnOk result (taken.new.starts.items ≡
+        taken.old.starts.items ++ length taken.old.spots.items ∷ []) }
+{
+    let start = taken.spots.len();
+    taken.starts.push(start)?;
+    Ok(())
+}
+
+/// Appends the span at a spot to the last trace.
+fn take_spot(
+    taken: &mut WindowSpots,
+    numbers: &mut [u32],
     journal: &Journal,
     reported: &ServicePlaces,
     spot: Spot,
-) -> Result<Option<TakenSpan>, AllocError>
+) -> Result<(), AllocError>
     requires few { length journal.now.held.entries < 2 ^ 32 }
-    requires numbers { AreGroups journal.now.held.entries reported.now.groups }
-    ensures span { IfOk result (λ t. option_and_then (λ s. s.span) t ≡
-        span_at journal.now.held.entries spot) }
-    ensures number { IfOk result (λ t. IfSome t (HasNumber journal.now.held.entries)) }
+    requires groups { AreGroups journal.now.held.entries reported.now.groups }
+    requires taken { AreWindowed journal.now.held.entries taken.old numbers.old }
+    ensures taken { OnOk result (AreWindowed journal.now.held.entries taken.new numbers.new) }
+    ensures traces { OnOk result (AddsSpan (span_at journal.now.held.entries spot)
+        (traces_reported taken.old) (traces_reported taken.new)) }
 {
-    let Some(entry) = journal.entry(spot.place) else {
-        return Ok(None);
-    };
-    let before = spot.place - 1;
-    let service = reported.group_at(before as u32);
-    let taken = TakenSpan::new(entry, spot.index, service)?;
-    Ok(taken)
+    if let Some(entry) = journal.entry(spot.place) {
+        let number = number_of(taken, numbers, journal, reported, entry, spot.place)?;
+        let index = spot.index;
+        push_spot(taken, TakenSpot { number, index })?;
+    }
+    Ok(())
 }
 
-/// Adds the trace of the spans at these spots, in their order. The number of each span is that of its service.
-fn take_trace(
-    traces: &mut TakenTraces,
+/// Collects the trace of the spans at these spots, in their order.
+fn take_spots(
+    taken: &mut WindowSpots,
+    numbers: &mut [u32],
     journal: &Journal,
     reported: &ServicePlaces,
     spots: Spots<'_>,
 ) -> Result<(), AllocError>
     requires few { length journal.now.held.entries < 2 ^ 32 }
-    requires numbers { AreGroups journal.now.held.entries reported.now.groups }
-    ensures spans { OnOk result (map placed_taken traces.new ≡ map placed_taken traces.old
+    requires groups { AreGroups journal.now.held.entries reported.now.groups }
+    requires taken { AreWindowed journal.now.held.entries taken.old numbers.old }
+    ensures taken { OnOk result (AreWindowed journal.now.held.entries taken.new numbers.new) }
+    ensures spans { OnOk result (map placed_taken (traces_reported taken.new) ≡
+        map placed_taken (traces_reported taken.old)
         ++ spans_named journal.now.held.entries spots.entry ∷ []) }
-    ensures numbered { OnOk result (AreNumberedByService journal.now.held.entries traces.old →
-        AreNumberedByService journal.now.held.entries traces.new) }
 {
-    traces.begin()?;
+    begin(taken)?;
     for spot in spots {
-        if let Some(span) = taken_at(journal, reported, spot)? {
-            traces.push(span)?;
-        }
+        take_spot(taken, numbers, journal, reported, spot)?;
     }
     Ok(())
 }
 
-/// The traces of the ring, the one opened longest ago first.
+/// Returns the traces of the ring, the one opened first at the front.
 ///
 /// # Errors
 ///
@@ -82,10 +149,10 @@ pub fn ring_ids(alloc: Global, ring: &Ring) -> Result<Vec<TraceId>, AllocError>
     Ok(ids)
 }
 
-/// Takes the traces of the ring that have a span that starts strictly after `end_ms - lookback_ms` and
-/// strictly before `end_ms`, both in milliseconds since 1970; the one opened longest ago comes first. The
-/// number of each span is that of its service. Blocks of traces whose range doesn't reach into the window are skipped;
-/// of the other traces only the starts of their spans are looked at.
+/// Collects the traces of the ring that have a span that starts strictly after `end_ms - lookback_ms` and strictly
+/// before `end_ms`, both in milliseconds since 1970; the one opened first is at the front. The number of each span
+/// is that of its service. Blocks of traces whose range doesn't reach into the window are skipped; of the other
+/// traces only the starts of their spans are read.
 ///
 /// # Errors
 ///
@@ -98,7 +165,7 @@ pub fn take_within(
     reported: &ServicePlaces,
     end_ms: i64,
     lookback_ms: i64,
-) -> Result<TakenTraces, AllocError>
+) -> Result<WindowTraces, AllocError>
     requires few { length journal.now.held.entries < 2 ^ 32 }
     requires numbers { AreGroups journal.now.held.entries reported.now.groups }
     requires as_many { length starts.now.starts ≡ length assembly.now.newest.ids }
@@ -110,14 +177,15 @@ pub fn take_within(
     ensures numbered { IfOk result (AreNumberedByService journal.now.held.entries) }
 {
     let window = window_of(end_ms, lookback_ms);
-    let mut traces = TakenTraces::new(alloc);
+    let mut taken = WindowSpots::new(alloc);
+    let mut numbers = vec![in alloc; 0u32; journal.entries().len()]?;
     let mut place = starts.next_within(0, window);
     while place < starts.len() {
         let spots = assembly.spots_at(place);
         if reaches_window(journal, spots.again(), end_ms, lookback_ms) {
-            take_trace(&mut traces, journal, reported, spots)?;
+            take_spots(&mut taken, &mut numbers, journal, reported, spots)?;
         }
         place = starts.next_within(place + 1, window);
     }
-    Ok(traces)
+    Ok(WindowTraces::new(taken))
 }

@@ -1,4 +1,4 @@
-//! The traces that a search by tags looks at, with each of their entries taken once.
+//! The traces that a search by tags considers, with each of their entries collected once.
 
 ghost use Rattle.std.specs.Prelude.{◌≡◌, ◌+◌, ◌<◌, ◌≤◌, List, [], ◌∷◌, ◌++◌, map, length, slice_index_or, slice_range, IfOk, IfSome, OnOk};
 ghost use Rattle.std.specs.Arc.{arc_value};
@@ -13,25 +13,18 @@ ghost use Rattle.journal_traces.specs.Meeting.{IsJudgedAs};
 ghost use Rattle.journal_traces.specs.Spotted.{spot_of, taken_spotted, trace_spotted, traces_spotted, is_entry_met, is_spot_met, are_spots_met, IsToldBy, IsTold, IsTellingOf, entry_shared, entries_shared, process_numbered, AreNumbered};
 ghost use Rattle.journal_traces.specs.Taking.{placed_taken, HasProcess, ShareByNumber};
 
-use crate::meeting::{has_tags, is_met_alone, judge};
+use crate::span_conditions::{has_tags, is_met_alone, judge};
 use crate::taken::TakenTraces;
-use find_traces::{JudgedProcess, Wanted};
+use crate::taken_spot::TakenSpot;
+use find_traces::{JudgedProcess, PreparedSearch};
 use jaeger_model::{Batch, Seen};
 use std::alloc::{AllocError, Global};
 use std::marker::Model;
 use std::sync::Arc;
 use trace_model::{Entry, Find, TakenSpan};
 
-/// So many entries that have a span that meets a search are many.
-const MANY: usize = 16;
-
-/// Where a span lies among the entries that were taken: the number of its entry and its index there, both counted from
-/// 0. It has 8 bytes, since a search by tags holds one for each span of the traces that it looks at.
-#[derive(Clone, Copy)]
-pub(crate) struct TakenSpot {
-    pub(crate) number: u32,
-    pub(crate) index: u32,
-}
+/// From this number of entries with a span that meets the search, no more entries are judged beforehand.
+const ENOUGH_ENTRIES: usize = 16;
 
 /// An entry that is shared with the store.
 #[derive(Drop)]
@@ -41,16 +34,16 @@ struct TakenEntry {
     may_match: bool,
 }
 
-/// The traces that a search by tags looks at, by the spots of their spans, and their entries. Contracts see the search,
-/// the entries, and the traces with their taken spans.
+/// The traces that a search by tags considers, by the spots of their spans, and their entries. Contracts see the
+/// search, the entries, and the traces with their taken spans.
 #[derive(Drop)]
 pub struct TagCandidates<'q> {
     query: &'q Find,
-    /// Each once, by its number.
+    /// Each entry once, by its number.
     entries: Vec<TakenEntry>,
-    /// Those of all traces, one trace after the other.
+    /// The spots of all traces, one trace after the other.
     spots: Vec<TakenSpot>,
-    /// For each trace, how many spots precede its first one.
+    /// For each trace the number of spots before its first one.
     starts: Vec<usize>,
 }
 
@@ -74,28 +67,33 @@ impl<'q> Model for TagCandidates<'q> {
 /// Whether a span of a judged process meets every condition of the search.
 fn is_span_met(
     alloc: Global,
-    wanted: &Wanted<'_>,
+    prepared: &PreparedSearch<'_>,
     judged: &Option<JudgedProcess<'_>>,
     at: Seen<'_>,
 ) -> Result<bool, AllocError>
-    requires { IsJudgedAs wanted.now at.process.now judged.now }
-    ensures { IfOk result (λ b. b ≡ matches wanted.now (seen at.entry)) }
+    requires { IsJudgedAs prepared.now at.process.now judged.now }
+    ensures { IfOk result (λ b. b ≡ matches prepared.now (seen at.entry)) }
 {
-    if !is_met_alone(at, wanted.query()) {
+    if !is_met_alone(at, prepared.query()) {
         return Ok(false);
     }
     has_tags(alloc, judged, at.span)
 }
 
-/// Whether one of the spans of a batch meets the search. Its process is judged once, and no span after that one.
-fn is_batch_met(alloc: Global, wanted: &Wanted<'_>, batch: &Batch) -> Result<bool, AllocError>
-    ensures { IfOk result (λ b. b ≡ list_any (matches wanted.now) (domain batch.now)) }
+/// Whether one of the spans of a batch meets the search. The process is judged once, and no span after one that
+/// meets it.
+fn is_batch_met(
+    alloc: Global,
+    prepared: &PreparedSearch<'_>,
+    batch: &Batch,
+) -> Result<bool, AllocError>
+    ensures { IfOk result (λ b. b ≡ list_any (matches prepared.now) (domain batch.now)) }
 {
     let process = batch.process.get();
-    let judged = judge(alloc, wanted, process)?;
+    let judged = judge(alloc, prepared, process)?;
     let spans = batch.spans.as_slice();
     for span in spans {
-        let is_met = is_span_met(alloc, wanted, &judged, Seen { process, span })?;
+        let is_met = is_span_met(alloc, prepared, &judged, Seen { process, span })?;
         if is_met {
             return Ok(true);
         }
@@ -104,50 +102,55 @@ fn is_batch_met(alloc: Global, wanted: &Wanted<'_>, batch: &Batch) -> Result<boo
 }
 
 /// Whether one of the spans of an entry meets the search.
-fn is_entry_met(alloc: Global, wanted: &Wanted<'_>, taken: &TakenEntry) -> Result<bool, AllocError>
-    requires { IsTold wanted.now taken.now }
-    ensures { IfOk result (λ b. b ≡ is_entry_met wanted.now (entry_shared taken.now)) }
+fn is_entry_met(
+    alloc: Global,
+    prepared: &PreparedSearch<'_>,
+    taken: &TakenEntry,
+) -> Result<bool, AllocError>
+    requires { IsTold prepared.now taken.now }
+    ensures { IfOk result (λ b. b ≡ is_entry_met prepared.now (entry_shared taken.now)) }
 {
     if !taken.may_match {
         return Ok(false);
     }
     match taken.entry.work.batch() {
-        Some(batch) => is_batch_met(alloc, wanted, batch),
+        Some(batch) => is_batch_met(alloc, prepared, batch),
         None => Ok(false),
     }
 }
 
-/// Whether one of the spans of an entry may meet the search. It is judged if that is asked; else the entry says it.
+/// Whether one of the spans of an entry may meet the search. The entry is judged if that is requested; else its own
+/// flag is returned.
 fn may_be_met(
     alloc: Global,
-    wanted: &Wanted<'_>,
+    prepared: &PreparedSearch<'_>,
     taken: &TakenEntry,
     is_judged: bool,
 ) -> Result<bool, AllocError>
-    requires { IsTold wanted.now taken.now }
-    ensures { IfOk result (IsToldBy wanted.now (entry_shared taken.now)) }
+    requires { IsTold prepared.now taken.now }
+    ensures { IfOk result (IsToldBy prepared.now (entry_shared taken.now)) }
 {
     if is_judged {
-        is_entry_met(alloc, wanted, taken)
+        is_entry_met(alloc, prepared, taken)
     } else {
         Ok(taken.may_match)
     }
 }
 
-/// For each entry whether one of its spans may meet the search. No more of them are judged once so many were found that
-/// do: a search that finds many traces judges no more than those that it looks at.
+/// Returns for each entry whether one of its spans may meet the search. After [`ENOUGH_ENTRIES`] of them do, no
+/// more entries are judged: a search that finds many traces then judges only what it needs for its answer.
 fn entries_met(
     alloc: Global,
-    wanted: &Wanted<'_>,
+    prepared: &PreparedSearch<'_>,
     entries: &[TakenEntry],
 ) -> Result<Vec<bool>, AllocError>
-    requires { All (IsTold wanted.now) entries.now }
-    ensures { IfOk result (λ v. AllZip (IsTellingOf wanted.now) entries.now v.items) }
+    requires { All (IsTold prepared.now) entries.now }
+    ensures { IfOk result (λ v. AllZip (IsTellingOf prepared.now) entries.now v.items) }
 {
     let mut found: usize = 0;
     let mut met = Vec::with_capacity(alloc, entries.len())?;
     for entry in entries {
-        let is_met = may_be_met(alloc, wanted, entry, found < MANY)?;
+        let is_met = may_be_met(alloc, prepared, entry, found < ENOUGH_ENTRIES)?;
         if is_met {
             found = found.saturating_add(1);
         }
@@ -166,14 +169,14 @@ fn is_spot_met(met: &[bool], spot: TakenSpot) -> bool
     }
 }
 
-/// Whether this is so of one of the spots.
+/// Whether the entry of one of the spots may have a span that meets the search.
 fn are_spots_met(met: &[bool], spots: &[TakenSpot]) -> bool
     ensures { result ≡ are_spots_met met.now spots.now }
 {
     spots.iter().any(|spot| is_spot_met(met, *spot))
 }
 
-/// Takes the span at a spot. Its number is that of its entry.
+/// Returns the span at a spot. Its number is that of its entry.
 fn taken_at(entries: &[TakenEntry], spot: &TakenSpot) -> Result<Option<TakenSpan>, AllocError>
     ensures span { IfOk result (λ t. option_and_then (λ s. s.span) t ≡
         span_at (entries_shared entries.now) (spot_of spot.now)) }
@@ -207,7 +210,7 @@ fn take_spots(
     Ok(())
 }
 
-/// Returns where the trace behind the one at a place begins, or the end.
+/// Returns the start of the trace after the one at a place, or the end.
 fn next_start(starts: &[usize], place: usize, end: usize) -> usize
     requires { place < length starts.now }
     ensures { result ≡ slice_index_or starts.now (place + 1) end }
@@ -227,7 +230,7 @@ fn part(spots: &[TakenSpot], start: usize, end: usize) -> &[TakenSpot]
 }
 
 impl<'q> TagCandidates<'q> {
-    /// No traces, and no entries.
+    /// Makes candidates with no traces and no entries.
     pub(crate) fn new(alloc: Global, query: &'q Find) -> Self
         ensures { result ≡ record { query = query.now; entries = []; traces = [] } }
     {
@@ -239,21 +242,21 @@ impl<'q> TagCandidates<'q> {
         }
     }
 
-    /// The search.
+    /// Returns the search.
     pub fn query(&self) -> &'q Find
         ensures { result.now ≡ self.now.query }
     {
         self.query
     }
 
-    /// Returns how many entries were taken.
+    /// Returns the number of entries.
     pub(crate) fn entry_count(&self) -> usize
         ensures { result ≡ length self.now.entries }
     {
         self.entries.len()
     }
 
-    /// The spots of the trace at a place, the first one being 0; none if there is no such trace.
+    /// Returns the spots of the trace at a place, which counts from 0; none if there is no such trace.
     fn spots(&self, place: usize) -> &[TakenSpot]
         ensures { trace_spotted self.now.entries result.now ≡
             slice_index_or self.now.traces place [] }
@@ -266,7 +269,7 @@ impl<'q> TagCandidates<'q> {
         part(&self.spots, start, end)
     }
 
-    /// Takes one more entry. It is said whether one of its spans may meet the search.
+    /// Adds an entry, and whether one of its spans may meet the search.
     ///
     /// # Errors
     ///
@@ -283,7 +286,7 @@ impl<'q> TagCandidates<'q> {
         Ok(())
     }
 
-    /// Adds a trace with no spans at the end.
+    /// Appends a trace with no spans.
     ///
     /// # Errors
     ///
@@ -298,7 +301,7 @@ impl<'q> TagCandidates<'q> {
         Ok(())
     }
 
-    /// Adds a span at the end of the last trace.
+    /// Appends a span to the last trace.
     ///
     /// # Errors
     ///
@@ -315,20 +318,24 @@ impl<'q> TagCandidates<'q> {
         Ok(())
     }
 
-    /// Takes the traces that have a span of an entry of which a span may meet the search, once the entries were judged.
+    /// Judges the entries, and returns the traces that have a span of an entry of which a span may meet the search.
     /// The search finds the same among these as among all.
     ///
     /// # Errors
     ///
     /// Out of memory, and nothing else.
-    pub fn met_traces(&self, alloc: Global, wanted: &Wanted<'_>) -> Result<TakenTraces, AllocError>
-        requires { wanted.now ≡ self.now.query }
-        ensures found { IfOk result (λ ts. found_in wanted.now (map placed_taken ts) ≡
-            found_in wanted.now (traces_spotted self.now)) }
+    pub fn met_traces(
+        &self,
+        alloc: Global,
+        prepared: &PreparedSearch<'_>,
+    ) -> Result<TakenTraces, AllocError>
+        requires { prepared.now ≡ self.now.query }
+        ensures found { IfOk result (λ ts. found_in prepared.now (map placed_taken ts) ≡
+            found_in prepared.now (traces_spotted self.now)) }
         ensures numbers { IfOk result ShareByNumber }
     {
         let mut traces = TakenTraces::new(alloc);
-        let met = entries_met(alloc, wanted, &self.entries)?;
+        let met = entries_met(alloc, prepared, &self.entries)?;
         for place in 0..self.starts.len() {
             let spots = self.spots(place);
             if are_spots_met(&met, spots) {

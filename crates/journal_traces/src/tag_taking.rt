@@ -1,4 +1,4 @@
-//! Takes the traces that a search by tags looks at out of the journal: by numbers alone, so that no span is looked at.
+//! Collects the traces that a search by tags considers from the journal, by numbers alone: no span is read.
 
 ghost use Rattle.std.specs.Prelude.{◌≡◌, ◌<◌, ◌++◌, ◌∷◌, [], length, map, slice_get, IfOk, IsSome, OnOk, Some};
 ghost use Rattle.std.specs.Arc.{arc_value};
@@ -11,7 +11,8 @@ ghost use Rattle.journal_traces.specs.Spotted.{traces_spotted, AddsSpan, IsToldB
 ghost use Rattle.journal_traces.specs.Standing.{spans_named, traces_named};
 
 use crate::pruning::EntryFilter;
-use crate::tag_candidates::{TagCandidates, TakenSpot};
+use crate::tag_candidates::TagCandidates;
+use crate::taken_spot::TakenSpot;
 use arrival_journal::Journal;
 use service_places::ServicePlaces;
 use std::alloc::{AllocError, Global};
@@ -19,65 +20,65 @@ use std::sync::Arc;
 use trace_assembly::{Spot, Spots};
 use trace_model::{Entry, Find};
 
-/// A search, and what tells by numbers alone which entries of the journal may have a span that meets it.
+/// A search, and the numbers that tell which entries of the journal may have a span that meets it.
 #[derive(Drop)]
-struct Teller<'a> {
+struct EntryMatcher<'a> {
     journal: &'a Journal,
     /// The numbers of the services of the journal's entries.
     reported: &'a ServicePlaces,
-    /// The number of the service that the search asks for; none where no entry is of it.
+    /// The number of the search's service; none if no entry is of it.
     service: Option<u32>,
     filter: EntryFilter<'a>,
     ghost told: { AreTold filter journal.now.held.entries reported.now.groups service } by { Prim.hlevel props },
 }
 
-/// Whether the entry at a place is of the service that the search asks for.
-fn is_asked(teller: &Teller<'_>, place: u64) -> bool
-    requires { IsSome (entry_at teller.now.journal.now.held.entries place) }
-    ensures { (e : EntryValue) → Some e ≡ entry_at teller.now.journal.now.held.entries place →
-        IsToldBy teller.now.filter e result }
+/// Whether the entry at a place is of the search's service.
+fn is_of_service(matcher: &EntryMatcher<'_>, place: u64) -> bool
+    requires { IsSome (entry_at matcher.now.journal.now.held.entries place) }
+    ensures { (e : EntryValue) → Some e ≡ entry_at matcher.now.journal.now.held.entries place →
+        IsToldBy matcher.now.filter e result }
 {
-    match teller.service {
-        Some(service) => teller.reported.group_at((place - 1) as u32) == service,
+    match matcher.service {
+        Some(service) => matcher.reported.group_at((place - 1) as u32) == service,
         None => false,
     }
 }
 
 /// Whether the outline of the entry at a place meets the search.
-fn is_outlined(teller: &Teller<'_>, place: u64) -> bool
-    ensures { (e : EntryValue) → Some e ≡ entry_at teller.now.journal.now.held.entries place →
-        IsToldBy teller.now.filter e result }
+fn is_outlined(matcher: &EntryMatcher<'_>, place: u64) -> bool
+    ensures { (e : EntryValue) → Some e ≡ entry_at matcher.now.journal.now.held.entries place →
+        IsToldBy matcher.now.filter e result }
 {
-    match teller.journal.outline(place) {
-        Some(outline) => teller.filter.may_meet(outline),
+    match matcher.journal.outline(place) {
+        Some(outline) => matcher.filter.may_meet(outline),
         None => false,
     }
 }
 
 /// Whether a span of the entry at a place may meet the search.
-fn may_match(teller: &Teller<'_>, place: u64) -> bool
-    requires { IsSome (entry_at teller.now.journal.now.held.entries place) }
-    ensures { (e : EntryValue) → Some e ≡ entry_at teller.now.journal.now.held.entries place →
-        IsToldBy teller.now.filter e result }
+fn may_match(matcher: &EntryMatcher<'_>, place: u64) -> bool
+    requires { IsSome (entry_at matcher.now.journal.now.held.entries place) }
+    ensures { (e : EntryValue) → Some e ≡ entry_at matcher.now.journal.now.held.entries place →
+        IsToldBy matcher.now.filter e result }
 {
-    is_asked(teller, place) && is_outlined(teller, place)
+    is_of_service(matcher, place) && is_outlined(matcher, place)
 }
 
-/// The number of the entry at a place, which is taken unless it was before.
+/// Returns the number of the entry at a place, which is collected unless it was before.
 fn number_of(
     taken: &mut TagCandidates<'_>,
     numbers: &mut [u32],
-    teller: &Teller<'_>,
+    matcher: &EntryMatcher<'_>,
     entry: &Arc<Entry>,
     place: u64,
 ) -> Result<u32, AllocError>
     requires there { Some (arc_value entry.now) ≡
-        entry_at teller.now.journal.now.held.entries place }
-    requires query { taken.old.query ≡ teller.now.filter }
-    requires numbers { AreNumbers teller.now.journal.now.held.entries taken.old.entries numbers.old }
+        entry_at matcher.now.journal.now.held.entries place }
+    requires query { taken.old.query ≡ matcher.now.filter }
+    requires numbers { AreNumbers matcher.now.journal.now.held.entries taken.old.entries numbers.old }
     ensures number { IfOk result (λ n. slice_get taken.new.entries n ≡ Some (arc_value entry.now)) }
     ensures numbers { OnOk result
-        (AreNumbers teller.now.journal.now.held.entries taken.new.entries numbers.new) }
+        (AreNumbers matcher.now.journal.now.held.entries taken.new.entries numbers.new) }
     ensures query { taken.new.query ≡ taken.old.query }
     ensures traces { taken.new.traces ≡ taken.old.traces }
 {
@@ -87,12 +88,14 @@ fn number_of(
         return Ok(known - 1);
     }
     let Ok(number) = u32::try_from(taken.entry_count()) else {
+        // Impossible: a store has at most 1,000,000 entries.
         return Err(AllocError);
     };
     let Some(next) = number.checked_add(1) else {
+        // Impossible: a store has at most 1,000,000 entries.
         return Err(AllocError);
     };
-    taken.share(entry, may_match(teller, place))?;
+    taken.share(entry, may_match(matcher, place))?;
     numbers[before] = next;
     Ok(number)
 }
@@ -101,19 +104,19 @@ fn number_of(
 fn take_spot(
     taken: &mut TagCandidates<'_>,
     numbers: &mut [u32],
-    teller: &Teller<'_>,
+    matcher: &EntryMatcher<'_>,
     spot: Spot,
 ) -> Result<(), AllocError>
-    requires query { taken.old.query ≡ teller.now.filter }
-    requires numbers { AreNumbers teller.now.journal.now.held.entries taken.old.entries numbers.old }
+    requires query { taken.old.query ≡ matcher.now.filter }
+    requires numbers { AreNumbers matcher.now.journal.now.held.entries taken.old.entries numbers.old }
     ensures numbers { OnOk result
-        (AreNumbers teller.now.journal.now.held.entries taken.new.entries numbers.new) }
+        (AreNumbers matcher.now.journal.now.held.entries taken.new.entries numbers.new) }
     ensures query { taken.new.query ≡ taken.old.query }
-    ensures traces { OnOk result (AddsSpan (span_at teller.now.journal.now.held.entries spot)
+    ensures traces { OnOk result (AddsSpan (span_at matcher.now.journal.now.held.entries spot)
         taken.old.traces taken.new.traces) }
 {
-    if let Some(entry) = teller.journal.entry(spot.place) {
-        let number = number_of(taken, numbers, teller, entry, spot.place)?;
+    if let Some(entry) = matcher.journal.entry(spot.place) {
+        let number = number_of(taken, numbers, matcher, entry, spot.place)?;
         taken.push(TakenSpot {
             number,
             index: spot.index,
@@ -122,30 +125,30 @@ fn take_spot(
     Ok(())
 }
 
-/// Takes the trace of the spans at these spots, in their order.
+/// Collects the trace of the spans at these spots, in their order.
 fn take_spots(
     taken: &mut TagCandidates<'_>,
     numbers: &mut [u32],
-    teller: &Teller<'_>,
+    matcher: &EntryMatcher<'_>,
     spots: Spots<'_>,
 ) -> Result<(), AllocError>
-    requires query { taken.old.query ≡ teller.now.filter }
-    requires numbers { AreNumbers teller.now.journal.now.held.entries taken.old.entries numbers.old }
+    requires query { taken.old.query ≡ matcher.now.filter }
+    requires numbers { AreNumbers matcher.now.journal.now.held.entries taken.old.entries numbers.old }
     ensures numbers { OnOk result
-        (AreNumbers teller.now.journal.now.held.entries taken.new.entries numbers.new) }
+        (AreNumbers matcher.now.journal.now.held.entries taken.new.entries numbers.new) }
     ensures query { taken.new.query ≡ taken.old.query }
     ensures spans { OnOk result (traces_spotted taken.new ≡ traces_spotted taken.old
-        ++ spans_named teller.now.journal.now.held.entries spots.entry ∷ []) }
+        ++ spans_named matcher.now.journal.now.held.entries spots.entry ∷ []) }
 {
     taken.begin()?;
     for spot in spots {
-        take_spot(taken, numbers, teller, spot)?;
+        take_spot(taken, numbers, matcher, spot)?;
     }
     Ok(())
 }
 
-/// Takes the trace of each of these lists of spots, in their order, for a search by tags. Each entry is taken once.
-/// Which of them are of the search's service is told by its number.
+/// Collects the trace of each of these lists of spots, in their order, for a search by tags. Each entry is
+/// collected once. Its number tells whether it is of the search's service.
 ///
 /// # Errors
 ///
@@ -165,14 +168,14 @@ pub fn take_candidates<'q>(
 {
     let mut taken = TagCandidates::new(alloc, query);
     let mut numbers = vec![in alloc; 0u32; journal.entries().len()]?;
-    let teller = Teller {
+    let matcher = EntryMatcher {
         journal,
         reported,
         service,
         filter: EntryFilter::new(query),
     };
     for trace in spots {
-        take_spots(&mut taken, &mut numbers, &teller, trace.again())?;
+        take_spots(&mut taken, &mut numbers, &matcher, trace.again())?;
     }
     Ok(taken)
 }

@@ -1,4 +1,4 @@
-//! Traces whose spans were taken out of a store.
+//! Traces whose spans were collected from a store.
 
 ghost use Rattle.std.specs.Prelude.{◌≡◌, List, [], ◌∷◌, ◌++◌, ◌+◌, ◌<◌, ◌≤◌, OnOk, length, slice_index_or, slice_range};
 ghost use Rattle.trace_model.specs.Taking.{Taken};
@@ -7,13 +7,13 @@ use std::alloc::{AllocError, Global};
 use std::marker::Model;
 use trace_model::TakenSpan;
 
-/// The spans of some traces, taken out of a store, so that they can be read after the store is left: their entries
-/// are shared. Contracts see the traces, each with its taken spans.
+/// The spans of some traces, collected from a store, so that they can be read after the store is left: their
+/// entries are shared. Contracts see the traces, each with its taken spans.
 #[derive(Drop)]
 pub struct TakenTraces {
-    /// Those of all traces, one trace after the other.
+    /// The spans of all traces, one trace after the other.
     spans: Vec<TakenSpan>,
-    /// For each trace, how many spans precede its first one.
+    /// For each trace the number of spans before its first one.
     starts: Vec<usize>,
 }
 
@@ -29,7 +29,7 @@ impl Model for TakenTraces {
     ghost invariant = { λ t. AreStarts (length t.spans.items) t.starts.items };
 }
 
-/// Returns where the trace behind the one at a place begins, or the end.
+/// Returns the start of the trace after the one at a place, or the end.
 fn next_start(starts: &[usize], place: usize, end: usize) -> usize
     requires { place < length starts.now }
     ensures { result ≡ slice_index_or starts.now (place + 1) end }
@@ -49,7 +49,7 @@ fn part(spans: &[TakenSpan], start: usize, end: usize) -> &[TakenSpan]
 }
 
 impl TakenTraces {
-    /// No traces.
+    /// Makes an empty list.
     pub fn new(alloc: Global) -> TakenTraces
         ensures { result ≡ [] }
     {
@@ -59,14 +59,14 @@ impl TakenTraces {
         }
     }
 
-    /// Returns how many traces there are.
+    /// Returns the number of traces.
     pub fn count(&self) -> usize
         ensures { result ≡ length self.now }
     {
         self.starts.len()
     }
 
-    /// Returns the spans of the trace at a place, the first one being 0; none if there is no such trace.
+    /// Returns the spans of the trace at a place, which counts from 0; none if there is no such trace.
     pub fn trace(&self, place: usize) -> &[TakenSpan]
         ensures { result.now ≡ slice_index_or self.now place [] }
     {
@@ -78,7 +78,7 @@ impl TakenTraces {
         part(&self.spans, start, end)
     }
 
-    /// Adds a trace with no spans at the end.
+    /// Appends a trace with no spans.
     ///
     /// # Errors
     ///
@@ -91,7 +91,7 @@ impl TakenTraces {
         Ok(())
     }
 
-    /// Adds a span at the end of the last trace.
+    /// Appends a span to the last trace.
     ///
     /// # Errors
     ///

@@ -1,4 +1,4 @@
-//! What a search finds among traces that were taken out of a store.
+//! What a search finds among traces that were collected from a store.
 
 ghost use Rattle.std.specs.Prelude.{◌≡◌, false, ℕ, Option, [], IfOk, OnOk, map, slice_index_or};
 ghost use Rattle.jaeger_model.specs.declared.batch.Process.{Process as ProcessValue};
@@ -18,7 +18,8 @@ use jaeger_model::TraceId;
 use std::alloc::{AllocError, Global};
 use trace_model::{AnsweredTrace, KeptTrace, Limits, TakenSpan};
 
-/// The place under which a span is shown: the class of its number, or the number itself where the trace has no other.
+/// Returns the place under which a span is shown: the class of its number, or the number itself if the trace has no
+/// other.
 fn place_of<'a>(
     classes: &mut ProcessClasses<'a>,
     span: &'a TakenSpan,
@@ -37,9 +38,9 @@ fn place_of<'a>(
     classes.class_of(span)
 }
 
-/// The trace of these spans, which their entries keep, to be shown adjusted. Spans whose processes are equal get one
-/// place, that of the first entry of the answer that has the process. So whatever goes through the traces of the
-/// answer compares a process once for each trace, however many entries brought it.
+/// Returns the trace of these spans, which are in their entries, to be shown adjusted. Spans whose processes are
+/// equal get one place, that of the first entry of the answer with that process. So a reader of the answer compares
+/// a process once for each trace, however many entries brought it.
 fn kept_trace<'a>(
     alloc: Global,
     spans: &'a [TakenSpan],
@@ -73,7 +74,7 @@ fn kept_trace<'a>(
     })
 }
 
-/// The trace at a place as it is to be shown, without spans where there is none.
+/// Returns the trace at a place as it is to be shown, without spans if there is none.
 fn kept_at<'a>(
     alloc: Global,
     traces: &'a TakenTraces,
@@ -90,7 +91,7 @@ fn kept_at<'a>(
     Ok(AnsweredTrace::kept(trace))
 }
 
-/// The numbers that stand in several of the traces at the places.
+/// Returns the numbers that are in several of the traces at the places.
 fn recurring_at(
     alloc: Global,
     traces: &TakenTraces,
@@ -103,7 +104,7 @@ fn recurring_at(
     Ok(recurring)
 }
 
-/// The numbers that stand in several of the traces.
+/// Returns the numbers that are in several of the traces.
 fn recurring_in(alloc: Global, traces: &TakenTraces) -> Result<Recurring, AllocError> {
     let mut recurring = Recurring::new(alloc);
     for place in 0..traces.count() {
@@ -112,7 +113,7 @@ fn recurring_in(alloc: Global, traces: &TakenTraces) -> Result<Recurring, AllocE
     Ok(recurring)
 }
 
-/// The traces at the places as they are to be shown.
+/// Returns the traces at the places as they are to be shown.
 #[tactic(auto, using(std::proofs::lemmas::List::map_more))]
 fn all_kept(
     alloc: Global,
@@ -133,8 +134,8 @@ fn all_kept(
     Ok(kept)
 }
 
-/// The traces that a search finds, in the order of its answer, as they are to be shown. Their spans stay in the
-/// entries. None is judged once the limit of the search is reached.
+/// Returns the traces that a search finds, in the order of its answer, as they are to be shown. Their spans stay in
+/// the entries. No trace is judged after the limit of the search is reached.
 ///
 /// # Errors
 ///
@@ -148,11 +149,12 @@ pub fn find_kept(
         (found_in (query_taken search.old) (traces_taken search.old))) }
 {
     let places = find_traces::find(alloc, search)?;
+    // For the prover: the binding lets the clauses of `all_kept` be used for the result.
     let kept = all_kept(alloc, search.traces(), &places, limits)?;
     Ok(kept)
 }
 
-/// The ids of the traces that a search finds, in the order of its answer.
+/// Returns the ids of the traces that a search finds, in the order of its answer.
 ///
 /// # Errors
 ///
@@ -164,11 +166,12 @@ pub fn find_kept_ids(
     ensures { IfOk result (λ v. v.items ≡
         ids_of (found_in (query_taken search.old) (traces_taken search.old))) }
 {
+    // For the prover: the binding lets the clauses of `find_ids` be used for the result.
     let ids = find_traces::find_ids(alloc, search)?;
     Ok(ids)
 }
 
-/// All of the traces as they are to be shown, in their order. Their spans stay in the entries.
+/// Returns all of the traces as they are to be shown, in their order. Their spans stay in the entries.
 ///
 /// # Errors
 ///

@@ -1,4 +1,4 @@
-//! A search over traces that were taken out of a store.
+//! A search over traces that were collected from a store.
 
 ghost use Rattle.std.specs.Prelude.{◌≡◌, ℕ, Option, Some, [], ◌∷◌, IfOk};
 ghost use Rattle.std.specs.List.{list_any};
@@ -8,24 +8,24 @@ ghost use Rattle.trace_model.specs.Seeing.{seen};
 ghost use Rattle.journal_traces.specs.Taking.{placed_taken, HasProcess, HaveProcesses, ShareByNumber};
 ghost use Rattle.journal_traces.specs.TakenSearch.{AreJudged, traces_taken, query_taken};
 
-use crate::meeting::{has_tags, is_met_alone, judge};
+use crate::span_conditions::{has_tags, is_met_alone, judge};
 use crate::taken::TakenTraces;
-use find_traces::{JudgedProcess, Searched, Wanted};
+use find_traces::{JudgedProcess, PreparedSearch, Searched};
 use jaeger_model::{Seen, TraceId};
 use std::alloc::{AllocError, Global};
 use std::collections::BTreeMap;
 use std::marker::Model;
 use trace_model::TakenSpan;
 
-/// Judged processes by the numbers of their spans; `None` for one of another service than the search asks for.
+/// Judged processes by the numbers of their spans; `None` for one that is not of the search's service.
 type JudgedByNumber<'a> = BTreeMap<u32, Option<JudgedProcess<'a>>>;
 
-/// A search over taken traces. It judges the process of each number at most once, and compares its service then alone.
-/// Contracts see the search and the traces, each with its taken spans.
+/// A search over taken traces. It judges the process of each number at most once; only then is its service
+/// compared. Contracts see the search and the traces, each with its taken spans.
 #[derive(Drop)]
 pub struct TakenSearch<'a> {
     traces: &'a TakenTraces,
-    wanted: &'a Wanted<'a>,
+    prepared: &'a PreparedSearch<'a>,
     judged: JudgedByNumber<'a>,
 }
 
@@ -37,55 +37,55 @@ impl<'a> Model for TakenSearch<'a> {
 
     ghost Value = { Find × List (List Taken) };
 
-    ghost view = { λ s. (s.wanted.now, s.traces.now) };
+    ghost view = { λ s. (s.prepared.now, s.traces.now) };
 
-    ghost invariant = { λ s. IsSearching s.wanted.now s.traces.now s.judged };
+    ghost invariant = { λ s. IsSearching s.prepared.now s.traces.now s.judged };
 }
 
 /// Whether a span whose process has this number meets every condition of the search. Its process is judged unless it
 /// was before, and only if the span has the requested operation, duration and start.
 fn is_match<'a>(
     alloc: Global,
-    wanted: &'a Wanted<'a>,
+    prepared: &'a PreparedSearch<'a>,
     judged: &mut JudgedByNumber<'a>,
     number: u32,
     at: Seen<'a>,
 ) -> Result<bool, AllocError>
     ensures found { (process_of : ℕ → Option ProcessValue) →
-        AreJudged wanted.now process_of judged.old → Some at.entry.process.now ≡ process_of number →
-        IfOk result (λ b. b ≡ matches wanted.now (seen at.entry)) }
+        AreJudged prepared.now process_of judged.old → Some at.entry.process.now ≡ process_of number →
+        IfOk result (λ b. b ≡ matches prepared.now (seen at.entry)) }
     ensures judged { (process_of : ℕ → Option ProcessValue) →
-        AreJudged wanted.now process_of judged.old → Some at.entry.process.now ≡ process_of number →
-        AreJudged wanted.now process_of judged.new }
+        AreJudged prepared.now process_of judged.old → Some at.entry.process.now ≡ process_of number →
+        AreJudged prepared.now process_of judged.new }
 {
-    if !is_met_alone(at, wanted.query()) {
+    if !is_met_alone(at, prepared.query()) {
         return Ok(false);
     }
     if let Some(process) = judged.get(&number) {
         return has_tags(alloc, process, at.span);
     }
-    let process = judge(alloc, wanted, at.process)?;
+    let process = judge(alloc, prepared, at.process)?;
     let is_match = has_tags(alloc, &process, at.span)?;
     judged.insert(number, process)?;
     Ok(is_match)
 }
 
-/// Whether one of the spans meets every condition of the search. None is judged after that one.
+/// Whether one of the spans meets every condition of the search. No span is judged after that one.
 fn is_found<'a>(
     alloc: Global,
-    wanted: &'a Wanted<'a>,
+    prepared: &'a PreparedSearch<'a>,
     judged: &mut JudgedByNumber<'a>,
     spans: &'a [TakenSpan],
 ) -> Result<bool, AllocError>
     ensures found { (process_of : ℕ → Option ProcessValue) →
-        AreJudged wanted.now process_of judged.old → HaveProcesses process_of spans.now →
-        IfOk result (λ b. b ≡ list_any (matches wanted.now) (placed_taken spans.now)) }
+        AreJudged prepared.now process_of judged.old → HaveProcesses process_of spans.now →
+        IfOk result (λ b. b ≡ list_any (matches prepared.now) (placed_taken spans.now)) }
     ensures judged { (process_of : ℕ → Option ProcessValue) →
-        AreJudged wanted.now process_of judged.old → HaveProcesses process_of spans.now →
-        AreJudged wanted.now process_of judged.new }
+        AreJudged prepared.now process_of judged.old → HaveProcesses process_of spans.now →
+        AreJudged prepared.now process_of judged.new }
 {
     for span in spans {
-        let is_match = is_match(alloc, wanted, judged, span.number(), span.seen())?;
+        let is_match = is_match(alloc, prepared, judged, span.number(), span.seen())?;
         if is_match {
             return Ok(true);
         }
@@ -94,14 +94,14 @@ fn is_found<'a>(
 }
 
 impl<'a> TakenSearch<'a> {
-    /// A search over the traces that has judged nothing.
-    pub fn new(alloc: Global, traces: &'a TakenTraces, wanted: &'a Wanted<'a>) -> Self
+    /// Makes a search over the traces that has judged nothing.
+    pub fn new(alloc: Global, traces: &'a TakenTraces, prepared: &'a PreparedSearch<'a>) -> Self
         requires { ShareByNumber traces.now }
-        ensures { result ≡ (wanted.now, traces.now) }
+        ensures { result ≡ (prepared.now, traces.now) }
     {
         TakenSearch {
             traces,
-            wanted,
+            prepared,
             judged: BTreeMap::new(alloc),
         }
     }
@@ -121,7 +121,7 @@ impl<'a> Searched for TakenSearch<'a> {
     ghost query = { query_taken };
 
     fn limit(&self) -> u64 {
-        self.wanted.query().limit
+        self.prepared.query().limit
     }
 
     fn count(&self) -> usize {
@@ -144,6 +144,6 @@ impl<'a> Searched for TakenSearch<'a> {
 
     fn is_found_at(&mut self, alloc: Global, place: usize) -> Result<bool, AllocError> {
         let traces = self.traces;
-        is_found(alloc, self.wanted, &mut self.judged, traces.trace(place))
+        is_found(alloc, self.prepared, &mut self.judged, traces.trace(place))
     }
 }

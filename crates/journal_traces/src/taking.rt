@@ -1,4 +1,4 @@
-//! Takes the spans of traces out of the journal: their entries are shared, and no span is copied.
+//! Collects the spans of traces from the journal: their entries are shared, and no span is copied.
 
 ghost use Rattle.std.specs.Prelude.{◌≡◌, ◌<◌, ◌^◌, ◌++◌, ◌∷◌, [], length, map, IfOk, IfSome, OnOk};
 ghost use Rattle.std.specs.Option.{option_and_then};
@@ -12,7 +12,7 @@ use std::alloc::AllocError;
 use trace_assembly::{Spot, Spots};
 use trace_model::TakenSpan;
 
-/// Takes the span at a spot. Its number is the place of its entry.
+/// Collects the span at a spot. Its number is the place of its entry.
 fn taken_at(journal: &Journal, spot: Spot) -> Result<Option<TakenSpan>, AllocError>
     requires few { length journal.now.held.entries < 2 ^ 32 }
     ensures span { IfOk result (λ t. option_and_then (λ s. s.span) t ≡
@@ -23,6 +23,7 @@ fn taken_at(journal: &Journal, spot: Spot) -> Result<Option<TakenSpan>, AllocErr
     let Some(entry) = journal.entry(spot.place) else {
         return Ok(None);
     };
+    // For the prover: the binding lets the clauses of `new` be used for the result.
     let taken = TakenSpan::new(entry, spot.index, spot.place as u32)?;
     Ok(taken)
 }

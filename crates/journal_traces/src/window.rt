@@ -1,12 +1,12 @@
 //! Windows of time in microseconds.
 
 ghost use Rattle.std.specs.Prelude.{◌≡◌, Some, pos, ◌+ℤ◌, ◌-ℤ◌, ◌*ℤ◌, ◌≤ℤ◌, ◌<ℤ◌, ◌^◌, option_map};
-ghost use Rattle.journal_traces.specs.Ranged.{asked_window};
+ghost use Rattle.journal_traces.specs.Ranged.{search_window};
 
 use first_starts::Window;
 use trace_model::Find;
 
-/// Milliseconds as microseconds.
+/// Converts milliseconds to microseconds.
 fn micros(ms: i128) -> i128
     requires low { (pos 0 -ℤ pos (2 ^ 64)) ≤ℤ ms }
     requires high { ms ≤ℤ pos (2 ^ 64) }
@@ -15,7 +15,7 @@ fn micros(ms: i128) -> i128
     1000 * ms
 }
 
-/// The number in more bits.
+/// Widens the number.
 fn wide(n: i64) -> i128
     ensures same { result ≡ n }
     ensures low { (pos 0 -ℤ pos (2 ^ 63)) ≤ℤ result }
@@ -24,7 +24,8 @@ fn wide(n: i64) -> i128
     n as i128
 }
 
-/// The window strictly between `end_ms - lookback_ms` and `end_ms`, both in milliseconds. No bound overflows.
+/// Returns the window strictly between `end_ms - lookback_ms` and `end_ms`, both in milliseconds. No bound
+/// overflows.
 pub(crate) fn window_of(end_ms: i64, lookback_ms: i64) -> Window
     ensures { result ≡ record {
       after = Some (pos 1000 *ℤ (end_ms -ℤ lookback_ms));
@@ -37,7 +38,7 @@ pub(crate) fn window_of(end_ms: i64, lookback_ms: i64) -> Window
     }
 }
 
-/// The last time before this one, if there is one.
+/// Returns the last time before this one, if there is one.
 fn just_before(time: Option<i64>) -> Option<i128>
     ensures { result ≡ option_map (λ t. t -ℤ pos 1) time }
 {
@@ -47,7 +48,7 @@ fn just_before(time: Option<i64>) -> Option<i128>
     }
 }
 
-/// The first time after this one, if there is one.
+/// Returns the first time after this one, if there is one.
 fn just_after(time: Option<i64>) -> Option<i128>
     ensures { result ≡ option_map (λ t. t +ℤ pos 1) time }
 {
@@ -57,9 +58,9 @@ fn just_after(time: Option<i64>) -> Option<i128>
     }
 }
 
-/// The window of the starts that a search asks for.
-pub fn asked_window(query: &Find) -> Window
-    ensures { result ≡ asked_window query.now }
+/// Returns the window of a search's starts.
+pub fn search_window(query: &Find) -> Window
+    ensures { result ≡ search_window query.now }
 {
     Window {
         after: just_before(query.start_min),

@@ -21,7 +21,7 @@ pub record LiveValue : Type 0 where
   pub seat : SeatValue
   pub known : List Entry
 
--- desk, number and the right to hand in stay, and the list of the jobs handed in grows
+-- desk, number and the right to submit don't change, and the list of the seat's jobs grows
 pub record GoesOn (s t : SeatValue) : Type 0 where
   pub desk_is : t.desk ≡ s.desk
   pub seat_is : t.seat ≡ s.seat
@@ -31,28 +31,28 @@ pub record GoesOn (s t : SeatValue) : Type 0 where
 abbrev pub LiveKnows : LiveValue → History → Type 0
 LiveKnows s h = IsPrefix h s.known
 
--- the seat handed the batch in
+-- the seat submitted the batch
 abbrev pub HandsIn : SeatValue → Batch → SeatValue → Type 0
 HandsIn s b t = t ≡ with_job s (next_job s (brings.Batch b))
 
--- a legal list is known that has at the place an entry that answers for this one: it itself, or the one that had its
--- batch before
+-- a legal list is known whose entry at the place answers for this one: it is this entry, or an earlier one with its
+-- batch
 abbrev pub KnowsPlace : Limits → Entry → ℕ → List Entry → Type 0
 KnowsPlace limits e place known =
     (list : List Entry) × IsLegal limits list × AnsweredAt list place e × IsPrefix list known
 
--- of two lists one begins the other
+-- one of the two lists is a prefix of the other
 abbrev pub OneBegins : List Entry → List Entry → Type 0
 OneBegins xs ys = IsPrefix xs ys ⊎ IsPrefix ys xs
 
--- a legal list of the same history as what is known leaves the entry out for this reason; or the clerk has ended
+-- for this reason the entry isn't in a legal list of the same history as the known one; or the clerk has ended
 abbrev pub IsTurnedDown : Limits → Entry → Refusal → List Entry → Type 0
 IsTurnedDown limits e why known =
     ((list : List Entry) × IsLegal limits list × OneBegins list known × IsLeftOut limits list e why)
     ⊎ ((why ≡ Closed) ⊎ (why ≡ NoReply))
 
--- the seat handed the batch in, and its entry is answered for at the place of a list that is known then; or,
--- at a refusal, it did not, for the seat's reason, or it did, and the history leaves its entry out for this reason
+-- The seat submitted the batch, and a list that is known then answers for its entry at the place. Or it was refused:
+-- the seat didn't submit it for the seat's own reason, or it did, and its entry isn't in the history for this reason.
 abbrev pub LiveSubmits : Limits → LiveValue → Batch → Result ℕ Refusal → LiveValue → Type 0
 LiveSubmits limits s b (Ok place) t =
     IsPrefix s.known t.known × HandsIn s.seat b t.seat
@@ -61,8 +61,8 @@ LiveSubmits limits s b (Err why) t =
     (t.known ≡ s.known)
     × (((t.seat ≡ s.seat) × IsNotTaken s.seat why) ⊎ (HandsIn s.seat b t.seat × IsTurnedDown limits (next_job s.seat (brings.Batch b)) why t.known))
 
--- the answer is the plain store's of the list that is known then, which is legal and begins with what was known;
--- where memory ran out that list is legal too, and where the store is gone nothing has changed
+-- The answer is the plain store's for the list that is known then, which is legal and starts with what was known. If
+-- memory ran out, that list is legal too. If the store is gone, nothing changed.
 abbrev pub LiveReads : Limits → LiveValue → Query → Result Answer Refusal → LiveValue → Type 0
 LiveReads limits s q (Ok a) t =
     IsPrefix s.known t.known × (t.seat ≡ s.seat)

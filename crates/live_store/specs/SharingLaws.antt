@@ -1,5 +1,5 @@
--- Laws that the impls of this crate name, and their lemmas. A clause can name nothing of its own crate's proofs/, so they stand in specs/.
--- What such a store does gives what a session asks of any store: store_backend names it SubmitKnows and ReadKnows.
+-- Laws that the impls of this crate name, and their lemmas. A clause can't name its own crate's proofs/, so they are in
+-- specs/. A shared store meets the laws of every backend: SubmitKnows and ReadKnows of store_backend.
 use Rattle.std.specs.Prelude.{◌≡◌, ℕ, List, Result, Ok, Err, refl}
 use Rattle.std.proofs.Common.{sym, subst, ap, ⊎_elim}
 use mathlib.Core.List.{IsPrefix}
@@ -14,13 +14,13 @@ use Rattle.trace_model.specs.Resending.{AnswersFor}
 use Rattle.trace_model.proofs.Prefixes.{prefix_self, prefix_trans}
 use Rattle.intake.specs.Seats.{next_job}
 use Rattle.intake.proofs.Places.{stands-split}
-use Rattle.store_backend.specs.Knowing.{History, IsBeginning, HasAt, Keeps, SubmitKnows, ReadKnows}
+use Rattle.store_backend.specs.Knowing.{History, IsPrefixOf, HasAt, Keeps, SubmitKnows, ReadKnows}
 use Rattle.live_store.specs.Sharing.{LiveValue, LiveKnows, LiveSubmits, LiveReads}
 
 keeps : (limits : Limits) (s t : LiveValue) → IsPrefix s.known t.known → Keeps (λ _. limits) LiveKnows s t
 keeps limits s t more = record { same_limits = refl; knowledge = λ h k. prefix_trans h s.known t.known k more }
 
--- an entry that answers for another brings the same
+-- an entry that answers for another has the same batch
 brings_the_same : (d e : Entry) → AnswersFor d e → d.work ≡ e.work
 brings_the_same d e a = ⊎_elim (λ same. ap (λ (z : Entry). z.work) same) (λ resent. resent.1) a
 
@@ -37,6 +37,6 @@ submit_knows limits s b (Err why) t d =
 
 pub read_knows : (limits : Limits) (s : LiveValue) (q : Query) (r : Result Answer Refusal) (t : LiveValue) → LiveReads limits s q r t → ReadKnows (λ _. limits) LiveKnows s q r t
 read_knows limits s q (Ok a) t d =
-    let begins : (h : History) → LiveKnows s h → IsBeginning h t.known = λ h k. (let p = prefix_trans h s.known t.known k d.0 in (p.0, sym p.1)) in
+    let begins : (h : History) → LiveKnows s h → IsPrefixOf h t.known = λ h k. (let p = prefix_trans h s.known t.known k d.0 in (p.0, sym p.1)) in
     (keeps limits s t d.0, record { history = t.known; legal = d.2; behind = begins; answer_is = d.3; known = prefix_self t.known })
 read_knows limits s q (Err why) t d = keeps limits s t d.0

@@ -1,10 +1,10 @@
-//! A store behind a session that others share: one seat hands its batches in, and one pass reads.
+//! A shared store as the backend of a session: a seat submits its batches, and a pass reads.
 //!
-//! Contracts see a [`Live`] as its seat and the longest list that its pass knows. Its pass
-//! learns what it hands in before the call returns, so a session reads its own writes. What its calls do is said by
-//! relations of seat and list, so that the seat's list of jobs is known at a session's end.
+//! Contracts see a [`Live`] as its seat and the longest list that its pass knows. The pass learns an accepted batch
+//! before the call returns, so a session reads its own writes. The relations of its calls speak of the seat and the
+//! list, so the seat's list of jobs is known at the end of a session.
 //!
-//! * `processes`: the processes of batches that come one after the other, of which two that are the same are kept once.
+//! * `processes`: shares the process of consecutive batches.
 #![tactic(auto)]
 
 ghost use Rattle.std.specs.Prelude.{◌≡◌, ◌⊎◌, OnOk, OnErr, IfOk, IfErr};
@@ -34,7 +34,7 @@ use trace_model::{Answer, Query, Refusal};
 pub struct Live<N: StoreName> {
     seat: Seat<N>,
     pass: Pass<N>,
-    /// That of the batch that was handed in last.
+    /// The process of the last batch submitted.
     process: Option<SharedProcess>,
 }
 
@@ -47,7 +47,7 @@ impl<N: StoreName> Model for Live<N> {
 }
 
 impl<N: StoreName> Live<N> {
-    /// Hands in by the seat, and reads by the pass.
+    /// Submits by the seat, and reads by the pass.
     pub fn new(seat: Seat<N>, pass: Pass<N>) -> Live<N>
         ensures seat { result.seat ≡ seat }
         ensures known { result.known ≡ pass.known }
@@ -59,7 +59,7 @@ impl<N: StoreName> Live<N> {
         }
     }
 
-    /// Takes in the list of a receipt, which it knows from then on.
+    /// Learns the list of a receipt, which it knows from then on.
     pub fn learn(&mut self, receipt: &Receipt<N>)
         ensures seat { self.new.seat ≡ self.old.seat }
         ensures old { IsPrefix self.old.known self.new.known }
@@ -70,8 +70,9 @@ impl<N: StoreName> Live<N> {
         self.pass.learn(receipt);
     }
 
-    /// Hands a batch in by the seat, with the process of the batch before where it has the same, and gives its ticket.
-    fn hand_in<R: Wait>(
+    /// Submits a batch by the seat, and returns its ticket. The batch shares the process of the batch before, if it is
+    /// equal.
+    fn submit_batch<R: Wait>(
         &mut self,
         rt: &R,
         alloc: Global,
@@ -91,7 +92,7 @@ impl<N: StoreName> Live<N> {
         }
     }
 
-    /// Takes in the list of an acknowledgement's receipt, which is legal, and gives the place in it.
+    /// Learns the list of an acknowledgement's receipt, which is legal, and returns the place in it.
     fn learn_ack(&mut self, ack: Ack<N>) -> u64
         ensures place { result ≡ ack.place }
         ensures seat { self.new.seat ≡ self.old.seat }
@@ -99,12 +100,13 @@ impl<N: StoreName> Live<N> {
         ensures learnt { IsPrefix (arc_value ack.receipt).entries self.new.known }
         ensures legal { IsLegal N.limits (arc_value ack.receipt).entries }
     {
+        // For the prover: the clause `legal` here is that of `front`.
         let _front = ack.receipt.front();
         self.pass.learn(&ack.receipt);
         ack.place
     }
 
-    /// Why the entry was refused. The list by which it was is of the same history as the list that is known.
+    /// Returns why the entry was refused. The list by which it was refused belongs to the history that the pass knows.
     fn refusal_of(&self, denial: Denial<N>) -> Refusal
         ensures refusal { result ≡ denial.refusal }
         ensures history { (e : Entry) → IsDenied N.limits e denial.refusal denial.list →
@@ -112,13 +114,14 @@ impl<N: StoreName> Live<N> {
     {
         let Denial { refusal, list } = denial;
         if let Some(list) = list {
+            // For the prover: the clause `legal` of `len`, and that of `is_prefix_of`, give the clause `history`.
             let _legal = list.len();
             let _one_begins = list.is_prefix_of(&self.pass.history());
         }
         refusal
     }
 
-    /// The seat, and the pass with all that it knew.
+    /// Returns the seat, and the pass with all that it knew.
     pub fn into_parts(self) -> (Seat<N>, Pass<N>)
         ensures seat { result.0 ≡ self.seat }
         ensures known { result.1.known ≡ self.known }
@@ -145,7 +148,7 @@ impl<N: StoreName, R: Wait> Backend<R> for Live<N> {
     ghost read_knows = { read_knows N.limits };
 
     fn submit(&mut self, rt: &R, alloc: Global, batch: Batch) -> Result<u64, Refusal> {
-        let ticket = self.hand_in(rt, alloc, batch)?;
+        let ticket = self.submit_batch(rt, alloc, batch)?;
         match ticket.answer(rt) {
             Ok(ack) => Ok(self.learn_ack(ack)),
             Err(denial) => Err(self.refusal_of(denial)),

@@ -1,11 +1,12 @@
-//! The processes of batches that come one after the other: where two are the same, one is kept.
+//! Shares the process of consecutive batches, so that equal ones are held once.
 
 ghost use Rattle.std.specs.Prelude.{◌≡◌};
 
 use jaeger_model::{Batch, SharedProcess};
 use std::mem::replace;
 
-/// The process, or the last one where both are the same, so that one of them is given up. It is the last one from then on.
+/// Returns the last process if both are equal, so that `process` is dropped. Otherwise returns `process`, which is the
+/// last one from then on.
 fn share(last: &mut Option<SharedProcess>, process: SharedProcess) -> SharedProcess
     ensures { result ≡ process }
 {
@@ -18,7 +19,7 @@ fn share(last: &mut Option<SharedProcess>, process: SharedProcess) -> SharedProc
     process
 }
 
-/// The batch, which shares its process with the last one where both have the same.
+/// Returns the batch. It shares its process with the last one if both are equal.
 pub(crate) fn share_process(last: &mut Option<SharedProcess>, batch: Batch) -> Batch
     ensures { result ≡ batch }
 {

@@ -1,4 +1,4 @@
--- The lines that an operator is told of a store.
+-- The lines about a store that are printed for the operator.
 use Rattle.std.specs.Prelude.{ℕ, ◌++◌, ◌*◌, List, codes, nat_le, if◌then◌else◌}
 use Rattle.std.specs.Fmt.{decimal}
 use Rattle.trace_model.specs.declared.refusal.Refusal.{Refusal}
@@ -11,7 +11,7 @@ abbrev pub counted_name : Counted → List ℕ
 counted_name Batches = codes "batches"
 counted_name Spans = codes "spans"
 
--- the greatest of 90, 75 and 50 of which so many of each 100 are held; 0 below
+-- the greatest of 90, 75 and 50 percent that is reached; 0 below
 abbrev pub level_of : ℕ → ℕ → ℕ
 level_of held most =
     if nat_le (90 * most) (100 * held) then 90

@@ -1,6 +1,6 @@
-//! The lines that an operator is told of a store: each is a text of numbers.
+//! The lines about a store that are printed for the operator, as functions of numbers.
 //!
-//! * `lines`: the lines, and how full a store is.
+//! * `lines`: the lines, and the level of a store.
 #![tactic(auto)]
 
 mod lines;

@@ -1,4 +1,4 @@
-//! The lines that an operator is told of a store, as texts of numbers.
+//! The lines about a store that are printed for the operator, as functions of numbers.
 
 ghost use Rattle.std.specs.Prelude.{◌≡◌};
 ghost use Rattle.notice_lines.specs.Lines.{advice, counted_name, level_of};
@@ -6,7 +6,7 @@ ghost use Rattle.notice_lines.specs.Lines.{advice, counted_name, level_of};
 use std::fmt;
 use trace_model::Refusal;
 
-/// What a limit of a store counts.
+/// The unit of a store's limit.
 #[derive(Clone, Copy, Debug)]
 pub enum Counted {
     Batches,
@@ -14,7 +14,7 @@ pub enum Counted {
 }
 
 impl Counted {
-    /// Returns its name, which is that of its option.
+    /// Returns its name, which is also that of the option.
     pub fn name(self) -> &'static str
         ensures { result.now ≡ counted_name self }
     {
@@ -24,7 +24,7 @@ impl Counted {
         }
     }
 
-    /// Returns what to do once the limit is reached.
+    /// Returns what the operator can do once the limit is reached.
     pub fn advice(self) -> &'static str
         ensures { result.now ≡ advice self }
     {
@@ -36,7 +36,7 @@ impl Counted {
     }
 }
 
-/// Returns the greatest of 90, 75 and 50 of which so many of each 100 are held, or 0.
+/// Returns the greatest of 90, 75 and 50 percent that is reached, or 0.
 pub fn level_of(held: u64, most: u32) -> u8
     ensures { result ≡ level_of held most }
 {
@@ -52,7 +52,7 @@ pub fn level_of(held: u64, most: u32) -> u8
     }
 }
 
-/// Says how much of a limit is used.
+/// The line that tells which percentage of a limit is used.
 #[derive(Clone, Copy, Debug)]
 pub struct FullnessLine {
     pub counted: Counted,
@@ -82,7 +82,7 @@ impl fmt::Display for FullnessLine {
     }
 }
 
-/// Says how much of a limit is held, as `400 of 1000 batches`.
+/// How much of a limit is used, such as `400 of 1000 batches`.
 #[derive(Clone, Copy, Debug)]
 pub struct HeldText {
     pub held: u64,
@@ -107,7 +107,7 @@ impl fmt::Display for HeldText {
     }
 }
 
-/// Says that a batch has more spans than an empty store would take, and what to do.
+/// The line for a batch that has more spans than an empty store would take.
 #[derive(Clone, Copy, Debug)]
 pub struct TooLargeLine {
     pub spans: u64,
@@ -126,7 +126,7 @@ impl fmt::Display for TooLargeLine {
     }
 }
 
-/// Says why a request was answered 500, and how many were.
+/// The line that tells why a request was answered 500, and how many were.
 #[derive(Clone, Copy, Debug)]
 pub struct FailureLine {
     pub refusal: Refusal,

@@ -31,14 +31,14 @@ takes_no_more a b c all waits took kept = (took.0, Appends-kept a b c took.0 too
 pub handed_stays : (a b : Option (List ℕ)) (waited waits : List ℕ) → TakesFirst a b waited waits → Keeps (append_known a waited) (append_known b waits)
 handed_stays a b waited waits took = append_known-moved a b took.0 waits waited took.1 took.2
 
--- bytes are handed over behind which nothing waited
+-- bytes are handed over after which nothing waited
 pub handed_grows : (a b : Option (List ℕ)) (all waits : List ℕ) → TakesFirst a b all waits → Appends (append_known a []) (append_known b waits) all
 handed_grows None b all waits took = tt
 handed_grows (Some x) None all waits took = absurd took.1
 handed_grows (Some x) (Some y) all waits took =
     ap (λ l. l ++ waits) took.1 ∙ append_assoc x took.0 waits ∙ ap (λ l. x ++ l) (sym took.2) ∙ ap (λ l. l ++ all) (sym (append-nil x))
 
--- the first of them, where the connection failed behind these
+-- the first of them, where the connection failed after these
 pub handed_part : (a b : Option (List ℕ)) (all waits : List ℕ) (n : ℕ) → TakesFirst a b all waits → n ≡ length all - length waits → Appends (append_known a []) (append_known b []) (take n all)
 handed_part None b all waits n took is = tt
 handed_part (Some x) None all waits n took is = absurd took.1
@@ -74,7 +74,7 @@ passed part rest sent count le = ap (λ l. l ++ rest) (sym (drop-drop count sent
 pub passed_all : (part rest : List ℕ) (sent count : ℕ) → count ≤ length (drop sent part) → length part ≤ sent + count → rest ≡ drop count (drop sent part ++ rest)
 passed_all part rest sent count le most = ap (λ l. l ++ rest) (sym (drop_all (sent + count) part most)) ∙ passed part rest sent count le
 
--- ---- what was handed over, behind which nothing waited
+-- ---- what was handed over, after which nothing waited
 
 none_waits : (before : Option Parted) → is_some before ≡ false → bytes_waiting before ≡ []
 none_waits None none = refl
@@ -88,7 +88,7 @@ responded a b before after all response waits none left same took =
     (subst (λ (l : List ℕ). Appends (append_known a []) (append_known b l) response) (sym left)
     (subst (λ (l : List ℕ). Appends (append_known a []) (append_known b waits) l) same (handed_grows a b all waits took)))
 
--- the connection failed behind the first bytes of it
+-- the connection failed after the first bytes of it
 pub responded_part : (a b : Option (List ℕ)) (before : Option Parted) (all response waits : List ℕ) (n : ℕ) → is_some before ≡ false → all ≡ response → TakesFirst a b all waits → n ≡ length all - length waits
     → Appends (append_known a (bytes_waiting before)) (append_known b (bytes_waiting before)) (take n response)
 responded_part a b before all response waits n none same took is =

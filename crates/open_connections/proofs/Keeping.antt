@@ -18,8 +18,8 @@ use Rattle.open_connections.specs.Leaving.{LeavesContents}
 use Rattle.http_requests.specs.Waiting.{Gives}
 use Rattle.open_connections.specs.declared.open.OpenConnection.{OpenConnection}
 use Rattle.open_connections.specs.declared.outbox.Outbox.{Outbox}
-use Rattle.open_connections.specs.declared.open.Progress.{Progress}
-use Rattle.open_connections.specs.declared.open.Progress.TheVariants.{Answered, HoldsMore, Paused, Writing, Ended, Closing, Failed, Undelivered}
+use Rattle.open_connections.specs.declared.open.ConnectionProgress.{ConnectionProgress}
+use Rattle.open_connections.specs.declared.open.ConnectionProgress.TheVariants.{Answered, HoldsMore, Paused, Writing, Ended, Closing, Failed, Undelivered}
 
 module _ {S C : Type 0} (store : Store S) (promises : Promises store) (line : Line (Outbox C)) where
   -- while another one is served
@@ -71,7 +71,7 @@ module _ {S C : Type 0} (store : Store S) (line : Line (Outbox C)) (now : S) whe
       (λ other. all k it (sym (put.others k other.1) ∙ e))
       (eqb_tells k key)
 
-  pub open_if_it_stays : (it : OpenConnection C) (p : Progress) → stays_open p ≡ true → HasCome store line now it p → IsOpen store line now it
+  pub open_if_it_stays : (it : OpenConnection C) (p : ConnectionProgress) → stays_open p ≡ true → HasCome store line now it p → IsOpen store line now it
   open_if_it_stays it Answered stays is = is
   open_if_it_stays it HoldsMore stays is = is
   open_if_it_stays it Paused stays is = is
@@ -82,7 +82,7 @@ module _ {S C : Type 0} (store : Store S) (line : Line (Outbox C)) (now : S) whe
   open_if_it_stays it Undelivered stays is = absurd (cc stays)
 
   -- it has come to what its turn says, if that says that it stays open
-  pub come_open : (it : OpenConnection C) (p : Progress) → stays_open p ≡ true → IsOpen store line now it → HasCome store line now it p
+  pub come_open : (it : OpenConnection C) (p : ConnectionProgress) → stays_open p ≡ true → IsOpen store line now it → HasCome store line now it p
   come_open it Answered stays is = is
   come_open it HoldsMore stays is = is
   come_open it Paused stays is = is
@@ -133,7 +133,7 @@ two_way_box remaining gives failed contents leaves = record {
 }
 
 module _ {S C : Type 0} (store : Store S) (now : S) (remaining : C → Option (List ℕ)) (gives : Gives C) (failed : C → Bool) (contents : C → Option (List ℕ))
-    (lasts : OutlastsWrites store (box_line remaining gives failed contents)) (old new : OpenConnection C) (p : Progress) (is : IsOpen store (box_line remaining gives failed contents) now old)
+    (lasts : OutlastsWrites store (box_line remaining gives failed contents)) (old new : OpenConnection C) (p : ConnectionProgress) (is : IsOpen store (box_line remaining gives failed contents) now old)
     (delivers : Delivers remaining failed contents old new p) where
   abbrev line : Line (Outbox C)
   line = box_line remaining gives failed contents

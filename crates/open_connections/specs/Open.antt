@@ -1,4 +1,4 @@
--- Connections that are open, each with a session that is underway over a store that the others use too.
+-- Open connections, each with a session that is underway over a store that the others use too.
 use Rattle.std.specs.Prelude.{◌≡◌, ◌⊎◌, ℕ, List, [], Bool, Option, Some, None, true, false}
 use Rattle.std.specs.Io.KnownBytes.{Keeps as KeepsBytes}
 use Rattle.slab.specs.Slab.{Slab, get}
@@ -11,12 +11,12 @@ use Rattle.http_session.specs.declared.exchanges.SessionError.{SessionError}
 use Rattle.open_connections.specs.Boxes.{box_line, box_takes, handed_over}
 use Rattle.open_connections.specs.declared.open.OpenConnection.{OpenConnection}
 use Rattle.open_connections.specs.declared.outbox.Outbox.{Outbox}
-use Rattle.open_connections.specs.declared.open.Progress.{Progress}
+use Rattle.open_connections.specs.declared.open.ConnectionProgress.{ConnectionProgress}
 use Rattle.open_connections.specs.declared.socket.Socket.{Socket}
-use Rattle.open_connections.specs.declared.open.Progress.TheVariants.{Answered, HoldsMore, Paused, Writing, Ended, Closing, Failed, Undelivered}
+use Rattle.open_connections.specs.declared.open.ConnectionProgress.TheVariants.{Answered, HoldsMore, Paused, Writing, Ended, Closing, Failed, Undelivered}
 
--- It can be gone on with: its session is underway from where the connection began, over what the store was then, and
--- nothing of the connection has failed.
+-- The connection can continue: its session is underway from the start of the connection and the state of the store
+-- then, and the connection hasn't failed.
 pub record IsOpen {S C : Type 0} (store : Store S) (line : Line (Outbox C)) (now : S) (it : OpenConnection C) : Type 0 where
   pub then : S
   pub underway : UnderwayAmong store line it.began.value it.connection then now it.session
@@ -24,7 +24,7 @@ pub record IsOpen {S C : Type 0} (store : Store S) (line : Line (Outbox C)) (now
   pub input_works : line.in_failed it.connection ≡ false
   pub output_works : line.out_failed it.connection ≡ false
 
--- its session has ended as one that began where the connection did
+-- its session has ended, as one that began with the connection
 pub record HasEnded {S C : Type 0} (store : Store S) (line : Line (Outbox C)) (now : S) (it : OpenConnection C) : Type 0 where
   pub then : S
   pub last : S
@@ -32,7 +32,7 @@ pub record HasEnded {S C : Type 0} (store : Store S) (line : Line (Outbox C)) (n
   pub served : EndsServed (shared store) line it.began.value it.connection then last ended
   pub keeps : Keeps store.limits store.knows last now
 
--- its session has failed as one that began where the connection did
+-- its session has failed, as one that began with the connection
 pub record HasFailed {S C : Type 0} (store : Store S) (line : Line (Outbox C)) (now : S) (it : OpenConnection C) : Type 0 where
   pub then : S
   pub last : S
@@ -40,14 +40,14 @@ pub record HasFailed {S C : Type 0} (store : Store S) (line : Line (Outbox C)) (
   pub served : FailsServed (shared store) line it.began.value it.connection then last error
   pub keeps : Keeps store.limits store.knows last now
 
--- its session is underway still, and the connection has failed before the client had taken the last response
+-- its session is underway, and the connection failed before the client took the last response
 pub record HasBroken {S C : Type 0} (store : Store S) (line : Line (Outbox C)) (now : S) (it : OpenConnection C) : Type 0 where
   pub then : S
   pub underway : UnderwayAmong store line it.began.value it.connection then now it.session
   pub output_failed : line.out_failed it.connection ≡ true
 
--- what a connection has come to by one more turn
-abbrev pub HasCome : {S C : Type 0} → Store S → Line (Outbox C) → S → OpenConnection C → Progress → Type 0
+-- what became of a connection in one more turn
+abbrev pub HasCome : {S C : Type 0} → Store S → Line (Outbox C) → S → OpenConnection C → ConnectionProgress → Type 0
 HasCome store line now it Answered = IsOpen store line now it
 HasCome store line now it HoldsMore = IsOpen store line now it
 HasCome store line now it Paused = IsOpen store line now it
@@ -57,7 +57,7 @@ HasCome store line now it Closing = HasEnded store line now it
 HasCome store line now it Failed = HasFailed store line now it
 HasCome store line now it Undelivered = HasBroken store line now it
 
-abbrev pub stays_open : Progress → Bool
+abbrev pub stays_open : ConnectionProgress → Bool
 stays_open Answered = true
 stays_open HoldsMore = true
 stays_open Paused = true
@@ -71,24 +71,24 @@ stays_open Undelivered = false
 abbrev pub AllOpen : {S C : Type 0} → Store S → Line (Outbox C) → S → Slab (OpenConnection C) → Type 0
 AllOpen {C = C} store line now set = (key : ℕ) (it : OpenConnection C) → get set key ≡ Some it → IsOpen store line now it
 
--- no connection is there
+-- the set is empty
 abbrev pub IsEmpty : {C : Type 0} → Slab (OpenConnection C) → Type 0
 IsEmpty set = (key : ℕ) → get set key ≡ None
 
--- each connection that is there was there before, under its key
+-- each connection of the set was there before, under the same key
 abbrev pub IsRest : {C : Type 0} → Slab (OpenConnection C) → Slab (OpenConnection C) → Type 0
 IsRest {C = C} old new = (key : ℕ) (it : OpenConnection C) → get new key ≡ Some it → get old key ≡ Some it
 
--- What writing of what waits does: nothing of the session, and nothing of what was handed over. The connection stays open
--- or has failed.
-pub record Delivers {C : Type 0} (remaining : C → Option (List ℕ)) (failed : C → Bool) (contents : C → Option (List ℕ)) (old new : OpenConnection C) (progress : Progress) : Type 0 where
+-- Writing the waiting bytes changes neither the session nor what was handed over. The connection stays open or has
+-- failed.
+pub record Delivers {C : Type 0} (remaining : C → Option (List ℕ)) (failed : C → Bool) (contents : C → Option (List ℕ)) (old new : OpenConnection C) (progress : ConnectionProgress) : Type 0 where
   pub session : new.session ≡ old.session
   pub began : new.began.value ≡ old.began.value
   pub nothing_new : box_takes remaining failed contents old.connection [] new.connection
   pub kept : KeepsBytes (handed_over contents old.connection) (handed_over contents new.connection)
   pub comes_to : ((stays_open progress ≡ true) × (new.connection.failed ≡ old.connection.failed)) ⊎ ((progress ≡ Undelivered) × (new.connection.failed ≡ true))
 
--- ---- sockets, of whose bytes nothing is known
+-- ---- sockets, about whose bytes nothing is known
 
 abbrev pub socket_line : Line (Outbox Socket)
 socket_line = box_line (λ s. None) (λ s given t. Unit {0}) (λ s. s.failed) (λ s. None)

@@ -22,60 +22,63 @@ use store_backend::Backend;
 pub struct OpenConnection<C> {
     pub connection: Outbox<C>,
     pub session: Session,
-    /// The connection as it was before anything was read of it.
+    /// The connection before anything was read from it.
     pub began: Snapshot<Outbox<C>>,
-    /// When something came of it last, or when it began.
+    /// When it last made progress, or was opened.
     pub active: Duration,
-    /// In which round of its thread it was served last.
+    /// The round of its thread in which it was last served.
     pub round: u64,
-    /// Nothing was read when it was served last. What came before then is reported no more: have it watched again.
+    /// Nothing was read when it was last served. Bytes that came before then are not reported any more: watch it again.
     pub is_unread: bool,
-    /// Its session holds bytes behind the last request, which it has not looked at.
+    /// Its session holds bytes after the last request that it has not examined.
     holds_more: bool,
 }
 
-/// What became of a connection by one turn.
+/// The result of a connection's turn.
 #[derive(Clone, Copy, Debug, PartialEq, Eq)]
-pub enum Progress {
+pub enum ConnectionProgress {
     /// A request was answered, and the connection waits for the next one.
     Answered,
-    /// The same, and bytes behind that request have come already.
+    /// A request was answered, and bytes after it were received already.
     HoldsMore,
     /// More of a request is awaited.
     Paused,
-    /// A request was answered, and the client has not taken the response yet. Nothing is read meanwhile.
+    /// A request was answered, and the client has not yet taken the response. Nothing is read meanwhile.
     Writing,
-    /// The session has ended: the client has said all, and has gone.
+    /// The session has ended: the client closed the connection after its last request.
     Ended,
-    /// The session has ended by a response that closes it. The client may still be sending.
+    /// The session has ended by a response that closes the connection. The client may still be sending.
     Closing,
     /// The connection failed, or memory ran out.
     Failed,
-    /// The connection failed before the client had taken the last response.
+    /// The connection failed before the client took the last response.
     Undelivered,
 }
 
-/// When a thread serves a connection: the time, and its round.
+/// When a thread serves a connection: the time, and the thread's round.
 #[derive(Clone, Copy, Debug)]
 pub struct Moment {
     pub now: Duration,
     pub round: u64,
 }
 
-impl Progress {
+impl ConnectionProgress {
     /// Returns whether the connection stays open.
     pub fn is_open(self) -> bool
         ensures { result ≡ stays_open self }
     {
         matches!(
             self,
-            Progress::Answered | Progress::HoldsMore | Progress::Paused | Progress::Writing
+            ConnectionProgress::Answered
+                | ConnectionProgress::HoldsMore
+                | ConnectionProgress::Paused
+                | ConnectionProgress::Writing
         )
     }
 }
 
 impl<C: TryConnection> OpenConnection<C> {
-    /// Opens a session of which nothing was read, over a connection.
+    /// Starts a session over a connection from which nothing was read.
     pub(crate) fn new(alloc: Global, connection: Outbox<C>, now: Duration) -> OpenConnection<C>
         ensures connection { result.connection ≡ connection }
         ensures session { result.session ≡ no_requests_yet }
@@ -93,8 +96,8 @@ impl<C: TryConnection> OpenConnection<C> {
         }
     }
 
-    /// Goes on with the session. Nothing is read while it holds bytes that it has not looked at: no report says that the
-    /// connection is readable.
+    /// Continues the session. Nothing is read while the session holds bytes that it has not examined, since no report
+    /// says that the connection is readable.
     fn next_piece<T, B: Backend<T>>(
         &mut self,
         rt: &T,
@@ -124,6 +127,7 @@ impl<C: TryConnection> OpenConnection<C> {
         ensures began { self.new.began.value ≡ self.old.began.value }
     {
         let connection = &mut self.connection;
+        // For the prover: each match takes the cases of the clause `goes_on` apart.
         if self.holds_more {
             match self
                 .session
@@ -140,25 +144,25 @@ impl<C: TryConnection> OpenConnection<C> {
         }
     }
 
-    /// Writes what waits of the last response, as far as the connection takes it now.
-    fn deliver(&mut self) -> Progress
+    /// Writes the waiting part of the last response, as far as the connection takes it now.
+    fn deliver(&mut self) -> ConnectionProgress
         ensures { Delivers C.remaining C.has_failed C.contents self.old self.new result }
     {
         if self.connection.flush().is_err() {
-            return Progress::Undelivered;
+            return ConnectionProgress::Undelivered;
         }
         if self.connection.has_waiting() {
-            return Progress::Writing;
+            return ConnectionProgress::Writing;
         }
         if self.holds_more {
-            return Progress::HoldsMore;
+            return ConnectionProgress::HoldsMore;
         }
         self.is_unread = true;
-        Progress::Answered
+        ConnectionProgress::Answered
     }
 
-    /// What is to come after a response.
-    fn after_response(&mut self) -> Progress
+    /// Returns the result of a turn in which a response was handed over.
+    fn after_response(&mut self) -> ConnectionProgress
         ensures open { stays_open result ≡ true }
         ensures connection { self.new.connection ≡ self.old.connection }
         ensures session { self.new.session ≡ self.old.session }
@@ -166,16 +170,16 @@ impl<C: TryConnection> OpenConnection<C> {
     {
         self.holds_more = self.session.holds_bytes();
         if self.connection.has_waiting() {
-            return Progress::Writing;
+            return ConnectionProgress::Writing;
         }
         if self.holds_more {
-            return Progress::HoldsMore;
+            return ConnectionProgress::HoldsMore;
         }
-        Progress::Answered
+        ConnectionProgress::Answered
     }
 
-    /// Goes on with the session by one read at most, and answers one request if it has come. Between two turns it keeps
-    /// no room unless it holds bytes.
+    /// Continues the session by at most one read, and answers one request if it is complete. Between two turns the
+    /// session keeps a buffer only if it holds bytes.
     fn take_turn<T, B: Backend<T>>(
         &mut self,
         rt: &T,
@@ -183,7 +187,7 @@ impl<C: TryConnection> OpenConnection<C> {
         router: &Router<Endpoint>,
         backend: &mut B,
         spare: &mut SpareRoom,
-    ) -> Progress
+    ) -> ConnectionProgress
         requires routes { router.now ≡ endpoint_rows }
 
         requires underway { IsOpen (store_of B.submits B.reads B.knows B.limits)
@@ -203,18 +207,18 @@ impl<C: TryConnection> OpenConnection<C> {
         self.is_unread = self.holds_more;
         self.holds_more = false;
         let Ok(piece) = taken else {
-            return Progress::Failed;
+            return ConnectionProgress::Failed;
         };
         match piece {
-            Piece::Paused => Progress::Paused,
+            Piece::Paused => ConnectionProgress::Paused,
             Piece::Answered => self.after_response(),
-            Piece::Ended(ended) if ended.clean => Progress::Ended,
-            Piece::Ended(_) => Progress::Closing,
+            Piece::Ended(ended) if ended.clean => ConnectionProgress::Ended,
+            Piece::Ended(_) => ConnectionProgress::Closing,
         }
     }
 
-    /// Takes a turn, over a store that other connections use too: writes what waits of the last response, or goes on with
-    /// the session.
+    /// Takes a turn over a store that other connections use too: writes the waiting part of the last response, or
+    /// continues the session.
     pub(crate) fn answer_next<T, B: Backend<T>>(
         &mut self,
         rt: &T,
@@ -222,7 +226,7 @@ impl<C: TryConnection> OpenConnection<C> {
         router: &Router<Endpoint>,
         backend: &mut B,
         spare: &mut SpareRoom,
-    ) -> Progress
+    ) -> ConnectionProgress
         requires routes { router.now ≡ endpoint_rows }
 
         requires underway { IsOpen (store_of B.submits B.reads B.knows B.limits)

@@ -1,4 +1,4 @@
-//! A connection that keeps the response which it can't take at once.
+//! A connection that keeps the response that it can't take at once.
 
 ghost use Rattle.std.specs.Prelude.{◌≡◌, false, true, IfOk, OnOk, OnErr, is_some, length, None};
 ghost use Rattle.std.specs.Io.KnownBytes.{Keeps};
@@ -12,7 +12,8 @@ use http_session::{Respond, Response};
 use session_devices::{Connection, Failed, Input, Output};
 use std::alloc::Global;
 
-/// A connection, and the response that it could not take at once. Contracts count what waits as written.
+/// A connection, and the part of a response that it could not take at once. Contracts count the waiting bytes as
+/// written.
 #[derive(Drop)]
 pub struct Outbox<C> {
     connection: C,
@@ -21,7 +22,7 @@ pub struct Outbox<C> {
     alloc: Global,
 }
 
-/// Writes what waits, as far as the connection takes it now.
+/// Writes the waiting bytes, as far as the connection takes them now.
 ///
 /// # Errors
 ///
@@ -42,7 +43,7 @@ fn write_some<C: TryConnection>(connection: &mut C, waiting: &mut Waiting) -> Re
     Ok(())
 }
 
-/// A response, if it has bytes that are still to be written.
+/// Returns the response, if some of its bytes are still to be written.
 fn unless_empty(waiting: Waiting) -> Option<Waiting>
     ensures { bytes_waiting result ≡ to_come waiting }
 {
@@ -54,7 +55,7 @@ fn unless_empty(waiting: Waiting) -> Option<Waiting>
 }
 
 impl<C: TryConnection> Outbox<C> {
-    /// A connection behind which nothing waits.
+    /// Creates an outbox in which nothing waits.
     pub fn new(alloc: Global, connection: C) -> Outbox<C>
         ensures connection { result.connection ≡ connection }
         ensures none { result.waiting ≡ None }
@@ -68,21 +69,21 @@ impl<C: TryConnection> Outbox<C> {
         }
     }
 
-    /// The connection.
+    /// Returns the connection.
     pub fn connection(&self) -> &C
         ensures { result.now ≡ self.now.connection }
     {
         &self.connection
     }
 
-    /// Whether a response waits to be written.
+    /// Returns whether a response waits to be written.
     pub fn has_waiting(&self) -> bool
         ensures { result ≡ is_some self.now.waiting }
     {
         self.waiting.is_some()
     }
 
-    /// Returns how many bytes wait to be written.
+    /// Returns the number of bytes that wait to be written.
     pub fn waiting_bytes(&self) -> usize {
         match &self.waiting {
             Some(waiting) => waiting.len(),
@@ -90,11 +91,11 @@ impl<C: TryConnection> Outbox<C> {
         }
     }
 
-    /// Writes what waits, as far as the connection takes it now.
+    /// Writes the waiting bytes, as far as the connection takes them now.
     ///
     /// # Errors
     ///
-    /// The connection has failed. What could not be written still waits.
+    /// The connection has failed. The bytes that were not written still wait.
     pub fn flush(&mut self) -> Result<(), Failed>
         ensures same { Keeps (handed_over C.contents self.old) (handed_over C.contents self.new) }
         ensures input { C.remaining self.new.connection ≡ C.remaining self.old.connection }
@@ -166,7 +167,7 @@ impl<C: TryConnection> Output for Outbox<C> {
       two.2 ∙ one.2,
     ) };
 
-    /// While a response waits no other bytes can be written: whoever has one write begins with [`Outbox::flush`].
+    /// Fails while a response waits: call [`Outbox::flush`] first.
     fn write(&mut self, buf: &[u8]) -> Result<usize, Failed> {
         if self.waiting.is_some() {
             self.failed = true;

@@ -1,4 +1,4 @@
-//! The sessions of all connections of a thread.
+//! The connections of a thread, with their sessions.
 
 ghost use Rattle.std.specs.Prelude.{◌≡◌, false, IfOk};
 ghost use Rattle.http_session.specs.Between.{store_of};
@@ -7,7 +7,7 @@ ghost use Rattle.open_connections.specs.Boxes.{box_line};
 ghost use Rattle.open_connections.specs.Open.{AllOpen, IsEmpty, IsRest};
 
 use crate::nonblocking::TryConnection;
-use crate::open::{Moment, OpenConnection, Progress};
+use crate::open::{ConnectionProgress, Moment, OpenConnection};
 use crate::outbox::Outbox;
 use http_session::SpareRoom;
 use http_session::laws::a_new_session_is_underway;
@@ -20,14 +20,14 @@ use std::mem::drop;
 use std::time::Duration;
 use store_backend::Backend;
 
-/// The open connections of a thread, each with its session, under keys. Contracts see which are there.
+/// The open connections of a thread, each with its session, by key. Contracts see the connections by key.
 #[derive(Drop)]
 pub struct ConnectionSet<C> {
     connections: Slab<OpenConnection<C>>,
     router: Router<Endpoint>,
-    /// What its sessions read into, one after the other.
+    /// The buffer that its sessions read into, one after the other.
     spare: SpareRoom,
-    /// How many bytes of responses wait.
+    /// The number of response bytes that wait to be written.
     waiting: usize,
 }
 
@@ -44,19 +44,19 @@ impl<C> Model for ConnectionSet<C> {
     ghost invariant = { λ s. s.router ≡ endpoint_rows };
 }
 
-/// What became of a connection that was to be served.
+/// The result of serving the connection under a key.
 #[derive(Drop)]
 pub enum Turn<C> {
-    /// There is none under this key.
+    /// There is no connection under this key.
     Absent,
-    /// It stays open.
-    Open(Progress),
-    /// It has left the set.
-    Left(Progress, Outbox<C>),
+    /// The connection stays open.
+    Open(ConnectionProgress),
+    /// The connection was removed from the set.
+    Left(ConnectionProgress, Outbox<C>),
 }
 
 impl<C: TryConnection + Drop> ConnectionSet<C> {
-    /// Holds no connection.
+    /// Creates an empty set.
     ///
     /// # Errors
     ///
@@ -80,12 +80,12 @@ impl<C: TryConnection + Drop> ConnectionSet<C> {
         self.connections.is_empty()
     }
 
-    /// Returns how many connections are open.
+    /// Returns the number of open connections.
     pub fn len(&self) -> usize {
         self.connections.len()
     }
 
-    /// Returns how many bytes of responses wait for clients that don't take them.
+    /// Returns the number of response bytes that wait for clients to take them.
     pub fn waiting_bytes(&self) -> usize {
         self.waiting
     }
@@ -95,7 +95,7 @@ impl<C: TryConnection + Drop> ConnectionSet<C> {
         self.connections.get(key)
     }
 
-    /// Adds a connection of which nothing was read, and returns its key.
+    /// Adds a connection from which nothing was read, and returns its key.
     ///
     /// # Errors
     ///
@@ -126,9 +126,9 @@ impl<C: TryConnection + Drop> ConnectionSet<C> {
         Ok(key)
     }
 
-    /// Goes on with the connection under a key, over the store that all of them use: it writes what waits of a response, or
-    /// reads once at most and answers one request if it has come. One that has ended or failed leaves the set, perhaps
-    /// with a response that still waits.
+    /// Gives the connection under a key a turn, over the store that all connections use: writes the waiting part of a
+    /// response, or reads at most once and answers one request if it is complete. A connection that has ended or failed
+    /// is removed from the set, perhaps with a waiting response.
     pub fn answer_next<T, B: Backend<T>>(
         &mut self,
         rt: &T,
@@ -166,11 +166,12 @@ impl<C: TryConnection + Drop> ConnectionSet<C> {
         open.active = at.now;
         open.round = at.round;
         self.waiting = self.waiting.saturating_add(open.connection.waiting_bytes());
+        // It keeps its key, which `try_remove` has reserved.
         let _key = self.connections.insert_reserved(open);
         Turn::Open(progress)
     }
 
-    /// Returns when the connection that has been silent longest was active last.
+    /// Returns when the connection that has been silent longest was last active.
     pub fn oldest(&self) -> Option<Duration> {
         self.connections.iter().map(|(_, open)| open.active).min()
     }
@@ -184,7 +185,7 @@ impl<C: TryConnection + Drop> ConnectionSet<C> {
         Some(open)
     }
 
-    /// Returns whether there is a connection under a key that was not active since this time.
+    /// Returns whether the key is of a connection that was not active after this time.
     fn is_silent(&self, key: usize, since: Duration) -> bool {
         match self.connections.get(key) {
             Some(open) => open.active <= since,
@@ -192,7 +193,7 @@ impl<C: TryConnection + Drop> ConnectionSet<C> {
         }
     }
 
-    /// Drops the connections that were not active since this time.
+    /// Drops the connections that were not active after this time.
     pub fn drop_silent(&mut self, since: Duration)
         ensures rest { IsRest self.old self.new }
     {

@@ -7,20 +7,20 @@ use std::io::{self, ErrorKind, Read, Write};
 use std::net::TcpStream;
 use std::os::fd::{AsRawFd, RawFd};
 
-/// How often a call that a signal interrupted is made again before it counts as failed.
+/// How many interruptions by a signal make a call count as failed.
 const MAX_INTERRUPTIONS: u32 = 1_000_000;
 
-/// A TCP stream in non-blocking mode as a connection. Nothing is known of the bytes that it carries.
+/// A TCP stream in non-blocking mode as a connection. Nothing is known about the bytes that it carries.
 #[derive(Drop)]
 pub struct Socket {
     stream: TcpStream,
     failed: bool,
-    /// The last read filled its buffer, so more may have come already.
+    /// The last read filled its buffer, so more bytes may be there already.
     may_hold_more: bool,
 }
 
 impl Socket {
-    /// A stream of which no read has failed yet. It is to be in non-blocking mode.
+    /// Wraps a stream in non-blocking mode of which no read has failed.
     pub fn new(stream: TcpStream) -> Socket
         ensures { result.failed ≡ false }
     {
@@ -31,7 +31,7 @@ impl Socket {
         }
     }
 
-    /// Returns whether the last read filled its buffer. The system then reports no change for bytes that came before.
+    /// Returns whether the last read filled its buffer. The system doesn't report bytes that are there already.
     pub fn may_hold_more(&self) -> bool {
         self.may_hold_more
     }
@@ -41,13 +41,13 @@ impl Socket {
         &self.stream
     }
 
-    /// Returns the number by which the system knows the socket.
+    /// Returns the socket's file descriptor.
     pub fn raw_fd(&self) -> RawFd {
         self.stream.as_raw_fd()
     }
 }
 
-/// Reads once, and waits until something has come, for as long as the stream's limit says.
+/// Reads once, and blocks until bytes come or the stream's read timeout has elapsed.
 fn read_waiting(stream: &TcpStream, buf: &mut [u8]) -> io::Result<usize>
     ensures { ReadsAtMost result buf.new }
 {
@@ -65,7 +65,7 @@ impl Input for Socket {
 
     ghost has_failed = { λ s. s.failed };
 
-    /// The stream is to be readable. If it isn't after all, this waits.
+    /// Expects a readable stream. If it isn't readable after all, this blocks.
     fn read(&mut self, buf: &mut [u8]) -> Result<usize, Failed> {
         for _tried in 0..MAX_INTERRUPTIONS {
             let got = match self.stream.read(buf) {

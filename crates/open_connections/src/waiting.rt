@@ -6,11 +6,11 @@ ghost use Rattle.query_json.specs.Parts.{to_come};
 use http_session::Response;
 use std::marker::Model;
 
-/// A response of which a part may have been written. Contracts see what is still to be written.
+/// A response that may have been written in part. Contracts see what is still to be written.
 #[derive(Drop)]
 pub(crate) struct Waiting {
     response: Response,
-    /// How many bytes of its part were written.
+    /// The number of bytes of the current part that were written.
     sent: usize,
 }
 
@@ -27,14 +27,14 @@ impl Model for Waiting {
 }
 
 impl Waiting {
-    /// Nothing of it was written yet.
+    /// Wraps a response of which nothing was written.
     pub(crate) fn new(response: Response) -> Waiting
         ensures { to_come result ≡ to_come response }
     {
         Waiting { response, sent: 0 }
     }
 
-    /// How many bytes are still to be written.
+    /// Returns the number of bytes still to be written.
     pub(crate) fn len(&self) -> usize
         ensures length { result ≡ length (to_come self.now) }
         ensures bound { result < 2 ^ 63 }
@@ -42,14 +42,14 @@ impl Waiting {
         self.response.remaining() - self.sent
     }
 
-    /// Whether all was written.
+    /// Returns whether everything was written.
     pub(crate) fn is_empty(&self) -> bool
         ensures { result ≡ (length (to_come self.now) == 0) }
     {
         self.len() == 0
     }
 
-    /// The next bytes, none only if nothing is left.
+    /// Returns the next bytes, none only if nothing is left.
     pub(crate) fn next(&self) -> &[u8]
         ensures first { result.now ≡ self.now.part }
         ensures some { self.now.part ≡ [] → self.now.rest ≡ [] }
@@ -57,7 +57,7 @@ impl Waiting {
         &self.response.part()[self.sent..]
     }
 
-    /// Goes on behind so many of the next bytes.
+    /// Moves past `count` of the next bytes.
     pub(crate) fn pass(&mut self, count: usize)
         requires { count ≤ length self.old.part }
         ensures { to_come self.new ≡ drop count (to_come self.old) }

@@ -1,8 +1,8 @@
-//! Tests of `batch_feeder`: batches whose bytes come in pieces.
+//! Tests of `batch_feeder`: batches whose bytes arrive in pieces.
 //!
 //! * `cuts`: the same bytes cut at each place, short ones at any two, and each byte alone; a large batch in odd pieces.
-//! * `faults`: where the faults of pieces stand, beginnings, sizes that claim much, levels of what is skipped, and
-//!   memory that runs out. Decoding is asked the same.
+//! * `faults`: the places of faults, prefixes, sizes that claim too much, levels of skipped containers, and running out
+//!   of memory. Each is compared with decoding.
 //! * `samples`: the bytes.
 #![tactic(auto)]
 

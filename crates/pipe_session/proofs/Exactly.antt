@@ -1,4 +1,4 @@
--- A run over a store that one owner has is exact.
+-- A run over a store with one owner is exact.
 use Rattle.std.proofs.Common.{◌≡◌, ◌≢◌, ℕ, ◌⊎◌, List, [], ◌∷◌, map, Result, Ok, Err, refl, sym, ap, ◌∙◌, inl, inr}
 use Rattle.std.specs.Option.{unwrap_or}
 use Rattle.std.specs.Result.{result_err}
@@ -14,9 +14,9 @@ use Rattle.span_store.specs.NextEntry.{next_entry}
 use Rattle.direct_store.specs.Exactly.{DirectSubmits, DirectReads}
 use Rattle.http_session.specs.Sessions.{Exchange, Step, Run}
 use Rattle.http_session.specs.declared.verdict.Verdict.{Verdict}
-use Rattle.http_session.specs.declared.verdict.Verdict.TheVariants.{Submit, Ask, Say}
+use Rattle.http_session.specs.declared.verdict.Verdict.TheVariants.{Submit, Ask, Reject}
 use Rattle.http_session.specs.declared.reply.Reply.{Reply}
-use Rattle.http_session.specs.declared.reply.Reply.TheVariants.{Accepted, Answered, Refused, Said}
+use Rattle.http_session.specs.declared.reply.Reply.TheVariants.{Accepted, Answered, Refused, Error}
 use Rattle.pipe_session.specs.Exact.{reply_by, reply_at, held_after, replies_at, held_at_last, IsExact}
 
 abbrev Exactly : Held → Verdict → Reply → Held → Type 0
@@ -42,7 +42,7 @@ one s t (Submit b) Accepted m step = taken s t b step.0 step.1
 one s t (Submit b) (Refused why) m step = refused_by (admission_by s (next_entry s b)) s t b why refl (λ e. m (ap Refused e)) step.0 step.1
 one s t (Ask q) (Answered a) m step = (ap Answered step.1, step.0)
 one s t (Ask q) (Refused why) m step = absurd (m (ap Refused step.1))
-one s t (Say remark) (Said said) m step = (ap Said step.0, step.1)
+one s t (Reject error) (Error said) m step = (ap Error step.0, step.1)
 one s t _ _ m step = absurd step
 
 pub exact : (s t : Held) (xs : List Exchange) → Run DirectSubmits DirectReads s xs t → IsExact s xs t

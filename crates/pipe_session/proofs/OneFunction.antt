@@ -1,18 +1,18 @@
--- What a session over a store that one owner has writes is one function of the bytes, the entries and the limits.
+-- The output of a session over a store with one owner is a function of the bytes, the entries and the limits.
 use Rattle.std.proofs.Common.{◌≡◌, ℕ, ◌+◌, Bool, List, ◌++◌, length, take, Option, Some, None, sym, ap, ◌∙◌, subst, append_assoc}
 use Rattle.std.proofs.lemmas.List.{append_cancel_left}
 use mathlib.Core.List.{IsPrefix}
 use Rattle.trace_model.specs.Held.{Held}
 use Rattle.trace_model.proofs.Prefixes.{prefix_self, prefix_trans}
 use Rattle.direct_store.specs.Exactly.{DirectSubmits, DirectReads}
-use Rattle.http_session.specs.Sessions.{Exchange, texts, Run, EndsAs, FailsAs, last_of, responses, partings, is_clean, exchange_due, bytes_due}
+use Rattle.http_session.specs.Sessions.{Exchange, texts, Run, EndsAs, FailsAs, last_of, responses, malformed_responses, is_clean, exchange_due, bytes_due}
 use Rattle.http_session.specs.declared.exchanges.SessionError.{SessionError}
 use Rattle.pipe_session.specs.OneFunction.{NeverWants, Finished, Failed}
 use Rattle.pipe_session.proofs.Exactly.{exact}
 use Rattle.pipe_session.proofs.Courses.{Stand, ends_at, RunsTo, runs_to, one_course}
-use Rattle.pipe_session.proofs.Beginnings.{spoken, Stops, stops, due_at, meant, meant_begins, part_begins}
+use Rattle.pipe_session.proofs.Prefixes.{spoken, Stops, stops, due_at, meant, meant_begins, part_begins}
 
--- the exchanges of a run in which memory didn't run out stand at the beginning of the bytes
+-- the exchanges of a run in which memory didn't run out stand at the start of the bytes
 stand : (bytes taken rest left : List ℕ) (s t : Held) (xs : List Exchange) → bytes ≡ taken ++ left → taken ≡ texts xs ++ rest → Run DirectSubmits DirectReads s xs t → NeverWants xs
     → Stand bytes s xs (rest ++ left) t
 stand bytes taken rest left s t xs read split run memory =
@@ -44,7 +44,7 @@ one_function bytes s w v t u n m c d one other =
     (course bytes other.before (other.before ++ v) other.left s u m d other.ends other.memory) in (
       said bytes s w t n c one ∙ (λ i. spoken (same.0 i) (same.1 i)) ∙ sym (said bytes s v u m d other),
       same.2,
-      one.ends.count ∙ (λ i. length (same.0 i ++ last_of (same.1 i)) + partings (same.1 i)) ∙ sym other.ends.count,
+      one.ends.count ∙ (λ i. length (same.0 i ++ last_of (same.1 i)) + malformed_responses (same.1 i)) ∙ sym other.ends.count,
       one.ends.clean_is ∙ ap is_clean same.1 ∙ sym other.ends.clean_is,
     )
 

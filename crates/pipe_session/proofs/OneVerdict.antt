@@ -1,4 +1,4 @@
--- On a request there is one verdict, unless memory ran out.
+-- A request has one verdict, unless memory ran out.
 use Rattle.std.proofs.Common.{◌≡◌, ◌≢◌, ℕ, Bool, true, false, List, Result, Ok, Err, if◌then◌else◌, refl, sym, ap, ◌∙◌, inl, inr}
 use Rattle.jaeger_model.specs.declared.batch.Batch.{Batch}
 use Rattle.batch_codec.specs.declared.fault.DecodeError.{DecodeError}
@@ -14,26 +14,26 @@ use Rattle.query_http.specs.Forms.{pairs_of}
 use Rattle.query_http.specs.Queries.{query_at, path_of, form_of}
 use Rattle.query_http.proofs.PathLaws.{one_endpoint}
 use Rattle.http_session.specs.Verdicts.{allows, JudgesQuery, JudgesBatch, JudgesMethod, Judges}
-use Rattle.http_session.specs.declared.verdict.Remark.TheVariants.{NoSuchPath, NotAllowed, UnsupportedType, BatchRefused, BadParameter, NoMemory}
+use Rattle.http_session.specs.declared.verdict.ErrorReply.TheVariants.{NoSuchPath, NotAllowed, UnsupportedType, BatchRefused, BadParameter, NoMemory}
 use Rattle.http_session.specs.declared.verdict.Verdict.{Verdict}
-use Rattle.http_session.specs.declared.verdict.Verdict.TheVariants.{Submit, Ask, Say}
+use Rattle.http_session.specs.declared.verdict.Verdict.TheVariants.{Submit, Ask, Reject}
 
 -- ---- the verdict as a function
 
 query_verdict : Result Query Parameter → Verdict
 query_verdict (Ok q) = Ask q
-query_verdict (Err p) = Say (BadParameter p)
+query_verdict (Err p) = Reject (BadParameter p)
 
 batch_verdict : Bool → Result Batch DecodeError → Verdict
-batch_verdict false read = Say UnsupportedType
+batch_verdict false read = Reject UnsupportedType
 batch_verdict true (Ok b) = Submit b
-batch_verdict true (Err f) = Say (BatchRefused f)
+batch_verdict true (Err f) = Reject (BatchRefused f)
 
 -- of an endpoint with the verdict of a query and the one of a batch
 method_verdict : Method → Endpoint → Verdict → Verdict → Verdict
 method_verdict Get e query batch = query
-method_verdict Post e query batch = if allows e Post then batch else Say (NotAllowed e)
-method_verdict Other e query batch = Say (NotAllowed e)
+method_verdict Post e query batch = if allows e Post then batch else Reject (NotAllowed e)
+method_verdict Other e query batch = Reject (NotAllowed e)
 
 verdict_at : Asked → List ℕ → Endpoint → List ℕ → Verdict
 verdict_at a body e part = method_verdict a.method e (query_verdict (query_at e part (pairs_of (form_of a.target)))) (batch_verdict a.has_batch_type (decoded body))
@@ -43,23 +43,23 @@ verdict_at a body e part = method_verdict a.method e (query_verdict (query_at e 
 by_query : (read : Result Query Parameter) (v : Verdict) → JudgesQuery read v → v ≡ query_verdict read
 unfolding query_verdict
 by_query read (Ask q) is = sym (ap query_verdict is)
-by_query read (Say (BadParameter p)) is = sym (ap query_verdict is)
-by_query read (Say NoSuchPath) is = absurd is
-by_query read (Say (NotAllowed e)) is = absurd is
-by_query read (Say UnsupportedType) is = absurd is
-by_query read (Say (BatchRefused f)) is = absurd is
-by_query read (Say NoMemory) is = absurd is
+by_query read (Reject (BadParameter p)) is = sym (ap query_verdict is)
+by_query read (Reject NoSuchPath) is = absurd is
+by_query read (Reject (NotAllowed e)) is = absurd is
+by_query read (Reject UnsupportedType) is = absurd is
+by_query read (Reject (BatchRefused f)) is = absurd is
+by_query read (Reject NoMemory) is = absurd is
 by_query read (Submit b) is = absurd is
 
-by_batch : (has_type : Bool) (body : List ℕ) (v : Verdict) → v ≢ Say NoMemory → JudgesBatch has_type body v → v ≡ batch_verdict has_type (decoded body)
+by_batch : (has_type : Bool) (body : List ℕ) (v : Verdict) → v ≢ Reject NoMemory → JudgesBatch has_type body v → v ≡ batch_verdict has_type (decoded body)
 unfolding batch_verdict
 by_batch has_type body (Submit b) memory is = sym (ap (λ (t : Bool). batch_verdict t (decoded body)) is.0 ∙ ap (batch_verdict true) is.1)
-by_batch has_type body (Say (BatchRefused f)) memory is = sym (ap (λ (t : Bool). batch_verdict t (decoded body)) is.0 ∙ ap (batch_verdict true) is.1)
-by_batch has_type body (Say NoMemory) memory is = absurd (memory refl)
-by_batch has_type body (Say UnsupportedType) memory is = sym (ap (λ (t : Bool). batch_verdict t (decoded body)) is)
-by_batch has_type body (Say NoSuchPath) memory is = absurd is
-by_batch has_type body (Say (NotAllowed e)) memory is = absurd is
-by_batch has_type body (Say (BadParameter p)) memory is = absurd is
+by_batch has_type body (Reject (BatchRefused f)) memory is = sym (ap (λ (t : Bool). batch_verdict t (decoded body)) is.0 ∙ ap (batch_verdict true) is.1)
+by_batch has_type body (Reject NoMemory) memory is = absurd (memory refl)
+by_batch has_type body (Reject UnsupportedType) memory is = sym (ap (λ (t : Bool). batch_verdict t (decoded body)) is)
+by_batch has_type body (Reject NoSuchPath) memory is = absurd is
+by_batch has_type body (Reject (NotAllowed e)) memory is = absurd is
+by_batch has_type body (Reject (BadParameter p)) memory is = absurd is
 by_batch has_type body (Ask q) memory is = absurd is
 
 each_takes_get : (e : Endpoint) → allows e Get ≡ true
@@ -79,19 +79,19 @@ unfolding method_verdict
 by_post m e query batch is at =
     sym (ap (λ (n : Method). method_verdict n e query batch) is ∙ ap (λ (f : Endpoint). method_verdict Post f query batch) at)
 
-by_neither : (m : Method) (e : Endpoint) (query batch : Verdict) → allows e m ≡ false → Say (NotAllowed e) ≡ method_verdict m e query batch
+by_neither : (m : Method) (e : Endpoint) (query batch : Verdict) → allows e m ≡ false → Reject (NotAllowed e) ≡ method_verdict m e query batch
 unfolding method_verdict
 by_neither Get e query batch not = absurd (cc (each_takes_get e, not))
-by_neither Post e query batch not = sym (ap (λ (t : Bool). if t then batch else Say (NotAllowed e)) not)
+by_neither Post e query batch not = sym (ap (λ (t : Bool). if t then batch else Reject (NotAllowed e)) not)
 by_neither Other e query batch not = refl
 
-by_method : (a : Asked) (body : List ℕ) (v : Verdict) (e : Endpoint) (part : List ℕ) → v ≢ Say NoMemory → JudgesMethod a body v e part → v ≡ verdict_at a body e part
+by_method : (a : Asked) (body : List ℕ) (v : Verdict) (e : Endpoint) (part : List ℕ) → v ≢ Reject NoMemory → JudgesMethod a body v e part → v ≡ verdict_at a body e part
 unfolding verdict_at
 by_method a body v e part memory (inl get) = by_query (query_at e part (pairs_of (form_of a.target))) v get.1 ∙ by_get a.method e _ _ get.0
 by_method a body v e part memory (inr (inl post)) = by_batch a.has_batch_type body v memory post.2 ∙ by_post a.method e _ _ post.1 post.0
 by_method a body v e part memory (inr (inr neither)) = neither.1 ∙ by_neither a.method e _ _ neither.0
 
-pub one_verdict : (a : Asked) (body : List ℕ) (v w : Verdict) → v ≢ Say NoMemory → w ≢ Say NoMemory → Judges a body v → Judges a body w → v ≡ w
+pub one_verdict : (a : Asked) (body : List ℕ) (v w : Verdict) → v ≢ Reject NoMemory → w ≢ Reject NoMemory → Judges a body v → Judges a body w → v ≡ w
 one_verdict a body v w m n (inl one) (inl other) = one.1 ∙ sym other.1
 one_verdict a body v w m n (inl one) (inr other) = absurd (one.0 other.endpoint other.part other.path)
 one_verdict a body v w m n (inr one) (inl other) = absurd (other.0 one.endpoint one.part one.path)

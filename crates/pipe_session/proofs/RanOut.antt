@@ -6,7 +6,7 @@ use Rattle.std.proofs.lemmas.List.Elements.{All-head, All-tail, All-cons, All-ni
 use Rattle.std.proofs.lemmas.Grind.{flat_map-append}
 use Rattle.trace_model.specs.Held.{Held}
 use Rattle.direct_store.specs.Exactly.{DirectSubmits, DirectReads}
-use Rattle.http_session.specs.Sessions.{Exchange, IsOpen, texts, Submits, Reads, Run, EndsAs, FailsAs, Ending, Ending.{clean, closing, broken}, last_of, parting, response_to, responses, Due, Due.{none_yet, due, due_parting}, exchange_due, bytes_due}
+use Rattle.http_session.specs.Sessions.{Exchange, IsOpen, texts, Submits, Reads, Run, EndsAs, FailsAs, Ending, Ending.{clean, closing, malformed}, last_of, malformed_response, response_to, responses, Due, Due.{none_yet, due, due_malformed}, exchange_due, bytes_due}
 use Rattle.http_requests.specs.LineLaws.{no_bytes_await}
 use Rattle.http_session.specs.declared.exchanges.SessionErrorKind.TheVariants.{Reading}
 use Rattle.http_session.specs.declared.exchanges.SessionError.{SessionError}
@@ -39,20 +39,20 @@ front (o ∷ os) last (y ∷ ys) zs z few e =
 last_few : (e : Ending) → length (last_of e) ≤ 1
 last_few clean = omega arith
 last_few (closing x) = omega arith
-last_few (broken b) = omega arith
+last_few (malformed b) = omega arith
 
 due_few : (d : Due) → length (exchange_due d) ≤ 1
 due_few none_yet = omega arith
 due_few (due x) = omega arith
-due_few (due_parting b) = omega arith
+due_few (due_malformed b) = omega arith
 
 responses_parts : (xs ys : List Exchange) → responses (xs ++ ys) ≡ responses xs ++ responses ys
 responses_parts xs ys = flat_map-append response_to xs ys
 
 -- where nothing more was taken, all of it is left
-left_behind : (bytes front behind taken : List ℕ) (left : Option (List ℕ)) → Consumes (Some bytes) left taken → taken ≡ front ++ behind → (more : List ℕ) × (bytes ≡ front ++ more)
-left_behind bytes front behind taken None read split = absurd read
-left_behind bytes front behind taken (Some left) read split = (behind ++ left, read ∙ ap (λ (l : List ℕ). l ++ left) split ∙ append_assoc front behind left)
+left_after : (bytes front behind taken : List ℕ) (left : Option (List ℕ)) → Consumes (Some bytes) left taken → taken ≡ front ++ behind → (more : List ℕ) × (bytes ≡ front ++ more)
+left_after bytes front behind taken None read split = absurd read
+left_after bytes front behind taken (Some left) read split = (behind ++ left, read ∙ ap (λ (l : List ℕ). l ++ left) split ∙ append_assoc front behind left)
 
 -- a session up to some exchange is one whose input failed there, and had written the responses before
 stopped_there : (bytes before taken rest : List ℕ) (left : Option (List ℕ)) (s t : Held) (ys zs : List Exchange) → Consumes (Some bytes) left taken → taken ≡ texts (ys ++ zs) ++ rest → All IsOpen ys
@@ -61,7 +61,7 @@ stopped_there bytes before taken rest left s t ys zs read split opens run memory
     let parts = run_parts DirectSubmits DirectReads s ys zs t run in
     let alone : ys ≡ ys ++ [] = sym (append-nil ys) in
     let cut : taken ≡ texts ys ++ (texts zs ++ rest) = split ∙ ap (λ (l : List ℕ). l ++ rest) (flat_map-append (λ (x : Exchange). x.text) ys zs) ∙ append_assoc (texts ys) (texts zs) rest in
-    let behind = left_behind bytes (texts ys) (texts zs ++ rest) taken left read cut in
+    let behind = left_after bytes (texts ys) (texts zs ++ rest) taken left read cut in
     record {
       before = before;
       left = Some behind.0;
@@ -90,7 +90,7 @@ stopped_there bytes before taken rest left s t ys zs read split opens run memory
       memory = subst NeverWants alone memory;
     }
 
--- what was answered before some exchange was written first, whatever was written behind
+-- what was answered before some exchange was written first, whatever was written after
 written_first : (bytes before taken rest tail : List ℕ) (left out : Option (List ℕ)) (s t : Held) (opens last ys zs : List Exchange) (z : Exchange) → length last ≤ 1 → All IsOpen opens → opens ++ last ≡ ys ++ z ∷ zs → NeverWants ys
     → Consumes (Some bytes) left taken → taken ≡ texts (opens ++ last) ++ rest → Run DirectSubmits DirectReads s (opens ++ last) t → Appends (Some before) out (responses opens ++ tail) → WroteFirst bytes before out s (responses ys)
 written_first bytes before taken rest tail left None s t opens last ys zs z few each e memory read split run written = absurd written
@@ -110,8 +110,8 @@ pub ended_before : (bytes before : List ℕ) (left out : Option (List ℕ)) (s t
     (ys zs : List Exchange) (z : Exchange) → ends.opens ++ last_of ends.ending ≡ ys ++ z ∷ zs → NeverWants ys → WroteFirst bytes before out s (responses ys)
 ended_before bytes before left out s t n c ends ys zs z e memory =
     let last = last_of ends.ending in
-    let parts = ap (λ (l : List ℕ). l ++ parting ends.ending) (responses_parts ends.opens last) ∙ append_assoc (responses ends.opens) (responses last) (parting ends.ending) in
-    written_first bytes before ends.taken ends.rest (responses last ++ parting ends.ending) left out s t ends.opens last ys zs z (last_few ends.ending) ends.each e memory ends.read ends.split ends.run
+    let parts = ap (λ (l : List ℕ). l ++ malformed_response ends.ending) (responses_parts ends.opens last) ∙ append_assoc (responses ends.opens) (responses last) (malformed_response ends.ending) in
+    written_first bytes before ends.taken ends.rest (responses last ++ malformed_response ends.ending) left out s t ends.opens last ys zs z (last_few ends.ending) ends.each e memory ends.read ends.split ends.run
     (subst (λ (w : List ℕ). Appends (Some before) out w) parts ends.written)
 
 pub failed_before : (bytes before : List ℕ) (left out : Option (List ℕ)) (s t : Held) (i o : Bool) (error : SessionError) (fails : FailsAs DirectSubmits DirectReads (Some bytes) left (Some before) out s t i o error)

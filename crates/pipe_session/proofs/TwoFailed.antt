@@ -1,27 +1,27 @@
--- Of two sessions that failed over one input one wrote a beginning of what the other wrote.
+-- Of two sessions that failed over one input, one wrote a prefix of what the other wrote.
 use Rattle.std.proofs.Common.{◌≡◌, ℕ, List, [], ◌∷◌, ◌++◌, inl, inr, refl, sym, ◌∙◌, subst, append_assoc, length, arith}
 use mathlib.Core.List.{IsPrefix}
 use Rattle.std.proofs.lemmas.Bool.{cases_lt}
 use Rattle.trace_model.specs.Held.{Held}
 use Rattle.trace_model.proofs.Prefixes.{prefix_self, prefix_trans, prefix_shorter}
-use Rattle.http_requests.proofs.Once.{one_breach}
-use Rattle.http_session.specs.Sessions.{Exchange, responses, response_to, Due, Due.{none_yet, due, due_parting}, bytes_due}
+use Rattle.http_requests.proofs.Once.{one_bad_request}
+use Rattle.http_session.specs.Sessions.{Exchange, responses, response_to, Due, Due.{none_yet, due, due_malformed}, bytes_due}
 use Rattle.pipe_session.specs.Exact.{held_after}
 use Rattle.pipe_session.specs.OneFunction.{Failed, OneBegins}
-use Rattle.pipe_session.proofs.Courses.{same_exchange, not_broken}
-use Rattle.pipe_session.proofs.Beginnings.{Stops, meant, longer}
+use Rattle.pipe_session.proofs.Courses.{same_exchange, not_malformed}
+use Rattle.pipe_session.proofs.Prefixes.{Stops, meant, longer}
 use Rattle.pipe_session.proofs.OneFunction.{failed_course, wrote}
 
--- two beginnings of one list
+-- two prefixes of one list
 both_begin : (w v all : List ℕ) → IsPrefix w all → IsPrefix v all → OneBegins w v
 both_begin w v all p q = elim (cases_lt (length w) (length v)) [
   | inl less ↦ inl (prefix_shorter w v all p q (omega arith))
   | inr more ↦ inr (prefix_shorter v w all q p (omega arith))
 ]
 
-stops_behind : (s : Held) (x y : Exchange) (rest more : List ℕ) (ys : List Exchange) (d : Due) → x ≡ y → rest ≡ more
+stops_after : (s : Held) (x y : Exchange) (rest more : List ℕ) (ys : List Exchange) (d : Due) → x ≡ y → rest ≡ more
     → Stops more (held_after s y.verdict) ys d → Stops rest (held_after s x.verdict) ys d
-stops_behind s x y rest more ys d same behind stops =
+stops_after s x y rest more ys d same behind stops =
     subst (λ (z : Exchange). Stops rest (held_after s z.verdict) ys d) (sym same) (subst (λ (l : List ℕ). Stops l (held_after s y.verdict) ys d) (sym behind) stops)
 
 -- what is due at the first exchange, beside a session that went on
@@ -30,7 +30,7 @@ due_begins bytes s none_yet x xs e stops other = (meant (x ∷ xs) e, refl)
 due_begins bytes s (due y) x xs e stops other =
     let same = (same_exchange bytes s y x stops.0 other.0 stops.1 other.1).0 in
     (responses xs ++ bytes_due e, (λ i. response_to (same i) ++ (responses xs ++ bytes_due e)) ∙ sym (append_assoc (response_to x) (responses xs) (bytes_due e)))
-due_begins bytes s (due_parting b) x xs e stops other = absurd (not_broken bytes s x other.0 b other.1 stops)
+due_begins bytes s (due_malformed b) x xs e stops other = absurd (not_malformed bytes s x other.0 b other.1 stops)
 
 -- what is due at one place is one thing, if it is anything
 one_due : (bytes : List ℕ) (s : Held) (d e : Due) → Stops bytes s [] d → Stops bytes s [] e → OneBegins (meant [] d) (meant [] e)
@@ -39,11 +39,11 @@ one_due bytes s (due y) none_yet stops other = inr (meant [] (due y), refl)
 one_due bytes s (due y) (due x) stops other =
     let same = (same_exchange bytes s y x stops.0 other.0 stops.1 other.1).0 in
     inl (subst (λ (z : Exchange). IsPrefix (meant [] (due y)) (meant [] (due z))) same (prefix_self (meant [] (due y))))
-one_due bytes s (due y) (due_parting b) stops other = absurd (not_broken bytes s y stops.0 b stops.1 other)
-one_due bytes s (due_parting b) none_yet stops other = inr (meant [] (due_parting b), refl)
-one_due bytes s (due_parting b) (due x) stops other = absurd (not_broken bytes s x other.0 b other.1 stops)
-one_due bytes s (due_parting b) (due_parting a) stops other =
-    inl (subst (λ c. IsPrefix (meant [] (due_parting b)) (meant [] (due_parting c))) (one_breach bytes b a stops other) (prefix_self (meant [] (due_parting b))))
+one_due bytes s (due y) (due_malformed b) stops other = absurd (not_malformed bytes s y stops.0 b stops.1 other)
+one_due bytes s (due_malformed b) none_yet stops other = inr (meant [] (due_malformed b), refl)
+one_due bytes s (due_malformed b) (due x) stops other = absurd (not_malformed bytes s x other.0 b other.1 stops)
+one_due bytes s (due_malformed b) (due_malformed a) stops other =
+    inl (subst (λ c. IsPrefix (meant [] (due_malformed b)) (meant [] (due_malformed c))) (one_bad_request bytes b a stops other) (prefix_self (meant [] (due_malformed b))))
 
 one_meant : (bytes : List ℕ) (s : Held) (ys : List Exchange) (d : Due) (xs : List Exchange) (e : Due) → Stops bytes s ys d → Stops bytes s xs e → OneBegins (meant ys d) (meant xs e)
 one_meant bytes s [] d [] e stops other = one_due bytes s d e stops other
@@ -51,7 +51,7 @@ one_meant bytes s [] d (x ∷ xs) e stops other = inl (due_begins bytes s d x xs
 one_meant bytes s (y ∷ ys) d [] e stops other = inr (due_begins bytes s e y ys d other stops)
 one_meant bytes s (y ∷ ys) d (x ∷ xs) e stops other =
     let now = same_exchange bytes s y x stops.0 other.0 stops.1 other.1 in
-    let later = one_meant stops.0 (held_after s y.verdict) ys d xs e stops.3 (stops_behind s y x stops.0 other.0 xs e now.0 now.1 other.3) in
+    let later = one_meant stops.0 (held_after s y.verdict) ys d xs e stops.3 (stops_after s y x stops.0 other.0 xs e now.0 now.1 other.3) in
     elim later [
       | inl p ↦ inl (longer y x (responses ys) (responses xs) (bytes_due d) (bytes_due e) now.0 p)
       | inr p ↦ inr (longer x y (responses xs) (responses ys) (bytes_due e) (bytes_due d) (sym now.0) p)

@@ -1,4 +1,4 @@
--- What a store that one owner has answers to a session's requests, as a function of them.
+-- The answers of a store with one owner to a session's requests, as a function of them.
 use Rattle.std.specs.Prelude.{◌≡◌, ◌≢◌, List, [], ◌∷◌, map, All, Option, Some, None}
 use Rattle.trace_model.specs.declared.refusal.Refusal.{Refusal}
 use Rattle.trace_model.specs.declared.refusal.Refusal.TheVariants.{NoMemory}
@@ -13,26 +13,26 @@ use Rattle.http_session.specs.Sessions.{Exchange}
 use Rattle.http_session.specs.declared.exchanges.Ended.{Ended}
 use Rattle.http_session.specs.declared.exchanges.SessionError.{SessionError}
 use Rattle.http_session.specs.declared.verdict.Verdict.{Verdict}
-use Rattle.http_session.specs.declared.verdict.Verdict.TheVariants.{Submit, Ask, Say}
+use Rattle.http_session.specs.declared.verdict.Verdict.TheVariants.{Submit, Ask, Reject}
 use Rattle.http_session.specs.declared.reply.Reply.{Reply}
-use Rattle.http_session.specs.declared.reply.Reply.TheVariants.{Accepted, Answered, Refused, Said}
+use Rattle.http_session.specs.declared.reply.Reply.TheVariants.{Accepted, Answered, Refused, Error}
 
 -- a batch is accepted unless the entries refuse it
 abbrev pub reply_by : Option Refusal → Reply
 reply_by None = Accepted
 reply_by (Some why) = Refused why
 
--- what is answered where these entries are held
+-- the reply of a store that holds these entries
 abbrev pub reply_at : Held → Verdict → Reply
 reply_at s (Submit b) = reply_by (refusal_by s (next_entry s b))
 reply_at s (Ask q) = Answered (answer s.limits s.entries q)
-reply_at s (Say remark) = Said remark
+reply_at s (Reject error) = Error error
 
--- and what is held then: a batch that was sent before adds nothing
+-- what the store holds then: a batch that was sent before adds nothing
 abbrev pub held_after : Held → Verdict → Held
 held_after s (Submit b) = with_admitted s (next_entry s b) (admission_by s (next_entry s b))
 held_after s (Ask q) = s
-held_after s (Say remark) = s
+held_after s (Reject error) = s
 
 abbrev pub replies_at : Held → List Verdict → List Reply
 replies_at s [] = []
@@ -49,14 +49,14 @@ HasMemory xs = All (λ (x : Exchange). x.reply ≢ Refused NoMemory) xs
 abbrev pub verdicts : List Exchange → List Verdict
 verdicts xs = map (λ (x : Exchange). x.verdict) xs
 
--- the replies are the function's, and the entries held at last are too
+-- the replies and the entries held at the end are those of the functions
 abbrev pub IsExact : Held → List Exchange → Held → Type 0
 IsExact s xs t = HasMemory xs → (map (λ (x : Exchange). x.reply) xs ≡ replies_at s (verdicts xs)) × (t ≡ held_at_last s (verdicts xs))
 
--- a session between an input and an output that ended, in which the store answered exactly so
+-- a session between an input and an output ended, and the store answered exactly so
 abbrev pub EndsExactly : {R W : Type 0} → Devices R W → R → R → W → W → Held → Held → Ended → Type 0
 EndsExactly devices in0 in1 out0 out1 s t ended = EndsWith DirectSubmits DirectReads (λ xs. IsExact s xs t) devices in0 in1 out0 out1 s t ended
 
--- the same of one that failed
+-- like EndsExactly, for a session that failed
 abbrev pub FailsExactly : {R W : Type 0} → Devices R W → R → R → W → W → Held → Held → SessionError → Type 0
 FailsExactly devices in0 in1 out0 out1 s t error = FailsWith DirectSubmits DirectReads (λ xs. IsExact s xs t) devices in0 in1 out0 out1 s t error

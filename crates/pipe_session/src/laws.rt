@@ -1,5 +1,4 @@
-//! Facts about sessions over a store that one owner has. Each function does nothing, and its contract is the
-//! fact.
+//! Laws of sessions over a store with one owner. Each function does nothing, and its contract is the law.
 
 ghost use Rattle.std.specs.Prelude.{◌≡◌, ◌≢◌, ℕ, Bool, List, ◌++◌, Option};
 ghost use mathlib.Core.List.{IsPrefix};
@@ -8,19 +7,19 @@ ghost use Rattle.http_requests.specs.Asked.{Asked};
 ghost use Rattle.http_session.specs.Sessions.{Exchange as ExchangeValue, last_of, exchange_due, responses};
 ghost use Rattle.http_session.specs.declared.exchanges.SessionError.{SessionError as SessionErrorValue};
 ghost use Rattle.http_session.specs.Verdicts.{Judges};
-ghost use Rattle.http_session.specs.declared.verdict.Remark.TheVariants.{NoMemory};
+ghost use Rattle.http_session.specs.declared.verdict.ErrorReply.TheVariants.{NoMemory};
 ghost use Rattle.http_session.specs.declared.verdict.Verdict.{Verdict as VerdictValue};
-ghost use Rattle.http_session.specs.declared.verdict.Verdict.TheVariants.{Say};
+ghost use Rattle.http_session.specs.declared.verdict.Verdict.TheVariants.{Reject};
 ghost use Rattle.pipe_session.specs.OneFunction.{EndsOf, FailsOf, NeverWants, Finished, Failed, HadMemoryFirst, OneBegins, WroteFailed, WroteFinished, WroteFirst};
 
-/// What a request asks is determined by the request, unless memory ran out.
+/// A request determines its verdict, unless memory ran out.
 pub fn a_request_has_one_verdict()
     ensures { (a : Asked) (body : List ℕ) (v w : VerdictValue) →
-        v ≢ Say NoMemory → w ≢ Say NoMemory → Judges a body v → Judges a body w → v ≡ w }
+        v ≢ Reject NoMemory → w ≢ Reject NoMemory → Judges a body v → Judges a body w → v ≡ w }
 {}
 
-/// What `pipe` promises of a session that ended is what the law below speaks of, where the bytes of the
-/// devices are known and memory did not run out.
+/// If the bytes of the devices are known and memory did not run out, a session that ended as `pipe` promises meets the
+/// premises of the laws below.
 pub fn a_session_that_ended_is_finished()
     ensures { (bytes before : List ℕ) (left out : Option (List ℕ)) (s t : Held) (n : ℕ) (c : Bool)
         (ends : EndsOf bytes left before out s t n c) →
@@ -28,7 +27,8 @@ pub fn a_session_that_ended_is_finished()
         WroteFinished bytes before out s t n c }
 {}
 
-/// The same of a session that failed.
+/// If the bytes of the devices are known and memory ran out for no exchange, a session that failed as `pipe` promises
+/// meets the premises of the laws below.
 pub fn a_session_that_failed_is_failed()
     ensures { (bytes before : List ℕ) (left out : Option (List ℕ)) (s t : Held) (i o : Bool)
         (error : SessionErrorValue) (fails : FailsOf bytes left before out s t i o error) →
@@ -36,31 +36,29 @@ pub fn a_session_that_failed_is_failed()
         WroteFailed bytes before out s }
 {}
 
-/// The bytes that a session writes are one function of the bytes of the input and the entries held at the
-/// start with their limits, however the bytes were read and written. So are the entries held at last, the
-/// count of responses, and whether the input ended between two requests.
+/// The bytes that a session writes are a function of the bytes of the input, and the entries and limits of the store at
+/// the start, however the bytes are read and written. So are the entries at the end, the number of responses, and
+/// whether the input ended between two requests.
 pub fn bytes_written_are_one_function()
     ensures { (bytes : List ℕ) (s : Held) (w v : List ℕ) (t u : Held) (n m : ℕ) (c d : Bool) →
         Finished bytes s w t n c → Finished bytes s v u m d →
         (w ≡ v) × (t ≡ u) × (n ≡ m) × (c ≡ d) }
 {}
 
-/// A session that fails, by a device or where memory ran out elsewhere, has written a beginning of what one
-/// that ends writes.
-pub fn a_failed_session_wrote_a_beginning()
+/// A session that fails, by a device or because memory ran out elsewhere, wrote a prefix of what one that ends writes.
+pub fn a_failed_session_wrote_a_prefix()
     ensures { (bytes : List ℕ) (s : Held) (w v : List ℕ) (t : Held) (n : ℕ) (c : Bool) →
         Failed bytes s w → Finished bytes s v t n c → IsPrefix w v }
 {}
 
-/// Of two sessions that failed over one input, one wrote a beginning of what the other wrote.
-pub fn of_two_failed_sessions_one_wrote_a_beginning()
+/// Of two sessions that failed over one input, one wrote a prefix of what the other wrote.
+pub fn of_two_failed_sessions_one_wrote_a_prefix()
     ensures { (bytes : List ℕ) (s : Held) (w v : List ℕ) →
         Failed bytes s w → Failed bytes s v → OneBegins w v }
 {}
 
-/// The exchanges of a session that ended, before the first for which memory ran out: their responses were
-/// written first, and are those of a session that failed there. So they begin what any session writes in
-/// which memory never ran out.
+/// The exchanges of a session that ended, before the first one for which memory ran out, were written first, and are
+/// those of a session that failed there. So they are a prefix of what any session writes in which memory never ran out.
 pub fn what_an_ended_session_wrote_before_memory_ran_out()
     ensures { (bytes before : List ℕ) (left out : Option (List ℕ)) (s t : Held) (n : ℕ) (c : Bool)
         (ends : EndsOf bytes left before out s t n c)
@@ -68,7 +66,8 @@ pub fn what_an_ended_session_wrote_before_memory_ran_out()
         WroteFirst bytes before out s (responses xs) }
 {}
 
-/// The same of a session that failed.
+/// The exchanges of a session that failed, before the first one for which memory ran out, were written first, and are
+/// those of a session that failed there.
 pub fn what_a_failed_session_wrote_before_memory_ran_out()
     ensures { (bytes before : List ℕ) (left out : Option (List ℕ)) (s t : Held) (i o : Bool)
         (error : SessionErrorValue) (fails : FailsOf bytes left before out s t i o error)

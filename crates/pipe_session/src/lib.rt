@@ -1,8 +1,8 @@
-//! A session over a store that one owner has: what is answered is a function of what was asked.
+//! A session over a store with one owner, whose answers are a function of its requests.
 //!
-//! The reads are answered at exactly the entries held at the start followed by one for each batch
-//! accepted so far, in order, but for those that were sent before. So the bytes written are one function of the
-//! bytes read, those entries and the limits: `laws`.
+//! A query is answered from exactly the entries held at the start, followed by one entry for each batch accepted so
+//! far, in order, except those that were sent before. So the bytes written are a function of the bytes read, those
+//! entries and the limits: `laws`.
 #![tactic(auto)]
 
 ghost use Rattle.std.specs.Prelude.{◌≡◌, false, IfOk, IfErr, OnOk};
@@ -16,12 +16,12 @@ use std::alloc::Global;
 
 pub mod laws;
 
-/// Answers the requests of the input one after the other, from a store that one owner has. It waits for nothing
-/// but the devices.
+/// Answers the requests of the input one after the other, from a store with one owner. It blocks on nothing but the
+/// devices.
 ///
 /// # Errors
 ///
-/// A device failed, or memory ran out. A batch that was accepted before stays so.
+/// A device failed, or memory ran out. Batches that were accepted before stay accepted.
 pub fn pipe<R: Input, W: Output>(
     alloc: Global,
     input: &mut R,
@@ -42,6 +42,7 @@ pub fn pipe<R: Input, W: Output>(
         (devices_of R.remaining R.gives R.has_failed W.contents W.has_failed)
         input.old input.new output.old output.new store.old store.new) }
 {
+    // For the prover: the match takes the clauses `ended` and `error` apart.
     match session(&(), alloc, input, output, store) {
         Ok(ended) => Ok(ended),
         Err(error) => Err(error),

@@ -74,7 +74,7 @@ module _ (trace : List Placed) (d : Placed) where
           ∙ ap (option_map (λ ups. ups ++ at k ∷ [])) (up j (parent_within trace (at k) j (sym (read k l) ∙ e)))
           ∙ turned (path n parents j)
 
-  -- and each of them is of the trace
+  -- and each of them is in the trace
   path_below : (n k : ℕ) (ks : List ℕ) → k < length trace → path n parents k ≡ Some ks → AllByRecursion (λ j. j < length trace) ks
   path_below zero k ks l e = absurd (none-some ks (sym (path_none parents k) ∙ e))
   path_below (suc n) k ks l e = by_parent (path_below n) (get_or parents k None) refl (sym (path_step n parents k) ∙ e)

@@ -1,4 +1,4 @@
--- What a list that was found is answered as.
+-- The answer for a list of found spans.
 use Rattle.std.proofs.Common.{◌≡◌, ◌<◌, List, [], ◌∷◌, length, refl, sym, ap, arith}
 use Rattle.std.specs.Prelude.{Some, None}
 use Rattle.trace_model.specs.Showing.{if_any}

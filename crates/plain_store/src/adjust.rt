@@ -1,5 +1,5 @@
-//! A trace as it is shown, after both adjusters: each span's clock is followed up to its root and
-//! down again, so the work is quadratic in the length of the trace.
+//! A trace as it is shown, after both adjusters. The clock of each span is followed up to its root and down
+//! again, so the work is quadratic in the length of the trace.
 
 ghost use Rattle.std.specs.Prelude.{◌≡◌, ◌<◌, ℕ, None, IfOk, map, length, get_or, option_map, if◌then◌else◌};
 ghost use Rattle.std.specs.List.{list_any, position, AllByRecursion};
@@ -14,7 +14,7 @@ use span_steps::{unadjusted, with_parent_first};
 use std::alloc::{AllocError, Global};
 use trace_model::{Clock, Shown};
 
-/// The trace with the references to parents in front.
+/// Moves the references to parents to the front.
 #[tactic(auto, using(std::proofs::lemmas::List::map_push))]
 fn with_parents_first(alloc: Global, trace: Seq<Placed>) -> Result<Vec<Placed>, AllocError>
     ensures { IfOk result (λ v. v.items ≡ map with_parent_first trace) }
@@ -26,14 +26,14 @@ fn with_parents_first(alloc: Global, trace: Seq<Placed>) -> Result<Vec<Placed>, 
     Ok(spans)
 }
 
-/// The place of the first span with the id.
+/// Returns the place of the first span with the id.
 fn place_of(trace: &[Placed], id: SpanId) -> Option<usize>
     ensures { result ≡ position (has_id id) trace.now }
 {
     trace.iter().position(|p| has_id(id, p))
 }
 
-/// The place of the span's parent in its trace.
+/// Returns the place of the span's parent in its trace.
 fn parent_at(trace: &[Placed], placed: &Placed) -> Option<usize>
     ensures { result ≡ place_of_parent trace.now placed.now }
 {
@@ -44,7 +44,7 @@ fn parent_at(trace: &[Placed], placed: &Placed) -> Option<usize>
     place_of(trace, parent)
 }
 
-/// The places of the parents of the spans.
+/// Returns the places of the parents of the spans.
 #[tactic(auto, using(std::proofs::lemmas::List::map_more))]
 fn parent_places(alloc: Global, trace: &[Placed]) -> Result<Vec<Option<usize>>, AllocError>
     ensures { IfOk result (λ v. v.items ≡ map (place_of_parent trace.now) trace.now) }
@@ -65,7 +65,7 @@ fn place_above(parents: &[Option<usize>], place: usize) -> Option<usize>
     }
 }
 
-/// The places from one up to its root, or None where it leads to none.
+/// Returns the places from one up to its root, or None if it reaches no root.
 fn path_up(
     alloc: Global,
     parents: &[Option<usize>],
@@ -86,7 +86,7 @@ fn path_up(
     Ok(None)
 }
 
-/// The clock of a span below the one with this clock, or of a root.
+/// Returns the clock of a span below the one with this clock, or of a root.
 fn next_clock(
     alloc: Global,
     above: &Option<Clock>,
@@ -101,7 +101,7 @@ fn next_clock(
     }
 }
 
-/// The clock of the first of the places, each of which has its parent's behind it.
+/// Returns the clock of the first of the places, each of which is followed by its parent's.
 fn clock_down(
     alloc: Global,
     trace: &[Placed],
@@ -120,7 +120,7 @@ fn clock_down(
     Ok(clock)
 }
 
-/// The clock of the span at the place, or None where it leads to no root.
+/// Returns the clock of the span at the place, or None if it reaches no root.
 fn clock_of(
     alloc: Global,
     trace: &[Placed],
@@ -145,14 +145,14 @@ fn has_id(id: SpanId, placed: &Placed) -> bool
     placed.span.id.0 == id.0
 }
 
-/// One of the spans has the id.
+/// Whether one of the spans has the id.
 fn is_taken(spans: &[Placed], id: SpanId) -> bool
     ensures { result ≡ list_any (has_id id) spans.now }
 {
     spans.iter().any(|p| has_id(id, p))
 }
 
-/// A span as it is shown, by its clock and by those that stand in front of it.
+/// Returns a span as it is shown, by its clock and by the spans before it.
 fn shown_after(
     alloc: Global,
     before: &[Placed],
@@ -184,8 +184,8 @@ fn without_skew(alloc: Global, trace: &[Placed], max_skew: u64) -> Result<Vec<Sh
     Ok(shown)
 }
 
-/// The trace as it is shown: in each span the reference to its parent in front, and its times
-/// moved into those of the root's host, where that is at most `max_skew` microseconds.
+/// Returns the trace as it is shown: in each span the reference to its parent is the first one, and its times are
+/// moved into those of the root's host, if that is at most `max_skew` microseconds.
 ///
 /// # Errors
 ///

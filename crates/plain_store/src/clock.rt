@@ -1,4 +1,4 @@
-//! The clock of a span by that of its parent, and the span as it is shown by its own.
+//! The clock of a span by that of its parent, and the span as it is shown by its own clock.
 
 ghost use Rattle.std.specs.Prelude.{◌≡◌, IfOk, pos, [], not, ◌||◌};
 ghost use Rattle.jaeger_model.specs.Texts.{same_text};
@@ -9,7 +9,7 @@ use span_steps::{delta_between, host_named, shift, start_at, unadjusted};
 use std::alloc::{AllocError, Global};
 use trace_model::{Clock, Shown};
 
-/// The host of a span: the one that its process names.
+/// Returns the host of a span: the one that its process names.
 ///
 /// # Errors
 ///
@@ -31,7 +31,7 @@ fn clock_at(max_skew: u64, host: Text, delta: i128, span: &Span) -> Clock
     }
 }
 
-/// The clock of a span whose parent is not in its trace: its own host's, with no delta.
+/// Returns the clock of a span whose parent is not in its trace: its own host's, with no delta.
 ///
 /// # Errors
 ///
@@ -44,22 +44,22 @@ pub(crate) fn root_clock(alloc: Global, placed: &Placed, max_skew: u64) -> Resul
     Ok(clock_at(max_skew, host, 0, &placed.span))
 }
 
-/// The host is none, or another than the one whose clock runs there.
+/// Whether the host is empty, or isn't the host of this clock.
 fn is_elsewhere(above: &Clock, host: &Text) -> bool
     ensures { result ≡ (same_text host.now [] || not (same_text host.now above.now.host)) }
 {
     host.as_str().is_empty() || *host != above.host
 }
 
-/// What brings the span into the time of its parent, which has this clock.
+/// Returns the delta that moves the span into the time of its parent, which has this clock.
 fn new_delta(above: &Clock, span: &Span) -> i128
     ensures { result ≡ new_delta above.now span.now }
 {
     delta_between(above.start, above.duration, span.start, span.duration)
 }
 
-/// The clock of a span whose parent has this one: the parent's where the span is of the same host,
-/// else its own host's, with a delta that puts the span inside its parent where there is room.
+/// Returns the clock of a span whose parent has this one: the parent's if the span is of the same host, else its
+/// own host's, with a delta that moves the span inside its parent if it fits there.
 ///
 /// # Errors
 ///
@@ -81,7 +81,7 @@ pub(crate) fn clock_below(
     Ok(clock_at(max_skew, host, above.delta, &placed.span))
 }
 
-/// The span as it came, moved as by [`shift`].
+/// Returns the span as it was reported, moved by [`shift`].
 ///
 /// # Errors
 ///

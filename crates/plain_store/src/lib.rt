@@ -1,15 +1,14 @@
-//! The plain store: what a history of entries answers, from scratch and over the plain list, with no
-//! index and nothing kept in between. It is slow, and its contracts are the definitions of
-//! `trace_model`.
+//! The plain store: it computes what a history of entries answers from the plain list each time, with no index
+//! and no state in between. It is slow, and its contracts are the definitions of `trace_model`.
 //!
 //! * `plain`: the answer to each query.
 //! * `showing`: the ring of traces and the spans that are shown.
 //! * `names`: services and operations.
 //! * `search`, `ranks`: the traces that a search finds, and their order.
 //! * `links`: calls between services.
-//! * `adjust`: a trace with its clocks put right.
+//! * `adjust`: a trace with adjusted clocks.
 //! * `clock`: the clock of one span by that of its parent.
-//! * `sets`: an item put among others once.
+//! * `sets`: sorted lists without duplicates.
 #![tactic(auto)]
 
 mod adjust;

@@ -11,7 +11,7 @@ use span_steps::is_in_window;
 use std::alloc::{AllocError, Global};
 use trace_model::{Link, ServiceName};
 
-/// The first span of the trace with the id of the span's parent.
+/// Returns the first span of the trace with the id of the span's parent.
 fn parent_in<'a>(trace: &'a [Placed], placed: &Placed) -> Option<&'a Placed>
     ensures { option_copied result ≡ parent_in trace.now placed.now }
 {
@@ -22,7 +22,7 @@ fn parent_in<'a>(trace: &'a [Placed], placed: &Placed) -> Option<&'a Placed>
     trace.iter().find(|p| p.span.id.0 == parent.0)
 }
 
-/// The services of a span's parent and of the span, unless they are one.
+/// Returns the services of a span's parent and of the span, unless they are equal.
 fn call_of(trace: &[Placed], placed: &Placed) -> Result<Option<(Text, Text)>, AllocError>
     ensures { IfOk result (λ c. c ≡ call_from placed.now (parent_in trace.now placed.now)) }
 {
@@ -37,7 +37,7 @@ fn call_of(trace: &[Placed], placed: &Placed) -> Result<Option<(Text, Text)>, Al
     Ok(Some((caller, callee)))
 }
 
-/// Puts the calls of a trace behind those that are there.
+/// Appends the calls of a trace.
 fn add_calls(calls: &mut Vec<(Text, Text)>, trace: &[Placed]) -> Result<(), AllocError>
     ensures { OnOk result (calls.new.items ≡ calls.old.items ++ calls_of trace.now) }
 {
@@ -49,7 +49,7 @@ fn add_calls(calls: &mut Vec<(Text, Text)>, trace: &[Placed]) -> Result<(), Allo
     Ok(())
 }
 
-/// Some span of the trace starts strictly between the bounds.
+/// Whether some span of the trace starts strictly between the bounds.
 fn reaches_window(trace: &[Placed], end_ms: i64, lookback_ms: i64) -> bool
     ensures { result ≡ list_any (in_window end_ms lookback_ms) trace.now }
 {
@@ -58,7 +58,7 @@ fn reaches_window(trace: &[Placed], end_ms: i64, lookback_ms: i64) -> bool
         .any(|p| is_in_window(p.span.start, end_ms, lookback_ms))
 }
 
-/// The same for a trace with a span in the window; another one adds nothing.
+/// Appends the calls of a trace if it has a span in the window.
 fn add_calls_within(
     calls: &mut Vec<(Text, Text)>,
     trace: &[Placed],
@@ -74,7 +74,7 @@ fn add_calls_within(
     Ok(())
 }
 
-/// The calls of the traces that have a span in the window.
+/// Returns the calls of the traces that have a span in the window.
 fn all_calls(
     alloc: Global,
     traces: &[Seq<Placed>],
@@ -96,7 +96,7 @@ fn is_same_call(a: &(Text, Text), b: &(Text, Text)) -> bool
     a.0 == b.0 && a.1 == b.1
 }
 
-/// Each pair of services with its number of calls, in order.
+/// Returns each pair of services with its number of calls, in order.
 fn counted(alloc: Global, calls: &[(Text, Text)]) -> Result<Vec<Link>, AllocError>
     ensures { IfOk result (λ v. v.items ≡ counted calls.now) }
 {
@@ -117,12 +117,12 @@ fn counted(alloc: Global, calls: &[(Text, Text)]) -> Result<Vec<Link>, AllocErro
     Ok(links)
 }
 
-/// How often each service called each other one in the traces of a window of time, in order of
-/// caller and then of callee.
+/// Counts how often each service called each other one in the traces of a window of time, in order of caller and
+/// then of callee.
 ///
-/// A trace counts where one of its spans starts strictly after `end_ms - lookback_ms` and strictly
-/// before `end_ms`, both in milliseconds since 1970. Then each of its spans whose parent is a span
-/// of the trace adds one call, unless both are of one service.
+/// A trace counts if one of its spans starts strictly after `end_ms - lookback_ms` and strictly before `end_ms`,
+/// both in milliseconds since 1970. Then each of its spans whose parent is a span of the trace adds one call,
+/// unless both are of one service.
 ///
 /// # Errors
 ///

@@ -1,4 +1,4 @@
-//! The plain store: each answer is made from the whole list of entries.
+//! The plain store: each answer is computed from the list of all entries.
 
 ghost use Rattle.std.specs.Prelude.{◌≡◌, List, [], ◌∷◌, map, IfOk, option_map};
 ghost use Rattle.std.specs.Arc.{arc_value};
@@ -7,7 +7,7 @@ ghost use Rattle.trace_model.specs.Answers.{answer};
 ghost use Rattle.trace_model.specs.Histories.{events};
 ghost use Rattle.trace_model.specs.Events.{came, without_limits};
 ghost use Rattle.trace_model.specs.Works.{events_brought};
-ghost use Rattle.plain_store.specs.Happened.{event_of};
+ghost use Rattle.plain_store.specs.Events.{event_of};
 ghost use Rattle.trace_model.specs.Searching.{traces};
 ghost use Rattle.trace_model.specs.Showing.{trace_found};
 
@@ -15,70 +15,70 @@ use crate::adjust::adjusted_trace;
 use crate::links::service_links;
 use crate::names::{operation_names, operations, services};
 use crate::search::{find_traces, trace_ids};
-use crate::showing::{Happening, all_shown, keep_trace, shown_traces};
+use crate::showing::{StoreEvent, all_shown, keep_trace, shown_traces};
 use jaeger_model::{Placed, Seq, TraceId, domain};
 use span_steps::all_unadjusted;
 use std::alloc::{AllocError, Global};
 use std::sync::Arc;
 use trace_model::{Answer, AnsweredTrace, Entry, Limits, Query, Shown, ShownTrace, Work};
 
-/// What happens as the spans come.
+/// Returns the events of these spans.
 #[tactic(auto, using(std::proofs::lemmas::List::map_push))]
-fn coming(alloc: Global, spans: Vec<Placed>) -> Result<Vec<Happening>, AllocError>
+fn arrival_events(alloc: Global, spans: Vec<Placed>) -> Result<Vec<StoreEvent>, AllocError>
     ensures { IfOk result (λ v. map event_of v.items ≡ map came spans.items) }
 {
     let mut happened = Vec::new(alloc);
     for placed in spans {
-        happened.push(Happening::Came(placed))?;
+        happened.push(StoreEvent::Came(placed))?;
     }
     Ok(happened)
 }
 
-fn one(alloc: Global, happening: Happening) -> Result<Vec<Happening>, AllocError>
-    ensures { IfOk result (λ v. v.items ≡ happening ∷ []) }
+fn one(alloc: Global, event: StoreEvent) -> Result<Vec<StoreEvent>, AllocError>
+    ensures { IfOk result (λ v. v.items ≡ event ∷ []) }
 {
     let mut all = Vec::new(alloc);
-    all.push(happening)?;
+    all.push(event)?;
     Ok(all)
 }
 
-/// What happens by an entry.
-fn happenings_of(alloc: Global, work: &Work) -> Result<Vec<Happening>, AllocError>
+/// Returns the events of an entry.
+fn events_of(alloc: Global, work: &Work) -> Result<Vec<StoreEvent>, AllocError>
     ensures { IfOk result (λ v. map event_of v.items ≡ events_brought work.now) }
 {
     match work {
-        Work::Batch(batch) => coming(alloc, domain(alloc, batch)?),
-        Work::TraceLimit(limit) => one(alloc, Happening::Limited(*limit)),
+        Work::Batch(batch) => arrival_events(alloc, domain(alloc, batch)?),
+        Work::TraceLimit(limit) => one(alloc, StoreEvent::Limited(*limit)),
     }
 }
 
-/// All that happened, in order.
-fn all_happened(alloc: Global, entries: &[Arc<Entry>]) -> Result<Vec<Happening>, AllocError>
+/// Returns the events of all entries, in order.
+fn all_events(alloc: Global, entries: &[Arc<Entry>]) -> Result<Vec<StoreEvent>, AllocError>
     ensures { IfOk result (λ v. map event_of v.items ≡ events (map arc_value entries.now)) }
 {
     let mut all = Vec::new(alloc);
     for entry in entries {
-        let mut happened = happenings_of(alloc, &entry.work)?;
+        let mut happened = events_of(alloc, &entry.work)?;
         all.append(&mut happened)?;
     }
     Ok(all)
 }
 
-/// The spans of all that happened, in order.
-fn all_came(alloc: Global, entries: &[Arc<Entry>]) -> Result<Vec<Placed>, AllocError>
+/// Returns the spans of all entries, in order.
+fn all_arrivals(alloc: Global, entries: &[Arc<Entry>]) -> Result<Vec<Placed>, AllocError>
     ensures { IfOk result (λ v. v.items ≡ without_limits (events (map arc_value entries.now))) }
 {
     let mut spans = Vec::new(alloc);
-    for happening in all_happened(alloc, entries)? {
-        match happening {
-            Happening::Came(placed) => spans.push(placed)?,
-            Happening::Limited(_) => {}
+    for event in all_events(alloc, entries)? {
+        match event {
+            StoreEvent::Came(placed) => spans.push(placed)?,
+            StoreEvent::Limited(_) => {}
         }
     }
     Ok(spans)
 }
 
-/// The traces that are shown, the one opened longest ago first.
+/// Returns the traces that are shown, the one opened first at the front.
 fn all_traces(
     alloc: Global,
     entries: &[Arc<Entry>],
@@ -87,11 +87,11 @@ fn all_traces(
     ensures { IfOk result (λ v. v.items ≡
         traces limits.traces (events (map arc_value entries.now))) }
 {
-    let happened = all_happened(alloc, entries)?;
+    let happened = all_events(alloc, entries)?;
     shown_traces(alloc, happened, limits.traces)
 }
 
-/// The shown spans of a trace in the order in which they arrived, or None where there are none.
+/// Returns the shown spans of a trace in the order of their arrival, or None if there are none.
 ///
 /// # Errors
 ///
@@ -105,7 +105,7 @@ pub fn get_trace(
     ensures { IfOk result (λ found. option_map (λ v. v.items) found ≡
         trace_found limits.traces (events (map arc_value entries.now)) id) }
 {
-    let happened = all_happened(alloc, entries)?;
+    let happened = all_events(alloc, entries)?;
     let spans = keep_trace(all_shown(alloc, happened, limits.traces)?.spans, id);
     if spans.is_empty() {
         return Ok(None);
@@ -113,14 +113,14 @@ pub fn get_trace(
     Ok(Some(spans))
 }
 
-/// A trace of an answer, of these spans.
+/// Makes a trace of an answer of these spans.
 fn made(alloc: Global, spans: Seq<Shown>) -> AnsweredTrace
     ensures { result ≡ spans }
 {
-    AnsweredTrace::made(ShownTrace::of_unknown(alloc, spans))
+    AnsweredTrace::made(ShownTrace::without_places(alloc, spans))
 }
 
-/// The spans of a trace as they are shown: as they arrived where `raw` is asked, else adjusted.
+/// Returns the spans of a trace as they are shown: as reported if `raw` is set, else adjusted.
 ///
 /// # Errors
 ///
@@ -141,7 +141,7 @@ pub fn trace_shown(
     Ok(made(alloc, shown))
 }
 
-/// The traces, each adjusted.
+/// Adjusts each of the traces.
 #[tactic(auto, using(std::proofs::lemmas::List::map_push))]
 fn all_adjusted(
     alloc: Global,
@@ -158,7 +158,7 @@ fn all_adjusted(
     Ok(shown)
 }
 
-/// What the plain store answers.
+/// Returns the answer of the plain store.
 ///
 /// # Errors
 ///
@@ -177,16 +177,16 @@ pub fn plain_answer(
             Some(spans) => Ok(Answer::Trace(Some(trace_shown(alloc, spans, limits, *raw)?))),
         },
         Query::Services => {
-            let arrived = all_came(alloc, entries)?;
+            let arrived = all_arrivals(alloc, entries)?;
             Ok(Answer::Names(Seq::from_vec(services(alloc, &arrived)?)))
         }
         Query::OperationNames { service } => {
-            let arrived = all_came(alloc, entries)?;
+            let arrived = all_arrivals(alloc, entries)?;
             let names = operation_names(alloc, &arrived, service)?;
             Ok(Answer::Names(Seq::from_vec(names)))
         }
         Query::Operations { service, kind } => {
-            let arrived = all_came(alloc, entries)?;
+            let arrived = all_arrivals(alloc, entries)?;
             let found = operations(alloc, &arrived, service, kind)?;
             Ok(Answer::Operations(Seq::from_vec(found)))
         }

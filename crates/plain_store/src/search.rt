@@ -13,7 +13,7 @@ use span_steps::{is_named, is_timed};
 use std::alloc::{AllocError, Global};
 use trace_model::Find;
 
-/// Whether the tag's value reads as the asked text.
+/// Whether the text of the tag's value is the requested one.
 fn is_text_of(alloc: Global, value: &TagValue, asked: &Text) -> Result<bool, AllocError>
     ensures { IfOk result (λ b. b ≡ same_text asked.now (tag_text value.now)) }
 {
@@ -21,7 +21,7 @@ fn is_text_of(alloc: Global, value: &TagValue, asked: &Text) -> Result<bool, All
     Ok(asked.as_str() == text.as_str())
 }
 
-/// Whether one of the tags has the asked key and text.
+/// Whether one of the tags has the requested key and text.
 fn is_among(alloc: Global, tags: &[Tag], asked: &(Text, Text)) -> Result<bool, AllocError>
     ensures { IfOk result (λ b. b ≡ list_any (tag_matches asked.now) tags.now) }
 {
@@ -33,7 +33,7 @@ fn is_among(alloc: Global, tags: &[Tag], asked: &(Text, Text)) -> Result<bool, A
     Ok(false)
 }
 
-/// Whether one of the logs has a field with the asked key and text.
+/// Whether one of the logs has a field with the requested key and text.
 fn is_logged(alloc: Global, logs: &[Log], asked: &(Text, Text)) -> Result<bool, AllocError>
     ensures { IfOk result (λ b. b ≡ list_any (tag_matches asked.now)
         (flat_map (λ (l : LogValue). l.fields) logs.now)) }
@@ -46,7 +46,7 @@ fn is_logged(alloc: Global, logs: &[Log], asked: &(Text, Text)) -> Result<bool, 
     Ok(false)
 }
 
-/// Whether a tag of the span, of its process or of one of its logs has the asked key and text.
+/// Whether a tag of the span, of its process or of one of its logs has the requested key and text.
 #[tactic(auto, using(trace_model::proofs::Finding::any_append))]
 fn has_tag(alloc: Global, placed: &Placed, asked: &(Text, Text)) -> Result<bool, AllocError>
     ensures { IfOk result (λ b. b ≡ has_tag placed.now asked.now) }
@@ -96,7 +96,7 @@ fn is_found(alloc: Global, query: &Find, trace: &[Placed]) -> Result<bool, Alloc
     Ok(false)
 }
 
-/// The traces in which one span meets every condition of the search.
+/// Returns the traces in which one span meets every condition of the search.
 fn all_found(
     alloc: Global,
     query: &Find,
@@ -113,7 +113,7 @@ fn all_found(
     Ok(found)
 }
 
-/// The first of them, where the limit is not 0.
+/// Truncates the list to the limit, unless that is 0.
 fn cut(limit: u64, traces: &mut Vec<Seq<Placed>>)
     ensures { traces.new.items ≡ cut limit traces.old.items }
 {
@@ -122,7 +122,7 @@ fn cut(limit: u64, traces: &mut Vec<Seq<Placed>>)
     }
 }
 
-/// The traces that a search finds, of traces that come oldest first: latest first start first, of
+/// Returns the traces that a search finds, of traces that are given oldest first: latest first start first, of
 /// equal starts the one opened later, and no more than the limit.
 ///
 /// # Errors
@@ -150,7 +150,7 @@ fn first_id(trace: &Seq<Placed>) -> Option<TraceId>
     }
 }
 
-/// The ids of the traces.
+/// Returns the ids of the traces.
 ///
 /// # Errors
 ///

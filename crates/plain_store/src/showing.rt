@@ -1,9 +1,9 @@
-//! The ring of traces and the spans that are shown, made anew from all that happened.
+//! The ring of traces and the spans that are shown, computed from all events.
 
 ghost use Rattle.std.specs.Prelude.{◌≡◌, ℕ, List, [], ◌∷◌, ◌++◌, IfOk, map};
 ghost use Rattle.std.specs.List.{list_any};
 ghost use Rattle.jaeger_model.specs.declared.placed.Placed.{Placed as PlacedValue};
-ghost use Rattle.plain_store.specs.Happened.{event_of, in_ring, Shows};
+ghost use Rattle.plain_store.specs.Events.{event_of, in_ring, Shows};
 ghost use Rattle.trace_model.specs.Events.{Event};
 ghost use Rattle.trace_model.specs.Rings.{holds, arrive, newest};
 ghost use Rattle.trace_model.specs.Searching.{traces};
@@ -12,14 +12,14 @@ ghost use Rattle.trace_model.specs.Showing.{of_trace, trace_of};
 use jaeger_model::{Placed, Seq, TraceId};
 use std::alloc::{AllocError, Global};
 
-/// The trace is in the ring.
+/// Whether the trace is in the ring.
 fn is_held(ring: &[TraceId], trace: TraceId) -> bool
     ensures { result ≡ holds ring.now trace }
 {
     ring.iter().any(|t| trace == *t)
 }
 
-/// The newest traces alone stay, all where the limit is 0.
+/// Keeps only the newest traces, or all if the limit is 0.
 fn keep_newest(ring: &mut Vec<TraceId>, limit: u32)
     ensures { ring.new.items ≡ newest limit ring.old.items }
 {
@@ -30,8 +30,8 @@ fn keep_newest(ring: &mut Vec<TraceId>, limit: u32)
     }
 }
 
-/// The ring once a span of the trace has arrived.
-fn let_in(ring: &mut Vec<TraceId>, limit: u32, trace: TraceId) -> Result<(), AllocError>
+/// Updates the ring after a span of the trace has arrived.
+fn arrive(ring: &mut Vec<TraceId>, limit: u32, trace: TraceId) -> Result<(), AllocError>
     ensures { IfOk result (λ _. ring.new.items ≡ arrive limit ring.old.items trace) }
 {
     if is_held(ring, trace) {
@@ -42,28 +42,28 @@ fn let_in(ring: &mut Vec<TraceId>, limit: u32, trace: TraceId) -> Result<(), All
     Ok(())
 }
 
-/// What happens to a store.
+/// An event of a store.
 #[derive(Drop)]
-pub(crate) enum Happening {
-    /// A span comes.
+pub(crate) enum StoreEvent {
+    /// A span arrived.
     Came(Placed),
-    /// From then on so many of the newest traces stay, all where that is 0.
+    /// A limit was set: from then on this number of newest traces stays, or all if it is 0.
     Limited(u32),
 }
 
-/// What stands once some of it has happened.
+/// What is shown after some of the events.
 #[derive(Drop)]
 pub(crate) struct Showing {
-    /// How many traces stay, all where that is 0.
+    /// The limit of traces; 0 is none.
     limit: u32,
-    /// The newest traces, the one opened longest ago first.
+    /// The newest traces, the one opened first at the front.
     pub(crate) ring: Vec<TraceId>,
-    /// The spans that are shown, in the order in which they arrived.
+    /// The spans that are shown, in the order of their arrival.
     pub(crate) spans: Vec<Placed>,
 }
 
 impl Showing {
-    /// The spans of the traces in the ring alone stay.
+    /// Keeps only the spans of the traces in the ring.
     fn keep_held(&mut self)
         ensures limit { self.new.limit ≡ self.old.limit }
         ensures ring { self.new.ring ≡ self.old.ring }
@@ -73,21 +73,21 @@ impl Showing {
         self.spans.retain(|p| is_held(ring, p.span.trace));
     }
 
-    /// A span arrives.
-    fn come(&mut self, placed: Placed) -> Result<(), AllocError>
+    /// Adds a span that arrives.
+    fn add_span(&mut self, placed: Placed) -> Result<(), AllocError>
         ensures limit { IfOk result (λ _. self.new.limit ≡ self.old.limit) }
         ensures ring { IfOk result (λ _. self.new.ring.items ≡
             arrive self.old.limit self.old.ring.items (trace_of placed)) }
         ensures spans { IfOk result (λ _. self.new.spans.items ≡
             in_ring self.new.ring.items (self.old.spans.items ++ placed ∷ [])) }
     {
-        let_in(&mut self.ring, self.limit, placed.span.trace)?;
+        arrive(&mut self.ring, self.limit, placed.span.trace)?;
         self.spans.push(placed)?;
         self.keep_held();
         Ok(())
     }
 
-    /// A limit is in force from then on.
+    /// Sets the limit.
     fn set_limit(&mut self, limit: u32)
         ensures limit { self.new.limit ≡ limit }
         ensures ring { self.new.ring.items ≡ newest limit self.old.ring.items }
@@ -98,14 +98,14 @@ impl Showing {
         self.keep_held();
     }
 
-    /// One thing more happens.
-    fn take_in(&mut self, happening: Happening) -> Result<(), AllocError>
+    /// Applies one more event.
+    fn apply(&mut self, event: StoreEvent) -> Result<(), AllocError>
         ensures { IfOk result (λ _. (n : ℕ) (es : List (Event PlacedValue)) →
-            Shows n es self.old → Shows n (es ++ event_of happening ∷ []) self.new) }
+            Shows n es self.old → Shows n (es ++ event_of event ∷ []) self.new) }
     {
-        match happening {
-            Happening::Came(placed) => self.come(placed),
-            Happening::Limited(limit) => {
+        match event {
+            StoreEvent::Came(placed) => self.add_span(placed),
+            StoreEvent::Limited(limit) => {
                 self.set_limit(limit);
                 Ok(())
             }
@@ -113,10 +113,10 @@ impl Showing {
     }
 }
 
-/// What stands once all of this has happened, where the limit was this one before, 0 being none.
+/// Returns what is shown after all of these events, if the limit was this one before them; 0 is none.
 pub(crate) fn all_shown(
     alloc: Global,
-    happened: Vec<Happening>,
+    happened: Vec<StoreEvent>,
     limit: u32,
 ) -> Result<Showing, AllocError>
     ensures { IfOk result (λ s. Shows limit (map event_of happened.items) s) }
@@ -126,13 +126,13 @@ pub(crate) fn all_shown(
         ring: Vec::new(alloc),
         spans: Vec::new(alloc),
     };
-    for happening in happened {
-        showing.take_in(happening)?;
+    for event in happened {
+        showing.apply(event)?;
     }
     Ok(showing)
 }
 
-/// The spans of one trace.
+/// Keeps the spans of one trace.
 pub(crate) fn keep_trace(spans: Vec<Placed>, id: TraceId) -> Vec<Placed>
     ensures { result.items ≡ of_trace id spans.items }
 {
@@ -141,7 +141,7 @@ pub(crate) fn keep_trace(spans: Vec<Placed>, id: TraceId) -> Vec<Placed>
     spans
 }
 
-/// A copy of the spans of one trace.
+/// Copies the spans of one trace.
 fn copy_trace(alloc: Global, spans: &[Placed], id: TraceId) -> Result<Seq<Placed>, AllocError>
     ensures { IfOk result (λ s. s ≡ of_trace id spans.now) }
 {
@@ -154,10 +154,10 @@ fn copy_trace(alloc: Global, spans: &[Placed], id: TraceId) -> Result<Seq<Placed
     Ok(Seq::from_vec(own))
 }
 
-/// The traces that are shown once all of this has happened, the one opened longest ago first.
+/// Returns the traces that are shown after all of these events, the one opened first at the front.
 pub(crate) fn shown_traces(
     alloc: Global,
-    happened: Vec<Happening>,
+    happened: Vec<StoreEvent>,
     limit: u32,
 ) -> Result<Vec<Seq<Placed>>, AllocError>
     ensures { IfOk result (λ v. v.items ≡ traces limit (map event_of happened.items)) }

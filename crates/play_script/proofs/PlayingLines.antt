@@ -1,7 +1,7 @@
 -- What one line of `play` comes to.
 use Rattle.std.proofs.Common.{◌≡◌, ℕ, ◌==◌, ◌++◌, Bool, true, false, List, [], length, Option, Some, None, Result, Ok, Err, inl, inr, refl, sym, ap, ◌∙◌, subst, codes}
 use Rattle.std.specs.Prelude.{◌≢◌, if◌then◌else◌}
-use Rattle.text_lines.specs.Taking.{Said}
+use Rattle.text_lines.specs.Taking.{LineReply}
 use Rattle.text_lines.specs.Results.{LineResult}
 use Rattle.trace_model.specs.declared.refusal.Refusal.TheVariants.{NoMemory}
 use Rattle.schedule_core.specs.declared.step.Step.{Step}
@@ -22,16 +22,16 @@ is_made (Some m) s o w1 (inr e) other = absurd (other e.0)
 
 pub made_and_said : (said0 said1 : List ℕ) (w0 w1 : Option Machine) (s : Step) (o : Outcome)
     → IsMade w0 s o w1 → said1 ≡ said0 ++ (outcome_line o ++ codes "\n") → MakesStep said0 said1 w0 w1 s
-made_and_said said0 said1 w0 w1 s o made said = record {
+made_and_said said0 said1 w0 w1 s o made reply = record {
   machine = made.0;
   was = made.1;
   is = made.3;
-  says = said ∙ ap (λ x. said0 ++ (outcome_line x ++ codes "\n")) made.2;
+  says = reply ∙ ap (λ x. said0 ++ (outcome_line x ++ codes "\n")) made.2;
 }
 
 -- ---- lines
 
-abbrev said_by : List ℕ → Bool → Said
+abbrev said_by : List ℕ → Bool → LineReply
 said_by text faulty = record { text = text; faulty = faulty }
 
 played_empty : (n : ℕ) (m : Machine) (line : List ℕ) → (length line == 0) ≡ true → played n m line ≡ skipped m
@@ -43,13 +43,13 @@ unfolding played
 played_step n m line r e is =
     ap (λ b. if b then skipped m else played_as n m (step_in line)) e ∙ ap (λ x. played_as n m x) (sym is)
 
-takes_as : (w1 : Option Machine) (n : ℕ) (line : List ℕ) (m : Machine) (said : Said) (p : LineResult Machine) → played n m line ≡ p → StandsAt w1 p.held → said ≡ p.said
-    → StandsAt w1 (played n m line).held × (said ≡ (played n m line).said)
-takes_as w1 n line m said p e stands says =
-    (subst (λ (x : LineResult Machine). StandsAt w1 x.held) (sym e) stands, subst (λ (x : LineResult Machine). said ≡ x.said) (sym e) says)
+takes_as : (w1 : Option Machine) (n : ℕ) (line : List ℕ) (m : Machine) (reply : LineReply) (p : LineResult Machine) → played n m line ≡ p → StandsAt w1 p.held → reply ≡ p.reply
+    → StandsAt w1 (played n m line).held × (reply ≡ (played n m line).reply)
+takes_as w1 n line m reply p e stands says =
+    (subst (λ (x : LineResult Machine). StandsAt w1 x.held) (sym e) stands, subst (λ (x : LineResult Machine). reply ≡ x.reply) (sym e) says)
 
-said_as : (text : List ℕ) (faulty : Bool) (said : List ℕ) → said ≡ text → record { text = said; faulty = faulty } ≡ said_by text faulty
-said_as text faulty said e = ap (λ t. said_by t faulty) e
+said_as : (text : List ℕ) (faulty : Bool) (reply : List ℕ) → reply ≡ text → record { text = reply; faulty = faulty } ≡ said_by text faulty
+said_as text faulty reply e = ap (λ t. said_by t faulty) e
 
 -- said into an empty text
 said_first : (said0 said1 text : List ℕ) → said0 ≡ [] → said1 ≡ said0 ++ text → said1 ≡ text
@@ -76,7 +76,7 @@ line_played w0 w1 n line said0 said1 s none e is made m stands =
     let same : made.machine ≡ m = sym (same_machine w0 m made.machine made.was stands) in
     takes_as w1 n line m (record { text = said1; faulty = false }) (played_as n m (Ok s)) (played_step n m line (Ok s) e is)
     (inl (made.is ∙ ap (λ k. Some (stepped k s).machine) same))
-    (said_as (played_as n m (Ok s)).said.text false said1
+    (said_as (played_as n m (Ok s)).reply.text false said1
     (said_first said0 said1 _ none made.says ∙ ap (λ k. outcome_line (stepped k s).outcome ++ codes "\n") same))
 
 pub line_faulty : (w : Option Machine) (n : ℕ) (line said0 said1 : List ℕ) (fault : StepFault) → said0 ≡ [] → (length line == 0) ≡ false → Err fault ≡ step_in line

@@ -16,55 +16,55 @@ use Rattle.text_lines.specs.Results.{LineResult, result_of_lines}
 abbrev pub step_fault_line : ℕ → StepFault → List ℕ
 step_fault_line n fault = codes "line " ++ decimal n ++ codes ": " ++ fault_text fault ++ codes "\n"
 
--- what is said to a step that is made, and the machine after it
+-- the reply to a step, and the machine after it
 abbrev pub made : Machine → Step → LineResult Machine
-made m s = record { said = record { text = outcome_line (step m s).outcome ++ codes "\n"; faulty = false }; held = (step m s).machine }
+made m s = record { reply = record { text = outcome_line (step m s).outcome ++ codes "\n"; faulty = false }; held = (step m s).machine }
 
 abbrev pub played_as : ℕ → Machine → Result Step StepFault → LineResult Machine
 played_as n m (Ok s) = made m s
-played_as n m (Err fault) = record { said = record { text = step_fault_line n fault; faulty = true }; held = m }
+played_as n m (Err fault) = record { reply = record { text = step_fault_line n fault; faulty = true }; held = m }
 
 abbrev pub skipped : Machine → LineResult Machine
-skipped m = record { said = nothing_said; held = m }
+skipped m = record { reply = nothing_said; held = m }
 
--- what the line with the number n comes to; an empty line is skipped
+-- the result of the line with the number n; an empty line is skipped
 unfoldable pub played : ℕ → Machine → List ℕ → LineResult Machine
 played n m line = if length line == 0 then skipped m else played_as n m (step_in line)
 
--- ---- the whole
+-- ---- the complete run
 
--- 3 where a line was no step
+-- 3 if a line was no step
 abbrev pub play_status : Bool → ℕ
 play_status true = 3
 play_status false = 0
 
--- what lines come to, from a machine in which nothing has happened
+-- the result of lines, from the initial state of the machine
 abbrev pub all_played : Limits → List (List ℕ) → LineResult Machine
 all_played limits lines = result_of_lines played 1 (new_machine limits) lines
 
 abbrev pub output_of : Limits → List ℕ → List ℕ
-output_of limits input = (all_played limits (lines_of input)).said.text
+output_of limits input = (all_played limits (lines_of input)).reply.text
 
 abbrev pub status_of : Limits → List ℕ → ℕ
-status_of limits input = play_status (all_played limits (lines_of input)).said.faulty
+status_of limits input = play_status (all_played limits (lines_of input)).reply.faulty
 
 -- ---- one line
 
--- the world is this machine, or has found no memory
+-- the world is in this state, or memory ran out
 abbrev pub StandsAt : Option Machine → Machine → Type 0
 StandsAt w m = (w ≡ Some m) ⊎ (w ≡ None)
 
--- what a line comes to, whichever machine the world is
+-- the result of a line, whatever the state of the world
 abbrev pub TakesStep : Takes (Option Machine)
-TakesStep w0 n line said w1 = (m : Machine) → StandsAt w0 m → StandsAt w1 (played n m line).held × (said ≡ (played n m line).said)
+TakesStep w0 n line reply w1 = (m : Machine) → StandsAt w0 m → StandsAt w1 (played n m line).held × (reply ≡ (played n m line).reply)
 
--- the step was made in a world that found memory
+-- the step was run, and memory didn't run out
 abbrev pub IsMade : Option Machine → Step → Outcome → Option Machine → Type 0
 IsMade w0 s o w1 = (m : Machine) × (w0 ≡ Some m) × (o ≡ (step m s).outcome) × (w1 ≡ Some (step m s).machine)
 
--- a step that was made, and what came of it was said
+-- a step was run, and its outcome was written
 pub record MakesStep (said0 said1 : List ℕ) (w0 w1 : Option Machine) (s : Step) : Type 0 where
   pub machine : Machine
   pub was : w0 ≡ Some machine
   pub is : w1 ≡ Some (step machine s).machine
-  pub says : said1 ≡ said0 ++ (made machine s).said.text
+  pub says : said1 ≡ said0 ++ (made machine s).reply.text

@@ -1,9 +1,9 @@
-//! The subcommand `play`: steps of the stepped machine, a line each.
+//! The subcommand `play`: runs the steps of the stepped machine, one line each.
 //!
-//! [`run_play`] runs over any input and any output, and promises that what it writes is one function of
-//! what it reads; where it has to stop before the end, what it wrote is a beginning of that.
+//! [`run_play`] runs over any input and any output. Its output is proved to be a function of its input. If it stops
+//! before the end, it wrote a prefix of that.
 //!
-//! * `script`: a machine that takes a step from each line.
+//! * `script`: a machine that reads a step from each line.
 #![tactic(auto)]
 
 ghost use Rattle.std.specs.Prelude.{◌≡◌, false};
@@ -27,7 +27,7 @@ fn status_of(faulty: bool) -> u8
     if faulty { 3 } else { 0 }
 }
 
-/// Takes the lines of the input as steps of the script, and gives the status.
+/// Runs the lines of the input as steps of the script, and returns the exit status.
 fn play_lines<R: Input, W: Output>(
     alloc: Global,
     input: &mut R,
@@ -47,13 +47,13 @@ fn play_lines<R: Input, W: Output>(
     }
 }
 
-/// Reads steps of the machine, a line each, and writes a line of what came of each, as they are read.
+/// Reads steps of the machine, one line each, and writes the outcome of each as a line while they are read.
 ///
-/// A line that is no step is answered by a line of its own, and changes nothing. Empty lines are
-/// skipped. The machine is one in which nothing has happened.
+/// The reply to a line that is no step is a line of its own, and the machine doesn't change. Empty lines are skipped.
+/// The machine starts in its initial state.
 ///
-/// The status is 0; 3 where a line was no step; 4 where a read or a write failed, or the limit of reads
-/// was met; 5 where memory ran out.
+/// The exit status is 0; 3 if a line was no step; 4 if a read or a write failed or the limit of reads was reached; 5 if
+/// memory ran out.
 pub fn run_play<R: Input, W: Output>(
     alloc: Global,
     keys: RandomState,
@@ -71,6 +71,7 @@ pub fn run_play<R: Input, W: Output>(
         return 5;
     };
     let status = play_lines(alloc, input, output, &mut script);
+    // For the prover: an explicit drop is cheaper than one at the end of the block.
     drop(script);
     status
 }

@@ -1,4 +1,4 @@
-//! A machine that takes a step from each line.
+//! A machine that reads a step from each line.
 ghost use Rattle.std.specs.Prelude.{◌≡◌, ◌≢◌, ◌++◌, IfOk, OnOk, Some, codes, false};
 ghost use Rattle.query_http.specs.Paths.{endpoint_rows};
 ghost use Rattle.trace_model.specs.declared.refusal.Refusal.TheVariants.{NoMemory};
@@ -15,24 +15,24 @@ use std::hash::RandomState;
 use std::io::Write;
 use std::marker::Model;
 use step_lines::{StepFault, outcome_text, read_step};
-use text_lines::LineTaker;
+use text_lines::LineHandler;
 use trace_model::{Limits, Refusal};
 
-/// Says that a line is no step.
-fn say_fault(said: &mut Vec<u8>, number: u64, fault: StepFault) -> Result<(), AllocError>
-    ensures { OnOk result (said.new.items ≡ said.old.items ++ step_fault_line number fault) }
+/// Writes that a line is no step.
+fn write_fault(reply: &mut Vec<u8>, number: u64, fault: StepFault) -> Result<(), AllocError>
+    ensures { OnOk result (reply.new.items ≡ reply.old.items ++ step_fault_line number fault) }
 {
-    writeln!(said, "line {number}: {fault}").map_err(|_| AllocError)
+    writeln!(reply, "line {number}: {fault}").map_err(|_| AllocError)
 }
 
-/// The outcome says that memory ran out.
+/// Returns whether the outcome says that memory ran out.
 fn is_no_memory(outcome: &Outcome) -> bool
     ensures { result ≡ false → outcome.now ≢ Refused NoMemory }
 {
     matches!(outcome, Outcome::Refused(Refusal::NoMemory))
 }
 
-/// Makes the step, where memory is found.
+/// Runs the step. Running out of memory is an error, not an outcome.
 fn make(world: &mut World, step: Step) -> Result<Outcome, AllocError>
     ensures { IfOk result (λ o. IsMade world.old step o world.new) }
 {
@@ -43,37 +43,37 @@ fn make(world: &mut World, step: Step) -> Result<Outcome, AllocError>
     Ok(outcome)
 }
 
-/// Says a line.
-fn say_line(said: &mut Vec<u8>, text: &str) -> Result<(), AllocError>
-    ensures { OnOk result (said.new.items ≡ said.old.items ++ (text.now ++ codes "\n")) }
+/// Writes a line.
+fn write_line(reply: &mut Vec<u8>, text: &str) -> Result<(), AllocError>
+    ensures { OnOk result (reply.new.items ≡ reply.old.items ++ (text.now ++ codes "\n")) }
 {
-    writeln!(said, "{text}").map_err(|_| AllocError)
+    writeln!(reply, "{text}").map_err(|_| AllocError)
 }
 
-/// Says what came of a step.
-fn say_outcome(alloc: Global, said: &mut Vec<u8>, outcome: &Outcome) -> Result<(), AllocError>
-    ensures { OnOk result (said.new.items ≡
-        said.old.items ++ (outcome_line outcome.now ++ codes "\n")) }
+/// Writes the outcome of a step.
+fn write_outcome(alloc: Global, reply: &mut Vec<u8>, outcome: &Outcome) -> Result<(), AllocError>
+    ensures { OnOk result (reply.new.items ≡
+        reply.old.items ++ (outcome_line outcome.now ++ codes "\n")) }
 {
     let text = outcome_text(alloc, outcome)?;
-    say_line(said, text.as_str())
+    write_line(reply, text.as_str())
 }
 
-/// Makes the step, and says what came of it.
+/// Runs the step, and writes its outcome.
 fn play_step(
     alloc: Global,
     world: &mut World,
-    said: &mut Vec<u8>,
+    reply: &mut Vec<u8>,
     step: Step,
 ) -> Result<(), AllocError>
-    ensures { OnOk result (MakesStep said.old.items said.new.items world.old world.new step) }
+    ensures { OnOk result (MakesStep reply.old.items reply.new.items world.old world.new step) }
 {
     let outcome = make(world, step)?;
-    say_outcome(alloc, said, &outcome)
+    write_outcome(alloc, reply, &outcome)
 }
 
-/// A machine that takes a step from each line, and says what came of it. It stands where its steps led,
-/// or has found no memory.
+/// A machine that reads a step from each line and replies with its outcome. Contracts see the state to which its steps
+/// led, or `None` once memory ran out.
 #[derive(Drop)]
 pub struct Script {
     router: Router<Endpoint>,
@@ -93,7 +93,7 @@ impl Model for Script {
 }
 
 impl Script {
-    /// A machine in which nothing has happened.
+    /// Creates a machine in its initial state.
     ///
     /// # Errors
     ///
@@ -111,28 +111,28 @@ impl Script {
     }
 }
 
-impl LineTaker for Script {
+impl LineHandler for Script {
     ghost use Rattle.play_script.specs.Playing.{TakesStep};
 
     ghost takes = { TakesStep };
 
-    fn take_line(
+    fn handle_line(
         &mut self,
         alloc: Global,
         number: u64,
         line: &mut Vec<u8>,
-        said: &mut Vec<u8>,
+        reply: &mut Vec<u8>,
     ) -> Result<bool, AllocError> {
         if line.is_empty() {
             return Ok(false);
         }
         match read_step(alloc, &self.router, line.as_slice())? {
             Ok(step) => {
-                play_step(alloc, &mut self.world, said, step)?;
+                play_step(alloc, &mut self.world, reply, step)?;
                 Ok(false)
             }
             Err(fault) => {
-                say_fault(said, number, fault)?;
+                write_fault(reply, number, fault)?;
                 Ok(true)
             }
         }

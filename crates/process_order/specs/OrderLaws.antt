@@ -1,5 +1,6 @@
--- Laws that the impls of this crate name, and their lemmas. A clause can name nothing of its own crate's proofs/, so they stand in specs/.
--- The order of processes is a total order, and two of them stand level where they are equal and nowhere else.
+-- Laws that the impls of this crate name, and their lemmas. A clause can name nothing of its own crate's proofs/,
+-- so they are in specs/. The order of processes is a total order, and two compare as equal exactly if they are
+-- equal.
 use Rattle.std.specs.Prelude.{◌≡◌, ℕ, zero, suc, ℤ, pos, true, false, List, Some, refl}
 use Rattle.std.specs.declared.cmp.Ordering.TheVariants.{Equal}
 use Rattle.std.specs.Ordering.{nat_cmp, int_cmp, int_eq, ordering_then, eq_by_cmp}
@@ -25,7 +26,7 @@ tag_total = then_total (on_total (λ (t : Tag). t.key) nat_list_cmp_total) (on_t
 pub process_total : IsTotalOrder process_cmp
 process_total = then_total (on_total (λ (p : Process). p.service) nat_list_cmp_total) (on_total (λ (p : Process). p.tags) (lists_total tag_total))
 
--- ---- what stands level is equal
+-- ---- what compares as equal is equal
 
 abbrev Parts : Type 0
 Parts = ℕ × (ℤ × List ℕ)

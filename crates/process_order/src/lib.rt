@@ -1,5 +1,5 @@
-//! An order of processes, in which two are level if they are equal and not otherwise. So processes can be looked up
-//! in a map.
+//! A total order of processes, in which two compare as equal exactly if they are equal. So a process can be the
+//! key of a map.
 //!
 //! * `order`: a process as the key of a map.
 #![tactic(auto)]

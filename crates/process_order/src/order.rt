@@ -9,7 +9,7 @@ ghost use Rattle.process_order.specs.OrderLaws.{process_equiv, process_po, proce
 use jaeger_model::{Process, Tag, TagValue, ValueRef};
 use std::cmp::Ordering;
 
-/// What a value is ordered by: its type, the number that it is or stands for, and its bytes.
+/// Returns what a value is ordered by: its type, the number that it is or represents, and its bytes.
 fn parts_of(value: &TagValue) -> (u8, i64, &[u8])
     ensures rank { result.0 ≡ rank value.now }
     ensures number { result.1 ≡ number value.now }
@@ -82,7 +82,7 @@ fn compare(process: &Process, other: &Process) -> Ordering
     }
 }
 
-/// A process in an order by what it says of itself; equal ones stand level.
+/// A process, ordered by its content.
 #[derive(Clone, Copy)]
 pub struct ByContent<'a>(pub &'a Process);
 

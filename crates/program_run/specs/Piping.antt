@@ -14,7 +14,7 @@ cause_status Reading = 4
 cause_status Writing = 4
 cause_status Memory = 5
 
--- a session from an empty store that ended; no device had failed
+-- a session over an empty store ended, and no device failed
 pub record PipesToTheEnd (in0 in1 out0 out1 : Option (List ℕ)) (in_failed out_failed : Bool) (limits : Limits) : Type 0 where
   pub answered : ℕ
   pub clean : Bool
@@ -24,7 +24,7 @@ pub record PipesToTheEnd (in0 in1 out0 out1 : Option (List ℕ)) (in_failed out_
   pub input_works : in_failed ≡ false
   pub output_works : out_failed ≡ false
 
--- one that failed
+-- a session over an empty store failed
 pub record PipesUpTo (in0 in1 out0 out1 : Option (List ℕ)) (in_failed out_failed : Bool) (limits : Limits) (status : ℕ) : Type 0 where
   pub error : SessionError
   pub status_is : status ≡ cause_status error.cause

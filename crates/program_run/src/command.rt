@@ -1,4 +1,4 @@
-//! The command that the program's words give, over an input and an output.
+//! Runs the command of the program's words over an input and an output.
 ghost use Rattle.std.specs.Prelude.{◌≡◌, false, map};
 ghost use Rattle.program_run.specs.Running.{Runs};
 
@@ -17,11 +17,11 @@ use std::sync::Wait;
 use std::thread::Threads;
 use std::time::Clock;
 
-/// Does what the words ask for, and gives the exit status: 4 exactly where a device failed or the limit of
-/// reads was met, and of `serve` also where a socket did. Words that ask for nothing, and a trace's id that
-/// can't be read, are answered on the output, and nothing is read then. `serve` reads nothing of the input either.
+/// Runs the command of the words, and returns the exit status: 4 if and only if a device failed or the limit of reads
+/// was reached, and for `serve` also if a socket failed. Words that name no command, and a trace's id that can't be
+/// read, are answered on the output, and nothing is read then. `serve` doesn't read the input either.
 ///
-/// A further subcommand has a line here, and one in `Does` of `specs/Running.antt`.
+/// To add a subcommand, add a line here, and one in `Does` of `specs/Running.antt`.
 pub fn run<H, S: AsStr, R: Input, W: Output>(
     rt: &H,
     alloc: Global,
@@ -51,6 +51,6 @@ where
         Ok(Command::Pipe { limits }) => run_pipe(alloc, keys, input, output, limits),
         Ok(Command::Play { limits }) => run_play(alloc, keys, input, output, limits),
         Ok(Command::Serve { options }) => run_serve(rt, alloc, keys, output, options),
-        Err(status) => status,
+        Err(exit) => exit.status(),
     }
 }

@@ -1,9 +1,9 @@
-//! What the program does: the command that its words ask for, over an input and an output.
+//! Runs the program: the command of its words, over an input and an output.
 //!
-//! [`run`] promises what the command that was asked for wrote and its status, and what becomes of words
-//! that ask for none. What the commands promise: `get_command`, `play_script` and [`run_pipe`].
+//! The contract of [`run`] says what the command wrote and its status, and how words that name no command are answered.
+//! The contracts of the commands are in `get_command`, `play_script` and [`run_pipe`].
 //!
-//! * `command`: the command of some words.
+//! * `command`: runs the command of the words.
 //! * `pipe`: the subcommand `pipe`. `serve`: the subcommand `serve`.
 #![tactic(auto)]
 

@@ -21,9 +21,9 @@ fn status_of(cause: SessionErrorKind) -> u8
     }
 }
 
-/// Answers the HTTP requests of the input on the output, from a store that is empty at first, and gives
-/// the exit status: 0 where the session ended, by itself or by a response that closes it, 4 where a read
-/// or a write failed, and 5 where memory ran out.
+/// Answers the HTTP requests of the input on the output, from a store that is empty at first. Returns the exit status:
+/// 0 if the session ended, by the end of the input or by a response that closes it, 4 if a read or a write failed, and
+/// 5 if memory ran out.
 pub fn run_pipe<R: Input, W: Output>(
     alloc: Global,
     keys: RandomState,
@@ -39,6 +39,7 @@ pub fn run_pipe<R: Input, W: Output>(
         return 5;
     };
     let mut store = Direct::new(opened);
+    // For the prover: explicit drops are cheaper than one at the end of the block.
     match pipe(alloc, input, output, &mut store) {
         Ok(_) => {
             drop(store);

@@ -11,10 +11,10 @@ use std::net::{Net, SocketAddr, TcpListener, TcpStream};
 use std::sync::Wait;
 use std::thread::Threads;
 use std::time::Clock;
-use text_lines::say;
+use text_lines::write_text;
 use trace_server::{NoGate, ServerConfig, serve_with};
 
-/// Says why nothing can be served on an address, and gives the exit status.
+/// Writes why the server can't listen on an address, and returns the exit status.
 fn turn_down<W: Output>(alloc: Global, output: &mut W, address: SocketAddr, error: &io::Error) -> u8
     requires { W.has_failed output.old ≡ false }
     ensures { TurnsDown (W.contents output.old) (W.contents output.new) (W.has_failed output.new)
@@ -23,15 +23,14 @@ fn turn_down<W: Output>(alloc: Global, output: &mut W, address: SocketAddr, erro
     let Ok(line) = format!(in alloc; "cannot listen on {address}: {error}\n") else {
         return 5;
     };
-    match say(alloc, output, line.as_bytes()) {
+    match write_text(alloc, output, line.as_bytes()) {
         Ok(()) => 4,
         Err(error) => error.status(),
     }
 }
 
-/// Takes connections on a host's port over an empty store, until as many have ended as were asked
-/// for, and gives the exit status: 4 where the address can't be used, else that of
-/// [`serve_with`](trace_server::serve_with).
+/// Serves connections on a host's port over an empty store, until the requested number has ended. Returns the exit
+/// status: 4 if the address can't be used, otherwise that of [`serve_with`](trace_server::serve_with).
 pub fn run_serve<H, W>(
     rt: &H,
     alloc: Global,

@@ -1,4 +1,4 @@
--- Digits in front of a text, and the size of a duration.
+-- The leading digits of a text, and the size of a duration.
 use Rattle.std.proofs.Common.{◌≡◌, ℕ, ◌+◌, ◌*◌, ◌<◌, ◌≤◌, ◌^◌, Bool, true, false, not, cond, ltb, List, length, Some, None, unwrap_or, refl, arith, zero}
 use Rattle.std.specs.Prelude.{position}
 use Rattle.std.specs.List.{position_or_len}

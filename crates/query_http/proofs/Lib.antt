@@ -1,6 +1,6 @@
-pub mod Seeking
-pub mod Parting
-pub mod Finding
+pub mod RouteWalks
+pub mod PathParts
+pub mod EndpointsAreFound
 pub mod Digits
 pub mod TagLoops
 pub mod PartTexts

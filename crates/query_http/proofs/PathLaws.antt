@@ -5,7 +5,7 @@ use Rattle.query_http.specs.declared.paths.Endpoint.{Endpoint}
 use Rattle.query_http.specs.declared.paths.Endpoint.TheVariants.{Traces, Trace, Services, OperationNames, Operations, Dependencies}
 use Rattle.query_http.specs.Paths.{IsPath}
 
--- by the first byte behind `/api/`, and the bytes behind `/api/traces` and `/api/services`
+-- by the first byte after `/api/`, and the bytes after `/api/traces` and `/api/services`
 endpoint_by : ℕ → ℕ → ℕ → Endpoint
 endpoint_by first behind_traces behind_services =
     if first == 100 then Dependencies
@@ -33,7 +33,7 @@ endpoint_is OperationNames part path is = ap endpoint_of is.1
 endpoint_is Operations part path is = ap endpoint_of is.1
 endpoint_is Dependencies part path is = ap endpoint_of is.1
 
--- what stands between `/api/services/` and `/operations`
+-- the text between `/api/services/` and `/operations`
 between : (part : List ℕ) → part_of OperationNames (codes "/api/services/" ++ (part ++ codes "/operations")) ≡ part
 unfolding part_of
 between part = take_at part (codes "/operations") _ (omega (arith, length-append part (codes "/operations")))

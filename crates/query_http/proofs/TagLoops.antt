@@ -1,4 +1,4 @@
--- Pairs that are read one after the other.
+-- A sequence of pairs that is read.
 use Rattle.std.proofs.Common.{◌≡◌, ℕ, List, [], ◌∷◌, ◌++◌, Result, Ok, Option, Some, None, refl, sym, ap, ◌∙◌, append_assoc}
 use Rattle.std.specs.Prelude.{String, string_bytes}
 use Rattle.std.specs.declared.alloc.Global.{Global}
@@ -9,11 +9,11 @@ use Rattle.serde_json.specs.declared.value.Value.{Value}
 use Rattle.query_http.specs.declared.fault.Parameter.{Parameter}
 use Rattle.query_http.specs.Queries.{◌>>=◌, Pairs, texts_in}
 
--- what was read, in front of what is still to be read
+-- the pairs read so far, before those still to be read
 abbrev pub with_front : Pairs → Result Pairs Parameter → Result Pairs Parameter
 with_front xs r = r >>= λ ys. Ok (xs ++ ys)
 
--- the texts so far, in front of those of the other members
+-- the texts so far, before those of the other members
 abbrev pub in_front : Pairs → Option Pairs → Option Pairs
 in_front xs None = None
 in_front xs (Some ys) = Some (xs ++ ys)

@@ -1,4 +1,4 @@
--- How an answer of the program stands to what was to be read.
+-- How the result of a function relates to the reading that defines it.
 use Rattle.std.specs.Prelude.{◌≡◌, ℕ, List, Result, Ok, Err}
 use Rattle.trace_model.specs.declared.query.Query.{Query}
 use Rattle.query_http.specs.declared.fault.Parameter.{Parameter}
@@ -9,21 +9,21 @@ use Rattle.query_http.specs.Queries.{query_at, path_of, form_of}
 use Rattle.query_http.specs.declared.fault.QueryFault.{QueryFault}
 use Rattle.query_http.specs.declared.fault.QueryFault.TheVariants.{NoPath, Bad, NoMemory}
 
--- the reading's value, or the parameter that it calls bad, unless memory ran out
+-- the reading's value, or its invalid parameter, unless memory ran out
 abbrev pub Asks : {X Y : Type 0} → (X → Y) → Result X QueryFault → Result Y Parameter → Type 0
 Asks view (Ok x) read = read ≡ Ok (view x)
 Asks view (Err NoMemory) read = Unit {0}
 Asks view (Err (Bad p)) read = read ≡ Err p
 Asks view (Err NoPath) read = ⊥
 
--- the endpoint that the path has, with this part, is asked so
+-- the query of the path's endpoint with this part
 pub record AsksEndpoint (target : List ℕ) (read : Result Query Parameter) : Type 0 where
   pub endpoint : Endpoint
   pub part : List ℕ
   pub path : IsPath endpoint part (path_of target)
   pub asked : query_at endpoint part (pairs_of (form_of target)) ≡ read
 
--- what a target asks: its endpoint's query, no path, or the first bad parameter, unless memory ran out
+-- the query of a target: its endpoint's query, no path, or the first invalid parameter, unless memory ran out
 abbrev pub AsksTarget : Result Query QueryFault → List ℕ → Type 0
 AsksTarget (Ok q) target = AsksEndpoint target (Ok q)
 AsksTarget (Err NoMemory) target = Unit {0}

@@ -1,4 +1,4 @@
--- How parameters are named, and faults numbered.
+-- The names of parameters, and the numbers of faults.
 use Rattle.std.specs.Prelude.{ℕ, List, codes}
 use Rattle.query_http.specs.declared.fault.Parameter.{Parameter}
 use Rattle.query_http.specs.declared.fault.QueryFault.{QueryFault}

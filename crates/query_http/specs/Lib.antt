@@ -4,4 +4,5 @@ pub mod Forms
 pub mod Numbers
 pub mod Queries
 pub mod Answering
+pub mod Statuses
 pub mod Responses

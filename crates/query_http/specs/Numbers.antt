@@ -1,4 +1,4 @@
--- Numbers and durations as a query's parameters spell them.
+-- Numbers and durations in a query's parameters.
 use Rattle.std.specs.Prelude.{ℕ, ◌+◌, ◌*◌, ◌/◌, ◌^◌, ◌==◌, List, [], ◌∷◌, length, drop, Bool, not, Option, Some, None, option_and_then, if◌then◌else◌, nat_lt, codes}
 use Rattle.std.specs.List.{before_first}
 use Rattle.std.specs.Char.{is_ascii_digit}
@@ -25,23 +25,23 @@ unit_of text =
 abbrev pub is_other : ℕ → Bool
 is_other c = not (is_ascii_digit c)
 
--- the digits in front
+-- the leading digits
 abbrev pub front_digits : List ℕ → List ℕ
 front_digits text = before_first is_other text
 
 abbrev pub behind_digits : List ℕ → List ℕ
 behind_digits text = drop (length (front_digits text)) text
 
--- the digits of the fraction, none where there is no point, and what follows
+-- the digits of the fraction, none if there is no point, and the text after them
 abbrev pub fraction : List ℕ → Option (List ℕ × List ℕ)
 fraction [] = Some ([], [])
 fraction (b ∷ rest) = if b == 46 then (if is_digits 9 (front_digits rest) then Some (front_digits rest, behind_digits rest) else None) else Some ([], b ∷ rest)
 
--- whole digits and the fraction's digits, in units of so many microseconds, cut to a whole number
+-- the microseconds of a decimal number, given as the digits before and after its point, in a unit, rounded down
 abbrev pub microseconds : List ℕ → List ℕ → ℕ → ℕ
 microseconds whole part unit = (number_of whole * 10 ^ length part + number_of part) * unit / 10 ^ length part
 
--- 1 to 19 digits, perhaps a point and 1 to 9 digits, and a unit
+-- 1 to 19 digits, optionally a point and 1 to 9 digits, and a unit
 unfoldable pub read_duration : List ℕ → Option ℕ
 read_duration text =
     if is_digits 19 (front_digits text) then

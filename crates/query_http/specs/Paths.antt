@@ -11,7 +11,7 @@ pub record IsPart (part : List ℕ) : Type 0 where
   pub some : 0 < length part
   pub plain : AllByRecursion (λ b. b ≢ 47) part
 
--- the path of an endpoint, with this part where it has one
+-- the path of an endpoint, with this part if it has one
 abbrev pub IsPath : Endpoint → List ℕ → List ℕ → Type 0
 IsPath Traces part path = (part ≡ []) × (path ≡ codes "/api/traces")
 IsPath Trace part path = IsPart part × (path ≡ codes "/api/traces/" ++ part)
@@ -24,7 +24,7 @@ IsPath Dependencies part path = (part ≡ []) × (path ≡ codes "/api/dependenc
 abbrev pub IsNoPath : List ℕ → Type 0
 IsNoPath path = (e : Endpoint) (part : List ℕ) → IsPath e part path → ⊥
 
--- a row of the router: the pattern with 256 in the place of a part, and the text with the part's name
+-- a route of the router: the pattern with 256 in place of a part, and the text with the part's name
 abbrev pub literal_row : List ℕ → Endpoint → List ℕ × RouteOf Endpoint
 literal_row text e = (text, record { pattern = text; text = text; names = []; value = e })
 
@@ -34,7 +34,7 @@ trace_pattern = codes "/api/traces/" ++ 256 ∷ []
 abbrev pub names_pattern : List ℕ
 names_pattern = codes "/api/services/" ++ 256 ∷ codes "/operations"
 
--- what the router holds
+-- the routes of the router
 abbrev pub endpoint_rows : RowsOf (RouteOf Endpoint)
 endpoint_rows =
     literal_row (codes "/api/dependencies") Dependencies

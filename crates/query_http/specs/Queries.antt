@@ -1,4 +1,4 @@
--- What a request asks: the query of an endpoint, or the first parameter that can't be read.
+-- The query of a request to an endpoint, or the first invalid parameter.
 use Rattle.std.specs.Prelude.{ℕ, ℤ, pos, List, [], ◌∷◌, ◌++◌, Bool, ◌||◌, Option, Some, None, Result, Ok, Err, unwrap_or, codes, if◌then◌else◌}
 use Rattle.std.specs.Str.{is_utf8}
 use Rattle.percent_encoding.specs.Percent.{percent_decode}
@@ -29,15 +29,15 @@ abbrev pub or_bad : {A : Type 0} → Parameter → Option A → Result A Paramet
 or_bad p None = Err p
 or_bad p (Some x) = Ok x
 
--- the parameter's value, absent where it is empty
+-- the parameter's value, absent if it is empty
 abbrev pub value_of : Parameter → Pairs → Option (List ℕ)
 value_of p ps = parameter (parameter_name p) ps
 
--- a parameter that has to be there
+-- a required parameter
 unfoldable pub required : Parameter → Pairs → Result (List ℕ) Parameter
 required p ps = or_bad p (value_of p ps)
 
--- a parameter that may be absent
+-- an optional parameter
 abbrev pub text_of : List ℕ → Pairs → List ℕ
 text_of name ps = unwrap_or (parameter name ps) []
 
@@ -51,7 +51,7 @@ number_at p ps = optional_by p read_number (value_of p ps)
 abbrev pub duration_at : Parameter → Pairs → Result (Option ℕ) Parameter
 duration_at p ps = optional_by p read_duration (value_of p ps)
 
--- the same as a signed number
+-- an optional parameter as a signed number
 abbrev pub time_of : Option ℕ → Option ℤ
 time_of None = None
 time_of (Some n) = Some (pos n)
@@ -64,15 +64,15 @@ with_time (Err p) = Err p
 unfoldable pub time_at : Parameter → Pairs → Result (Option ℤ) Parameter
 time_at p ps = with_time (number_at p ps)
 
--- a bound on durations, in microseconds; 0 where it is absent
+-- a bound on durations, in microseconds; 0 if it is absent
 unfoldable pub length_at : Parameter → Pairs → Result ℤ Parameter
 length_at p ps = with_time (duration_at p ps) >>= λ d. Ok (unwrap_or d (pos 0))
 
--- how many traces are asked for; 100 where it is absent
+-- the limit on the number of traces; 100 if it is absent
 unfoldable pub limit_at : Pairs → Result ℕ Parameter
 limit_at ps = number_at bad.Limit ps >>= λ n. Ok (unwrap_or n 100)
 
--- a key and a text around the first colon of each `tag`
+-- each `tag`, split at its first colon into a key and a text
 abbrev pub tags_from : List (List ℕ) → Result Pairs Parameter
 tags_from [] = Ok []
 tags_from (t ∷ ts) = or_bad bad.Tag (split_at colon t) >>= λ p. tags_from ts >>= λ ps. Ok (p ∷ ps)
@@ -105,7 +105,7 @@ abbrev pub tags_object : Option (List ℕ) → Result Pairs Parameter
 tags_object None = Ok []
 tags_object (Some t) = or_bad bad.Tags (object_texts (read t))
 
--- the asked pairs of key and text: those of each `tag`, then those of `tags`
+-- the requested pairs of key and text: those of each `tag`, then those of `tags`
 unfoldable pub tags_at : Pairs → Result Pairs Parameter
 tags_at ps = do
   singles ← tags_from (values_of (codes "tag") ps)
@@ -153,7 +153,7 @@ operations_at ps = do
   service ← required bad.Service ps
   Ok (ask.Operations service (text_of (codes "spanKind") ps))
 
--- what an endpoint is asked, with its path's part and its parameters
+-- the query of an endpoint, from its path's part and its parameters
 abbrev pub query_at : Endpoint → List ℕ → Pairs → Result Query Parameter
 query_at at.Traces part ps = find_at ps >>= λ f. Ok (ask.Find f)
 query_at at.Trace part ps = or_bad bad.TraceId (read_trace part) >>= λ id. Ok (ask.Trace id (raw_at ps))
@@ -162,7 +162,7 @@ query_at at.OperationNames part ps = text_part part >>= λ service. Ok (ask.Oper
 query_at at.Operations part ps = operations_at ps
 query_at at.Dependencies part ps = links_at ps
 
--- a target up to its first `?`, and what stands behind that
+-- a target, split at its first `?`
 abbrev pub path_of : List ℕ → List ℕ
 path_of target = (unwrap_or (split_at question_mark target) (target, [])).0
 

@@ -5,7 +5,7 @@ use Rattle.std.specs.Fmt.{decimal}
 abbrev pub line_end : List ℕ
 line_end = 13 ∷ 10 ∷ []
 
--- the reason that stands beside a status (RFC 9110, section 15)
+-- the reason phrase of a status (RFC 9110, section 15)
 abbrev pub reason : ℕ → List ℕ
 reason status =
     if status == 200 then codes "OK"
@@ -19,14 +19,14 @@ reason status =
     else if status == 503 then codes "Service Unavailable"
     else codes "Internal Server Error"
 
--- a field line
+-- a header field
 unfoldable pub field : List ℕ → List ℕ → List ℕ
 field name value = name ++ codes ": " ++ value ++ line_end
 
 unfoldable pub status_line : ℕ → List ℕ
 status_line status = codes "HTTP/1.1 " ++ decimal status ++ codes " " ++ reason status ++ line_end
 
--- of a body of so many bytes
+-- for a body of n bytes
 unfoldable pub type_line : ℕ → List ℕ
 type_line size = if not (size == 0) then field (codes "Content-Type") (codes "application/json") else []
 
@@ -39,7 +39,7 @@ allow_line allow = if not (length allow == 0) then field (codes "Allow") allow e
 unfoldable pub close_line : Bool → List ℕ
 close_line close = if close then field (codes "Connection") (codes "close") else []
 
--- what stands in front of a body of so many bytes: each part follows the ones before it, in the order in which they are
+-- the head of a response with a body of n bytes: each part follows the ones before it, in the order in which they are
 -- written
 abbrev pub response_head : ℕ → ℕ → List ℕ → Bool → List ℕ
 response_head status size allow close =

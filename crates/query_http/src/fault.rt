@@ -4,7 +4,7 @@ ghost use Rattle.query_http.specs.declared.fault.QueryFault.TheVariants.{Bad, No
 
 use std::alloc::{AllocError, AllocFailed};
 
-/// A part of a path or a parameter of a form that can be unreadable.
+/// A part of a path or a query parameter that can be invalid.
 #[derive(Clone, Copy, Debug, PartialEq, Eq)]
 pub enum Parameter {
     TraceId,
@@ -21,7 +21,7 @@ pub enum Parameter {
 }
 
 impl Parameter {
-    /// Its name in a request.
+    /// Returns its name in a request.
     pub fn name(self) -> &'static str
         ensures { result.now ≡ parameter_name self }
     {
@@ -41,18 +41,18 @@ impl Parameter {
     }
 }
 
-/// Why a target asks no query.
+/// Why a request's target isn't a query.
 #[derive(Clone, Copy, Debug, PartialEq, Eq)]
 pub enum QueryFault {
-    /// No endpoint has the path.
+    /// No endpoint has this path.
     NoPath,
-    /// The first parameter that can't be read, in the order of the endpoint's table.
+    /// The first invalid parameter, in the order of the endpoint's table.
     Bad(Parameter),
     NoMemory,
 }
 
 impl QueryFault {
-    /// The number that names the fault for good.
+    /// Returns the stable number of the fault.
     pub fn number(self) -> u8
         ensures { result ≡ fault_number self }
     {
@@ -63,7 +63,7 @@ impl QueryFault {
         }
     }
 
-    /// The name, without the parameter.
+    /// Returns the name, without the parameter.
     pub fn name(self) -> &'static str
         ensures { result.now ≡ fault_name self }
     {

@@ -20,14 +20,14 @@ impl Model for Pair {
 }
 
 impl Pair {
-    /// The value, decoded.
+    /// Returns the decoded value.
     pub fn value(&self) -> &str
         ensures { result.now ≡ self.now.1 }
     {
         self.value.as_str()
     }
 
-    /// It has this name, and a value that isn't empty.
+    /// Whether it has this name and a value that isn't empty.
     pub(crate) fn is_given(&self, name: &str) -> bool
         ensures { result ≡ is_given name.now self.now }
     {
@@ -35,21 +35,21 @@ impl Pair {
     }
 }
 
-/// What stands before the first `?` and what stands behind it.
+/// Splits a text at its first `?`.
 pub(crate) fn split_query(target: &str) -> Option<(&str, &str)>
     ensures { option_map (λ p. (p.0.now, p.1.now)) result ≡ split_at question_mark target.now }
 {
     target.split_once('?')
 }
 
-/// What stands before the first colon and what stands behind it.
+/// Splits a text at its first colon.
 pub(crate) fn split_tag(tag: &str) -> Option<(&str, &str)>
     ensures { option_map (λ p. (p.0.now, p.1.now)) result ≡ split_at colon tag.now }
 {
     tag.split_once(':')
 }
 
-/// The pairs of a form (`application/x-www-form-urlencoded`), decoded once.
+/// Decodes a form (`application/x-www-form-urlencoded`) into pairs of name and value.
 ///
 /// # Errors
 ///
@@ -66,7 +66,7 @@ pub fn form_pairs(alloc: Global, form: &[u8]) -> Result<Vec<Pair>, AllocError>
     Ok(all)
 }
 
-/// The value of the first pair of that name; absent where it is empty.
+/// Returns the value of the first pair of that name, or `None` if it is empty or there is no such pair.
 pub(crate) fn find_parameter<'a>(pairs: &'a [Pair], name: &str) -> Option<&'a str>
     ensures { option_copied result ≡ parameter name.now pairs.now }
 {

@@ -5,7 +5,7 @@ ghost use Rattle.query_http.specs.Numbers.{is_other, read_number, unit_of, front
 
 use decimal_digits::{is_number, value_of};
 
-/// A number of 1 to 19 digits, of at most 9223372036854775807.
+/// Parses a number of 1 to 19 digits, at most 9223372036854775807.
 #[tactic(auto, unfolding(crate::specs::Numbers::read_number))]
 pub(crate) fn read_number(text: &str) -> Option<i64>
     ensures { result ≡ time_of (read_number text.now) }
@@ -17,7 +17,7 @@ pub(crate) fn read_number(text: &str) -> Option<i64>
     i64::try_from(value_of(digits)).ok()
 }
 
-/// The microseconds of a unit.
+/// Returns the microseconds of a unit.
 fn unit_of(text: &[u8]) -> Option<u64>
     ensures value { result ≡ unit_of text.now }
     ensures small { IfSome result (λ unit. unit ≤ 3600000000) }
@@ -32,23 +32,23 @@ fn unit_of(text: &[u8]) -> Option<u64>
     }
 }
 
-/// The place of the first byte that is no digit.
-fn first_other(text: &[u8]) -> Option<usize>
+/// Returns the index of the first byte that is no digit.
+fn first_non_digit(text: &[u8]) -> Option<usize>
     ensures { result ≡ position is_other text.now }
 {
     text.iter().position(|c| !c.is_ascii_digit())
 }
 
-/// How many digits are in front.
+/// Returns the number of leading digits.
 #[tactic(auto, using(crate::proofs::Digits::position_or_end))]
 fn digit_count(text: &[u8]) -> usize
     ensures count { result ≡ position_or_len is_other text.now }
     ensures within { result ≤ length text.now }
 {
-    first_other(text).unwrap_or(text.len())
+    first_non_digit(text).unwrap_or(text.len())
 }
 
-/// The digits in front, and what follows them.
+/// Splits a text after its leading digits.
 fn split_digits(text: &[u8]) -> (&[u8], &[u8])
     ensures front { result.0.now ≡ front_digits text.now }
     ensures behind { result.1.now ≡ behind_digits text.now }
@@ -56,7 +56,7 @@ fn split_digits(text: &[u8]) -> (&[u8], &[u8])
     text.split_at(digit_count(text))
 }
 
-/// The digits behind a point and what follows; no digits where there is no point.
+/// Returns the digits after a leading point and the text after them; no digits if there is no point.
 fn split_fraction(text: &[u8]) -> Option<(&[u8], &[u8])>
     ensures value { option_map (λ p. (p.0.now, p.1.now)) result ≡ fraction text.now }
     ensures short { IfSome result (λ p. length p.0.now ≤ 9) }
@@ -81,7 +81,7 @@ fn power_of_ten(exponent: usize) -> u128
     10u128.pow(exponent as u32)
 }
 
-/// Whole digits and a fraction's digits, in units of so many microseconds.
+/// Returns the microseconds of a decimal number, given as the digits before and after its point, in a unit.
 fn scaled(whole: &[u8], part: &[u8], unit: u64) -> u128
     requires whole { length whole.now ≤ 19 }
     requires part { length part.now ≤ 9 }
@@ -92,8 +92,8 @@ fn scaled(whole: &[u8], part: &[u8], unit: u64) -> u128
     (u128::from(value_of(whole)) * ten + u128::from(value_of(part))) * u128::from(unit) / ten
 }
 
-/// A duration in microseconds, cut to a whole number: 1 to 19 digits, perhaps a point and 1 to 9
-/// digits, then `us`, `ms`, `s`, `m` or `h`; of at most 9223372036854775807 microseconds.
+/// Parses a duration into microseconds, rounded down: 1 to 19 digits, optionally a point and 1 to 9
+/// digits, then `us`, `ms`, `s`, `m` or `h`; at most 9223372036854775807 microseconds.
 #[tactic(auto, unfolding(crate::specs::Numbers::read_duration))]
 pub(crate) fn read_duration(text: &str) -> Option<i64>
     ensures { result ≡ time_of (read_duration text.now) }

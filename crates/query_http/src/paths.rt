@@ -5,10 +5,10 @@ ghost use Rattle.query_http.specs.Paths.{endpoint_rows, IsPath, IsNoPath};
 use matchit::{InsertError, Router};
 use std::alloc::Global;
 
-/// What a path leads to.
+/// The endpoints.
 #[derive(Clone, Copy, Debug, PartialEq, Eq)]
 pub enum Endpoint {
-    /// `/api/traces`: a search, or a batch that is handed in.
+    /// `/api/traces`: a search, or a batch that a client posts.
     Traces,
     /// `/api/traces/{id}`: one trace.
     Trace,
@@ -22,7 +22,7 @@ pub enum Endpoint {
     Dependencies,
 }
 
-/// Adds all endpoints to a router that has none.
+/// Adds all endpoints to an empty router.
 fn add_endpoints(router: &mut Router<Endpoint>) -> Result<(), InsertError>
     requires { router.old ≡ [] }
     ensures found { OnOk result (router.new ≡ endpoint_rows) }
@@ -40,7 +40,7 @@ fn add_endpoints(router: &mut Router<Endpoint>) -> Result<(), InsertError>
     Ok(())
 }
 
-/// The router of all endpoints.
+/// Returns a router with all endpoints.
 ///
 /// # Errors
 ///
@@ -59,35 +59,38 @@ pub fn endpoints(alloc: Global) -> Result<Router<Endpoint>, InsertError>
     }
 }
 
-/// What follows the text at the beginning of a path.
-fn after<'p>(path: &'p str, front: &str) -> &'p str
+/// Strips a prefix from a path.
+fn strip_prefix<'p>(path: &'p str, front: &str) -> &'p str
     requires { (rest : List ℕ) × (path.now ≡ front.now ++ rest) }
     ensures { path.now ≡ front.now ++ result.now }
 {
     path.strip_prefix(front).unwrap_or("")
 }
 
-/// What comes before the text at the end of a path.
-fn before<'p>(path: &'p str, end: &str) -> &'p str
+/// Strips a suffix from a path.
+fn strip_suffix<'p>(path: &'p str, end: &str) -> &'p str
     requires { (part : List ℕ) × (path.now ≡ part ++ end.now) }
     ensures { path.now ≡ result.now ++ end.now }
 {
     path.strip_suffix(end).unwrap_or("")
 }
 
-/// The part of an endpoint's path, as it stands there; empty where the endpoint has none.
+/// Returns the part of an endpoint's path, not decoded; empty if the endpoint has none.
 fn part_of(endpoint: Endpoint, path: &str) -> &str
     requires { (part : List ℕ) × IsPath endpoint part path.now }
     ensures { IsPath endpoint result.now path.now }
 {
     match endpoint {
-        Endpoint::Trace => after(path, "/api/traces/"),
-        Endpoint::OperationNames => before(after(path, "/api/services/"), "/operations"),
+        Endpoint::Trace => strip_prefix(path, "/api/traces/"),
+        Endpoint::OperationNames => strip_suffix(
+            strip_prefix(path, "/api/services/"),
+            "/operations",
+        ),
         _ => "",
     }
 }
 
-/// The endpoint that the router finds.
+/// Looks up a path in the router.
 fn endpoint_of(router: &Router<Endpoint>, path: &str) -> Option<Endpoint>
     requires { router.now ≡ endpoint_rows }
     ensures { MatchOption result (IsNoPath path.now) (λ e.
@@ -99,8 +102,8 @@ fn endpoint_of(router: &Router<Endpoint>, path: &str) -> Option<Endpoint>
     }
 }
 
-/// The endpoint of a path with the path's part, as it stands there; empty where the endpoint has
-/// none. `None` where no endpoint has the path.
+/// Returns the endpoint of a path and the path's part, not decoded; the part is empty if the endpoint has
+/// none. Returns `None` if no endpoint has the path.
 pub fn find_endpoint<'p>(router: &Router<Endpoint>, path: &'p str) -> Option<(Endpoint, &'p str)>
     requires { router.now ≡ endpoint_rows }
     ensures { MatchOption result (IsNoPath path.now) (λ r. IsPath r.0 r.1.now path.now) }

@@ -9,14 +9,14 @@ use crate::fault::{Parameter, QueryFault};
 use crate::form::{Pair, find_parameter, form_pairs, split_query};
 use crate::number::{read_duration, read_number};
 use crate::paths::{Endpoint, find_endpoint};
-use crate::tags::{asked_tags, copied};
+use crate::tags::{copy_text, requested_tags};
 use jaeger_model::{Text, parse_trace};
 use matchit::Router;
 use percent_encoding::{DecodeError, percent_decode};
 use std::alloc::{AllocError, Global};
 use trace_model::{Find, Query};
 
-/// A number, where it is given: for a bound on starts the microseconds.
+/// Parses an optional number; for a bound on starts it is in microseconds.
 #[tactic(auto, unfolding(crate::specs::Queries::time_at))]
 fn time_bound(pairs: &[Pair], parameter: Parameter) -> Result<Option<i64>, QueryFault>
     ensures { Asks (λ n. n) result (time_at parameter pairs.now) }
@@ -28,7 +28,7 @@ fn time_bound(pairs: &[Pair], parameter: Parameter) -> Result<Option<i64>, Query
     Ok(Some(number))
 }
 
-/// A bound on durations in microseconds, 0 where it is absent.
+/// Parses a bound on durations into microseconds; 0 if it is absent.
 #[tactic(auto, unfolding(crate::specs::Queries::length_at))]
 fn duration_bound(pairs: &[Pair], parameter: Parameter) -> Result<i64, QueryFault>
     ensures { Asks (λ n. n) result (length_at parameter pairs.now) }
@@ -39,32 +39,32 @@ fn duration_bound(pairs: &[Pair], parameter: Parameter) -> Result<i64, QueryFaul
     }
 }
 
-/// How many traces are asked for.
+/// Parses the limit on the number of traces.
 #[tactic(auto, unfolding(crate::specs::Queries::limit_at, crate::specs::Queries::time_at))]
-fn asked_limit(pairs: &[Pair]) -> Result<u64, QueryFault>
+fn trace_limit(pairs: &[Pair]) -> Result<u64, QueryFault>
     ensures { Asks (λ n. n) result (limit_at pairs.now) }
 {
     let limit = time_bound(pairs, Parameter::Limit)?;
     Ok(limit.unwrap_or(100).unsigned_abs())
 }
 
-/// A parameter that has to be there.
+/// Returns a required parameter.
 #[tactic(auto, unfolding(crate::specs::Queries::required))]
 fn required_text(alloc: Global, pairs: &[Pair], parameter: Parameter) -> Result<Text, QueryFault>
     ensures { Asks (λ t. t) result (required parameter pairs.now) }
 {
     let text = find_parameter(pairs, parameter.name()).ok_or(QueryFault::Bad(parameter))?;
-    Ok(copied(alloc, text)?)
+    Ok(copy_text(alloc, text)?)
 }
 
-/// A parameter of any text, empty where it is absent.
+/// Returns a parameter of any text; empty if it is absent.
 fn optional_text(alloc: Global, pairs: &[Pair], name: &str) -> Result<Text, AllocError>
     ensures { IfOk result (λ t. t ≡ text_of name.now pairs.now) }
 {
-    copied(alloc, find_parameter(pairs, name).unwrap_or(""))
+    copy_text(alloc, find_parameter(pairs, name).unwrap_or(""))
 }
 
-/// What a search asks. The first parameter that can't be read is reported, in the order of the fields.
+/// Parses a search. The error names the first invalid parameter, in the order of the fields.
 #[tactic(auto, unfolding(crate::specs::Queries::find_at))]
 fn read_find(alloc: Global, pairs: &[Pair]) -> Result<Find, QueryFault>
     ensures { Asks (λ f. f) result (find_at pairs.now) }
@@ -72,10 +72,10 @@ fn read_find(alloc: Global, pairs: &[Pair]) -> Result<Find, QueryFault>
     let service = required_text(alloc, pairs, Parameter::Service)?;
     let start_min = time_bound(pairs, Parameter::Start)?;
     let start_max = time_bound(pairs, Parameter::End)?;
-    let limit = asked_limit(pairs)?;
+    let limit = trace_limit(pairs)?;
     let duration_min = duration_bound(pairs, Parameter::MinDuration)?;
     let duration_max = duration_bound(pairs, Parameter::MaxDuration)?;
-    let tags = asked_tags(alloc, pairs)?;
+    let tags = requested_tags(alloc, pairs)?;
     let operation = optional_text(alloc, pairs, "operation")?;
     Ok(Find {
         service,
@@ -89,7 +89,7 @@ fn read_find(alloc: Global, pairs: &[Pair]) -> Result<Find, QueryFault>
     })
 }
 
-/// A part of a path as text.
+/// Decodes a part of a path.
 #[tactic(auto, unfolding(crate::specs::Queries::text_part))]
 fn service_part(alloc: Global, part: &str) -> Result<Text, QueryFault>
     ensures { Asks (λ t. t) result (text_part part.now) }
@@ -101,7 +101,7 @@ fn service_part(alloc: Global, part: &str) -> Result<Text, QueryFault>
     }
 }
 
-/// The parameter asks for the spans as they arrived.
+/// Whether the parameter asks for the spans as they arrived.
 fn is_raw(pairs: &[Pair]) -> bool
     ensures { result ≡ raw_at pairs.now }
 {
@@ -111,7 +111,7 @@ fn is_raw(pairs: &[Pair]) -> bool
     )
 }
 
-/// What the trace's endpoint asks.
+/// Parses the query of the endpoint of one trace.
 fn read_trace_query(pairs: &[Pair], part: &str) -> Result<Query, QueryFault>
     ensures { Asks (λ q. q) result (query_at at.Trace part.now pairs.now) }
 {
@@ -124,7 +124,7 @@ fn read_trace_query(pairs: &[Pair], part: &str) -> Result<Query, QueryFault>
     })
 }
 
-/// What the endpoint of operations with their kinds asks.
+/// Parses the query of the endpoint of operations with their kinds.
 #[tactic(auto, unfolding(crate::specs::Queries::operations_at))]
 fn read_operations(alloc: Global, pairs: &[Pair]) -> Result<Query, QueryFault>
     ensures { Asks (λ q. q) result (operations_at pairs.now) }
@@ -134,7 +134,7 @@ fn read_operations(alloc: Global, pairs: &[Pair]) -> Result<Query, QueryFault>
     Ok(Query::Operations { service, kind })
 }
 
-/// What the endpoint of dependencies asks.
+/// Parses the query of the endpoint of dependencies.
 #[tactic(auto, unfolding(crate::specs::Queries::links_at))]
 fn read_links(pairs: &[Pair]) -> Result<Query, QueryFault>
     ensures { Asks (λ q. q) result (links_at pairs.now) }
@@ -149,12 +149,12 @@ fn read_links(pairs: &[Pair]) -> Result<Query, QueryFault>
     })
 }
 
-/// What a GET of an endpoint asks, with the part of its path and the rest of its target.
+/// Parses the query of a GET, from the endpoint, the part of its path and the query string.
 ///
 /// # Errors
 ///
-/// [`QueryFault::Bad`] with the first parameter that can't be read, in the order of the endpoint's
-/// table, or memory ran out.
+/// [`QueryFault::Bad`] with the first invalid parameter, in the order of the endpoint's table, or out
+/// of memory.
 pub fn read_query(
     alloc: Global,
     endpoint: Endpoint,
@@ -176,7 +176,7 @@ pub fn read_query(
     }
 }
 
-/// A target's path, and the rest behind its first `?`.
+/// Splits a target into its path and its query string, at its first `?`.
 pub fn path_and_form(target: &str) -> (&str, &str)
     ensures path { result.0.now ≡ path_of target.now }
     ensures form { result.1.now ≡ form_of target.now }
@@ -184,12 +184,12 @@ pub fn path_and_form(target: &str) -> (&str, &str)
     split_query(target).unwrap_or((target, ""))
 }
 
-/// What a GET of a target asks.
+/// Parses the query of a GET of a target.
 ///
 /// # Errors
 ///
-/// [`QueryFault::NoPath`] where no endpoint has the path; [`QueryFault::Bad`] with the first parameter
-/// that can't be read, in the order of the endpoint's table; or memory ran out.
+/// [`QueryFault::NoPath`] if no endpoint has the path; [`QueryFault::Bad`] with the first invalid
+/// parameter, in the order of the endpoint's table; or out of memory.
 pub fn parse_query(
     alloc: Global,
     router: &Router<Endpoint>,

@@ -1,27 +1,12 @@
 ghost use Rattle.std.specs.Prelude.{◌≡◌, IfOk, OnOk, ◌++◌, codes};
 ghost use Rattle.query_http.specs.Responses.{response, field};
 ghost use Rattle.query_http.specs.Responses as spec;
+ghost use Rattle.query_http.specs.Statuses.{code_of};
 
+use crate::status::Status;
 use std::alloc::{AllocError, Global};
 
-fn reason(status: u16) -> &'static [u8]
-    ensures { result.now ≡ spec.reason status }
-{
-    match status {
-        200 => b"OK",
-        202 => b"Accepted",
-        400 => b"Bad Request",
-        404 => b"Not Found",
-        405 => b"Method Not Allowed",
-        409 => b"Conflict",
-        413 => b"Content Too Large",
-        415 => b"Unsupported Media Type",
-        503 => b"Service Unavailable",
-        _ => b"Internal Server Error",
-    }
-}
-
-/// Adds a field line.
+/// Appends a header field.
 #[tactic(auto, unfolding(crate::specs::Responses::field))]
 fn push_field(out: &mut Vec<u8>, name: &str, value: &[u8]) -> Result<(), AllocError>
     ensures { OnOk result (out.new.items ≡ out.old.items ++ field name.now value.now) }
@@ -33,15 +18,15 @@ fn push_field(out: &mut Vec<u8>, name: &str, value: &[u8]) -> Result<(), AllocEr
 }
 
 #[tactic(auto, unfolding(crate::specs::Responses::status_line))]
-fn status_line(alloc: Global, status: u16) -> Result<Vec<u8>, AllocError>
-    ensures { IfOk result (λ v. v.items ≡ spec.status_line status) }
+fn status_line(alloc: Global, status: Status) -> Result<Vec<u8>, AllocError>
+    ensures { IfOk result (λ v. v.items ≡ spec.status_line (code_of status)) }
 {
     let mut out = Vec::new(alloc);
-    let digits = status.to_string(alloc)?;
+    let digits = status.code().to_string(alloc)?;
     out.extend_from_slice(b"HTTP/1.1 ")?;
     out.extend_from_slice(digits.as_bytes())?;
     out.extend_from_slice(b" ")?;
-    out.extend_from_slice(reason(status))?;
+    out.extend_from_slice(status.reason())?;
     out.extend_from_slice(b"\r\n")?;
     Ok(out)
 }
@@ -87,22 +72,22 @@ fn push_close(out: &mut Vec<u8>, close: bool) -> Result<(), AllocError>
     }
 }
 
-/// The bytes of a response in front of a body of so many bytes, which needn't be there yet: the status line,
-/// `Content-Type: application/json` where there is a body, `Content-Length`, `Allow` where the text of one is
-/// given, `Connection: close` where it closes, and an empty line. A status outside the table has the reason
-/// of 500.
+/// Returns the head of a response with a body of this length, which needn't exist yet: the status line,
+/// `Content-Type: application/json` unless the body is empty, `Content-Length`, `Allow` if its text is given,
+/// `Connection: close` if the connection closes, and an empty line.
 ///
 /// # Errors
 ///
 /// Out of memory, and nothing else.
 pub fn response_head_of(
     alloc: Global,
-    status: u16,
+    status: Status,
     length: usize,
     allow: &str,
     close: bool,
 ) -> Result<Vec<u8>, AllocError>
-    ensures { IfOk result (λ v. v.items ≡ spec.response_head status length allow.now close) }
+    ensures { IfOk result (λ v. v.items ≡
+        spec.response_head (code_of status) length allow.now close) }
 {
     let mut out = status_line(alloc, status)?;
     push_type(&mut out, length)?;
@@ -113,36 +98,37 @@ pub fn response_head_of(
     Ok(out)
 }
 
-/// The bytes of a response in front of this body ([`response_head_of`]).
+/// Returns the head of a response with this body ([`response_head_of`]).
 ///
 /// # Errors
 ///
 /// Out of memory, and nothing else.
 pub fn response_head(
     alloc: Global,
-    status: u16,
+    status: Status,
     body: &[u8],
     allow: &str,
     close: bool,
 ) -> Result<Vec<u8>, AllocError>
-    ensures { IfOk result (λ v. v.items ++ body.now ≡ response status body.now allow.now close) }
+    ensures { IfOk result (λ v. v.items ++ body.now ≡
+        response (code_of status) body.now allow.now close) }
 {
     response_head_of(alloc, status, body.len(), allow, close)
 }
 
-/// The bytes of a response: its head ([`response_head`]), and then the body.
+/// Returns the bytes of a response: its head ([`response_head`]), and then the body.
 ///
 /// # Errors
 ///
 /// Out of memory, and nothing else.
 pub fn respond(
     alloc: Global,
-    status: u16,
+    status: Status,
     body: &[u8],
     allow: &str,
     close: bool,
 ) -> Result<Vec<u8>, AllocError>
-    ensures { IfOk result (λ v. v.items ≡ response status body.now allow.now close) }
+    ensures { IfOk result (λ v. v.items ≡ response (code_of status) body.now allow.now close) }
 {
     let mut out = response_head(alloc, status, body, allow, close)?;
     out.extend_from_slice(body)?;

@@ -12,14 +12,14 @@ use jaeger_model::{Seq, Text};
 use serde_json::{Map, Value};
 use std::alloc::{AllocError, Global};
 
-/// A copy of a text.
-pub(crate) fn copied(alloc: Global, text: &str) -> Result<Text, AllocError>
+/// Copies a text.
+pub(crate) fn copy_text(alloc: Global, text: &str) -> Result<Text, AllocError>
     ensures { IfOk result (λ t. t ≡ text.now) }
 {
     Ok(Text::from_string(String::from_str(alloc, text)?))
 }
 
-/// The values of each `tag`.
+/// Returns the values of all parameters `tag`.
 fn tag_values<'a>(alloc: Global, pairs: &'a [Pair]) -> Result<Vec<&'a str>, AllocError>
     ensures { IfOk result (λ v. map (λ s. s.now) v.items ≡ values_of (codes "tag") pairs.now) }
 {
@@ -32,17 +32,17 @@ fn tag_values<'a>(alloc: Global, pairs: &'a [Pair]) -> Result<Vec<&'a str>, Allo
     Ok(values)
 }
 
-/// A key and a text around the first colon of a `tag`.
+/// Splits a `tag` at its first colon into a key and a text.
 fn read_tag(alloc: Global, tag: &str) -> Result<(Text, Text), QueryFault>
     ensures { Asks (λ p. p) result (or_bad bad.Tag (split_at 58 tag.now)) }
 {
     let Some((key, value)) = split_tag(tag) else {
         return Err(QueryFault::Bad(Parameter::Tag));
     };
-    Ok((copied(alloc, key)?, copied(alloc, value)?))
+    Ok((copy_text(alloc, key)?, copy_text(alloc, value)?))
 }
 
-/// The asked pairs of key and text: those of each `tag`, in order, split at their first colon.
+/// Returns the requested pairs of key and text of all parameters `tag`, in order, each split at its first colon.
 fn single_tags(alloc: Global, tags: &[&str]) -> Result<Vec<(Text, Text)>, QueryFault>
     ensures { Asks (λ v. v.items) result (tags_from (map (λ s. s.now) tags.now)) }
 {
@@ -53,7 +53,7 @@ fn single_tags(alloc: Global, tags: &[&str]) -> Result<Vec<(Text, Text)>, QueryF
     Ok(pairs)
 }
 
-/// The members of an object, all of them texts.
+/// Returns the members of an object if all of them are texts.
 fn object_texts(
     alloc: Global,
     members: &Map<String, Value>,
@@ -66,12 +66,12 @@ fn object_texts(
         let Some(value) = value.as_str() else {
             return Err(QueryFault::Bad(Parameter::Tags));
         };
-        pairs.push((copied(alloc, key.as_str())?, copied(alloc, value)?))?;
+        pairs.push((copy_text(alloc, key.as_str())?, copy_text(alloc, value)?))?;
     }
     Ok(pairs)
 }
 
-/// A JSON text, unless it is none.
+/// Parses a JSON text.
 fn read_json(alloc: Global, text: &str) -> Result<Value, QueryFault>
     ensures { Asks view result (or_bad bad.Tags (read text.now)) }
 {
@@ -84,7 +84,7 @@ fn read_json(alloc: Global, text: &str) -> Result<Value, QueryFault>
     })
 }
 
-/// The asked pairs of `tags`: a JSON object of texts, in the order of its keys.
+/// Returns the requested pairs of the parameter `tags`, a JSON object of texts, in the order of its keys.
 fn member_tags(alloc: Global, tags: &str) -> Result<Vec<(Text, Text)>, QueryFault>
     ensures { Asks (λ v. v.items) result (or_bad bad.Tags (object_texts (read tags.now))) }
 {
@@ -96,8 +96,8 @@ fn member_tags(alloc: Global, tags: &str) -> Result<Vec<(Text, Text)>, QueryFaul
 }
 
 #[tactic(auto, unfolding(crate::specs::Queries::tags_at))]
-/// All asked pairs of key and text: those of each `tag`, then those of `tags`.
-pub(crate) fn asked_tags(alloc: Global, pairs: &[Pair]) -> Result<Seq<(Text, Text)>, QueryFault>
+/// Returns all requested pairs of key and text: those of each `tag`, then those of `tags`.
+pub(crate) fn requested_tags(alloc: Global, pairs: &[Pair]) -> Result<Seq<(Text, Text)>, QueryFault>
     ensures { Asks (λ v. v) result (tags_at pairs.now) }
 {
     let values = tag_values(alloc, pairs)?;

@@ -1,4 +1,4 @@
--- What stands around an answer's items, and errors.
+-- The text around an answer's items, and errors.
 use Rattle.std.proofs.Common.{◌≡◌, ℕ, List, [], ◌∷◌, ◌++◌, length, ap, sym, ◌∙◌, append_assoc, true}
 use Rattle.std.specs.Prelude.{codes}
 use Rattle.std.specs.Fmt.{decimal, digits}
@@ -14,7 +14,7 @@ items_around ds = append_assoc head_text (compact_text (list ds)) (tail_text (le
 
 -- ---- errors
 
--- what stands before the status, and between it and the message
+-- the text before the status, and between it and the message
 abbrev pub before_code : List ℕ
 before_code =
     123 ∷ (quoted (codes "data") ++ 58 ∷ (codes "null" ++ 44 ∷ (quoted (codes "errors") ++ 58 ∷ 91 ∷ 123 ∷ (quoted (codes "code") ++ 58 ∷ []))))
@@ -22,7 +22,7 @@ before_code =
 abbrev pub before_msg : List ℕ
 before_msg = 44 ∷ (quoted (codes "msg") ++ 58 ∷ [])
 
--- and what stands behind the list of errors
+-- and the text after the list of errors
 abbrev pub behind_errors : List ℕ
 behind_errors =
     members_text true (member (codes "limit") (number (unsigned 0)) (member (codes "offset") (number (unsigned 0)) (member (codes "total") (number (unsigned 0)) no_members)))

@@ -1,4 +1,4 @@
--- Digits stand for themselves in a string.
+-- Digits need no escape in a string.
 use Rattle.std.proofs.Common.{◌≡◌, ◌<◌, ◌≤◌, ◌+◌, ◌/◌, ◌%◌, ℕ, zero, suc, Bool, true, false, List, [], ◌∷◌, ◌++◌, length, take, drop, get_or, refl, sym, ap, ap₂, ◌∙◌, append-nil, append_assoc, subst, ℤ, pos, negsuc, arith, slice_index, ◌-◌}
 use Rattle.std.specs.Prelude.{◌==◌, if◌then◌else◌}
 use Rattle.std.specs.Fmt.{decimal, digit_glyph, digits, digits_onto, signed_decimal}
@@ -118,7 +118,7 @@ quoted_around_two a d m n b f g h i j =
 
 -- ---- the steps of the loop that escapes
 
--- a run of plain bytes stands for itself
+-- a run of plain bytes needs no escape
 pub escape_run : (d : List ℕ) (i stop : ℕ) → stop ≡ i + prefix_len is_plain (drop i d) → escape (drop i d) ≡ take (stop - i) (drop i d) ++ escape (drop stop d)
 escape_run d i stop is =
     sym (append-nil (escape (drop i d))) ∙ escape_to_stop d i stop [] is ∙ ap (λ l. take (stop - i) (drop i d) ++ l) (append-nil (escape (drop stop d)))

@@ -7,7 +7,7 @@ use Rattle.jaeger_model.specs.declared.ids.TraceId.{TraceId}
 use Rattle.jaeger_model.specs.Ids.{hex_digit, low_digits, trace_text}
 use Rattle.jaeger_model.specs.Tags.{hex_text}
 
--- the digit in front
+-- the first digit
 low_digits-front : (k n : ℕ) → low_digits (suc k) n ≡ hex_digit (n / 16 ^ k % 16) ∷ low_digits k n
 unfolding low_digits
 low_digits-front zero n = ap (λ m. hex_digit (m % 16) ∷ []) (sym (div-one n))

@@ -1,4 +1,4 @@
--- Processes put into a map by their names.
+-- Processes in a map by their names.
 use Rattle.std.proofs.Common.{◌≡◌, ◌<◌, ℕ, List, [], ◌∷◌, length, map, Ordering, Less, Equal, Greater, Bor, refl, sym, ap, ◌∙◌}
 use Rattle.std.specs.Prelude.{All, Option, Some, None, option_map, slice_get}
 use Rattle.std.specs.Ordering.{match_ordering, nat_cmp}

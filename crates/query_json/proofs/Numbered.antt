@@ -1,4 +1,4 @@
--- What is known of the processes of a trace's spans.
+-- The places of the processes of a trace's spans.
 use Rattle.std.proofs.Common.{◌≡◌, ◌∙◌, ◌+◌, ◌<◌, ◌^◌, ◌==◌, ℕ, zero, suc, true, List, [], ◌∷◌, ap, arith, eqb-true, get_or, length, map, refl, subst, sym}
 use Rattle.std.specs.List.{list_all}
 use Rattle.std.proofs.lemmas.Bool.{and_parts}
@@ -22,7 +22,7 @@ zeros [] all k = refl
 zeros (p ∷ ps) all zero = eqb-true p 0 (and_parts (p == 0) (list_all (λ q. q == 0) ps) all).0
 zeros (p ∷ ps) all (suc k) = zeros ps (and_parts (p == 0) (list_all (λ q. q == 0) ps) all).1 k
 
--- where the process of the first span is the only one, no place is needed
+-- if the process of the first span is the only one, no place is needed
 pub one_numbered : (ss : List Shown) (places : List ℕ) (ps : List NamedProcess) → IsNumbered ss places ps → ps ≡ first_named ∷ [] → ((k : ℕ) → get_or places k 0 ≡ 0) → IsNumbered ss [] (first_named ∷ [])
 one_numbered ss places ps known alone none = record {
   places = λ k s within is. sym (none k) ∙ known.places k s within is;

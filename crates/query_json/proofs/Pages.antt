@@ -1,4 +1,4 @@
--- What is put on a page, piece behind piece.
+-- What is written to a page, piece by piece.
 use Rattle.std.proofs.Common.{◌≡◌, ◌<◌, ◌≤◌, ◌+◌, ℕ, Bool, true, false, List, [], ◌∷◌, ◌++◌, length, length-append, map, drop, get_or, refl, sym, ap, subst, ◌∙◌, append_assoc, append-nil, arith, true≢false, Result, Ok, Err, Vec, Global, IfOk, Some}
 use Rattle.std.specs.Str.{IsUtf8}
 use Rattle.std.specs.Prelude.{slice_get, vec_capacity}
@@ -80,7 +80,7 @@ finished_utf8 (Err e) none p h = tt
 
 -- ---- objects
 
--- the other members one by one behind a text, and then the closing brace
+-- the other members one by one after a text, and then the closing brace
 abbrev pub put_rest : List ℕ → Members → List ℕ
 put_rest t no_members = t ++ 125 ∷ []
 put_rest t (member k d ms) = put_rest ((t ++ (44 ∷ (quoted k ++ 58 ∷ []))) ++ compact_text d) ms
@@ -93,7 +93,7 @@ put_rest-text t (member k d ms) =
     put_rest-text ((t ++ (44 ∷ key)) ++ compact_text d) ms ∙ append_assoc (t ++ (44 ∷ key)) (compact_text d) rest ∙ append_assoc t (44 ∷ key) (compact_text d ++ rest)
     ∙ ap (λ (l : List ℕ). t ++ 44 ∷ l) (append_assoc (quoted k) (58 ∷ []) (compact_text d ++ rest))
 
--- an object member by member, and any other tree whole
+-- an object member by member, and any other tree at once
 abbrev pub put_tree : Data → List ℕ
 put_tree null = compact_text null
 put_tree (boolean b) = compact_text (boolean b)
@@ -117,7 +117,7 @@ put_tree-text (object (member k d ms)) =
 
 -- ---- lists
 
--- what is left, each with a comma before it, and then the closing bracket
+-- the remaining ones, each with a comma before it, and then the closing bracket
 abbrev pub rest_text : {X : Type 0} → (X → List ℕ) → ℕ → List X → List ℕ
 rest_text f close [] = close ∷ []
 rest_text f close (x ∷ xs) = 44 ∷ (f x ++ rest_text f close xs)
@@ -133,7 +133,7 @@ members_rest ss (p ∷ ps) =
     ap (λ (l : List ℕ). 44 ∷ (named_text ss p ++ l)) (members_rest ss ps)
     ∙ ap (λ (l : List ℕ). 44 ∷ l) (append_assoc (quoted (name_of p)) (58 ∷ tree) (members_text true (named_members ss ps)))
 
--- a list is put as far as `left`
+-- a list is written up to `left`
 pub record Going {X : Type 0} (f : X → List ℕ) (close : ℕ) (old now : Page) (left : List X) (whole : List ℕ) : Type 0 where
   pub front : List ℕ
   pub put : Puts old now front
@@ -151,20 +151,20 @@ pub Going-end : {X : Type 0} {f : X → List ℕ} {close : ℕ} {old now next : 
     → Going f close old now [] whole → Puts now next (close ∷ []) → Puts old next whole
 Going-end g p = Puts-is (g.put ▸ p) g.text
 
--- one more of them is put, the one at the index
+-- one more of them is written, the one at the index
 pub Going-at : {X : Type 0} {f : X → List ℕ} {close : ℕ} {old now next : Page} (xs : List X) (i : ℕ) (x : X) {whole : List ℕ}
     → Going f close old now (drop i xs) whole → i < length xs → x ≡ get_or xs i x → Puts now next (44 ∷ f x) → Going f close old next (drop (i + 1) xs) whole
 Going-at {f = f} {close = close} {old = old} {now = now} xs i x {whole = whole} g within is p =
     let here : drop i xs ≡ x ∷ drop (i + 1) xs = drop_more xs i x within ∙ ap (λ y. y ∷ drop (i + 1) xs) (sym is) in
     Going-more (subst (λ ys. Going f close old now ys whole) here g) p
 
--- all are put
+-- all are written
 pub Going-over : {X : Type 0} {f : X → List ℕ} {close : ℕ} {old now next : Page} (xs : List X) (i : ℕ) {whole : List ℕ}
     → Going f close old now (drop i xs) whole → length xs ≤ i → Puts now next (close ∷ []) → Puts old next whole
 Going-over {f = f} {close = close} {old = old} {now = now} xs i {whole = whole} g over p =
     Going-end (subst (λ ys. Going f close old now ys whole) (drop_all i xs over) g) p
 
--- the first of a list of trees is put
+-- the first of a list of trees is written
 pub list_begun : {X : Type 0} (f : X → Data) {old now : Page} {xs : List X} {x : X} {left : List X} → xs ≡ x ∷ left → Puts old now ((91 ∷ []) ++ compact_text (f x))
     → Going (λ y. compact_text (f y)) 93 old now left (compact_text (list (map f xs)))
 list_begun f {x = x} {left = left} e p = record {
@@ -173,6 +173,6 @@ list_begun f {x = x} {left = left} e p = record {
   text = ap (λ (l : List ℕ). 91 ∷ (compact_text (f x) ++ l)) (items_rest f left) ∙ sym (ap (λ ys. compact_text (list (map f ys))) e);
 }
 
--- the tree of an item that stands at the index
+-- the tree of the item at the index
 pub tree_at : {X : Type 0} (f : X → Data) (xs : List X) (i : ℕ) (x : X) → i < length (map f xs) → slice_get xs i ≡ Some x → f x ≡ get_or (map f xs) i null
 tree_at f xs i x below e = sym (get_or-map f xs i x null (omega (arith, below, length-map xs f)) ∙ ap f (get_or_from_slice_get xs i x x e))

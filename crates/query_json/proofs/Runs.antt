@@ -25,7 +25,7 @@ more_text : (total : ℕ) (rs : List Run) → text_of (more_runs total rs) ≡ l
 more_text total [] = append-nil (end_text total ++ []) ∙ append-nil (end_text total)
 more_text total (r ∷ rs) = ap (λ (l : List ℕ). 44 ∷ (joined r ++ l)) (more_text total rs) ∙ ap (λ (l : List ℕ). 44 ∷ l) (sym (append_assoc (joined r) (listed (map joined rs)) (tail_text total)))
 
--- the texts of the items, and what stands around them
+-- the texts of the items, and the text around them
 abbrev pub body : List (List ℕ) → List ℕ
 body [] = end_text 0
 body (t ∷ ts) = t ++ (listed ts ++ tail_text (suc (length ts)))
@@ -83,7 +83,7 @@ run_end rs k e = ap (λ n. get_or (runs rs) n []) e ∙ by rs ∙ ap (λ n. end_
     by [] = refl
     by (r ∷ rs) = more_end (suc (length rs)) rs
 
--- ---- what is left at a position
+-- ---- the rest at a position
 
 without_none : (rs : List Run) → without 0 rs ≡ rs
 without_none [] = refl
@@ -135,7 +135,7 @@ puts_none a rs run piece h over =
     let here : left_at rs run piece ≡ [] ∷ drop (run + 1) rs = left_is rs run piece h ∙ ap (λ (s : Run). s ∷ drop (run + 1) rs) (drop_all piece (get_or rs run []) over) in
     moved here (without_none (drop (run + 1) rs)) (run_over a (drop (run + 1) rs))
 
--- ---- pieces put on a page
+-- ---- pieces written to a page
 
 pub Fills-none : (enough : ℕ) (a : Page) (rs : List Run) → Fills enough a a rs rs
 Fills-none enough a rs = record {
@@ -169,6 +169,6 @@ put_items {xs = xs} p room none = p.adds.behind room ∙ ap (λ (l : List ℕ). 
 pub within_capacity : (p : Page) → length p.bytes.items ≤ vec_capacity p.bytes
 within_capacity p = omega (arith, p.bytes.ok.0, p.bytes.ok.1)
 
--- an open page stays open where nothing is put
+-- an open page stays open if nothing is written
 pub open_still : {a b : Page} {xs : List ℕ} → Puts a b xs → a.full ≡ false → length xs ≡ 0 → b.full ≡ false
 open_still {a = a} {b = b} p had none = not_full b.full (λ full. let lacks = p.adds.lacks had full in omega (arith, lacks, none, within_capacity a))

@@ -58,7 +58,7 @@ before_warnings = 44 ∷ 34 ∷ (codes "warnings" ++ 34 ∷ 58 ∷ [])
 abbrev tail_of : List ℕ → List ℕ → List ℕ
 tail_of x id = (((x ++ before_id) ++ id) ++ before_warnings) ++ codes "null"
 
--- the pieces, one behind the other
+-- the pieces in sequence
 one_by_one : (a p b s z : List ℕ) → a ++ (p ++ (b ++ (s ++ (z ++ [])))) ≡ (((a ++ p) ++ b) ++ s) ++ z
 one_by_one a p b s z =
     ap (λ (l : List ℕ). a ++ (p ++ (b ++ (s ++ l)))) (append-nil z)
@@ -122,7 +122,7 @@ commas_at [] j h = absurd (omega (arith, h))
 commas_at (t ∷ ts) zero h = refl
 commas_at (t ∷ ts) (suc j) h = get_or-map (λ u. 44 ∷ u) ts j [] [] (omega (arith, h))
 
--- a list of texts with commas between two others: which piece is the first, one of the list, or one behind it
+-- a list of texts with commas between two others: which piece is the first, one of the list, or one after it
 module _ (x : List ℕ) (ts rest : List (List ℕ)) (k : ℕ) where
   pub piece_first : k ≡ 0 → x ≡ get_or (x ∷ (with_commas ts ++ rest)) k []
   piece_first e = sym (ap (λ n. get_or (x ∷ (with_commas ts ++ rest)) n []) e)

@@ -1,4 +1,4 @@
--- A list that is gone through from its front: what comes next, and what is left.
+-- A list that is walked from its front: the next item, and the rest.
 use Rattle.std.proofs.Common.{◌≡◌, ◌<◌, ◌≤◌, ◌+◌, ◌∙◌, ℕ, List, [], ◌∷◌, length, length-drop, drop, get_or, sym, ap, subst, arith}
 use Rattle.std.proofs.lemmas.List.{drop_more}
 use Rattle.query_json.specs.declared.writing.page.Page.{Page}
@@ -26,7 +26,7 @@ module _ {X : Type 0} (xs : List X) (i : ℕ) (x : X) (left : List X) (here : dr
 pub none_left : {X : Type 0} (xs : List X) (i : ℕ) → drop i xs ≡ [] → length xs ≤ i
 none_left xs i end = omega (arith, ap length end, length-drop i xs)
 
--- ---- a list that is put so
+-- ---- a list that is written so
 pub Going-next : {X : Type 0} {f : X → List ℕ} {close : ℕ} {old now next : Page} {x : X} {left others : List X} {whole : List ℕ}
     → left ≡ x ∷ others → Going f close old now left whole → Puts now next (44 ∷ f x) → Going f close old next others whole
 Going-next {f = f} {close = close} {old = old} {now = now} {whole = whole} is g p = Going-more (subst (λ xs. Going f close old now xs whole) is g) p

@@ -1,4 +1,4 @@
--- Traces of an answer with what is known of their processes, or with their text.
+-- Traces of an answer with their processes, or with their text.
 use Rattle.std.specs.Prelude.{◌≡◌, ◌+◌, ◌<◌, ◌^◌, ℕ, List, [], ◌∷◌, get_or, length, string_bytes}
 use Rattle.serde_json.specs.Written.{compact_text}
 use Rattle.trace_model.specs.declared.answer.Shown.{Shown}
@@ -9,14 +9,14 @@ use Rattle.query_json.specs.Named.{AreNamed, first_named}
 use Rattle.query_json.specs.Trees.{processes_of, trace_tree}
 use Rattle.query_json.specs.Writing.{process_place}
 
--- the places are those of the spans' processes, 0 for those behind the last place; the processes stand in the order of
+-- the places are those of the spans' processes, 0 for those after the last place; the processes are in the order of
 -- their names, and both can be counted
 pub record IsNumbered (ss : List Shown) (stand : List ℕ) (ps : List NamedProcess) : Type 0 where
   pub places : (k : ℕ) (s : Shown) → k < length ss → s ≡ get_or ss k s → get_or stand k 0 ≡ process_place (processes_of ss) s
   pub named : AreNamed ss (processes_of ss) ps
   pub few : length ps + length ss < 2 ^ 62
 
--- the same of one whose spans are lent; the text of one whose spans are made is that of its tree
+-- borrowed spans have such places and processes; the text of a trace with spans of its own is that of its tree
 abbrev pub IsWritable : TraceItem → Type 0
 IsWritable (One spans) = IsNumbered spans [] (first_named ∷ [])
 IsWritable (Lent t) = IsNumbered t.value.spans t.value.places.items t.value.processes.items

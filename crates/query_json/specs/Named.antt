@@ -1,4 +1,4 @@
--- Processes with their numbers, by which they are named.
+-- Processes with their numbers, which are in their names.
 use Rattle.std.specs.Prelude.{◌≡◌, ◌<◌, ℕ, List, [], ◌∷◌, ◌++◌, All, get_or, length, map}
 use Rattle.std.specs.Fmt.{decimal}
 use Rattle.json.specs.Print.{quoted}
@@ -20,7 +20,7 @@ first_named = record { number = 1; span = 0 }
 abbrev pub shown_process_tree : Shown → Data
 shown_process_tree s = process_tree (process_of s)
 
--- the same of the span at the index
+-- the tree of the process of the span at the index
 abbrev pub process_tree_at : List Shown → ℕ → Data
 process_tree_at spans k = get_or (map shown_process_tree spans) k null
 

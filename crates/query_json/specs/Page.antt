@@ -1,9 +1,9 @@
--- What is put on a page.
+-- What is written to a page.
 use Rattle.std.specs.Prelude.{◌≡◌, ◌+◌, ◌<◌, ◌≤◌, ◌^◌, ℕ, true, false, List, ◌++◌, length, vec_capacity}
 use Rattle.std.specs.Str.{IsUtf8}
 use Rattle.query_json.specs.declared.writing.page.Page.{Page}
 
--- the bytes are added behind the others, unless the page is full; it gets full only where there was no room for them,
+-- the bytes are appended, unless the page is full; it becomes full only if there was no room for them,
 -- and from then on they are counted
 pub record Adds (old new : Page) (bytes : List ℕ) : Type 0 where
   pub before : new.full ≡ false → old.full ≡ false

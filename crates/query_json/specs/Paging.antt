@@ -1,23 +1,23 @@
--- What the parts of an answer say.
+-- The texts of an answer's parts.
 use Rattle.std.specs.Prelude.{◌≡◌, ◌+◌, ◌≤◌, ◌⊎◌, ℕ, false, List, [], length, unwrap_or, vec_capacity}
 use Rattle.query_json.specs.declared.paging.PagedAnswer.{PagedAnswer}
 use Rattle.query_json.specs.declared.writing.page.Page.{Page}
 use Rattle.query_json.specs.Pieces.{AreWritable, runs_of}
 use Rattle.query_json.specs.Runs.{AllFit, left_at, text_of}
 
--- the part that stands
+-- the current part
 abbrev pub part_of : PagedAnswer → List ℕ
 part_of p = p.page.bytes.items
 
--- the pieces behind it
+-- the pieces after it
 abbrev pub left_of : PagedAnswer → List (List (List ℕ))
 left_of p = left_at (runs_of p.items) p.next.run p.next.piece
 
--- what comes behind it
+-- the text after it
 abbrev pub rest_of : PagedAnswer → List ℕ
 rest_of p = text_of (left_of p)
 
--- the page that the parts behind it are put on
+-- the page of the parts after it
 abbrev pub next_page : PagedAnswer → Page
 next_page p = unwrap_or p.later p.page
 
@@ -27,7 +27,7 @@ pub record HasRoom (p : PagedAnswer) : Type 0 where
   pub fit : AllFit most (left_of p)
   pub room : 16384 + most ≤ vec_capacity (next_page p).bytes
 
--- what comes can be made, and there is room for each part of it
+-- the following text can be made, and there is room for each part of it
 pub record IsReady (p : PagedAnswer) : Type 0 where
   pub open_page : (next_page p).full ≡ false
   pub writable : AreWritable p.items

@@ -1,7 +1,7 @@
--- A text that is given out in parts.
+-- A text in parts.
 use Rattle.std.specs.Prelude.{◌≡◌, ℕ, List, [], ◌++◌}
 
--- the part that is given out next, and what comes behind it
+-- the next part, and the text after it
 pub record Parted : Type 0 where
   pub part : List ℕ
   pub rest : List ℕ
@@ -10,6 +10,6 @@ pub record Parted : Type 0 where
 abbrev pub to_come : Parted → List ℕ
 to_come p = p.part ++ p.rest
 
--- the part has bytes unless nothing comes behind it
+-- the part isn't empty unless nothing follows it
 abbrev pub IsSome : List ℕ → List ℕ → Type 0
 IsSome part rest = part ≡ [] → rest ≡ []

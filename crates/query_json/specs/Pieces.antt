@@ -16,7 +16,7 @@ item_trees (Ids ids) = map id_tree ids
 item_trees (Links links) = map link_tree links
 item_trees (Traces traces) = map item_tree traces.items
 
--- the text of them, or of the answer about a trace that was not found
+-- their text, or that of the answer for a trace that was not found
 abbrev pub items_text : Option Items → List ℕ
 items_text None = compact_text (found_tree None)
 items_text (Some items) = compact_text (items_tree (item_trees items))
@@ -33,7 +33,7 @@ item_pieces (Ids ids) = map one_piece (map id_tree ids)
 item_pieces (Links links) = map one_piece (map link_tree links)
 item_pieces (Traces traces) = map trace_pieces traces.items
 
--- what is known of each trace
+-- the state of each trace
 abbrev pub AreWritable : Items → Type 0
 AreWritable (Names names) = Unit {0}
 AreWritable (Operations operations) = Unit {0}
@@ -41,6 +41,6 @@ AreWritable (Ids ids) = Unit {0}
 AreWritable (Links links) = Unit {0}
 AreWritable (Traces traces) = All IsWritable traces.items
 
--- the pieces with what separates the items, and the end
+-- the pieces with the separators between items, and the end
 abbrev pub runs_of : Items → List (List (List ℕ))
 runs_of items = runs (item_pieces items)

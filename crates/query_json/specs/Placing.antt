@@ -12,12 +12,12 @@ use Rattle.query_json.specs.Numbering.{IsByPlace, IsFirst, numbered}
 use Rattle.query_json.specs.Trees.{processes_of}
 use Rattle.query_json.specs.Writing.{process_place}
 
--- what is kept by places of entries, one more put under a place, where that is known
+-- the map by places of entries, with one more inserted if its place is known
 abbrev pub kept_under : Option ℕ → ℕ → (ℕ → Option ℕ) → ℕ → Option ℕ
 kept_under None number old entry = old entry
 kept_under (Some own) number old entry = if own == entry then Some number else old entry
 
--- the number is the place of the process of one of the first spans, whose entry stands there
+-- the number is the place of the process of one of the first spans, whose entry has that place
 pub record IsKnown (spans : List Shown) (entries : List ℕ) (i entry number : ℕ) : Type 0 where
   pub index : ℕ
   pub before : index < i
@@ -25,11 +25,11 @@ pub record IsKnown (spans : List Shown) (entries : List ℕ) (i entry number : �
   pub counted : (d : Placed) → among (get_or (spans_of spans) index d).process (processes_of (take i spans)) ≡ true
   pub place : (d : Placed) → number ≡ place (get_or (spans_of spans) index d).process (processes_of spans)
 
--- whatever is kept under the place of an entry
+-- whatever the map has for the place of an entry
 abbrev pub AreKnown : List Shown → List ℕ → ℕ → (ℕ → Option ℕ) → Type 0
 AreKnown spans entries i known = (entry number : ℕ) → known entry ≡ Some number → IsKnown spans entries i entry number
 
--- so many of the spans have been taken in
+-- n of the spans have been added
 pub record HasPlaces (spans : List Shown) (entries : List ℕ) (i : ℕ) (p : Placing) : Type 0 where
   pub by_place : IsByPlace p.numbering
   pub processes : numbered p.numbering ≡ processes_of (take i spans)
@@ -37,7 +37,7 @@ pub record HasPlaces (spans : List Shown) (entries : List ℕ) (i : ℕ) (p : Pl
   pub places : p.places.items ≡ map (process_place (processes_of spans)) (take i spans)
   pub known : AreKnown spans entries i (get nat_cmp p.known)
 
--- the process of s, the span after so many, has been taken in, and this is its place
+-- the process of s, the span after n others, has been added, and this is its place
 pub record HasPlace (spans : List Shown) (entries : List ℕ) (i : ℕ) (s : Shown) (p : Placing) (number : ℕ) : Type 0 where
   pub by_place : IsByPlace p.numbering
   pub processes : numbered p.numbering ≡ processes_of (take (i + 1) spans)
@@ -45,7 +45,7 @@ pub record HasPlace (spans : List Shown) (entries : List ℕ) (i : ℕ) (s : Sho
   pub known : AreKnown spans entries (i + 1) (get nat_cmp p.known)
   pub place : number ≡ process_place (processes_of spans) s
 
--- s is the span at the index, and its entry stands there
+-- s is the span at the index, and this is the place of its entry
 pub record ComesNext (spans : List Shown) (entries : List ℕ) (i : ℕ) (s : Shown) (entry : Option ℕ) : Type 0 where
   pub within : i < length spans
   pub is : s ≡ get_or spans i s

@@ -4,39 +4,39 @@ use Rattle.query_json.specs.declared.writing.page.Page.{Page}
 use Rattle.query_json.specs.Around.{head_text, tail_text}
 use Rattle.query_json.specs.Page.{Puts}
 
--- what stands in front of the pieces
+-- the text before the pieces
 abbrev pub front_text : List ℕ
 front_text = head_text ++ 91 ∷ []
 
--- what stands behind so many items
+-- the text after n items
 abbrev pub end_text : ℕ → List ℕ
 end_text total = 93 ∷ tail_text total
 
--- what separates an item from the one before it
+-- the separator between an item and the one before it
 abbrev pub separator : ℕ → List ℕ
 separator zero = []
 separator (suc item) = 44 ∷ []
 
--- the runs of the items behind the first one, and that of the end
+-- the runs of the items after the first one, and that of the end
 abbrev pub more_runs : ℕ → List (List (List ℕ)) → List (List (List ℕ))
 more_runs total [] = (end_text total ∷ []) ∷ []
 more_runs total (r ∷ rs) = ((44 ∷ []) ∷ r) ∷ more_runs total rs
 
--- each item with what separates it from the one before it, and the end
+-- each item after its separator, and the end
 abbrev pub runs : List (List (List ℕ)) → List (List (List ℕ))
 runs [] = more_runs 0 []
 runs (r ∷ rs) = ([] ∷ r) ∷ more_runs (suc (length rs)) rs
 
--- without so many pieces of the first run
+-- without the first n pieces of the first run
 abbrev pub without : ℕ → List (List (List ℕ)) → List (List (List ℕ))
 without piece [] = []
 without piece (r ∷ rs) = drop piece r ∷ rs
 
--- those that are left at a position
+-- those that remain at a position
 abbrev pub left_at : List (List (List ℕ)) → ℕ → ℕ → List (List (List ℕ))
 left_at rs run piece = without piece (drop run rs)
 
--- one behind the other
+-- in sequence
 abbrev pub joined : List (List ℕ) → List ℕ
 joined ps = flat_map (λ p. p) ps
 
@@ -59,7 +59,7 @@ steps (r ∷ rs) = suc (length r) + steps rs
 
 -- ---- on a page
 
--- the first piece is put, or a run ends
+-- the first piece is written, or a run ends
 pub record PutsNext (old new : Page) (from to : List (List (List ℕ))) : Type 0 where
   pub piece : List ℕ
   pub puts : Puts old new piece
@@ -68,7 +68,7 @@ pub record PutsNext (old new : Page) (from to : List (List (List ℕ))) : Type 0
   pub bounds : (most : ℕ) → length piece ≤ most → AllFit most to → AllFit most from
   pub fewer : steps to < steps from
 
--- pieces are put, none of them behind so many bytes
+-- pieces are written, none of them after the page has n bytes
 pub record Fills (enough : ℕ) (old new : Page) (from to : List (List (List ℕ))) : Type 0 where
   pub bytes : List ℕ
   pub puts : Puts old new bytes

@@ -1,4 +1,4 @@
--- The text of a trace, piece by piece: each process and each span is one, and so is what stands around them.
+-- The text of a trace, piece by piece: each process and each span is one, and so are the texts around them.
 use Rattle.std.specs.Prelude.{ℕ, List, [], ◌∷◌, ◌++◌, codes, map, string_bytes}
 use Rattle.serde_json.specs.Data.{Data, string}
 use Rattle.serde_json.specs.Written.{compact_text}
@@ -22,7 +22,7 @@ abbrev pub with_commas : List (List ℕ) → List (List ℕ)
 with_commas [] = []
 with_commas (t ∷ ts) = t ∷ map (λ u. 44 ∷ u) ts
 
--- in front of the processes, between them and the spans, and behind the spans
+-- before the processes, between them and the spans, and after the spans
 abbrev pub open_text : List ℕ
 open_text = 123 ∷ 34 ∷ (codes "processes" ++ 34 ∷ 58 ∷ 123 ∷ [])
 
@@ -36,7 +36,7 @@ close_text ss =
 abbrev pub span_text_in : List Shown → Shown → List ℕ
 span_text_in ss s = compact_text (span_tree (processes_of ss) s)
 
--- what comes behind the processes
+-- the text after the processes
 abbrev pub span_pieces : List Shown → List (List ℕ)
 span_pieces ss = between_text ∷ (with_commas (map (span_text_in ss) ss) ++ close_text ss ∷ [])
 

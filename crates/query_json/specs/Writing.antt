@@ -6,7 +6,7 @@ use Rattle.trace_model.specs.declared.answer.Shown.{Shown}
 use Rattle.query_json.specs.Naming.{place, process_name}
 use Rattle.query_json.specs.Trees.{process_of}
 
--- the names of so many processes
+-- the names of n processes
 abbrev pub process_names : ℕ → List (List ℕ)
 process_names n = map process_name (range_with_len 0 n)
 

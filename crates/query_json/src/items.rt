@@ -12,7 +12,7 @@ use jaeger_model::{Seq, Text, TraceId};
 use std::alloc::{AllocError, Global};
 use trace_model::{Answer, AnsweredTrace, Link, Operation};
 
-/// The items of an answer. What is written at once is a piece.
+/// The items of an answer. A piece is what one call writes.
 #[derive(Drop)]
 pub(crate) enum Items {
     Names(Seq<Text>),
@@ -22,7 +22,7 @@ pub(crate) enum Items {
     Traces(Vec<TraceItem>),
 }
 
-/// The traces as items.
+/// Returns the traces as items.
 fn all_written(alloc: Global, traces: Vec<AnsweredTrace>) -> Result<Vec<TraceItem>, AllocError>
     ensures spans { IfOk result (λ v. map item_spans v.items ≡ traces.items) }
     ensures writable { IfOk result (λ v. All IsWritable v.items) }
@@ -34,7 +34,7 @@ fn all_written(alloc: Global, traces: Vec<AnsweredTrace>) -> Result<Vec<TraceIte
     Ok(items)
 }
 
-/// A trace as the only item.
+/// Returns a trace as the only item.
 fn of_trace(alloc: Global, trace: AnsweredTrace) -> Result<Items, AllocError>
     ensures trees { IfOk result (λ i. item_trees i ≡ trace_tree trace ∷ []) }
     ensures writable { IfOk result AreWritable }
@@ -44,7 +44,7 @@ fn of_trace(alloc: Global, trace: AnsweredTrace) -> Result<Items, AllocError>
     Ok(Items::Traces(items))
 }
 
-/// The traces as items of an answer.
+/// Returns the traces as items of an answer.
 fn of_traces(alloc: Global, traces: Seq<AnsweredTrace>) -> Result<Items, AllocError>
     ensures trees { IfOk result (λ i. item_trees i ≡ map trace_tree traces) }
     ensures writable { IfOk result AreWritable }
@@ -52,7 +52,7 @@ fn of_traces(alloc: Global, traces: Seq<AnsweredTrace>) -> Result<Items, AllocEr
     Ok(Items::Traces(all_written(alloc, traces.into_vec())?))
 }
 
-/// The number of pieces of the trace at the index.
+/// Returns the number of pieces of the trace at the index.
 fn trace_piece_count(traces: &[TraceItem], item: usize) -> usize
     requires writable { All IsWritable traces.now }
     requires item { item < length traces.now }
@@ -62,19 +62,19 @@ fn trace_piece_count(traces: &[TraceItem], item: usize) -> usize
     traces[item].piece_count()
 }
 
-/// Puts a piece of the trace at the index.
-fn put_trace_piece(page: &mut Page, traces: &[TraceItem], item: usize, piece: usize)
+/// Writes a piece of the trace at the index.
+fn write_trace_piece(page: &mut Page, traces: &[TraceItem], item: usize, piece: usize)
     requires writable { All IsWritable traces.now }
     requires item { item < length traces.now }
     requires piece { piece < length (get_or (map trace_pieces traces.now) item []) }
     ensures { Puts page.old page.new
         (get_or (get_or (map trace_pieces traces.now) item []) piece []) }
 {
-    traces[item].put_piece(page, piece);
+    traces[item].write_piece(page, piece);
 }
 
 impl Items {
-    /// The items of the answer. None for a trace that wasn't found.
+    /// Returns the items of the answer, or `None` for a trace that wasn't found.
     ///
     /// # Errors
     ///
@@ -94,7 +94,7 @@ impl Items {
         }
     }
 
-    /// No items.
+    /// Returns no items.
     pub(crate) fn none(alloc: Global) -> Items
         ensures none { item_pieces result ≡ [] }
         ensures writable { AreWritable result }
@@ -115,7 +115,7 @@ impl Items {
         }
     }
 
-    /// The number of pieces of an item.
+    /// Returns the number of pieces of an item.
     pub(crate) fn piece_count(&self, item: usize) -> usize
         requires writable { AreWritable self.now }
         requires item { item < length (item_pieces self.now) }
@@ -131,8 +131,8 @@ impl Items {
         }
     }
 
-    /// Puts a piece of an item.
-    pub(crate) fn put_piece(&self, page: &mut Page, item: usize, piece: usize)
+    /// Writes a piece of an item.
+    pub(crate) fn write_piece(&self, page: &mut Page, item: usize, piece: usize)
         requires writable { AreWritable self.now }
         requires item { item < length (item_pieces self.now) }
         requires piece { piece < length (get_or (item_pieces self.now) item []) }
@@ -144,7 +144,7 @@ impl Items {
             Items::Operations(operations) => operations.as_slice().write_item(page, item),
             Items::Ids(ids) => ids.as_slice().write_item(page, item),
             Items::Links(links) => links.as_slice().write_item(page, item),
-            Items::Traces(traces) => put_trace_piece(page, traces, item, piece),
+            Items::Traces(traces) => write_trace_piece(page, traces, item, piece),
         }
     }
 }

@@ -1,4 +1,4 @@
-//! The text of an answer, made part by part on one page.
+//! Makes the text of an answer part by part, on one page.
 ghost use Rattle.std.specs.Prelude.{◌≡◌, ◌+◌, ◌^◌, ◌≤◌, ◌<◌, ◌⊎◌, ◌++◌, [], None, false, true, IfOk, OnOk, get_or, length, vec_capacity};
 ghost use Rattle.serde_json.specs.Written.{compact_text};
 ghost use Rattle.query_json.specs.Page.{Puts};
@@ -6,20 +6,20 @@ ghost use Rattle.query_json.specs.Pieces.{AreWritable, item_trees, runs_of};
 ghost use Rattle.query_json.specs.Runs.{AllFit, Fills, PutsNext, end_text, front_text, left_at, text_of};
 ghost use Rattle.query_json.specs.Trees.{answer_tree, items_tree};
 
-use crate::answer::{ROOM, not_found_bytes};
+use crate::answer::{INITIAL_CAPACITY, not_found_bytes};
 use crate::items::Items;
-use crate::writing::{Page, begin_items, end_items, put_separator};
+use crate::writing::{Page, begin_items, end_items, write_separator};
 use std::alloc::{AllocError, Global};
 use trace_model::Answer;
 
-/// The bytes from which on the first part takes no further piece.
-const FIRST_FILLED: usize = 262_144;
+/// The size at which the first part takes no further piece.
+const FIRST_PART_BYTES: usize = 262_144;
 
-/// The bytes from which on a later part takes no further piece.
-const FILLED: usize = 16_384;
+/// The size at which a later part takes no further piece.
+const PART_BYTES: usize = 16_384;
 
-/// Which piece comes next. The pieces stand in runs: one run for each item, which has what separates it from the
-/// item before it in front, and one for what stands behind the items.
+/// The position of the next piece. The pieces form runs: one run for each item, which begins with the separator
+/// from the item before it, and one for the text after the items.
 #[derive(Clone, Copy)]
 pub(crate) struct Position {
     run: usize,
@@ -35,8 +35,8 @@ impl Position {
     }
 }
 
-/// The compact text of an answer's tree, given out in parts: the one that is on the page, and the pieces after it.
-/// The first part has a large page of its own. The later ones share one page, whose memory is taken with the first.
+/// The compact text of an answer's tree, in parts: the current part, which is on the page, and the pieces after it.
+/// The first part has a large page of its own. The later ones share one page, which is allocated with the first.
 #[derive(Drop)]
 pub(crate) struct PagedAnswer {
     page: Page,
@@ -44,19 +44,19 @@ pub(crate) struct PagedAnswer {
     later: Option<Page>,
     items: Items,
     next: Position,
-    /// The number of bytes after the part.
+    /// The number of bytes after the current part.
     left: u64,
 }
 
-/// What stands in front of the pieces.
-fn put_front(page: &mut Page)
+/// Writes the text before the pieces.
+fn write_start(page: &mut Page)
     ensures { Puts page.old page.new front_text }
 {
     begin_items(page);
-    page.put("[");
+    page.push_str("[");
 }
 
-/// The number of pieces of a run.
+/// Returns the number of pieces of a run.
 fn piece_count(items: &Items, run: usize) -> usize
     requires writable { AreWritable items.now }
     requires run { run < length (runs_of items.now) }
@@ -70,39 +70,39 @@ fn piece_count(items: &Items, run: usize) -> usize
     }
 }
 
-/// Puts what stands behind this number of items.
-fn put_end(page: &mut Page, total: usize)
+/// Writes the text after this number of items.
+fn write_end(page: &mut Page, total: usize)
     ensures { Puts page.old page.new (end_text total) }
 {
-    page.put("]");
+    page.push_str("]");
     end_items(page, total);
 }
 
-/// Puts a piece.
-fn put_piece(page: &mut Page, items: &Items, at: Position)
+/// Writes a piece.
+fn write_piece(page: &mut Page, items: &Items, at: Position)
     requires writable { AreWritable items.now }
     requires run { at.run < length (runs_of items.now) }
     requires piece { at.piece < length (get_or (runs_of items.now) at.run []) }
     ensures { Puts page.old page.new (get_or (get_or (runs_of items.now) at.run []) at.piece []) }
 {
     if at.run == items.count() {
-        put_end(page, at.run);
+        write_end(page, at.run);
     } else if at.piece == 0 {
-        put_separator(page, at.run);
+        write_separator(page, at.run);
     } else {
-        items.put_piece(page, at.run, at.piece - 1);
+        items.write_piece(page, at.run, at.piece - 1);
     }
 }
 
-/// Puts the piece at a position, unless the run has ended. Returns the position after it.
-fn put_next(page: &mut Page, items: &Items, at: Position) -> Position
+/// Writes the piece at a position, unless the run has ended. Returns the position after it.
+fn write_next(page: &mut Page, items: &Items, at: Position) -> Position
     requires writable { AreWritable items.now }
     requires run { at.run < length (runs_of items.now) }
     ensures { PutsNext page.old page.new (left_at (runs_of items.now) at.run at.piece)
         (left_at (runs_of items.now) result.run result.piece) }
 {
     if at.piece < piece_count(items, at.run) {
-        put_piece(page, items, at);
+        write_piece(page, items, at);
         return Position {
             run: at.run,
             piece: at.piece + 1,
@@ -114,8 +114,8 @@ fn put_next(page: &mut Page, items: &Items, at: Position) -> Position
     }
 }
 
-/// Puts pieces until the page has this number of bytes, finds no room, or none is left. Returns the position after
-/// them.
+/// Writes pieces until the page has this number of bytes, the page is full, or no piece is left. Returns the
+/// position after them.
 fn fill(page: &mut Page, items: &Items, from: Position, enough: usize) -> Position
     requires { AreWritable items.now }
     ensures fills { Fills enough page.old page.new (left_at (runs_of items.now) from.run from.piece)
@@ -125,7 +125,7 @@ fn fill(page: &mut Page, items: &Items, from: Position, enough: usize) -> Positi
 {
     let mut at = from;
     while at.run <= items.count() && page.len() < enough && !page.is_full() {
-        at = put_next(page, items, at);
+        at = write_next(page, items, at);
     }
     at
 }
@@ -137,7 +137,7 @@ fn larger(size: usize, other: usize) -> usize
     if size < other { other } else { size }
 }
 
-/// The number of bytes of the pieces from a position on, and that of the largest of them. None is stored.
+/// Returns the number of bytes of the pieces from a position on, and that of the largest of them. It stores none.
 fn measure(alloc: Global, items: &Items, from: Position) -> Result<(u64, usize), AllocError>
     requires { AreWritable items.now }
     ensures left { IfOk result (λ r.
@@ -150,9 +150,10 @@ fn measure(alloc: Global, items: &Items, from: Position) -> Result<(u64, usize),
     let mut at = from;
     while at.run <= items.count() {
         let mut page = Page::without_room(alloc);
-        at = put_next(&mut page, items, at);
+        at = write_next(&mut page, items, at);
         let size = page.lost()?;
         let Some(more) = left.checked_add(size as u64) else {
+            // Impossible: no answer's text has 2^64 bytes.
             return Err(AllocError);
         };
         left = more;
@@ -161,13 +162,14 @@ fn measure(alloc: Global, items: &Items, from: Position) -> Result<(u64, usize),
     Ok((left, largest))
 }
 
-/// A page with room for a part of pieces that aren't larger than this.
+/// Returns a page with room for a part whose pieces aren't larger than this.
 fn page_for(alloc: Global, largest: usize) -> Result<Page, AllocError>
     ensures empty { IfOk result (λ p. p.bytes.items ≡ []) }
     ensures open { IfOk result (λ p. p.full ≡ false) }
     ensures room { IfOk result (λ p. 16384 + largest ≤ vec_capacity p.bytes) }
 {
-    let Some(room) = largest.checked_add(FILLED) else {
+    let Some(room) = largest.checked_add(PART_BYTES) else {
+        // Impossible: no piece has nearly 2^64 bytes.
         return Err(AllocError);
     };
     Ok(Page::new(Vec::with_capacity(alloc, room)?))
@@ -177,7 +179,7 @@ impl PagedAnswer {
     ghost use Rattle.query_json.specs.Paging.{part_of, rest_of, IsReady};
     ghost use Rattle.query_json.specs.Parts.{IsSome};
 
-    /// A text that is made already, as one part.
+    /// Returns a finished text as one part.
     fn whole(alloc: Global, text: Vec<u8>) -> PagedAnswer
         ensures ready { IsReady result }
         ensures part { part_of result ≡ text.items }
@@ -192,7 +194,7 @@ impl PagedAnswer {
         }
     }
 
-    /// The text in parts: the first one, which is made already, and those of the pieces from a position on.
+    /// Returns the text in parts: the first one, which is finished, and those of the pieces from a position on.
     fn in_parts(
         alloc: Global,
         first: Page,
@@ -223,9 +225,9 @@ impl PagedAnswer {
             part_of p ++ rest_of p ≡ compact_text (items_tree (item_trees items))) }
         ensures some { IfOk result (λ p. IsSome (part_of p) (rest_of p)) }
     {
-        let mut page = Page::new(Vec::with_capacity(alloc, ROOM)?);
-        put_front(&mut page);
-        let end = fill(&mut page, &items, Position::first(), FIRST_FILLED);
+        let mut page = Page::new(Vec::with_capacity(alloc, INITIAL_CAPACITY)?);
+        write_start(&mut page);
+        let end = fill(&mut page, &items, Position::first(), FIRST_PART_BYTES);
         if page.is_full() {
             return Err(AllocError);
         }
@@ -236,8 +238,8 @@ impl PagedAnswer {
         PagedAnswer::in_parts(alloc, page, items, end)
     }
 
-    /// Takes all the memory that giving out the answer's text needs: for a text of more than about 256 KB what is made
-    /// to show its traces, and room for a part.
+    /// Allocates all that the answer's text needs. For a text of more than about 256 KB that is the state for writing
+    /// its traces, and room for a part.
     ///
     /// # Errors
     ///
@@ -255,14 +257,14 @@ impl PagedAnswer {
         Ok(PagedAnswer::whole(alloc, text))
     }
 
-    /// The part that is on the page.
+    /// Returns the current part.
     pub(crate) fn part(&self) -> &[u8]
         ensures { result.now ≡ part_of self.now }
     {
         self.page.as_slice()
     }
 
-    /// The number of bytes after the part.
+    /// Returns the number of bytes after the current part.
     pub(crate) fn left(&self) -> u64
         requires { IsReady self.now }
         ensures { result ≡ length (rest_of self.now) }
@@ -270,7 +272,7 @@ impl PagedAnswer {
         self.left
     }
 
-    /// Moves pieces from the rest to the part until that is large enough, and takes no memory.
+    /// Moves pieces to the part until it is large enough. It doesn't allocate.
     fn extend(&mut self)
         requires ready { IsReady self.old }
         requires later { self.old.later ≡ None }
@@ -280,12 +282,12 @@ impl PagedAnswer {
         ensures some { IsSome (part_of self.new) (rest_of self.new) }
     {
         let before = self.page.len();
-        self.next = fill(&mut self.page, &self.items, self.next, FILLED);
+        self.next = fill(&mut self.page, &self.items, self.next, PART_BYTES);
         self.left -= (self.page.len() - before) as u64;
     }
 
-    /// Puts the page of the later parts in the place of the first one, which is dropped.
-    fn turn(&mut self)
+    /// Replaces the first page by the page of the later parts, and drops the first.
+    fn replace_page(&mut self)
         requires { IsReady self.old }
         ensures ready { IsReady self.new }
         ensures later { self.new.later ≡ None }
@@ -296,15 +298,14 @@ impl PagedAnswer {
         }
     }
 
-    /// Makes the next part in place of the one that is there, and takes no memory. It is empty only if nothing is
-    /// left.
+    /// Replaces the current part by the next one. It doesn't allocate. The part is empty only if nothing is left.
     pub(crate) fn advance(&mut self)
         requires { IsReady self.old }
         ensures ready { IsReady self.new }
         ensures gives { part_of self.new ++ rest_of self.new ≡ rest_of self.old }
         ensures some { IsSome (part_of self.new) (rest_of self.new) }
     {
-        self.turn();
+        self.replace_page();
         self.page.clear();
         self.extend();
     }

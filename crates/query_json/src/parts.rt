@@ -1,4 +1,4 @@
-//! The text of an answer, given out in parts.
+//! The text of an answer, in parts.
 ghost use Rattle.std.specs.Prelude.{◌≡◌, ◌+◌, ◌<◌, ◌^◌, [], ◌++◌, IfOk, length};
 ghost use Rattle.serde_json.specs.Written.{compact_text};
 ghost use Rattle.query_json.specs.Paging.{part_of, rest_of, IsReady};
@@ -10,12 +10,12 @@ use std::alloc::{AllocError, Global};
 use std::marker::Model;
 use trace_model::Answer;
 
-/// The compact text of an answer's tree, given out in parts. It owns what it is made of, so it may be kept for as long as
-/// a client takes to read it. Contracts see the bytes that are still to come.
+/// The compact text of an answer's tree, in parts. It owns its data, so it may be kept for as long as a client takes
+/// to read it. Contracts see the bytes that are still to come.
 #[derive(Drop)]
 pub struct AnswerParts {
     paged: PagedAnswer,
-    /// How many bytes are still to come.
+    /// The number of bytes that are still to come.
     remaining: usize,
 }
 
@@ -33,21 +33,22 @@ impl Model for AnswerParts {
         × (s.remaining < 2 ^ 63) };
 }
 
-/// How many bytes are still to come, unless they are more than a text in memory may have.
+/// Returns the number of bytes that are still to come. One of 2^63 or more is reported as out of memory.
 fn total(part: usize, left: u64) -> Result<usize, AllocError>
     ensures total { IfOk result (λ n. n ≡ part + left) }
     ensures bound { IfOk result (λ n. n < 2 ^ 63) }
 {
     match (part as u64).checked_add(left) {
         Some(total) if total <= i64::MAX as u64 => Ok(total as usize),
+        // Impossible: no answer's text has 2^63 bytes.
         _ => Err(AllocError),
     }
 }
 
 impl AnswerParts {
-    /// Goes through the answer once, and takes all the memory that giving it out needs. A text of at most about 256 KB
-    /// is one part. The first part of a larger one has about 256 KB, a later one about 16 KB, and at most one item more,
-    /// where an item is a name, an operation, an id, a link, or a span or a process of a trace.
+    /// Walks the answer once, and allocates all that sending it needs. A text of at most about 256 KB is one part. The
+    /// first part of a larger one has about 256 KB, a later one about 16 KB, and at most one item more; an item here is a
+    /// name, an operation, an id, a link, or a span or a process of a trace.
     ///
     /// # Errors
     ///
@@ -60,7 +61,7 @@ impl AnswerParts {
         Ok(AnswerParts { paged, remaining })
     }
 
-    /// How many bytes are still to come.
+    /// Returns the number of bytes that are still to come.
     pub fn remaining(&self) -> usize
         ensures length { result ≡ length (to_come self.now) }
         ensures bound { result < 2 ^ 63 }
@@ -68,7 +69,7 @@ impl AnswerParts {
         self.remaining
     }
 
-    /// The next part: the first bytes that are still to come, none only where nothing is left.
+    /// Returns the next part: the first bytes that are still to come. It is empty only if nothing is left.
     pub fn part(&self) -> &[u8]
         ensures part { result.now ≡ self.now.part }
         ensures some { self.now.part ≡ [] → self.now.rest ≡ [] }
@@ -76,7 +77,7 @@ impl AnswerParts {
         self.paged.part()
     }
 
-    /// Goes on behind that part, and takes no memory.
+    /// Continues after that part. It doesn't allocate.
     pub fn advance(&mut self)
         ensures { to_come self.new ≡ self.old.rest }
     {

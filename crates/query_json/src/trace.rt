@@ -15,7 +15,7 @@ use std::alloc::{AllocError, Global};
 use trace_adjust::show;
 use trace_model::{AnsweredTrace, Shown, ShownTrace, TraceForm};
 
-/// A list of texts, or null where there are none.
+/// Returns a list of texts, or null if there are none.
 fn warnings_json(alloc: Global, warnings: &[Text]) -> Result<Value, AllocError>
     ensures { IfOk result (λ v. view v ≡ warnings_tree warnings.now) }
 {
@@ -25,7 +25,7 @@ fn warnings_json(alloc: Global, warnings: &[Text]) -> Result<Value, AllocError>
     list(alloc, warnings)
 }
 
-/// A span whose process goes by this name.
+/// Returns the tree of a span whose process has this name.
 fn span_json(alloc: Global, process: &str, shown: &Shown) -> Result<Value, AllocError>
     ensures { (ps : List ProcessValue) →
         process.now ≡ process_name (process_place ps shown.now) →
@@ -53,7 +53,7 @@ fn span_json(alloc: Global, process: &str, shown: &Shown) -> Result<Value, Alloc
     })
 }
 
-/// The spans, each with the name of its process, which stands at its place.
+/// Returns the spans, each with the name of its process.
 fn spans_json(
     alloc: Global,
     names: &[String],
@@ -74,7 +74,7 @@ fn spans_json(
     Ok(Value::Array(trees))
 }
 
-/// The processes under their names.
+/// Returns the processes by their names.
 fn processes_json(alloc: Global, processes: &[FirstSpan]) -> Result<Value, AllocError>
     ensures { IfOk result (λ v. view v ≡ processes_tree (map first_process processes.now)) }
 {
@@ -91,7 +91,7 @@ fn processes_json(alloc: Global, processes: &[FirstSpan]) -> Result<Value, Alloc
     Ok(Value::Object(named))
 }
 
-/// The id of a trace, that of its first span.
+/// Returns the id of a trace, that of its first span.
 pub(crate) fn trace_id_text(alloc: Global, spans: &[Shown]) -> Result<String, AllocError>
     ensures { IfOk result (λ s. string_bytes s ≡ trace_id_text spans.now) }
 {
@@ -112,7 +112,7 @@ fn trace_json(
     json!(in alloc; {"processes": processes, "spans": spans, "traceID": id, "warnings": null})
 }
 
-/// A trace: its spans in order, and their processes under the names that the spans give.
+/// The tree of a trace: its spans in order, and their processes by the names that the spans use.
 impl Tree for ShownTrace {
     ghost tree = { trace_tree };
 
@@ -127,7 +127,7 @@ impl Tree for ShownTrace {
     }
 }
 
-/// A trace of an answer. Spans that their entries keep are copied for it.
+/// The tree of a trace of an answer. Building it copies spans that are borrowed from their entries.
 impl Tree for AnsweredTrace {
     ghost tree = { trace_tree };
 

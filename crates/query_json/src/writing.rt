@@ -1,13 +1,13 @@
-//! Trees written as text, without the trees.
+//! Writes the text of trees without building them.
 //!
 //! * `page`: a text that grows piece by piece.
-//! * `plain`: whether a text stands for itself in a string.
+//! * `plain`: whether a text needs no escape in a string.
 //! * `values`: tags, references, operations and links.
 //! * `ids`: the ids of traces and spans.
 //! * `processes`: the processes of a trace, and their names.
-//! * `span`: a span with its logs and what is said of it.
+//! * `span`: a span with its logs and its warning.
 //! * `trace`: a trace with its spans.
-//! * `answer`: what stands around an answer's items, and errors.
+//! * `answer`: the text around an answer's items, and errors.
 ghost use Rattle.std.specs.Prelude.{◌≡◌, ◌<◌, List, get_or, length, map};
 ghost use Rattle.serde_json.specs.Data.{Data, null, string};
 ghost use Rattle.serde_json.specs.Written.{compact_text};
@@ -29,7 +29,7 @@ use jaeger_model::Text;
 pub(crate) use page::Page;
 pub(crate) use trace::TraceItem;
 
-/// What an answer shows as one JSON tree, written without that tree.
+/// A value that an answer shows as one JSON tree, and that can be written without that tree.
 pub(crate) trait WriteJson {
     ghost tree: { Self → Data };
 
@@ -41,7 +41,7 @@ pub(crate) trait WriteJson {
 pub(crate) trait WriteItems {
     ghost trees: { Self → List Data };
 
-    /// The number of items.
+    /// Returns the number of items.
     fn count(&self) -> usize
         ensures { result ≡ length (trees self.now) };
 
@@ -62,31 +62,31 @@ impl<T: WriteJson> WriteItems for &[T] {
     }
 }
 
-/// Puts what separates an item of a list from the one before it.
-pub(crate) fn put_separator(out: &mut Page, item: usize)
+/// Writes the separator between an item of a list and the one before it.
+pub(crate) fn write_separator(out: &mut Page, item: usize)
     ensures { Puts out.old out.new (separator item) }
 {
     if item > 0 {
-        out.put(",");
+        out.push_str(",");
     }
 }
 
-/// The items as one list.
+/// Writes the items as one list.
 fn write_list<L: WriteItems + Drop>(out: &mut Page, items: L)
     ensures { Puts out.old out.new (compact_text (list (L.trees items))) }
 {
     let count = items.count();
     if count == 0 {
-        out.put("[]");
+        out.push_str("[]");
         return;
     }
-    out.put("[");
+    out.push_str("[");
     items.write_item(out, 0);
     for index in 1..count {
-        out.put(",");
+        out.push_str(",");
         items.write_item(out, index);
     }
-    out.put("]");
+    out.push_str("]");
 }
 
 impl WriteJson for Text {

@@ -1,4 +1,4 @@
--- Where an entry that was admitted stands.
+-- The place of an admitted entry.
 use Rattle.std.proofs.Common.{◌≡◌, inl, inr, ℕ, zero, suc, ◌+◌, ◌-◌, List, [], ◌∷◌, ◌++◌, length, Some, Result, Ok, Err, refl, sym, ap, ◌∙◌, subst, append_assoc, arith, length-append}
 use Rattle.std.specs.Prelude.{IfOk, OnOk, IfSome, slice_get}
 use Rattle.std.proofs.lemmas.List.{get_or_push}
@@ -13,14 +13,14 @@ use Rattle.trace_model.proofs.Admissions.{IsSaid, IsAnswered, admission_says}
 use Rattle.read_side.specs.Keepers.{Lists, accepted, with_pending, all_published, admission_after}
 use Rattle.read_side.specs.Receipts.{ReceiptValue, StandsAt, AnsweredAt}
 
--- what is put behind a list stands at its end
+-- an appended entry is at the end of the list
 pub last_stands : (h : List Entry) (e : Entry) → StandsAt (h ++ e ∷ []) (length h + 1) e
 last_stands h e =
     let before : length h ≡ length h + 1 - 1 = omega arith in
     let long : length h + 1 ≡ length (h ++ e ∷ []) = omega (arith, length-append h (e ∷ [])) in
     (omega arith, slice_get_read (h ++ e ∷ []) (length h + 1) (length h + 1 - 1) e long (omega arith) (sym (get_or_push h e e (length h + 1 - 1) before)))
 
--- so does an entry that was added, once it is published
+-- so is an entry that was added, after it is published
 pub added_stands : (k new : Lists) (e : Entry) → new ≡ all_published (with_pending k e) → StandsAt new.published (length (accepted k) + 1) e
 added_stands k new e is =
     let whole : new.published ≡ accepted k ++ e ∷ [] = ap (λ n. n.published) is ∙ sym (append_assoc k.published k.pending (e ∷ [])) in

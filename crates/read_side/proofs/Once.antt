@@ -1,4 +1,4 @@
--- An entry of a legal list stands there once.
+-- An entry of a legal list is there once.
 use Rattle.std.proofs.Common.{◌≡◌, ℕ, ◌-◌, ◌<◌, true, false, Bool, List, [], ◌∷◌, ◌++◌, refl, ap, sym, subst, ◌∙◌, arith, append_assoc, append-nil, eqb-true, eq-eqb}
 use Rattle.std.specs.Prelude.{◌==◌, ◌&&◌, filter, if◌then◌else◌, Some, slice_get}
 use Rattle.std.proofs.lemmas.List.Elements.{filter-append}
@@ -50,7 +50,7 @@ rises_at before (x ∷ front) d rest r =
 same_job : (d : Entry) → is_same_job d d ≡ true
 same_job d = ap (λ b. b && (d.number == d.number)) (eq-eqb d.seat d.seat refl) ∙ eq-eqb d.number d.number refl
 
--- an entry that stands in a legal list stands there once
+-- an entry of a legal list is there once
 once : (limits : Limits) (front : List Entry) (d : Entry) (rest : List Entry) → IsLegal limits (front ++ d ∷ rest) → filter (is_same_job d) (front ++ d ∷ rest) ≡ d ∷ []
 once limits front d rest legal =
     let parts = rises_at [] front d rest legal.rising in
@@ -59,7 +59,7 @@ once limits front d rest legal =
     ∙ (ap (λ b. if b then d ∷ filter (is_same_job d) rest else filter (is_same_job d) rest) (same_job d)
     ∙ ap (λ l. d ∷ l) (none_behind front d [] rest parts.1)))
 
--- what was acknowledged with a list stands in each legal list that goes on from it, once
+-- what was acknowledged with a list is in each legal continuation of it, once
 pub acknowledged_once : (limits : Limits) (list whole : List Entry) (place : ℕ) (e : Entry) → IsLegal limits whole → IsPrefix list whole → AnsweredAt list place e → IsAcknowledged whole place e
 acknowledged_once limits list whole place e legal begins at =
     let stands : StandsAt whole place at.0 = (at.1.0, prefix_get list whole (place - 1) at.0 begins at.1.1) in

@@ -1,4 +1,4 @@
--- A keeper whose writer was handed a change that changes nothing.
+-- A keeper whose writer has got a change that changes nothing.
 use Rattle.std.proofs.Common.{◌≡◌, List, [], ◌++◌, Option, Some, refl, sym, ◌∙◌, subst}
 use Rattle.std.specs.Option.{IsSome}
 use Rattle.logbook.specs.Pages.{Book}

@@ -1,8 +1,8 @@
--- What contracts see of a log whose length is counted, as the history is; its rule, and what a step says.
+-- The value of a log whose length is counted, as the history is; its rule, and the claim of a step.
 use Rattle.std.specs.Prelude.{◌≡◌, ℕ, ◌==◌, true, List, [], ◌∷◌, ◌++◌, length, MatchBool}
 use Rattle.logbook.specs.Pages.{Cell, Step, View, Book, Named}
 
--- its items, and the book in which they stand
+-- its items, and the book that holds them
 pub record LogValue (A : Type 0) : Type 0 where
   pub book : Book
   pub items : List A
@@ -19,6 +19,6 @@ pub record IsCounted {A : Type 0} (cells : List Cell) (log : List A) : Type 0 wh
 abbrev pub head_of : Book → Named
 head_of b = record { tracked = true; key = 0; book = b }
 
--- what is added was added behind all that had been seen, or the log was longer than that
+-- the item was added after all that had been seen, or the log was longer than that
 abbrev pub Adds : {A : Type 0} → Step A → View A ℕ → ℕ → View A ℕ → Type 0
 Adds s v found w = MatchBool (found == s.old) (w.0 ≡ v.0 ++ s.ask ∷ []) (Unit {0})

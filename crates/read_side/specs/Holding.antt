@@ -1,4 +1,4 @@
--- What contracts see of one that holds: the pass by which it does, which stays inside.
+-- The value of a held pass, which stays inside.
 use Rattle.std.specs.Prelude.{◌≡◌, true, List}
 use Rattle.std.specs.Borrow.{MutBor}
 use Rattle.trace_model.specs.declared.entry.Entry.{Entry}

@@ -1,4 +1,4 @@
--- What contracts see of a pass.
+-- The value of a pass.
 use Rattle.std.specs.Prelude.{List, [], Bool, false}
 use Rattle.trace_model.specs.declared.entry.Entry.{Entry}
 
@@ -7,7 +7,7 @@ pub record Known : Type 0 where
   pub entered : List Entry
   pub known : List Entry
 
--- the same of a pass, and whether it is inside: then it stays in the list that it entered, which is the one known
+-- what a pass knows, and whether it is inside: then it stays in the list that it entered, which is the one known
 pub record PassValue : Type 0 where
   pub entered : List Entry
   pub known : List Entry
@@ -24,6 +24,6 @@ with_inside k inside = record { entered = k.entered; known = k.known; is_inside 
 abbrev pub new_pass : PassValue
 new_pass = with_inside none_known false
 
--- it knows what it knew, and is not inside
+-- it knows what it knew, and is outside
 abbrev pub come_out : PassValue → PassValue
 come_out p = record p { is_inside = false }

@@ -1,11 +1,11 @@
-//! A list that only grows at its end, and whose length stands in one word.
+//! A list that only grows at its end, and whose length is in one atomic word.
 ghost use Rattle.std.specs.Prelude.{◌≡◌, ◌<◌, ◌^◌, [], length, MatchBool};
 ghost use Rattle.read_side.specs.CountedLogs.{head_of, with_item};
 
 use logbook::{Gain, Offer, Plain, Play, Rule, Seen, Start, Word};
 use std::marker::Model;
 
-/// The rule of the list: its word says how many items it has.
+/// The rule of the list: its word has the number of its items.
 pub struct CountedRule;
 
 impl<T> Rule<T, u64> for CountedRule {
@@ -26,7 +26,7 @@ impl<T> Rule<T, u64> for CountedRule {
     ghost moves = { λ ask before after answer. Unit {0} };
 }
 
-/// Who adds an item trades nothing.
+/// The trade of the step that adds an item: nothing.
 pub struct NoTrade;
 
 impl<T> Gain<T, u64> for NoTrade {
@@ -52,7 +52,7 @@ impl<T> Plain<T, T, u64> for Append {
     ghost state = { λ e. None };
 }
 
-/// A list without an item.
+/// An empty list.
 #[derive(Drop)]
 pub struct EmptyLog<T> {
     pub head: Word<T, u64, CountedRule>,
@@ -62,7 +62,7 @@ pub struct EmptyLog<T> {
 }
 
 impl<T> EmptyLog<T> {
-    /// A list of its own.
+    /// Makes an empty list.
     pub fn new() -> EmptyLog<T> {
         let (seen, mut first, _second) = Seen::open(Start::alone(), 0, 0);
         EmptyLog {
@@ -72,7 +72,7 @@ impl<T> EmptyLog<T> {
     }
 }
 
-/// A list, and the word by which its one owner adds to it.
+/// A list, and the word by which its one owner appends to it.
 #[derive(Drop)]
 pub struct CountedLog<T> {
     head: Word<T, u64, CountedRule>,
@@ -92,7 +92,7 @@ impl<T> Model for CountedLog<T> {
 }
 
 impl<T> CountedLog<T> {
-    /// The list from its beginning on.
+    /// Takes an empty list over.
     pub fn new(empty: EmptyLog<T>) -> CountedLog<T>
         ensures { result ≡ record { book = empty.seen.book; items = [] } }
     {
@@ -100,7 +100,7 @@ impl<T> CountedLog<T> {
         CountedLog { head, seen, len: 0 }
     }
 
-    /// What was added, to be compared with what others have seen.
+    /// Returns what was added so far, to be compared with what others have seen.
     pub fn seen(&self) -> Seen<T, u64, CountedRule>
         ensures items { result.log ≡ self.now.items }
         ensures book { result.book ≡ self.now.book }
@@ -108,14 +108,14 @@ impl<T> CountedLog<T> {
         self.seen.again()
     }
 
-    /// How many items it has.
+    /// Returns the number of items.
     pub fn len(&self) -> u64
         ensures { result ≡ length self.now.items }
     {
         self.len
     }
 
-    /// Adds an item. The answer is false, and nothing was added, only where another had added one; there is no
+    /// Appends an item. Returns false, with nothing added, only if another owner had added an item; there is no
     /// other.
     pub fn add(&mut self, item: &T) -> bool
         requires { length self.old.items < 2 ^ 62 }

@@ -10,8 +10,8 @@ use trace_model::{Query, Refusal};
 
 /// A pass that stays inside the list that it entered.
 ///
-/// While it is kept, the publish after the next one has to wait, and a forgotten one is kept for ever. Once it
-/// is left or dropped, the pass knows that list and is outside.
+/// As long as it is kept, the publish after the next one has to wait; a value that is forgotten is kept forever.
+/// After it is left or dropped, the pass knows that list and is outside.
 pub struct Held<'a, N: StoreName> {
     pass: &'a mut Pass<N>,
 }
@@ -19,7 +19,7 @@ pub struct Held<'a, N: StoreName> {
 impl<'a, N: StoreName> Held<'a, N> {
     ghost use Rattle.read_side.specs.Holding.{pass_of, list_of, IsInside};
 
-    /// Stays inside.
+    /// Keeps the pass inside.
     pub(crate) fn new(pass: &'a mut Pass<N>) -> Held<'a, N>
         ensures same { (pass_of result).ghost_name ≡ pass.entry.ghost_name }
         ensures held { (pass_of result).now ≡ pass.old }
@@ -27,14 +27,14 @@ impl<'a, N: StoreName> Held<'a, N> {
         Held { pass }
     }
 
-    /// How many entries the list has that is held.
+    /// Returns the number of entries of the held list.
     pub fn front(&self) -> u64
         ensures { result ≡ length (list_of self.now) }
     {
         self.pass.front()
     }
 
-    /// Asks the list that is held.
+    /// Answers a query from the held list.
     ///
     /// # Errors
     ///
@@ -49,7 +49,7 @@ impl<'a, N: StoreName> Held<'a, N> {
         self.collect(query)?.reading()
     }
 
-    /// Collects what an answer of the list that is held needs.
+    /// Collects what an answer from the held list needs.
     ///
     /// # Errors
     ///
@@ -64,7 +64,7 @@ impl<'a, N: StoreName> Held<'a, N> {
         self.pass.collect(query)
     }
 
-    /// Comes out. The pass then knows the list that was held. It takes no memory.
+    /// Leaves the list. The pass then knows that list. Allocates nothing.
     pub fn leave(self)
         ensures { self.exit.0.now ≡ come_out (pass_of self.entry).now }
     {

@@ -14,19 +14,19 @@ ghost use Rattle.read_side.specs.Receipts.{AnsweredAt};
 ghost use Rattle.read_side.specs.OneHistory.{IsAnswered, IsAcknowledged, IsRefused};
 ghost use Rattle.read_side.specs.Keepers.{Lists, Admissions};
 
-/// Whatever entries a keeper is asked to admit, and whatever it answers, the published list only grows at its
-/// end. A receipt's list is the published one when the receipt is made, so it is a beginning of every list that is
+/// Whatever entries a keeper is to admit, and whatever it answers, the published list only grows at its end. A
+/// receipt's list is the published one at the time the receipt is made, so it is a prefix of every list that is
 /// published later.
-pub fn a_receipts_list_begins_every_later_one()
+pub fn a_receipts_list_is_a_prefix_of_later_ones()
     ensures { (limits : Limits) (old new : Lists) (calls : List (Entry × Result ℕ Refusal)) →
         Admissions limits old calls new → IsPrefix old.published new.published }
 {}
 
-/// One history stands for all that was done. Whatever was admitted, read, learnt and settled under one store name, by
-/// whichever threads, each call spoke of a list: a pass of the one it had entered, a receipt and a refusal of their own. The
-/// [`HistoryPrefix`](crate::HistoryPrefix)es of these lists have a longest, [`longest`](crate::longest), which is legal and of which each
-/// is a prefix. Of that one list each answer is the plain store's for a prefix, each acknowledged entry stands in it at the
-/// place that was named and nowhere else, and each refusal is true of a prefix.
+/// One history explains all calls. Of whatever was admitted, read, learnt and settled under one store name, by any
+/// threads, each call named a list: a pass the one that it had entered, a receipt and a refusal their own. The
+/// [`HistoryPrefix`](crate::HistoryPrefix)es of these lists have a longest one, [`longest`](crate::longest), which
+/// is legal and of which each is a prefix. Each answer is the plain store's for a prefix of that list, each
+/// acknowledged entry is in it at the named place and nowhere else, and each refusal is true of a prefix.
 pub fn all_calls_have_one_history()
     ensures answers { (limits : Limits) (list whole : List Entry) (q : Query) (a : Answer) →
         IsPrefix list whole → a ≡ answer limits list q → IsAnswered limits whole q a }

@@ -5,10 +5,10 @@ ghost use Rattle.read_side.specs.Keepers.{no_entries};
 ghost use Rattle.read_side.specs.Passes.{new_pass};
 
 use crate::counted_log::CountedLog;
-use crate::history::{Opened, StoreName};
+use crate::history::{EmptyHistory, StoreName};
 use crate::keeper::{Copies, Keeper};
 use crate::pass::Pass;
-use crate::side::Side;
+use crate::store_copy::StoreCopy;
 use crate::visitor::Visitor;
 use arrival_journal::Journal;
 use left_right::writer::Writer;
@@ -18,7 +18,7 @@ use std::hash::RandomState;
 use std::sync::Wait;
 use trace_model::{Limits, Refusal};
 
-/// Gives up what was made before memory ran out.
+/// Drops what was made before memory ran out.
 fn without_memory<T: Drop, R>(made: T) -> Result<R, Refusal>
     ensures { result ≡ Err NoMemory }
 {
@@ -26,17 +26,17 @@ fn without_memory<T: Drop, R>(made: T) -> Result<R, Refusal>
     Err(Refusal::NoMemory)
 }
 
-/// Opens an empty store under a name, which is spent, for 1 to 64 readers. The keys are those of the hash
-/// by which it finds traces.
+/// Opens an empty store under a name, which is consumed, for 1 to 64 readers. The keys are those of the hash by
+/// which it finds traces.
 ///
 /// # Errors
 ///
-/// [`Refusal::NoMemory`]: there is no memory, or the copies take no more readers; nothing is left behind.
+/// [`Refusal::NoMemory`]: there is no memory, or the copies take no more readers; nothing is left allocated.
 pub fn open<N: StoreName, R: Wait>(
     rt: &R,
     alloc: Global,
     keys: RandomState,
-    name: Opened,
+    name: EmptyHistory,
     limits: Limits,
     readers: usize,
 ) -> Result<(Keeper<N>, Vec<Pass<N>>), Refusal>
@@ -56,11 +56,11 @@ pub fn open<N: StoreName, R: Wait>(
     let Ok(first) = SpanStore::open(alloc, keys, limits) else {
         return without_memory((history, passes, journal));
     };
-    let first = Side::new(first, history.seen());
+    let first = StoreCopy::new(first, history.seen());
     let Ok(second) = SpanStore::open(alloc, keys, limits) else {
         return without_memory((history, passes, journal, first));
     };
-    let second = Side::new(second, history.seen());
+    let second = StoreCopy::new(second, history.seen());
     let Ok(writer): Result<Copies<N>, _> = Writer::new(alloc, first, second, readers) else {
         return without_memory((history, passes, journal));
     };

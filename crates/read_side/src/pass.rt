@@ -18,14 +18,14 @@ use std::marker::Model;
 use std::mem;
 use trace_model::{Answer, Query, Refusal};
 
-/// An answer, and how many entries the list has whose answer it is.
+/// An answer, and the number of entries of the list from which it was computed.
 #[derive(Drop)]
 pub struct Reading {
     pub front: u64,
     pub answer: Answer,
 }
 
-/// What was collected for an answer, and how many entries the list has whose answer it is.
+/// What was collected for an answer, and the number of entries of the list from which it was collected.
 #[derive(Drop)]
 pub(crate) struct Collection<'q> {
     front: u64,
@@ -33,7 +33,7 @@ pub(crate) struct Collection<'q> {
 }
 
 impl<'q> Collection<'q> {
-    /// The answer. It needs the store no more.
+    /// Computes the answer, without the store.
     ///
     /// # Errors
     ///
@@ -51,9 +51,9 @@ impl<'q> Collection<'q> {
 
 /// One reader of the store. None of its calls takes a lock or waits.
 ///
-/// Contracts see the list that it entered last, the longest that it knows (that one, or one that it has
-/// learnt a receipt of), and whether it is inside. No call shortens the longest. Each call leaves it outside,
-/// but for one that a [`Held`] comes of.
+/// Contracts see the list that it entered last, the longest that it knows (that one, or one of a receipt that it
+/// has learnt), and whether it is inside. No call shortens the longest. After each call it is outside, except for
+/// one that returns a [`Held`].
 pub struct Pass<N: StoreName> {
     visitor: Visitor<N>,
     /// The copy that a [`Held`] is inside.
@@ -88,7 +88,7 @@ impl<N: StoreName> Drop for Pass<N> {
 impl<N: StoreName> Pass<N> {
     ghost use Rattle.read_side.specs.Holding.{pass_of, list_of, IsInside};
 
-    /// A pass that knows the empty list alone.
+    /// Makes a pass that knows only the empty list.
     pub(crate) fn new(visitor: Visitor<N>) -> Pass<N>
         ensures { result ≡ with_inside visitor false }
     {
@@ -98,21 +98,22 @@ impl<N: StoreName> Pass<N> {
         }
     }
 
-    /// How many entries the longest list has that it knows.
+    /// Returns the number of entries of the longest list that it knows.
     pub fn front(&self) -> u64
         ensures { result ≡ length self.now.known }
     {
         self.visitor.front()
     }
 
-    /// The longest list that it knows, as a prefix of the store's history. After a read that is the list whose answer it was.
+    /// Returns the longest list that it knows, as a prefix of the store's history. After a read that is the list of
+    /// the answer.
     pub fn history(&self) -> HistoryPrefix<N>
         ensures { result ≡ self.now.known }
     {
         self.visitor.history()
     }
 
-    /// Takes in the list of a receipt, which it knows from then on.
+    /// Learns a receipt: the pass knows its list from then on.
     pub fn learn(&mut self, receipt: &Receipt<N>)
         ensures old { IsPrefix self.old.known self.new.known }
         ensures learnt { IsPrefix receipt.now.entries self.new.known }
@@ -125,9 +126,9 @@ impl<N: StoreName> Pass<N> {
         self.visitor.learn(receipt);
     }
 
-    /// Enters the published list, which begins with all that the pass knows, and stays inside: until the
-    /// [`Held`] is left or dropped each of its reads is of this one list, and the pass knows it from then on.
-    /// It takes no memory.
+    /// Enters the published list, of which all that the pass knows is a prefix, and stays inside: until the
+    /// [`Held`] is left or dropped, each of its reads is of this one list. The pass knows the list from then on.
+    /// Allocates nothing.
     ///
     /// # Errors
     ///
@@ -149,8 +150,8 @@ impl<N: StoreName> Pass<N> {
         }
     }
 
-    /// Asks the published list, which begins with all that the pass knows, and knows it from then on. While it is
-    /// inside it only collects what the answer needs; no publish waits for the rest.
+    /// Answers a query from the published list, of which all that the pass knows is a prefix. The pass knows the
+    /// list from then on. Inside, it only collects what the answer needs; no publish waits for the rest.
     ///
     /// # Errors
     ///
@@ -177,14 +178,14 @@ impl<N: StoreName> Pass<N> {
         collection?.reading()
     }
 
-    /// Learns a receipt, enters anew, and says whether the front that the pass had seen before the call is
-    /// at most the receipt's. Then all that it had read is a beginning of the receipt's list.
+    /// Learns a receipt, enters the published list, and succeeds if the front that the pass had seen before the
+    /// call is at most the receipt's. Then all that it had read is a prefix of the receipt's list.
     ///
     /// # Errors
     ///
-    /// [`Refusal::Behind`], with the longer front that it had seen. [`Refusal::Gone`]: the keeper was closed.
-    /// In each case the pass has learnt the receipt, and in each but the last it knows the list that it
-    /// entered, which is legal.
+    /// [`Refusal::Behind`], with the longer front that it had seen. [`Refusal::Gone`]: the keeper was closed. In
+    /// each case the pass has learnt the receipt, and in each but the last it knows the list that it entered, which
+    /// is legal.
     pub fn settle(&mut self, receipt: &Receipt<N>) -> Result<(), Refusal>
         ensures settled { OnOk result (length self.old.known ≤ length receipt.now.entries) }
         ensures begins { OnOk result (IsPrefix self.old.known receipt.now.entries) }
@@ -216,8 +217,8 @@ impl<N: StoreName> Pass<N> {
         Ok(())
     }
 
-    /// Enters the published copy, whose list begins with all that it knows. False, with nothing changed,
-    /// where the keeper is gone.
+    /// Enters the published copy, of whose list all that it knows is a prefix. Returns false, with nothing changed,
+    /// if the keeper is gone.
     fn enter(&mut self) -> bool
         ensures inside { self.new.is_inside ≡ result }
         ensures later { MatchBool result (IsPrefix self.old.known self.new.known)
@@ -236,7 +237,7 @@ impl<N: StoreName> Pass<N> {
         true
     }
 
-    /// Comes out again, where it is inside.
+    /// Leaves the list, if it is inside.
     pub(crate) fn leave(&mut self)
         ensures { self.new ≡ come_out self.old }
     {
@@ -245,7 +246,7 @@ impl<N: StoreName> Pass<N> {
         }
     }
 
-    /// Collects what an answer of the list needs that it is inside.
+    /// Collects what an answer needs from the list that the pass is inside.
     pub(crate) fn collect<'q>(&self, query: &'q Query) -> Result<Collection<'q>, Refusal>
         requires inside { self.now.is_inside ≡ true }
         ensures front { IfOk result (λ c. c.front ≡ length self.now.known) }

@@ -1,4 +1,4 @@
-//! A prefix of the one history, in hand.
+//! A prefix of the one history, as a value.
 ghost use Rattle.std.specs.Prelude.{◌≡◌, ◌≤◌, ◌<◌, ◌⊎◌, length, take, MatchBool, All};
 ghost use mathlib.Core.List.{IsPrefix};
 ghost use Rattle.trace_model.specs.Histories.{IsLegal};
@@ -10,9 +10,9 @@ use std::marker::{Model, PhantomData};
 use trace_model::Entry;
 
 /// A prefix of the one history of a store: what a receipt vouches for, what a pass knows, or all that a keeper has
-/// accepted. Whoever has one may keep it; it takes no memory but for a number.
+/// accepted. It can be kept for as long as needed, and has the size of a number.
 ///
-/// Contracts see its entries, which are legal. Of any two of one store one is a prefix of the other.
+/// Contracts see its entries, which are legal. Of any two of one store, one is a prefix of the other.
 #[derive(Drop)]
 pub struct HistoryPrefix<N: StoreName> {
     seen: Seen<Entry, u64, CountedRule>,
@@ -34,7 +34,7 @@ impl<N: StoreName> Model for HistoryPrefix<N> {
 }
 
 impl<N: StoreName> HistoryPrefix<N> {
-    /// The first entries of what was seen of the history.
+    /// The first `len` entries of what was seen of the history.
     pub(crate) fn new(seen: Seen<Entry, u64, CountedRule>, len: u64) -> HistoryPrefix<N>
         requires book { seen.book ≡ N.book }
         requires within { len ≤ length seen.log }
@@ -48,7 +48,7 @@ impl<N: StoreName> HistoryPrefix<N> {
         }
     }
 
-    /// How many entries it has. They are legal.
+    /// Returns the number of entries. They are legal.
     pub fn len(&self) -> u64
         ensures length { result ≡ length self.now }
         ensures legal { IsLegal N.limits self.now }
@@ -56,7 +56,7 @@ impl<N: StoreName> HistoryPrefix<N> {
         self.len
     }
 
-    /// The same prefix.
+    /// Returns a copy.
     pub fn again(&self) -> HistoryPrefix<N>
         ensures { result ≡ self.now }
     {
@@ -67,7 +67,7 @@ impl<N: StoreName> HistoryPrefix<N> {
         }
     }
 
-    /// Whether it is a prefix of the other one. If it is not, the other one is a prefix of it, and shorter.
+    /// Whether it is a prefix of the other one. If it is not, the other one is a proper prefix of it.
     pub fn is_prefix_of(&self, other: &HistoryPrefix<N>) -> bool
         ensures { MatchBool result (IsPrefix self.now other.now)
             (IsPrefix other.now self.now × (length other.now < length self.now)) }
@@ -77,7 +77,7 @@ impl<N: StoreName> HistoryPrefix<N> {
         self.len <= other.len
     }
 
-    /// The longer one of the two. Both are prefixes of it.
+    /// Returns the longer one of the two. Both are prefixes of it.
     pub fn longer(&self, other: &HistoryPrefix<N>) -> HistoryPrefix<N>
         ensures own { IsPrefix self.now result }
         ensures other { IsPrefix other.now result }
@@ -91,8 +91,8 @@ impl<N: StoreName> HistoryPrefix<N> {
     }
 }
 
-/// The longest one: whatever was done under one store name, by whichever threads, every list that a call spoke of is a prefix
-/// of this one list, which is legal.
+/// Returns the longest one. Every list that a call under one store name named, on any thread, is a prefix of this
+/// one list, which is legal.
 pub fn longest<N: StoreName>(
     first: &HistoryPrefix<N>,
     others: &[HistoryPrefix<N>],
@@ -105,6 +105,7 @@ pub fn longest<N: StoreName>(
     for other in others {
         longest = longest.longer(other);
     }
+    // For the prover: `len`'s clause `legal` is used for the result.
     let _legal = longest.len();
     longest
 }

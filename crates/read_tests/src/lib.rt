@@ -1,12 +1,12 @@
 //! Tests of the two copies, their passes and receipts.
 //!
 //! * `rows`: worked rows, one call after another.
-//! * `sent_again`: batches that are sent again.
+//! * `sent_again`: batches that are resent.
 //! * `machine`: the same steps on the stepped machine and on the two copies.
-//! * `holding`: several reads of one list, beside one that writes.
-//! * `threads`: three threads that read beside one that writes.
+//! * `holding`: several reads of one list, while another thread writes.
+//! * `threads`: three threads that read while another one writes.
 //! * `fixture`: a store that is opened for a row.
-//! * `entries`: what they hand in.
+//! * `entries`: the entries that they submit.
 #![tactic(auto)]
 
 #[cfg(test)]

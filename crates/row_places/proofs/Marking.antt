@@ -18,7 +18,7 @@ known_set slots k m n h mn j = elim (cases_eq j k) [
   | inr other_one ↦ let other = get_or-set_other slots k j n 0 other_one in let below = h j in omega arith
 ]
 
--- the places that were taken are, one more marked
+-- the places that were taken still are, with one more marked
 taken_set : (slots : List ℕ) (s k n d : ℕ) → k < length slots → 0 < n → AreTaken slots s d → AreTaken (set slots k n) s d
 taken_set slots s k n d kn pos taken =
     let l = length-set slots k n in

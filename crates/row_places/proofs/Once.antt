@@ -1,4 +1,4 @@
--- What stands in rows, each of it once, and where a test finds it.
+-- Rows without duplicates, and where a test finds one.
 use Rattle.std.proofs.Common.{◌≡◌, ℕ, ◌<◌, Bool, false, List, [], ◌∷◌, ◌++◌, length, get_or, sym, ◌∙◌, inl, inr, arith, length-append}
 use Rattle.std.specs.Bool.{Decides}
 use Rattle.std.specs.List.{position_or_len}
@@ -11,7 +11,7 @@ module _ {A : Type 0} (same : A → A → Bool) (decides : (a b : A) → Decides
   pub differs : (a b : A) → (b ≡ a → ⊥) → same a b ≡ false
   differs a b apart = false_from_ne_true (same a b) (λ e. apart (sym ((decides a b).0 e)))
 
-  -- the row of what is sought; as many as there are where it has none
+  -- the row of what is sought; the number of rows if it has none
   pub row_none : (sought : A) (rows : List A) → ((r : ℕ) → r < length rows → get_or rows r default ≡ sought → ⊥) → position_or_len (same sought) rows ≡ length rows
   row_none sought rows nowhere =
       position_or_len_is (same sought) rows (length rows) default (omega arith) (λ k below. differs sought (get_or rows k default) (nowhere k below)) (λ below. absurd (omega arith))
@@ -20,7 +20,7 @@ module _ {A : Type 0} (same : A → A → Bool) (decides : (a b : A) → Decides
   row_some sought rows r rn is once =
       position_or_len_is (same sought) rows r default (omega arith) (λ k below. differs sought (get_or rows k default) (λ e. once k r below rn (e ∙ sym is))) (λ _. (decides sought (get_or rows r default)).1 (sym is))
 
--- rows that have the same are one row
+-- rows that are equal are one row
 pub one_row : {A : Type 0} (default : A) (rows : List A) (i j : ℕ) → AreOnce default rows → i < length rows → j < length rows → get_or rows i default ≡ get_or rows j default → i ≡ j
 one_row default rows i j once a b same = elim (cases_order i j) [
   | inl e ↦ e

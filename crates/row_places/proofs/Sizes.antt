@@ -24,7 +24,8 @@ turns growths = omega arith
 turns_back : (growths : ℕ) → 1 - suc growths % 2 ≡ growths % 2
 turns_back growths = omega arith
 
--- the capacity for the last growth in the table that is in use after it, and for the one before in the other
+-- the capacity for the last growth is in the table that is in use after it, and that for the one before in the
+-- other
 pub can_grow : (room growths used next : ℕ) → places_before room (growths % 2) ≤ used → places_before room (1 - growths % 2) ≤ next → CanGrow room growths used next
 can_grow room zero used next u n = tt
 can_grow room (suc growths) used next u n =
@@ -39,7 +40,7 @@ next_holds room (suc growths) used a b sized some =
     let e : growths ≡ suc growths - 1 = omega arith in
     subst (λ k. places_before room k ≤ b) e sized.growth.0
 
--- a growth makes place for one more row
+-- a growth makes room for one more row
 pub more_places : (room growths rows used used_capacity next_capacity : ℕ) → IsSized room growths used used_capacity next_capacity → 0 < growths → 2 * rows < used → 2 * rows + 2 < places_before room (growths - 1)
 more_places room growths rows used a b sized some half =
     let e : growths ≡ growths - 1 + 1 = omega arith in

@@ -44,7 +44,7 @@ never_all slots s sn free taken =
     let all = count_all slots (λ j below. taken j below (steps_within (length slots) s j sn below)) in
     absurd (omega arith)
 
--- what a walk from the hash says of all rows
+-- what a walk from the hash implies for all rows
 pub found_is : (hashes slots : List ℕ) (is : ℕ → Bool) (hash : ℕ) → LeadsIn hashes slots → ((row : ℕ) → row < length hashes → is row ≡ true → get_or hashes row 0 ≡ hash)
     → (r : Option ℕ) → Walked slots (start_of hash (length slots)) (length hashes) is r → Found (length hashes) is r
 found_is hashes slots is hash h same (Some row) w = w

@@ -1,20 +1,20 @@
--- How places lead to rows. A place has 0 where it is free, else a row and one more.
+-- How places lead to rows. A place has 0 if it is free, else a row plus one.
 use Rattle.std.specs.Prelude.{◌≡◌, ℕ, ◌+◌, ◌-◌, ◌*◌, ◌%◌, ◌<◌, ◌≤◌, Bool, true, false, cond, nat_lt, nat_eq, List, Option, Some, None, length, get_or, count_by, take}
 
--- two tables of places, which take turns: what the places of the one in use have, and those of the next one; how many places the
--- next one will have, and how many rows, from the first on, were moved to it
+-- two tables of places, which take turns: the places of the one in use, and those of the next one; the number of
+-- places that the next one will have, and the number of rows, from the first one on, that were moved to it
 pub record Slots : Type 0 where
   pub used : List ℕ
   pub next : List ℕ
   pub places : ℕ
   pub moved : ℕ
 
--- what is seen of places: both tables, and how many rows there is room for in all
+-- the value of places: both tables, and the number of rows that there is room for in all
 pub record Places : Type 0 where
   pub slots : Slots
   pub room : ℕ
 
--- where the walk for a hash begins, among so many places
+-- where the walk for a hash begins, among n places
 abbrev pub start_of : ℕ → ℕ → ℕ
 start_of hash places = hash % places
 
@@ -22,14 +22,14 @@ start_of hash places = hash % places
 abbrev pub place_after : ℕ → ℕ → ℕ
 place_after places at = cond (nat_eq (at + 1) places) 0 (at + 1)
 
--- how many steps a walk that begins at start makes to a place
+-- the number of steps of a walk from start to a place
 abbrev pub steps : ℕ → ℕ → ℕ → ℕ
 steps places start k = cond (nat_lt k start) (places + k - start) (k - start)
 
 abbrev pub is_taken : ℕ → Bool
 is_taken slot = nat_lt 0 slot
 
--- each place that a walk from start comes to in fewer steps has such a mark
+-- each place that a walk from start reaches in fewer steps has such a mark
 abbrev pub EachBefore : (ℕ → Type 0) → List ℕ → ℕ → ℕ → Type 0
 EachBefore HasMark slots start n = (j : ℕ) → j < length slots → steps (length slots) start j < n → HasMark (get_or slots j 0)
 
@@ -37,11 +37,11 @@ EachBefore HasMark slots start n = (j : ℕ) → j < length slots → steps (len
 abbrev pub AreTaken : List ℕ → ℕ → ℕ → Type 0
 AreTaken = EachBefore (λ mark. 0 < mark)
 
--- the walk from start comes to this mark before any free place
+-- the walk from start reaches this mark before any free place
 abbrev pub Reaches : List ℕ → ℕ → ℕ → Type 0
 Reaches slots start mark = (k : ℕ) × (k < length slots) × (get_or slots k 0 ≡ mark) × AreTaken slots start (steps (length slots) start k)
 
--- what a walk among so many rows found: a row that is sought, or none such among those that it comes to
+-- the result of a walk among n rows: a row that is sought, or none such among those that it reaches
 abbrev pub Walked : List ℕ → ℕ → ℕ → (ℕ → Bool) → Option ℕ → Type 0
 Walked slots start rows is_sought (Some row) = (row < rows) × (is_sought row ≡ true)
 Walked slots start rows is_sought None = (row : ℕ) → Reaches slots start (row + 1) → is_sought row ≡ false
@@ -53,7 +53,8 @@ pub record LeadsIn (hashes : List ℕ) (slots : List ℕ) : Type 0 where
   pub known : (k : ℕ) → get_or slots k 0 ≤ length hashes
   pub found : (row : ℕ) → row < length hashes → Reaches slots (start_of (get_or hashes row 0) (length slots)) (row + 1)
 
--- the next table, which will have so many places, leads to the rows that were moved to it; no row is moved before it has all of them
+-- the next table, which will have this number of places, leads to the rows that were moved to it; no row is moved
+-- before it has all of them
 pub record IsPrepared (hashes : List ℕ) (places : ℕ) (next : List ℕ) (moved : ℕ) : Type 0 where
   pub within : length next ≤ places
   pub some : moved ≤ length hashes
@@ -65,11 +66,11 @@ pub record LeadsTo (hashes : List ℕ) (slots : Slots) : Type 0 where
   pub used : LeadsIn hashes slots.used
   pub prepared : IsPrepared hashes slots.places slots.next slots.moved
 
--- a row that is sought, or none of so many is
+-- a row that is sought, or none of n is
 abbrev pub Found : ℕ → (ℕ → Bool) → Option ℕ → Type 0
 Found rows is_sought (Some row) = (row < rows) × (is_sought row ≡ true)
 Found rows is_sought None = (row : ℕ) → row < rows → is_sought row ≡ false
 
--- no two rows have the same
+-- no two rows are equal
 abbrev pub AreOnce : {A : Type 0} → A → List A → Type 0
 AreOnce default rows = (i j : ℕ) → i < j → j < length rows → get_or rows i default ≡ get_or rows j default → ⊥

@@ -1,4 +1,4 @@
-//! How many places a table has, and the table that is prepared for the next growth.
+//! The number of places of a table, and the table that is prepared for the next growth.
 
 ghost use Rattle.std.specs.Prelude.{◌≡◌, ◌+◌, ◌-◌, ◌*◌, ◌^◌, ◌<◌, ◌≤◌, [], ◌++◌, length, take, replicate, vec_capacity};
 ghost use Rattle.row_places.specs.Leading.{LeadsIn, IsPrepared};
@@ -8,17 +8,18 @@ use crate::slots::mark_row;
 use crate::sought::Sought;
 use std::mem;
 
-/// Preparing begins once there is a row for every 16 places of the next table: about a quarter of the places in
-/// use are taken then.
+/// Preparation begins when there is a row for every 16 places of the next table. Then about a quarter of the places
+/// in use are taken.
 const PLACES_PER_ROW: usize = 16;
 
-/// How many free places one step adds.
+/// The number of free places that one step adds.
 const FREE_STEP: usize = 64;
 
-/// How many rows one step moves. With three, all are moved before half of the places in use are taken.
+/// The number of rows that one step moves. With three, all rows are moved before half of the places in use are
+/// taken.
 const ROW_STEP: usize = 3;
 
-/// How many places there are while this many growths are still to come.
+/// Returns the number of places while this number of growths is still to come.
 pub(crate) fn places_before(room: u32, growths: u32) -> usize
     requires { growths ≤ 16 }
     ensures { result ≡ places_before room growths }
@@ -26,7 +27,7 @@ pub(crate) fn places_before(room: u32, growths: u32) -> usize
     (2 * room as usize + 1) >> (2 * growths)
 }
 
-/// How many growths there are in all. The first table has at most three places.
+/// Returns the total number of growths. The first table has at most three places.
 #[tactic(auto, using(crate::proofs::Sizes::places_fourth))]
 pub(crate) fn growths_for(room: u32) -> u32
     ensures few { result ≤ 16 }
@@ -53,12 +54,12 @@ pub(crate) fn add_free(slots: &mut Vec<u32>, places: usize)
     }
 }
 
-/// The table that is prepared for the next growth. First its places are added, all of them free; then the rows
-/// are moved to it in their order.
+/// The table that is prepared for the next growth. First its places are added, all of them free; then the rows are
+/// moved to it in order.
 #[derive(Drop)]
 pub(crate) struct NextPlaces {
     pub(crate) slots: Vec<u32>,
-    /// How many rows it leads to, from the first on.
+    /// The number of rows moved so far, from the first one on.
     pub(crate) moved: u32,
 }
 
@@ -82,7 +83,7 @@ impl NextPlaces {
         self.moved = end as u32;
     }
 
-    /// Does one step: adds a few free places, or moves a few rows. While there are few rows it does nothing.
+    /// Does one step: adds a few free places, or moves a few rows. Does nothing while there are few rows.
     pub(crate) fn prepare<S: Sought>(&mut self, rows: &S, places: usize)
         requires can_read { S.can_read rows.now }
         requires fits { length (S.hashes rows.now) < 2 ^ 32 }
@@ -105,7 +106,7 @@ impl NextPlaces {
         }
     }
 
-    /// Does the steps that are left, and swaps this table with the one in use, which it empties.
+    /// Does the remaining steps, and swaps this table with the one in use, which it empties.
     pub(crate) fn replace<S: Sought>(&mut self, used: &mut Vec<u32>, rows: &S, places: usize)
         requires can_read { S.can_read rows.now }
         requires fits { length (S.hashes rows.now) < 2 ^ 32 }

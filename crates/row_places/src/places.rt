@@ -7,17 +7,17 @@ use crate::sought::Sought;
 use std::alloc::{AllocError, Global};
 use std::marker::Model;
 
-/// Places that lead to rows, with room for so many rows.
+/// Places that lead to rows, with room for a fixed number of rows.
 #[derive(Drop)]
 pub struct RowPlaces {
     room: u32,
-    /// How many growths are still to come.
+    /// The number of growths still to come.
     growths: u32,
-    /// The table in use, which leads to all rows: a row and one more, at the first place that was free from
-    /// where its hash points on; 0 where a place is free.
+    /// The table in use, which leads to all rows: at the first place that was free from where its hash points, the
+    /// row plus one; 0 at a free place.
     slots: Vec<u32>,
-    /// The table after the next growth. It is prepared from when a quarter of the places in use are taken, and is
-    /// ready before half of them are.
+    /// The table after the next growth. Its preparation begins when a quarter of the places in use are taken, and
+    /// ends before half of them are.
     next: NextPlaces,
 }
 
@@ -43,7 +43,7 @@ impl Model for RowPlaces {
 }
 
 impl RowPlaces {
-    /// Places that lead to no row, with room for so many. At most three places are touched.
+    /// Makes places that lead to no row, with room for `room` rows. Touches at most three places.
     ///
     /// # Errors
     ///
@@ -67,14 +67,14 @@ impl RowPlaces {
         })
     }
 
-    /// How many rows there is room for in all.
+    /// Returns the number of rows that there is room for, in all.
     pub fn room(&self) -> u32
         ensures { result ≡ self.now.room }
     {
         self.room
     }
 
-    /// A row that is sought, found by its hash. All rows that are sought have this hash.
+    /// Finds a row that is sought, by its hash. All rows that are sought have this hash.
     pub fn find<S: Sought>(&self, hash: u64, sought: &S) -> Option<u32>
         requires can_read { S.can_read sought.now }
         requires leads { LeadsTo (S.hashes sought.now) self.now.slots }
@@ -85,8 +85,7 @@ impl RowPlaces {
         walk(&self.slots, first_place(self.slots.len(), hash), sought)
     }
 
-    /// Does one step of the next growth. Grows if otherwise half of the places would be taken once one more
-    /// row has its place.
+    /// Does one step of the next growth. Grows if one more row would take half of the places.
     fn make_place<S: Sought>(&mut self, rows: &S)
         requires can_read { S.can_read rows.now }
         requires leads { LeadsTo (S.hashes rows.now) self.old.slots }
@@ -107,7 +106,7 @@ impl RowPlaces {
         }
     }
 
-    /// Marks a place of the row that comes behind all others, by its hash. No memory is taken.
+    /// Marks a place for the row after all others, by its hash. Allocates nothing.
     pub fn mark<S: Sought>(&mut self, hash: u64, rows: &S)
         requires can_read { S.can_read rows.now }
         requires leads { LeadsTo (S.hashes rows.now) self.old.slots }

@@ -1,11 +1,11 @@
-//! Walks over places, each of which has 0 where it is free, else a row and one more.
+//! Walks over places, each of which has 0 if it is free, else a row plus one.
 
 ghost use Rattle.std.specs.Prelude.{◌≡◌, ℕ, ◌+◌, ◌*◌, ◌^◌, ◌<◌, ◌≤◌, List, [], ◌∷◌, ◌++◌, length, get_or, count_by};
 ghost use Rattle.row_places.specs.Leading.{start_of, place_after, is_taken, steps, AreTaken, Walked, LeadsIn};
 
 use crate::sought::Sought;
 
-/// The place where the walk for a hash begins.
+/// Returns the place at which the walk for a hash begins.
 pub(crate) fn first_place(places: usize, hash: u64) -> usize
     requires { 0 < places }
     ensures value { result ≡ start_of hash places }
@@ -14,7 +14,7 @@ pub(crate) fn first_place(places: usize, hash: u64) -> usize
     (hash % places as u64) as usize
 }
 
-/// The place after this one: after the last comes the first.
+/// Returns the place after this one; the first one comes after the last.
 fn next_place(places: usize, at: usize) -> usize
     requires { at < places }
     ensures value { result ≡ place_after places at }
@@ -46,7 +46,7 @@ pub(crate) fn walk<S: Sought>(slots: &[u32], start: usize, sought: &S) -> Option
     None
 }
 
-/// Walks to the first place that is free.
+/// Walks to the first free place.
 fn free_place(slots: &[u32], start: usize) -> usize
     requires start { start < length slots.now }
     requires free { count_by is_taken slots.now < length slots.now }
@@ -64,7 +64,7 @@ fn free_place(slots: &[u32], start: usize) -> usize
     unreachable!()
 }
 
-/// Marks a place of the row that comes behind all others, by its hash.
+/// Marks a place for the row after all others, by its hash.
 pub(crate) fn mark_row(slots: &mut [u32], hash: u64, row: u32)
     requires fits { row + 1 < 2 ^ 32 }
     requires half { 2 * row + 2 < length slots.old }

@@ -1,6 +1,6 @@
 ghost use Rattle.std.specs.Prelude.{◌≡◌, ◌<◌, length, get_or};
 
-/// What is sought, and the rows among which it is.
+/// The key to find, and the rows that are searched.
 pub trait Sought {
     ghost use Rattle.std.specs.Prelude.{ℕ, List, Bool};
 
@@ -13,12 +13,12 @@ pub trait Sought {
     /// Whether a row is sought.
     ghost is_sought: { Self → ℕ → Bool };
 
-    /// How many rows there are.
+    /// Returns the number of rows.
     fn rows(&self) -> usize
         requires { can_read self.now }
         ensures { result ≡ length (hashes self.now) };
 
-    /// The hash of a row.
+    /// Returns the hash of a row.
     fn hash_at(&self, row: usize) -> u64
         requires can_read { can_read self.now }
         requires row { row < length (hashes self.now) }

@@ -1,5 +1,5 @@
--- What holds of every machine that has begun anew: what is accepted is legal, the numbers of what waits fit behind it, and
--- readers have seen beginnings of the history.
+-- What holds of every machine that starts anew: what is accepted is legal, the numbers of what waits fit after it,
+-- and readers have seen prefixes of the history.
 use Rattle.std.proofs.Common.{◌≡◌, ℕ, ◌+◌, true, false, List, [], ◌∷◌, ◌++◌, length, take, drop, Some, None, refl, sym, ap, subst, append_assoc, arith}
 use Rattle.std.specs.Prelude.{slice_get, nat_le, if◌then◌else◌}
 use Rattle.std.specs.List.{All}
@@ -24,7 +24,7 @@ use Rattle.schedule_core.specs.Numbering.{IsNumbered}
 use Rattle.schedule_core.proofs.Numbering.{numbered_put, numbered_taken, numbered_dropped, numbered_above}
 use Rattle.schedule_core.proofs.StepCases.{on_step}
 
--- a reader has seen a beginning of the history, and is inside at that
+-- a reader has seen a prefix of the history, and is inside at that
 pub record StandsIn (h : List Entry) (reader : Reader) : Type 0 where
   pub seen : IsPrefix reader.seen h
   pub visit : (v : Visit) → reader.inside ≡ Some v → v.list ≡ reader.seen
@@ -56,7 +56,7 @@ reader_stands h readers r reader all e =
     subst (StandsIn h) (get_or_from_slice_get readers r reader reader e)
     (All-get_or (StandsIn h) readers r reader (slice_get_within readers r reader e) all)
 
--- readers stand where they stood while the history grows
+-- readers stay where they are while the history grows
 stands_grown : (h more : List Entry) (readers : List Reader) → All (StandsIn h) readers → All (StandsIn (h ++ more)) readers
 stands_grown h more =
     All-weaker (StandsIn h) (StandsIn (h ++ more)) (λ reader s. record {

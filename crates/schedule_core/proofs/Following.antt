@@ -13,7 +13,7 @@ next_follows limits h rest all e legal whole =
     last_is_added limits h e
     (legal_front limits (h ++ e ∷ []) rest (subst (IsLegal limits) (sym (append_assoc h (e ∷ []) rest ∙ whole)) legal))
 
--- the same where what is behind is seen through f
+-- the same for items after them mapped by f
 pub item_follows : {X : Type 0} (f : X → Entry) (limits : Limits) (h all : List Entry) (behind : List X) (i : ℕ) (x : X) → IsLegal limits all
     → i < length behind → x ≡ get_or behind i x → h ++ map f (drop i behind) ≡ all → admission limits h (f x) ≡ Ok Added
 item_follows f limits h all behind i x legal below is whole =

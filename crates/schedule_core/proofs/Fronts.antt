@@ -1,4 +1,4 @@
--- The fronts that are reported to a reader never fall.
+-- The fronts that are reported to a reader never decrease.
 use Rattle.std.proofs.Common.{◌≡◌, ℕ, ◌≤◌, ◌⊎◌, Bool, true, false, List, [], ◌∷◌, ◌++◌, length, take, Some, inl, inr, refl, sym, ap, ◌∙◌, subst, arith}
 use Rattle.std.specs.Prelude.{slice_get, slice_set, nat_le, ◌==◌, if◌then◌else◌}
 use Rattle.std.specs.Option.{option_map_or}
@@ -15,7 +15,7 @@ use Rattle.schedule_core.proofs.StepCases.{on_step}
 use Rattle.schedule_core.proofs.Fitting.{Fits, reader_stands, step_fits, new_fits}
 use Rattle.schedule_core.proofs.Looks.{get_other, get_same}
 
--- how many entries the reader has seen, if there is such a reader
+-- the number of entries that the reader has seen, if there is such a reader
 seen_front : List Reader → ℕ → ℕ
 seen_front readers r = option_map_or (λ (reader : Reader). length reader.seen) (slice_get readers r) 0
 
@@ -38,7 +38,7 @@ record Reports (r : ℕ) (before after : List Reader) (fronts : List ℕ) : Type
 reports_none : (r : ℕ) (readers : List Reader) (fronts : List ℕ) → fronts ≡ [] → Reports r readers readers fronts
 reports_none r readers fronts none = record { grows = omega arith; reported = inl none }
 
--- nothing is reported, whosever step it is
+-- nothing is reported, whichever reader's step it is
 unreported : (b : Bool) (fronts : List ℕ) → fronts ≡ [] → (if b then fronts else []) ≡ []
 unreported true fronts none = none
 unreported false fronts none = refl
@@ -101,7 +101,7 @@ step_reports limits r m fits = on_step m (λ s t. Reports r m.readers t.machine.
 
 -- ---- runs
 
--- the fronts never fall, from this one on
+-- the fronts never decrease, from this one on
 record NeverBelow (n : ℕ) (ks : List ℕ) : Type 0 where
   least : All (λ k. n ≤ k) ks
   rest : NeverFalls ks

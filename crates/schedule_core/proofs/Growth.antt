@@ -1,4 +1,4 @@
--- The history only grows, and each answer is of a beginning of it.
+-- The history only grows, and each answer is of a prefix of it.
 use Rattle.std.proofs.Common.{◌≡◌, ℕ, List, [], ◌∷◌, ◌++◌, length, Some, refl, sym, ap, ◌∙◌, subst}
 use mathlib.Core.List.{IsPrefix}
 use Rattle.trace_model.specs.declared.entry.Entry.{Entry}
@@ -35,7 +35,7 @@ run_grows m [] = prefix_self m.history
 run_grows m (s ∷ ss) =
     prefix_trans m.history (step m s).machine.history (at_last m (s ∷ ss)).history (step_grows m s) (run_grows (step m s).machine ss)
 
--- more steps go on from where the first ones ended
+-- more steps continue from where the first ones ended
 pub run_goes_on : (m : Machine) (ss more : List Step) → at_last m (ss ++ more) ≡ at_last (at_last m ss) more
 run_goes_on m [] more = refl
 run_goes_on m (s ∷ ss) more = run_goes_on (step m s).machine ss more
@@ -48,7 +48,7 @@ history_grows limits steps more =
 
 -- ---- answers
 
--- a reader's visit is at a beginning of what the history grows to
+-- a reader's visit is at a prefix of what the history grows to
 visit_begins : (m : Machine) (h : List Entry) (reader : Reader) (v : Visit) → StandsIn m.history reader → reader.inside ≡ Some v
     → IsPrefix m.history h → IsPrefix v.list h
 visit_begins m h reader v stands is p = subst (λ l. IsPrefix l h) (sym (stands.visit v is)) (prefix_trans reader.seen m.history h stands.seen p)

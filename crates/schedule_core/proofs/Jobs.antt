@@ -1,4 +1,4 @@
--- Jobs go on in the order in which they were handed in: to what is accepted, or out, or they wait.
+-- Jobs move in the order in which they were submitted: to what is accepted, or out, or they wait.
 use Rattle.std.proofs.Common.{◌≡◌, ℕ, ◌+◌, Bool, true, false, List, [], ◌∷◌, ◌++◌, length, drop, refl, sym, ap, ◌∙◌, subst, append_assoc}
 use Rattle.std.proofs.lemmas.List.{append-nil}
 use Rattle.std.proofs.lemmas.List.Elements.{All-nil}
@@ -15,7 +15,7 @@ use Rattle.schedule_core.proofs.Numbering.{numbered_put, numbered_taken}
 
 -- ---- what a step does to the jobs
 
--- Whatever jobs and verdicts come later: those that the step reports stand in front of them.
+-- Whatever jobs and verdicts come later: those that the step reports come before them.
 record Passes (m n : Machine) (jobs : List Entry) (verdicts : List Bool) : Type 0 where
   accepts : (js : List Entry) (vs : List Bool)
       → accepted n ++ kept (n.waiting ++ js) vs ≡ accepted m ++ kept (m.waiting ++ (jobs ++ js)) (verdicts ++ vs)
@@ -114,7 +114,7 @@ others_wait limits steps = run_waits (new_machine limits) steps
 
 -- ---- numbers
 
--- the jobs that a step hands in are numbered behind those before it
+-- the jobs that a step submits are numbered after those before it
 step_numbers : (m : Machine) (before : List Entry) → IsNumbered before [] m.numbers → (s : Step)
     → IsNumbered before (job_of s (step m s).outcome) (step m s).machine.numbers
 step_numbers m before numbered = on_step m (λ s t. IsNumbered before (job_of s t.outcome) t.machine.numbers) (record {
@@ -130,7 +130,7 @@ step_numbers m before numbered = on_step m (λ s t. IsNumbered before (job_of s 
   left = λ r reader e. numbered;
 })
 
--- jobs that rise, and behind them more that rise
+-- jobs with ascending numbers, followed by more of them
 rises_on : (ns : List ℕ) (before jobs more : List Entry) → IsNumbered before jobs ns
     → ((all : List Entry) → IsNumbered all [] ns → RisesAfter all more) → RisesAfter before (jobs ++ more)
 rises_on ns before [] more numbered on = on before numbered

@@ -1,4 +1,4 @@
-pub mod Beginnings
+pub mod Prefixes
 pub mod Following
 pub mod Numbering
 pub mod StepCases

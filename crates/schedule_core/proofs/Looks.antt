@@ -32,7 +32,7 @@ get_same (z ∷ xs) (suc i) x y e = get_same xs i x y e
 
 -- ---- one reader
 
--- the reader stands in both machines alike, under the same limits
+-- the reader has the same state in both machines, under the same limits
 pub record StandsAlike (reader : ℕ) (m n : Machine) : Type 0 where
   pub bounds : n.limits ≡ m.limits
   pub place : slice_get n.readers reader ≡ slice_get m.readers reader
@@ -62,7 +62,7 @@ steps_of_others reader m (s ∷ ss) all =
     let rest = steps_of_others reader (step m s).machine ss (All-tail (λ t. is_of reader t ≡ false) s ss all) in
     record { bounds = rest.bounds ∙ first.bounds; place = rest.place ∙ first.place }
 
--- ---- its look
+-- ---- its read
 
 look_of : (m : Machine) (reader : ℕ) (at : Reader) (visit : Visit) (query : Query) → slice_get m.readers reader ≡ Some at
     → at.inside ≡ Some visit

@@ -107,7 +107,7 @@ numbers_append k (j ∷ a) b =
       | false ↦ numbers_append k a b
     ]
 
--- the numbers go on from one above the last
+-- the numbers continue from one above the last
 GoesOn : ℕ → List ℕ → Type 0
 GoesOn last ns = ns ≡ range_with_len (last + 1) (length ns)
 

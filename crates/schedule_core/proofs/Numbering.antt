@@ -1,4 +1,4 @@
--- Jobs that wait are numbered behind what is accepted, whatever is handed in, taken or dropped.
+-- Jobs that wait are numbered after what is accepted, whatever is submitted, taken or dropped.
 use Rattle.std.proofs.Common.{◌≡◌, ℕ, ◌+◌, ◌<◌, ◌≤◌, List, [], ◌∷◌, ◌++◌, length, Some, inl, inr, sym, subst, append_assoc, arith}
 use Rattle.std.specs.Prelude.{slice_get, slice_index, slice_set}
 use Rattle.std.specs.List.{All}
@@ -43,7 +43,7 @@ above_without : (e d : Entry) (a b : List Entry) → AboveEach e (a ++ d ∷ b) 
 above_without e d [] b above = above.1
 above_without e d (c ∷ a) b above = (above.0, above_without e d a b above.1)
 
--- numbers still rise where there is less in front
+-- numbers are still ascending if there are fewer before them
 rises_without : (d : Entry) (a b w : List Entry) → RisesAfter (a ++ d ∷ b) w → RisesAfter (a ++ b) w
 rises_without d a b [] r = tt
 rises_without d a b (e ∷ w) r =
@@ -55,7 +55,7 @@ within_without ns e [] w all = All-tail (Within ns) e w all
 within_without ns e (c ∷ a) w all =
     All-cons (Within ns) c (a ++ w) (All-head (Within ns) c (a ++ e ∷ w) all) (within_without ns e a w (All-tail (Within ns) c (a ++ e ∷ w) all))
 
--- ---- what is handed in, taken and dropped
+-- ---- what is submitted, taken and dropped
 
 pub numbered_put : (a w : List Entry) (ns : List ℕ) (e : Entry) (last : ℕ) → IsNumbered a w ns → slice_get ns e.seat ≡ Some last
     → e.number ≡ last + 1

@@ -7,7 +7,7 @@ use Rattle.schedule_core.specs.declared.outcome.Outcome.TheVariants.{Refused}
 use Rattle.schedule_core.specs.Machine.{Machine, at_last, outcomes, step}
 use Rattle.schedule_core.specs.Worlds.{PlaysAs, Steps}
 
--- the outcomes so far, and the machine after them while memory is found
+-- the outcomes so far, and the machine after them as long as memory allows
 pub record Ran (m : Machine) (steps : List Step) (os : List Outcome) (now : Option Machine) : Type 0 where
   pub plays : PlaysAs m steps os
   pub stands : ((now ≡ Some (at_last m plays.played)) × (plays.rest ≡ [])) ⊎ (now ≡ None)

@@ -1,4 +1,4 @@
--- The machine over two copies goes on as the machine does.
+-- The machine over two copies makes the steps of the machine.
 use Rattle.std.proofs.Common.{◌≡◌, ℕ, suc, ◌+◌, ◌<◌, ◌≤◌, Bool, true, false, List, [], ◌∷◌, ◌++◌, length, map, take, Option, Some, None, inl, inr, refl, sym, ap, ◌∙◌, subst, append_assoc, append-nil, arith}
 use Rattle.std.specs.Prelude.{cond, get_or, not, if◌then◌else◌, nat_lt, option_map, IfSome, Result, Ok, Err, replicate, slice_index, slice_get, slice_set}
 use Rattle.std.specs.List.{All, position, position_or_len}
@@ -98,7 +98,7 @@ state_after c now q next fronts places e o answer s is judged_job =
 abbrev shown : Copied → Queued → List ℕ → List ReaderState → Entry → Result Admission Refusal → Stepped
 shown c q fronts places e answer = record { outcome = outcome_by e answer; machine = machine_of (after_admission c e answer) q fronts places }
 
--- of a batch that was sent before nothing is added
+-- nothing is added for a batch that was sent before
 repeat_alike : (c : Copied) (q : Queued) (fronts : List ℕ) (places : List ReaderState) (e : Entry) (before : ℕ)
     → shown c q fronts places e (repeated (c.history ++ c.pending) e before)
     ≡ drops (machine_of c (record q { waiting = e ∷ q.waiting }) fronts places) q.waiting (outcome_by e (repeated (c.history ++ c.pending) e before))
@@ -178,7 +178,7 @@ none_at : (b : Bool) (n : ℕ) → cond b (Some n) None ≡ None → b ≡ false
 none_at true n e = absurd cc
 none_at false n e = refl
 
--- where no reader is the first one held, none is
+-- if no reader is the first one held, none is
 pub none_held : (publishes : ℕ) (places : List ReaderState) → position (is_held publishes) places ≡ None → All (λ p. is_held publishes p ≡ false) places
 none_held publishes places e =
     let past = ltb-false (position_or_len (is_held publishes) places) (length places) (none_at _ _ e) in

@@ -1,4 +1,4 @@
--- What a step can do: what holds in each of these cases holds of every step.
+-- The cases of a step: what holds in each of them holds of every step.
 use Rattle.std.proofs.Common.{◌≡◌, ℕ, suc, ◌+◌, Bool, true, false, List, [], ◌∷◌, length, take, Option, Some, None, refl}
 use Rattle.std.specs.Prelude.{get_or, slice_get, nat_lt, if◌then◌else◌, nat_le, Ok, Err}
 use Rattle.std.specs.Option.{option_map_or}

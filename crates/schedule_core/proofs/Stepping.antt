@@ -1,4 +1,4 @@
--- What a reader does at its place is what the machine has it do.
+-- What a reader does in its state is what the machine makes it do.
 use Rattle.std.proofs.Common.{◌≡◌, ℕ, ◌-◌, ◌≤◌, true, false, List, length, take, max, Option, Some, None, inl, refl, sym, ap, ◌∙◌, subst, arith}
 use Rattle.std.specs.Prelude.{if◌then◌else◌, nat_lt, nat_le, is_some, option_map, slice_get, slice_set}
 use Rattle.std.specs.List.{All}
@@ -21,7 +21,7 @@ use Rattle.schedule_core.specs.MachineStates.{IsState, machine_of}
 use Rattle.schedule_core.proofs.StateSteps.{after, reader_of, view_set, visit_of}
 use Rattle.trace_model.proofs.Lists.{none_is}
 
--- the element that is there meets what all do
+-- the element at the place meets what all do
 at_place : {A : Type 0} (P : A → Type 0) (xs : List A) (i : ℕ) (x : A) → slice_get xs i ≡ Some x → All P xs → P x
 at_place P xs i x e all = subst P (get_or_from_slice_get xs i x x e) (All-get_or P xs i x (slice_get_within xs i x e) all)
 
@@ -29,7 +29,7 @@ some_is : {A : Type 0} (o : Option A) → is_some o ≡ true → (x : A) × (o �
 some_is None e = absurd cc
 some_is (Some x) e = (x, refl)
 
--- of two beginnings the longer one has more entries
+-- of two prefixes the longer one has more entries
 longest : (h : List Entry) (a b : ℕ) → a ≤ length h → b ≤ length h → longer (take a h) (take b h) ≡ take (max a b) h
 longest h a b la lb =
     ap (λ k. if nat_le k (length (take b h)) then take b h else take a h) (length-take-le a h la)

@@ -1,4 +1,4 @@
--- What is accepted, and how much of it two copies of a store hold.
+-- What is accepted, and how much of it two copies of a store have.
 use Rattle.std.specs.Prelude.{◌≡◌, [], ◌∷◌, ◌++◌, List, Result, Ok, Err}
 use mathlib.Core.List.{IsPrefix}
 use Rattle.trace_model.specs.declared.admission.Admission.{Admission}
@@ -16,7 +16,7 @@ pub record Copied : Type 0 where
   pub history : List Entry
   pub pending : List Entry
 
--- both copies hold beginnings of what is accepted
+-- both copies have prefixes of what is accepted
 pub record IsCopied (accepted shown spare : Held) : Type 0 where
   pub limits_shown : shown.limits ≡ accepted.limits
   pub limits_spare : spare.limits ≡ accepted.limits
@@ -30,12 +30,12 @@ all_of c = record { limits = c.limits; entries = c.history ++ c.pending }
 abbrev pub with_pending : Copied → Entry → Copied
 with_pending c e = record c { pending = c.pending ++ e ∷ [] }
 
--- the entry is pending where it was added, and nothing has changed where it was not
+-- the entry is pending if it was added, and nothing has changed if it was not
 abbrev pub after_admission : Copied → Entry → Result Admission Refusal → Copied
 after_admission c e (Ok Added) = with_pending c e
 after_admission c e (Ok (Resent place)) = c
 after_admission c e (Err why) = c
 
--- the copies have changed their parts, and the new one holds all
+-- the copies have swapped roles, and the shown one has all
 abbrev pub turned : Copied → Copied
 turned c = record { limits = c.limits; before = c.history; history = c.history ++ c.pending; pending = [] }

@@ -13,7 +13,7 @@ use Rattle.schedule_core.specs.Machine.{Machine, Reader, Visit, new_machine, acc
 use Rattle.schedule_core.specs.Runs.{along, AllAlong, IsOf, NeverFalls, front_for, is_of, job_of, kept, name_of, numbers_of, reported_by, verdict_of}
 use Rattle.schedule_core.specs.Worlds.{PlaysAs}
 
--- where the steps lead a machine in which nothing has happened
+-- the machine after the steps, from one in which nothing has happened
 abbrev pub led : Limits → List Step → Machine
 led limits steps = at_last (new_machine limits) steps
 
@@ -21,7 +21,7 @@ led limits steps = at_last (new_machine limits) steps
 abbrev pub determined : Limits → List Step → List Outcome
 determined limits steps = outcomes (new_machine limits) steps
 
--- the jobs that were handed in, and the verdicts on those that were taken
+-- the jobs that were submitted, and the verdicts on those that were taken
 abbrev pub jobs : Limits → List Step → List Entry
 jobs limits steps = along job_of steps (determined limits steps)
 
@@ -32,7 +32,7 @@ verdicts limits steps = along verdict_of steps (determined limits steps)
 abbrev pub Grows : Limits → List Step → Type 0
 Grows limits steps = (first rest : List Step) → steps ≡ first ++ rest → IsPrefix (led limits first).history (led limits steps).history
 
--- a reader inside is answered the same, whatever others do meanwhile
+-- a reader inside gets the same answers, whatever others do meanwhile
 abbrev pub IsSteady : Limits → List Step → Type 0
 IsSteady limits steps = (first others : List Step) (reader : ℕ) (at : Reader) (visit : Visit) (query : Query)
     → steps ≡ first ++ others → slice_get (led limits first).readers reader ≡ Some at → at.inside ≡ Some visit
@@ -56,8 +56,8 @@ pub record IsRun (limits : Limits) (steps : List Step) : Type 0 where
   pub counted : (seat : ℕ) → CountsFromOne seat (jobs limits steps)
   pub legal : IsLegal limits (accepted (led limits steps))
 
--- The outcomes are those of a machine that has begun anew, as far as memory was found; what holds of every run holds of the
--- steps up to there.
+-- The outcomes are those of a machine that starts anew, as far as memory allows; what holds of every run holds of
+-- the steps up to there.
 pub record IsPlayed (limits : Limits) (steps : List Step) (os : List Outcome) : Type 0 where
   pub plays : PlaysAs (new_machine limits) steps os
   pub run : IsRun limits plays.played

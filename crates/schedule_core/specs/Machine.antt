@@ -1,4 +1,4 @@
--- The stepped machine. No copies, indexes or threads stand in it.
+-- The stepped machine. It has no copies, indexes or threads.
 use Rattle.std.specs.Prelude.{ℕ, ◌+◌, ◌-◌, Bool, true, false, List, [], ◌∷◌, ◌++◌, length, take, Option, Some, None, Result, Ok, Err, slice_set, replicate, if◌then◌else◌, nat_lt, nat_le, slice_get}
 use Rattle.std.specs.List.{position}
 use Rattle.std.specs.Option.{option_map_or}
@@ -20,7 +20,7 @@ use Rattle.schedule_core.specs.declared.step.Step.TheVariants as ask
 use Rattle.schedule_core.specs.declared.outcome.Outcome.{Outcome}
 use Rattle.schedule_core.specs.declared.outcome.Outcome.TheVariants.{Put, Taken, Again, Refused, Idle, Published, Held, Entered, Answered, Learnt, Left, Inside, Outside, Unknown}
 
--- the list that a reader entered, and how many publishes had been done then
+-- the list that a reader entered, and the number of publishes at that time
 pub record Visit : Type 0 where
   pub list : List Entry
   pub publishes : ℕ
@@ -30,8 +30,8 @@ pub record Reader : Type 0 where
   pub seen : List Entry
   pub inside : Option Visit
 
--- Jobs wait and are taken into pending; a publish makes the history of history and pending. The front of a
--- publish is how many entries the history had then. A seat's last number is 0 at first.
+-- Jobs wait and are moved to pending; a publish makes the history of history and pending. The front of a publish is
+-- the number of entries of the history at that time. A seat's last number is 0 at first.
 pub record Machine : Type 0 where
   pub limits : Limits
   pub waiting : List Entry
@@ -77,7 +77,7 @@ abbrev pub puts : Machine → ℕ → Work → Option ℕ → Stepped
 puts m seat work None = stays m Unknown
 puts m seat work (Some last) = if nat_lt last 18446744073709551615 then handed_in m seat work (last + 1) else stays m Unknown
 
--- a limit above 1,000,000 is none
+-- a limit above 1,000,000 does nothing
 abbrev pub limits_by : Machine → ℕ → ℕ → Option ℕ → Stepped
 limits_by m seat n last = if nat_le n 1000000 then puts m seat (brings.TraceLimit n) last else stays m Unknown
 
@@ -93,13 +93,14 @@ abbrev pub judged_job : Machine → Entry → List Entry → Bool → Stepped
 judged_job m job rest true = record { outcome = Taken job.seat job.number; machine = record m { waiting = rest; pending = m.pending ++ job ∷ [] } }
 judged_job m job rest false = drops m rest (Refused (full m))
 
--- how the outcome reports what has become of a job
+-- the outcome that reports what has become of a job
 abbrev pub outcome_by : Entry → Result Admission Refusal → Outcome
 outcome_by job (Ok Added) = Taken job.seat job.number
 outcome_by job (Ok (Resent place)) = Again job.seat job.number place
 outcome_by job (Err why) = Refused why
 
--- a job whose batch was sent before, behind so many entries, is dropped; any other one is judged by the limits
+-- a job whose batch was sent before, with this number of entries before it, is dropped; any other one is judged by
+-- the limits
 abbrev pub takes_by : Machine → Entry → List Entry → Option ℕ → Stepped
 takes_by m job rest (Some before) = drops m rest (outcome_by job (repeated (accepted m) job before))
 takes_by m job rest None = judged_job m job rest (has_room m.limits (accepted m) job)
@@ -111,7 +112,7 @@ takes m (job ∷ rest) = takes_by m job rest (sent_before (accepted m) job)
 
 -- ---- publishes
 
--- the reader is inside since before the last of so many publishes
+-- the reader has been inside since before the last of n publishes
 abbrev pub holds : ℕ → Reader → Bool
 holds publishes reader = option_map_or (λ (v : Visit). nat_lt v.publishes publishes) reader.inside false
 

@@ -12,7 +12,7 @@ use Rattle.schedule_core.specs.Copied.{Copied, after_admission}
 use Rattle.schedule_core.specs.Queued.{Queued}
 use Rattle.schedule_core.specs.Standing.{Stands, reader_at}
 
--- the machine that is kept so
+-- the machine that this state represents
 abbrev pub machine_of : Copied → Queued → List ℕ → List ReaderState → Machine
 machine_of c q fronts places = record {
   limits = c.limits;
@@ -29,11 +29,11 @@ pub record IsState (c : Copied) (q : Queued) (fronts : List ℕ) (places : List 
   pub within : All (λ f. f ≤ length c.history) fronts
   pub standing : All (Stands c.before c.history (length fronts)) places
 
--- what came of a job, and the copies after it
+-- the outcome of a job, and the copies after it
 pub record Verdict : Type 0 where
   pub outcome : Outcome
   pub copies : Copied
 
--- by what becomes of it where all that is accepted stands
+-- by what becomes of it after all that is accepted
 abbrev pub verdict : Copied → Entry → Result Admission Refusal → Verdict
 verdict c e answer = record { outcome = outcome_by e answer; copies = after_admission c e answer }

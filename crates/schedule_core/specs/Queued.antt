@@ -7,7 +7,7 @@ pub record Queued : Type 0 where
   pub waiting : List Entry
   pub numbers : List ℕ
 
--- the number after the seat's last one; none where there is no such seat, or its numbers are used up
+-- the number after the seat's last one; none if there is no such seat, or its numbers are used up
 abbrev pub number_after : Option ℕ → Option ℕ
 number_after None = None
 number_after (Some last) = if nat_lt last 18446744073709551615 then Some (last + 1) else None
@@ -15,7 +15,7 @@ number_after (Some last) = if nat_lt last 18446744073709551615 then Some (last +
 abbrev pub next_number : List ℕ → ℕ → Option ℕ
 next_number numbers seat = number_after (slice_get numbers seat)
 
--- the job waits behind the others, where it has a number
+-- the job waits after the others, if it has a number
 abbrev pub queued : Queued → ℕ → Work → Option ℕ → Queued
 queued q seat work None = q
 queued q seat work (Some number) = record {

@@ -25,7 +25,7 @@ AllAlong P (s ∷ ss) (o ∷ os) = P s o × AllAlong P ss os
 
 -- ---- jobs
 
--- the job that was handed in
+-- the job that was submitted
 abbrev pub job_of : Step → Outcome → List Entry
 job_of (ask.Put seat batch) (Put number) = record { seat = seat; number = number; work = brings.Batch batch } ∷ []
 job_of (ask.Limit seat n) (Put number) = record { seat = seat; number = number; work = brings.TraceLimit n } ∷ []
@@ -84,7 +84,7 @@ abbrev pub NeverFalls : List ℕ → Type 0
 NeverFalls [] = Unit {0}
 NeverFalls (n ∷ ns) = All (λ k. n ≤ k) ns × NeverFalls ns
 
--- an answer is the plain store's of the first entries of the history, as many as the front says
+-- an answer is the plain store's for the first entries of the history, as many as the front says
 abbrev pub IsOf : Limits → List Entry → Step → Outcome → Type 0
 IsOf limits h (ask.Read r query) (Answered front a) = (front ≤ length h) × (a ≡ answer limits (take front h) query)
 IsOf limits h s o = Unit {0}

@@ -1,4 +1,4 @@
--- Where a reader stands, by the counts that are kept of it.
+-- The state of a reader, by the counts that are stored of it.
 use Rattle.std.specs.Prelude.{◌≡◌, ℕ, ◌+◌, ◌≤◌, ◌⊎◌, Bool, false, List, option_map, IfSome, length, take, nat_lt}
 use Rattle.std.specs.Option.{option_map_or}
 use Rattle.trace_model.specs.declared.entry.Entry.{Entry}
@@ -6,11 +6,11 @@ use Rattle.schedule_core.specs.Machine.{Reader, Visit}
 use Rattle.schedule_core.specs.declared.readers.Inside.{Inside}
 use Rattle.schedule_core.specs.declared.readers.ReaderState.{ReaderState}
 
--- inside since before the last of so many publishes
+-- inside since before the last of n publishes
 abbrev pub is_held : ℕ → ReaderState → Bool
 is_held publishes p = option_map_or (λ (v : Inside). nat_lt v.publishes publishes) p.inside false
 
--- the reader that stands there
+-- the visit of that reader
 abbrev pub visit_at : List Entry → Inside → Visit
 visit_at history v = record { list = take v.front history; publishes = v.publishes }
 

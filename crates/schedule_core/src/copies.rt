@@ -1,5 +1,5 @@
-//! What is accepted, and two copies of a store that hold beginnings of it. One copy is shown; the other
-//! is brought up to date, and they change their parts.
+//! The accepted entries, and two copies of a store that hold prefixes of them. One copy is shown; the other one
+//! is brought up to date, and they swap roles.
 
 ghost use Rattle.std.specs.Prelude.{◌≡◌, [], length, map, Ok, OnOk, OnErr, IfOk, IfErr, IsErr, if◌then◌else◌};
 ghost use Rattle.std.specs.Arc.{arc_value};
@@ -20,10 +20,10 @@ use std::marker::Model;
 use std::sync::Arc;
 use trace_model::{Admission, Answer, Entry, Limits, Query, Refusal};
 
-/// Two copies of a store, and what is accepted and not in them yet.
+/// Two copies of a store, and the accepted entries that are not in them yet.
 #[derive(Drop)]
 pub(crate) struct Copies {
-    /// The history, and what is pending behind it.
+    /// The history, followed by what is pending.
     accepted: Journal,
     /// The store of the history.
     shown: SpanStore,
@@ -42,7 +42,7 @@ impl Model for Copies {
     ghost invariant = { λ s. IsCopied s.accepted.held s.shown s.spare };
 }
 
-/// Gives up what was made before memory ran out.
+/// Drops what was made before memory ran out.
 pub(crate) fn without_memory<T: Drop, R>(made: T) -> Result<R, AllocError>
     ensures { IsErr result }
 {
@@ -51,7 +51,7 @@ pub(crate) fn without_memory<T: Drop, R>(made: T) -> Result<R, AllocError>
 }
 
 impl Copies {
-    /// Two empty copies.
+    /// Makes two empty copies.
     ///
     /// # Errors
     ///
@@ -61,6 +61,7 @@ impl Copies {
             copies ≡ record { limits = limits; before = []; history = []; pending = [] }) }
     {
         let accepted = Journal::new(alloc, keys, limits)?;
+        // For the prover: `len`'s clause `legal` is used below.
         let _legal = accepted.len();
         let Ok(shown) = SpanStore::open(alloc, keys, limits) else {
             return without_memory(accepted);
@@ -75,19 +76,19 @@ impl Copies {
         })
     }
 
-    /// How many entries the history has.
+    /// Returns the number of entries of the history.
     pub fn front(&self) -> u64
         ensures { result ≡ length self.now.history }
     {
         self.shown.len()
     }
 
-    /// Accepts an entry, which is pending then. Where its batch was sent before with the same spans, nothing has
+    /// Accepts an entry, which is then pending. If its batch was sent before with the same spans, nothing has
     /// changed, and the answer has that place.
     ///
     /// # Errors
     ///
-    /// The refusal by what is accepted, pending entries too ([`Refusal::Conflict`], [`Refusal::Stale`],
+    /// The refusal by the accepted entries, including pending ones ([`Refusal::Conflict`], [`Refusal::Stale`],
     /// [`Refusal::JournalFull`]). Nothing has changed then.
     pub fn admit(&mut self, entry: Arc<Entry>) -> Result<Admission, Refusal>
         ensures answer { result ≡ admission_by (all_of self.old) (arc_value entry) }
@@ -102,11 +103,11 @@ impl Copies {
         Ok(admission)
     }
 
-    /// Makes all that is accepted the history.
+    /// Makes all accepted entries the history.
     ///
     /// # Errors
     ///
-    /// Out of memory, and nothing else. The history stays then, and what is pending stays pending.
+    /// Out of memory, and nothing else. The history and the pending entries are then unchanged.
     pub fn publish(&mut self) -> Result<(), AllocError>
         ensures turned { OnOk result (self.new ≡ turned self.old) }
         ensures stays { OnErr result (self.new ≡ record self.old { before = self.new.before }) }
@@ -116,7 +117,7 @@ impl Copies {
         Ok(())
     }
 
-    /// The answer at the history, or at that before the last publish.
+    /// Returns the answer at the history, or at the one before the last publish.
     ///
     /// # Errors
     ///
@@ -131,7 +132,8 @@ impl Copies {
     }
 }
 
-/// Applies an entry that may follow to the store, which is unchanged where the entry can't be copied.
+/// Appends an entry, which was judged to be added, to the store. The store is unchanged if the entry can't be
+/// copied.
 fn add(store: &mut SpanStore, entry: &Arc<Entry>) -> Result<(), AllocError>
     requires { admission_by store.old (arc_value entry.now) ≡ Ok Added }
     ensures added { OnOk result (store.new ≡ followed_by store.old (arc_value entry.now)) }
@@ -143,9 +145,9 @@ fn add(store: &mut SpanStore, entry: &Arc<Entry>) -> Result<(), AllocError>
     }
 }
 
-/// Brings the store, which holds the first of the entries, up to all of them, as far as memory is found.
-/// The entries are legal.
-#[tactic(auto, using(crate::proofs::Beginnings::joined))]
+/// Brings the store, which has the first of the entries, up to all of them, as far as memory allows. The entries
+/// are legal.
+#[tactic(auto, using(crate::proofs::Prefixes::joined))]
 fn catch_up(store: &mut SpanStore, entries: &[Arc<Entry>]) -> Result<(), AllocError>
     requires begins { IsPrefix store.old.entries (map arc_value entries.now) }
     requires legal { IsLegal store.old.limits (map arc_value entries.now) }

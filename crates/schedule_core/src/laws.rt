@@ -19,26 +19,27 @@ pub fn the_history_only_grows()
         (at_last (new_machine limits) (steps ++ more)).history }
 {}
 
-/// Each answer is the plain store's of a beginning of the last history, with as many entries as it says.
+/// Each answer is the plain store's for a prefix of the last history, with the number of entries that it reports.
 pub fn each_answer_is_of_the_last_history()
     ensures { (limits : LimitsValue) (steps : List StepValue) →
         AllAlong (IsOf limits (at_last (new_machine limits) steps).history) steps
         (outcomes (new_machine limits) steps) }
 {}
 
-/// The fronts that are reported to one reader never fall: of what it enters, of its answers and of what it learns.
+/// The fronts that are reported to one reader never decrease: those of what it enters, of its answers and of what
+/// it learns.
 pub fn fronts_of_a_reader_never_fall()
     ensures { (limits : LimitsValue) (steps : List StepValue) (reader : ℕ) →
         NeverFalls (along (front_for reader) steps (outcomes (new_machine limits) steps)) }
 {}
 
-/// A reader inside is answered the same, whatever others do meanwhile.
-pub fn a_look_stays_where_it_entered()
+/// A reader inside gets the same answers, whatever others do meanwhile.
+pub fn a_reader_stays_where_it_entered()
     ensures { (limits : LimitsValue) (steps : List StepValue) → IsSteady limits steps }
 {}
 
-/// What is accepted, published or not, is the jobs taken that were neither refused nor sent before, in the order
-/// in which they were handed in, each once.
+/// The accepted jobs, published or not, are the jobs taken that were neither refused nor sent before, in the order
+/// in which they were submitted, each once.
 pub fn taken_jobs_are_accepted()
     ensures { (limits : LimitsValue) (steps : List StepValue) →
         accepted (at_last (new_machine limits) steps) ≡
@@ -46,7 +47,7 @@ pub fn taken_jobs_are_accepted()
         (along verdict_of steps (outcomes (new_machine limits) steps)) }
 {}
 
-/// The jobs that wait are those that were handed in behind the last one taken.
+/// The jobs that wait are those that were submitted after the last one taken.
 pub fn other_jobs_wait()
     ensures { (limits : LimitsValue) (steps : List StepValue) →
         (at_last (new_machine limits) steps).waiting ≡
@@ -54,19 +55,19 @@ pub fn other_jobs_wait()
         (along job_of steps (outcomes (new_machine limits) steps)) }
 {}
 
-/// The numbers of each seat's jobs rise.
+/// The numbers of each seat's jobs are in ascending order.
 pub fn jobs_are_numbered()
     ensures { (limits : LimitsValue) (steps : List StepValue) →
         RisesAfter [] (along job_of steps (outcomes (new_machine limits) steps)) }
 {}
 
-/// What is accepted is legal: no entry stands twice, and no limit is passed.
+/// The accepted jobs are legal: no entry is there twice, and no limit is passed.
 pub fn accepted_jobs_are_legal()
     ensures { (limits : LimitsValue) (steps : List StepValue) →
         IsLegal limits (accepted (at_last (new_machine limits) steps)) }
 {}
 
-/// All of this of one list of steps, and two facts more: an accepted job is reported by its own seat and number,
+/// All of these facts for one list of steps, and two more: an accepted job is reported by its own seat and number,
 /// and the jobs of each seat have the numbers 1, 2 and so on.
 pub fn every_run_keeps_the_promises()
     ensures { (limits : LimitsValue) (steps : List StepValue) → IsRun limits steps }

@@ -1,5 +1,5 @@
-//! The machine over two copies. Readers enter the one that is shown; the other one is turned to the
-//! readers by a publish, which no reader may hold up.
+//! The machine over two copies. Readers enter the one that is shown; a publish shows them the other one, unless
+//! a reader is still inside that.
 
 ghost use Rattle.std.specs.Prelude.{◌≡◌, IfOk, length, slice_get, take};
 ghost use Rattle.std.specs.Arc.{arc_value};
@@ -22,8 +22,8 @@ use std::marker::Model;
 use std::sync::Arc;
 use trace_model::{Admission, Answer, Entry, Limits, Query, Work};
 
-/// A limit on the traces that are shown is no greater.
-const MOST_TRACES: u32 = 1_000_000;
+/// The greatest limit on the traces that are shown.
+const MAX_TRACES: u32 = 1_000_000;
 
 /// The machine with the two copies that it keeps.
 #[derive(Drop)]
@@ -47,7 +47,7 @@ impl Model for MachineState {
 }
 
 impl MachineState {
-    /// A machine in which nothing has happened.
+    /// Makes a machine in which nothing has happened.
     ///
     /// # Errors
     ///
@@ -74,7 +74,7 @@ impl MachineState {
         ensures { IfOk result (λ o. record { outcome = o; machine = self.new } ≡
             puts self.old seat work (slice_get self.old.numbers seat)) }
     {
-        match self.seats.hand_in(seat, work)? {
+        match self.seats.submit(seat, work)? {
             Some(number) => Ok(Outcome::Put { number }),
             None => Ok(Outcome::Unknown),
         }
@@ -84,7 +84,7 @@ impl MachineState {
         ensures { IfOk result (λ o. record { outcome = o; machine = self.new } ≡
             limits_by self.old seat limit (slice_get self.old.numbers seat)) }
     {
-        if limit > MOST_TRACES {
+        if limit > MAX_TRACES {
             return Ok(Outcome::Unknown);
         }
         self.put(seat, Work::TraceLimit(limit))
@@ -114,7 +114,7 @@ impl MachineState {
         Ok(Outcome::Published { front })
     }
 
-    /// How many publishes have been done.
+    /// Returns the number of publishes so far.
     fn publishes(&self) -> u64
         ensures { result ≡ length self.now.fronts }
     {
@@ -156,14 +156,14 @@ impl MachineState {
         let Some(inside) = place.inside else {
             return Ok(Outcome::Outside);
         };
-        let answer = look(&self.copies, self.publishes(), inside, query)?;
+        let answer = answer_inside(&self.copies, self.publishes(), inside, query)?;
         Ok(Outcome::Answered {
             front: inside.front,
             answer,
         })
     }
 
-    /// The front of a publish, the first one being 1.
+    /// Returns the front of a publish, which counts from 1.
     fn front_of(&self, publish: u32) -> Option<u64>
         ensures { result ≡ front_of self.now publish }
     {
@@ -209,7 +209,7 @@ impl MachineState {
         Outcome::Left
     }
 
-    /// Makes a step, and says what it came to.
+    /// Makes a step, and returns its outcome.
     ///
     /// # Errors
     ///
@@ -235,7 +235,7 @@ impl MachineState {
     }
 }
 
-/// Accepts a job, unless its batch was sent before or what is accepted refuses it.
+/// Accepts a job, unless its batch was sent before or the accepted entries refuse it.
 fn judge(copies: &mut Copies, job: Arc<Entry>) -> Outcome
     ensures { record { outcome = result; copies = copies.new } ≡
         verdict copies.old (arc_value job) (admission_by (all_of copies.old) (arc_value job)) }
@@ -252,8 +252,8 @@ fn judge(copies: &mut Copies, job: Arc<Entry>) -> Outcome
     }
 }
 
-/// The answer at the list that a reader entered, which one of the copies holds.
-fn look(
+/// Returns the answer at the list that a reader entered, which one of the copies has.
+fn answer_inside(
     copies: &Copies,
     publishes: u64,
     inside: Inside,

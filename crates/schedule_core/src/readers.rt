@@ -1,4 +1,4 @@
-//! Where the readers stand.
+//! The states of the readers.
 
 ghost use Rattle.std.specs.Prelude.{◌≡◌, ◌<◌, IfOk, IfSome, None, length, replicate, slice_get, slice_set};
 ghost use Rattle.std.specs.List.{position};
@@ -7,28 +7,28 @@ ghost use Rattle.schedule_core.specs.Standing.{is_held};
 use std::alloc::{AllocError, Global};
 use std::marker::Model;
 
-/// How many readers there are.
+/// The number of readers.
 const READERS: usize = 64;
 
-/// A reader inside.
+/// The visit of a reader inside.
 #[derive(Clone, Copy)]
 pub(crate) struct Inside {
-    /// How many entries the list has that it entered.
+    /// The number of entries of the list that it entered.
     pub front: u64,
-    /// How many publishes had been done then.
+    /// The number of publishes at that time.
     pub publishes: u64,
 }
 
-/// Where a reader stands.
+/// The state of a reader.
 #[derive(Clone, Copy)]
 pub(crate) struct ReaderState {
-    /// How many entries the longest list has that it has seen.
+    /// The number of entries of the longest list that it has seen.
     pub seen: u64,
     pub inside: Option<Inside>,
 }
 
 impl ReaderState {
-    /// It is inside since before the last of so many publishes.
+    /// Whether it has been inside since before the last of `publishes` publishes.
     fn is_held(&self, publishes: u64) -> bool
         ensures { result ≡ is_held publishes self.now }
     {
@@ -37,7 +37,7 @@ impl ReaderState {
     }
 }
 
-/// The places of all readers.
+/// The states of all readers.
 #[derive(Drop)]
 pub(crate) struct Readers {
     places: Vec<ReaderState>,
@@ -55,7 +55,7 @@ impl Model for Readers {
 }
 
 impl Readers {
-    /// All readers are outside and have seen nothing.
+    /// Makes readers that are all outside and have seen nothing.
     ///
     /// # Errors
     ///
@@ -72,14 +72,14 @@ impl Readers {
         })
     }
 
-    /// The reader's place, if there is such a reader.
+    /// Returns the reader's state, if there is such a reader.
     pub fn get(&self, reader: u32) -> Option<ReaderState>
         ensures { result ≡ slice_get self.now reader }
     {
         self.places.get(reader as usize).copied()
     }
 
-    /// The reader stands there from here on.
+    /// Sets the reader's state.
     pub fn set(&mut self, reader: u32, place: ReaderState)
         requires { reader < length self.old }
         ensures { self.new ≡ slice_set self.old reader place }
@@ -87,7 +87,7 @@ impl Readers {
         self.places[reader as usize] = place;
     }
 
-    /// The first reader that is inside since before the last of so many publishes.
+    /// Returns the first reader that has been inside since before the last of `publishes` publishes.
     pub fn first_held(&self, publishes: u64) -> Option<u32>
         ensures { result ≡ position (is_held publishes) self.now }
     {

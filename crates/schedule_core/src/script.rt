@@ -9,15 +9,15 @@ use std::alloc::{AllocError, Global};
 use std::hash::RandomState;
 use trace_model::Limits;
 
-/// The outcomes of the steps, in order, from a machine in which nothing has happened. They don't depend on
-/// the keys. What holds of every run holds of the steps up to the first that found no memory: the history only
-/// grows, each answer is the plain store's of a beginning of it, and accepted are the jobs taken, in order, each
-/// once, but those that were refused or sent before.
+/// Returns the outcomes of the steps, in order, from a machine in which nothing has happened. They don't depend on
+/// the keys. What holds of every run holds of the steps up to the first that ran out of memory: the history only
+/// grows, each answer is the plain store's for a prefix of it, and accepted are the jobs taken, in order, each
+/// once, except for those that were refused or sent before.
 ///
 /// # Errors
 ///
-/// No memory was found for the machine or for the list of outcomes. A step that finds none, and each later one, is refused by
-/// its outcome.
+/// There was no memory for the machine or for the list of outcomes. A step that runs out of memory, and each later
+/// one, is refused by its outcome.
 pub fn play(
     alloc: Global,
     keys: RandomState,
@@ -32,7 +32,7 @@ pub fn play(
     outcomes
 }
 
-/// The outcomes of the steps, in order, from where the machine stands.
+/// Returns the outcomes of the steps, in order, from the current state of the machine.
 fn outcomes_of(
     alloc: Global,
     world: &mut World,

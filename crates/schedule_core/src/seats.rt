@@ -1,4 +1,4 @@
-//! Seats and the jobs that they have handed in.
+//! Seats and the jobs that they have submitted.
 
 ghost use Rattle.std.specs.Prelude.{◌≡◌, [], ◌∷◌, ◌++◌, IfOk, MatchOption, OnErr, replicate};
 ghost use Rattle.std.specs.Arc.{arc_value};
@@ -10,7 +10,7 @@ use std::marker::Model;
 use std::sync::Arc;
 use trace_model::{Entry, Work};
 
-/// How many seats there are.
+/// The number of seats.
 const SEATS: usize = 64;
 
 /// The jobs that wait, and the last number of each seat.
@@ -34,7 +34,7 @@ impl Model for Seats {
 }
 
 impl Seats {
-    /// Seats that have handed in nothing.
+    /// Makes seats that have submitted nothing.
     ///
     /// # Errors
     ///
@@ -49,8 +49,7 @@ impl Seats {
         })
     }
 
-    /// The number after the seat's last one. There is none where there is no such seat, or its numbers
-    /// are used up.
+    /// Returns the number after the seat's last one; none if there is no such seat, or its numbers are used up.
     fn next_number(&self, seat: u32) -> Option<u64>
         ensures { result ≡ next_number self.now.numbers seat }
     {
@@ -58,13 +57,13 @@ impl Seats {
         last.checked_add(1)
     }
 
-    /// Puts the work, as the seat's next job, behind those that wait, and gives its number; `None` where
-    /// there is no such seat or its numbers are used up.
+    /// Appends the work, as the seat's next job, to those that wait, and returns its number; `None` if there is no
+    /// such seat or its numbers are used up.
     ///
     /// # Errors
     ///
     /// Out of memory, and nothing else. Nothing has changed then.
-    pub fn hand_in(&mut self, seat: u32, work: Work) -> Result<Option<u64>, AllocError>
+    pub fn submit(&mut self, seat: u32, work: Work) -> Result<Option<u64>, AllocError>
         ensures number { IfOk result (λ number. number ≡ next_number self.old.numbers seat) }
         ensures queued { IfOk result (λ number. self.new ≡ queued self.old seat work number) }
         ensures unchanged { OnErr result (self.new ≡ self.old) }
@@ -82,7 +81,7 @@ impl Seats {
         Ok(Some(number))
     }
 
-    /// Takes the job that waits longest.
+    /// Takes the job that has waited longest.
     pub fn take(&mut self) -> Option<Arc<Entry>>
         ensures { MatchOption result ((self.old.waiting ≡ []) × (self.new ≡ self.old)) (λ job.
             self.old ≡ record self.new { waiting = arc_value job ∷ self.new.waiting }) }

@@ -10,7 +10,7 @@ use std::hash::RandomState;
 use std::marker::Model;
 use trace_model::{Limits, Refusal};
 
-/// The stepped machine. Where it has found no memory, every later step is refused for that.
+/// The stepped machine. After it has run out of memory, every later step is refused for that.
 #[derive(Drop)]
 pub struct World {
     state: Option<MachineState>,
@@ -23,7 +23,7 @@ impl Model for World {
 }
 
 impl World {
-    /// A machine in which nothing has happened. The keys are those of its stores.
+    /// Makes a machine in which nothing has happened. The keys are those of its stores.
     ///
     /// # Errors
     ///
@@ -35,7 +35,7 @@ impl World {
         Ok(World { state: Some(state) })
     }
 
-    /// Makes a step and returns what came of it.
+    /// Makes a step and returns its outcome.
     pub fn step(&mut self, step: Step) -> Outcome
         ensures { Steps self.old step result self.new }
     {

@@ -1,4 +1,4 @@
--- Batches with a number among the entries of a list.
+-- Batches with a number in a list of entries.
 use Rattle.std.proofs.Common.{◌≡◌, ℕ, zero, suc, ◌+◌, ◌-◌, ◌^◌, ◌<◌, ◌≤◌, Bool, true, false, List, [], ◌∷◌, ◌++◌, map, length, get_or, Option, Some, None, refl, sym, ap, ◌∙◌, subst, arith, length-append, append_assoc, ℤ, pos, cond, nat_lt}
 use Rattle.std.specs.Prelude.{slice_get, if◌then◌else◌}
 use Rattle.std.specs.Arc.{arc_value}
@@ -26,7 +26,7 @@ use Rattle.trace_model.proofs.LastEntries.{last_entry}
 use Rattle.trace_model.proofs.Lists.{map_agree}
 use Rattle.trace_model.proofs.Resent.{sent_as, limit_not_sent, alike}
 use Rattle.sent_batches.specs.Hashing.{hash_of, batch_hash}
-use Rattle.sent_batches.specs.Sent.{has_number, numbered_from, work_hash, hash_behind, is_behind, Sent, IsKept}
+use Rattle.sent_batches.specs.Sent.{has_number, numbered_from, work_hash, hash_after, is_sent_after, Sent, IsKept}
 use Rattle.row_places.specs.Leading.{LeadsTo}
 
 -- ---- batches that were sent as one another
@@ -40,16 +40,16 @@ resent_has (brings.Batch a) (brings.Batch b) e = let s = sent_as a b e in ap is_
 resent_has (brings.Batch a) (brings.TraceLimit n) e = absurd (false≢true e)
 resent_has (brings.TraceLimit m) u e = absurd (false≢true e)
 
--- and the same hash
+-- and they have the same hash
 same_work_hash : (keys : BatchKeys) (b : Batch) (w : Work) → resends (brings.Batch b) w ≡ true → work_hash keys w ≡ batch_hash keys b
 same_work_hash keys b (brings.Batch a) e = let s = sent_as b a e in ap (λ (n : Option ℤ). hash_of keys (unwrap_or n (pos 0)) a.process) (sym s.number) ∙ ap (λ (p : Process). hash_of keys (unwrap_or b.seq_no (pos 0)) p) (sym s.process)
 same_work_hash keys b (brings.TraceLimit n) e = absurd (false≢true e)
 
--- the hash of what is brought is that of the batch
+-- the hash of the work is that of its batch
 pub hash_is : (keys : BatchKeys) (w : Work) (b : Batch) → batch_brought w ≡ Some b → work_hash keys w ≡ batch_hash keys b
 hash_is keys w b brought = ap (λ (o : Option Batch). option_map_or (batch_hash keys) o 0) brought
 
-pub same_hash : (keys : BatchKeys) (b : Batch) (h : List Entry) (before : ℕ) → is_behind b h before ≡ true → hash_behind keys h before ≡ batch_hash keys b
+pub same_hash : (keys : BatchKeys) (b : Batch) (h : List Entry) (before : ℕ) → is_sent_after b h before ≡ true → hash_after keys h before ≡ batch_hash keys b
 same_hash keys b [] before e = absurd (false≢true e)
 same_hash keys b (d ∷ h) zero e = same_work_hash keys b d.work e
 same_hash keys b (d ∷ h) (suc before) e = same_hash keys b h before e
@@ -68,7 +68,7 @@ numbered_push n (d ∷ h) e =
       | false ↦ rest ∙ ap (λ ks. numbered_from (n + 1) h ++ ks) last
     ]
 
--- each stands behind entries of the list
+-- each has only entries of the list before it
 pub numbered_below : (n : ℕ) (h : List Entry) (row : ℕ) → row < length (numbered_from n h) → get_or (numbered_from n h) row 0 < n + length h
 numbered_below n [] row l = absurd (omega arith)
 numbered_below n (d ∷ h) row l =
@@ -91,7 +91,7 @@ numbered_few n (d ∷ h) = let rest = numbered_few (n + 1) h in elim (has_number
   | false ↦ omega arith
 ]
 
--- a row for each that has a number
+-- a row for each entry that has a number
 pub record IsRow (befores : List ℕ) (before : ℕ) : Type 0 where
   pub row : ℕ
   pub within : row < length befores
@@ -114,19 +114,19 @@ row_there n (d ∷ h) (suc i) e at num =
     ]
 
 -- ---- hashes
-pub behind_same : (keys : BatchKeys) (h : List Entry) (e : Entry) (before : ℕ) → before < length h → hash_behind keys (h ++ e ∷ []) before ≡ hash_behind keys h before
+pub behind_same : (keys : BatchKeys) (h : List Entry) (e : Entry) (before : ℕ) → before < length h → hash_after keys (h ++ e ∷ []) before ≡ hash_after keys h before
 behind_same keys [] e before l = absurd (omega arith)
 behind_same keys (d ∷ h) e zero l = refl
 behind_same keys (d ∷ h) e (suc before) l = behind_same keys h e before (omega arith)
 
-pub behind_last : (keys : BatchKeys) (h : List Entry) (e : Entry) → hash_behind keys (h ++ e ∷ []) (length h) ≡ work_hash keys e.work
+pub behind_last : (keys : BatchKeys) (h : List Entry) (e : Entry) → hash_after keys (h ++ e ∷ []) (length h) ≡ work_hash keys e.work
 behind_last keys [] e = refl
 behind_last keys (d ∷ h) e = behind_last keys h e
 
-pub hashes_same : (keys : BatchKeys) (h : List Entry) (e : Entry) → map (hash_behind keys (h ++ e ∷ [])) (numbered_from 0 h) ≡ map (hash_behind keys h) (numbered_from 0 h)
+pub hashes_same : (keys : BatchKeys) (h : List Entry) (e : Entry) → map (hash_after keys (h ++ e ∷ [])) (numbered_from 0 h) ≡ map (hash_after keys h) (numbered_from 0 h)
 hashes_same keys h e =
-    map_agree (hash_behind keys (h ++ e ∷ [])) (hash_behind keys h) (numbered_from 0 h)
-    (All-from_get_or (λ k. hash_behind keys (h ++ e ∷ []) k ≡ hash_behind keys h k) (numbered_from 0 h) 0 (λ r l. behind_same keys h e (get_or (numbered_from 0 h) r 0) (numbered_within h r l)))
+    map_agree (hash_after keys (h ++ e ∷ [])) (hash_after keys h) (numbered_from 0 h)
+    (All-from_get_or (λ k. hash_after keys (h ++ e ∷ []) k ≡ hash_after keys h k) (numbered_from 0 h) 0 (λ r l. behind_same keys h e (get_or (numbered_from 0 h) r 0) (numbered_within h r l)))
 
 -- ---- no two were sent as one another
 any_false_at : {A : Type 0} (p : A → Bool) (xs : List A) (k : ℕ) (d : A) → list_any p xs ≡ false → k < length xs → p (get_or xs k d) ≡ false
@@ -150,12 +150,12 @@ pub nothing_resent : (w : Work) → batch_brought w ≡ None → (u : Work) → 
 nothing_resent (brings.Batch b) e u = absurd (cc e)
 nothing_resent (brings.TraceLimit n) e u = limit_not_sent n u
 
-behind_is : (b : Batch) (h : List Entry) (i : ℕ) (d : Entry) → i < length h → is_behind b h i ≡ resends (brings.Batch b) (get_or h i d).work
+behind_is : (b : Batch) (h : List Entry) (i : ℕ) (d : Entry) → i < length h → is_sent_after b h i ≡ resends (brings.Batch b) (get_or h i d).work
 behind_is b [] i d l = absurd (omega arith)
 behind_is b (e ∷ h) zero d l = refl
 behind_is b (e ∷ h) (suc i) d l = behind_is b h i d (omega arith)
 
-pub found_some : (h : List Entry) (e : Entry) (b : Batch) (i : ℕ) → e.work ≡ brings.Batch b → SentOnceAfter [] h → i < length h → is_behind b h i ≡ true → Some i ≡ sent_before h e
+pub found_some : (h : List Entry) (e : Entry) (b : Batch) (i : ℕ) → e.work ≡ brings.Batch b → SentOnceAfter [] h → i < length h → is_sent_after b h i ≡ true → Some i ≡ sent_before h e
 found_some h e b i brought once l sought =
     let p : Entry → Bool = λ d. resends e.work d.work in
     let at : p (get_or h i e) ≡ true = ap (λ w. resends w (get_or h i e).work) brought ∙ sym (behind_is b h i e l) ∙ sought in
@@ -167,17 +167,17 @@ found_some h e b i brought once l sought =
 none_more : (k : ℕ) → 0 + k ≡ k
 none_more k = omega arith
 
-pub found_none : (h : List Entry) (e : Entry) (b : Batch) → e.work ≡ brings.Batch b → ((row : ℕ) → row < length (numbered_from 0 h) → is_behind b h (get_or (numbered_from 0 h) row 0) ≡ false) → None ≡ sent_before h e
+pub found_none : (h : List Entry) (e : Entry) (b : Batch) → e.work ≡ brings.Batch b → ((row : ℕ) → row < length (numbered_from 0 h) → is_sent_after b h (get_or (numbered_from 0 h) row 0) ≡ false) → None ≡ sent_before h e
 found_none h e b brought none =
     let p : Entry → Bool = λ d. resends e.work d.work in
     sym (sent_nowhere h e (list_any_none p h (λ k d l. false_from_ne_true (p (get_or h k d)) (λ t.
     let u = (get_or h k d).work in
     let r = row_there 0 h k (get_or h k d) (slice_get-get_or h k d l) (resent_has e.work u t) in
-    let behind : is_behind b h k ≡ true = behind_is b h k d l ∙ ap (λ w. resends w u) (sym brought) ∙ t in
-    false≢true (sym (none r.row r.within) ∙ ap (λ n. is_behind b h n) (r.is ∙ none_more k) ∙ behind)))))
+    let behind : is_sent_after b h k ≡ true = behind_is b h k d l ∙ ap (λ w. resends w u) (sym brought) ∙ t in
+    false≢true (sym (none r.row r.within) ∙ ap (λ n. is_sent_after b h n) (r.is ∙ none_more k) ∙ behind)))))
 
 -- ---- one more entry
--- (a list that is longer by an entry with a number has one row more, and else the same)
+-- a list that is longer by an entry with a number has one row more, and is else unchanged
 pub more_rows : (h : List Entry) (e : Entry) → has_number e.work ≡ true → numbered_from 0 (h ++ e ∷ []) ≡ numbered_from 0 h ++ length h ∷ []
 more_rows h e num = numbered_push 0 h e ∙ ap (λ b. numbered_from 0 h ++ (if b then (0 + length h) ∷ [] else [])) num ∙ ap (λ n. numbered_from 0 h ++ n ∷ []) (none_more (length h))
 
@@ -198,7 +198,7 @@ one_more entries a e sent some is value kept room =
     let last : h ++ e ∷ [] ≡ map arc_value entries = last_entry entries a e some is value in
     let within : length (h ++ e ∷ []) ≤ sent.room = omega (arith, ap length last, length-map entries arc_value) in
     let few : length sent.befores < sent.room = omega (arith, numbered_few 0 h, ap length kept.befores, length-append h (e ∷ [])) in
-    record { last = last; within = within; befores = few; hashes = omega (arith, ap length kept.hashes, length-map sent.befores (hash_behind sent.keys h)) }
+    record { last = last; within = within; befores = few; hashes = omega (arith, ap length kept.hashes, length-map sent.befores (hash_after sent.keys h)) }
 
 pub kept_same : (h : List Entry) (e : Entry) (sent : Sent) → IsKept (before_last h) sent → has_number e.work ≡ false → OneMore h e sent → IsKept h sent
 kept_same h e sent kept none more =
@@ -207,7 +207,7 @@ kept_same h e sent kept none more =
       fits = kept.fits;
       within = more.within;
       befores = kept.befores ∙ sym (same_rows before e none);
-      hashes = kept.hashes ∙ ap (map (hash_behind sent.keys before)) kept.befores ∙ sym (hashes_same sent.keys before e) ∙ ap (map (hash_behind sent.keys (before ++ e ∷ []))) (sym kept.befores);
+      hashes = kept.hashes ∙ ap (map (hash_after sent.keys before)) kept.befores ∙ sym (hashes_same sent.keys before e) ∙ ap (map (hash_after sent.keys (before ++ e ∷ []))) (sym kept.befores);
       leads = kept.leads;
     }
 
@@ -217,15 +217,15 @@ pub kept_more : (h : List Entry) (e : Entry) (b : Batch) (sent more : Sent) → 
 kept_more h e b sent more kept brought num room keys rooms befores hashes leads =
     let has : has_number e.work ≡ true = ap has_number brought ∙ num in
     let rows : more.befores ≡ numbered_from 0 (h ++ e ∷ []) = befores ∙ ap (λ ks. ks ++ length h ∷ []) kept.befores ∙ sym (more_rows h e has) in
-    let last : hash_behind sent.keys (h ++ e ∷ []) (length h) ≡ batch_hash sent.keys b = behind_last sent.keys h e ∙ ap (work_hash sent.keys) brought in
-    let old : map (hash_behind sent.keys (h ++ e ∷ [])) (numbered_from 0 h) ≡ sent.hashes = hashes_same sent.keys h e ∙ ap (map (hash_behind sent.keys h)) (sym kept.befores) ∙ sym kept.hashes in
-    let all : map (hash_behind sent.keys (h ++ e ∷ [])) (numbered_from 0 h ++ length h ∷ []) ≡ sent.hashes ++ batch_hash sent.keys b ∷ [] =
-    map_push (hash_behind sent.keys (h ++ e ∷ [])) (numbered_from 0 h) (length h) ∙ ap (λ ks. ks ++ hash_behind sent.keys (h ++ e ∷ []) (length h) ∷ []) old ∙ ap (λ k. sent.hashes ++ k ∷ []) last in
+    let last : hash_after sent.keys (h ++ e ∷ []) (length h) ≡ batch_hash sent.keys b = behind_last sent.keys h e ∙ ap (work_hash sent.keys) brought in
+    let old : map (hash_after sent.keys (h ++ e ∷ [])) (numbered_from 0 h) ≡ sent.hashes = hashes_same sent.keys h e ∙ ap (map (hash_after sent.keys h)) (sym kept.befores) ∙ sym kept.hashes in
+    let all : map (hash_after sent.keys (h ++ e ∷ [])) (numbered_from 0 h ++ length h ∷ []) ≡ sent.hashes ++ batch_hash sent.keys b ∷ [] =
+    map_push (hash_after sent.keys (h ++ e ∷ [])) (numbered_from 0 h) (length h) ∙ ap (λ ks. ks ++ hash_after sent.keys (h ++ e ∷ []) (length h) ∷ []) old ∙ ap (λ k. sent.hashes ++ k ∷ []) last in
     record {
       fits = subst (λ n. n < 2 ^ 32) (sym rooms) kept.fits;
       within = subst (λ n. length (h ++ e ∷ []) ≤ n) (sym rooms) room;
       befores = rows;
-      hashes = hashes ∙ sym all ∙ ap (map (hash_behind sent.keys (h ++ e ∷ []))) (sym (more_rows h e has)) ∙ ap (λ (k : BatchKeys). map (hash_behind k (h ++ e ∷ [])) (numbered_from 0 (h ++ e ∷ []))) (sym keys) ∙ ap (map (hash_behind more.keys (h ++ e ∷ []))) (sym rows);
+      hashes = hashes ∙ sym all ∙ ap (map (hash_after sent.keys (h ++ e ∷ []))) (sym (more_rows h e has)) ∙ ap (λ (k : BatchKeys). map (hash_after k (h ++ e ∷ [])) (numbered_from 0 (h ++ e ∷ []))) (sym keys) ∙ ap (map (hash_after more.keys (h ++ e ∷ []))) (sym rows);
       leads = subst (λ hs. LeadsTo hs more.slots) (sym hashes) leads;
     }
 

@@ -1,4 +1,4 @@
--- What of a batch is hashed: its number and its process, each part such that its end is seen in it.
+-- What is hashed of a batch: its number and its process, each part delimited by itself.
 use Rattle.std.specs.Prelude.{ℕ, ℤ, pos, List, [], ◌∷◌, ◌++◌, length, flat_map, fold}
 use Rattle.std.specs.Hash as fed
 use Rattle.std.specs.Hash.DefaultHasher as sip
@@ -14,7 +14,7 @@ use Rattle.sent_batches.specs.declared.keys.BatchKeys.{BatchKeys}
 abbrev pub keys_fed : BatchKeys → List (List ℕ)
 keys_fed keys = fed.u64 keys.first ++ fed.u64 keys.second
 
--- bytes behind how many there are
+-- the number of bytes, then the bytes
 abbrev pub bytes_fed : List ℕ → List (List ℕ)
 bytes_fed bs = fed.usize (length bs) ++ bs ∷ []
 
@@ -36,6 +36,6 @@ process_fed p = fed.str p.service ++ flat_map tag_fed p.tags
 unfoldable pub hash_of : BatchKeys → ℤ → Process → ℕ
 hash_of keys number process = sip.finish (fold sip.write (fold sip.write sip.initial (keys_fed keys)) (fed.i64 number ++ process_fed process))
 
--- the hash of a batch, whose number is taken for 0 where it has none
+-- the hash of a batch, with the number 0 if it has none
 abbrev pub batch_hash : BatchKeys → Batch → ℕ
 batch_hash keys b = hash_of keys (unwrap_or b.seq_no (pos 0)) b.process

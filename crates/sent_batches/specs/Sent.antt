@@ -1,4 +1,4 @@
--- What is kept of the batches with a number in a list of entries.
+-- The index of the batches with a number in a list of entries.
 use Rattle.std.specs.Prelude.{◌≡◌, ℕ, ◌+◌, ◌<◌, ◌≤◌, ◌^◌, Bool, false, List, [], ◌∷◌, map, length, get_or, slice_get, if◌then◌else◌}
 use Rattle.std.specs.Option.{is_some, option_map_or}
 use Rattle.jaeger_model.specs.declared.batch.Batch.{Batch}
@@ -16,25 +16,25 @@ abbrev pub has_number : Work → Bool
 has_number (brings.Batch b) = is_some b.seq_no
 has_number (brings.TraceLimit n) = false
 
--- how many entries stand before each of those that bring a batch with a number, where so many stand before the first of all
+-- for each entry with a batch with a number, the number of entries before it, counted from n at the first of all
 abbrev pub numbered_from : ℕ → List Entry → List ℕ
 numbered_from n [] = []
 numbered_from n (e ∷ h) = if has_number e.work then n ∷ numbered_from (n + 1) h else numbered_from (n + 1) h
 
--- the hash of the batch that is brought; 0 of a limit
+-- the hash of the entry's batch; 0 of a limit
 abbrev pub work_hash : BatchKeys → Work → ℕ
 work_hash keys w = option_map_or (batch_hash keys) (batch_brought w) 0
 
--- the hash of the entry behind so many
-abbrev pub hash_behind : BatchKeys → List Entry → ℕ → ℕ
-hash_behind keys h before = option_map_or (λ (e : Entry). work_hash keys e.work) (slice_get h before) 0
+-- the hash of the entry that has n entries before it
+abbrev pub hash_after : BatchKeys → List Entry → ℕ → ℕ
+hash_after keys h before = option_map_or (λ (e : Entry). work_hash keys e.work) (slice_get h before) 0
 
--- the batch was sent as that of the entry behind so many
-abbrev pub is_behind : Batch → List Entry → ℕ → Bool
-is_behind b h before = option_map_or (λ (e : Entry). resends (brings.Batch b) e.work) (slice_get h before) false
+-- the batch was sent as that of the entry that has n entries before it
+abbrev pub is_sent_after : Batch → List Entry → ℕ → Bool
+is_sent_after b h before = option_map_or (λ (e : Entry). resends (brings.Batch b) e.work) (slice_get h before) false
 
--- what is seen of what is kept: how many entries stand before each of those with a number, the hash of each, the places that lead to
--- them, and how many there is room for in all
+-- the value of an index: for each entry with a number the number of entries before it and the hash; the places that
+-- lead to them; and the number of entries that there is room for in all
 pub record Sent : Type 0 where
   pub keys : BatchKeys
   pub befores : List ℕ
@@ -42,14 +42,14 @@ pub record Sent : Type 0 where
   pub slots : Slots
   pub room : ℕ
 
--- each stands behind entries of the list
-pub record AreBehind (h : List Entry) (befores : List ℕ) : Type 0 where
+-- each has only entries of the list before it
+pub record AreAfterEntries (h : List Entry) (befores : List ℕ) : Type 0 where
   pub within : (row : ℕ) → row < length befores → get_or befores row 0 < length h
 
--- they are those of these entries
+-- the index is that of these entries
 pub record IsKept (h : List Entry) (sent : Sent) : Type 0 where
   pub fits : sent.room < 2 ^ 32
   pub within : length h ≤ sent.room
   pub befores : sent.befores ≡ numbered_from 0 h
-  pub hashes : sent.hashes ≡ map (hash_behind sent.keys h) sent.befores
+  pub hashes : sent.hashes ≡ map (hash_after sent.keys h) sent.befores
   pub leads : LeadsTo sent.hashes sent.slots

@@ -1,4 +1,4 @@
-//! The batches with a number of a list of entries.
+//! The batches with a number in a list of entries.
 
 ghost use Rattle.std.specs.Prelude.{◌≡◌, ◌<◌, ◌≤◌, [], ◌∷◌, ◌++◌, true, map, length, IfOk};
 ghost use Rattle.std.specs.Arc.{arc_value};
@@ -15,15 +15,15 @@ use std::marker::Model;
 use std::sync::Arc;
 use trace_model::Entry;
 
-/// The batches with a number of a list of entries that grows at its end.
+/// The batches with a number in a list of entries that grows at its end.
 #[derive(Drop)]
 pub struct SentBatches {
     keys: BatchKeys,
-    /// Lead to the rows by the hashes.
+    /// Leads to the rows by the hashes.
     places: RowPlaces,
-    /// By row the hash of its batch.
+    /// For each row the hash of its batch.
     hashes: Vec<u64>,
-    /// By row how many entries stand before its own.
+    /// For each row the number of entries before its own.
     befores: Vec<u32>,
 }
 
@@ -40,7 +40,7 @@ impl Model for SentBatches {
 }
 
 impl SentBatches {
-    /// The batches of no entry, with room for so many.
+    /// Makes an index of no entry, with room for `batches` entries.
     ///
     /// # Errors
     ///
@@ -60,14 +60,14 @@ impl SentBatches {
         })
     }
 
-    /// The keys of the hash under which it finds batches.
+    /// Returns the keys of the hash by which batches are found.
     pub fn keys(&self) -> BatchKeys
         ensures { result ≡ self.now.keys }
     {
         self.keys
     }
 
-    /// Returns how many entries stand before the one that brought a batch with this entry's number and process, or
+    /// Returns the number of entries before the one that brought a batch with this entry's number and process, or
     /// None if there is no such entry or this one has no batch with a number. The hash is the one that
     /// [`BatchKeys::hash`] computes of the entry's work.
     pub fn find(&self, entries: &[Arc<Entry>], entry: &Entry, hash: u64) -> Option<u32>
@@ -91,8 +91,8 @@ impl SentBatches {
         Some(self.befores[row as usize])
     }
 
-    /// Follows the list, which has one more entry at its end, with this hash where it has a batch with a
-    /// number. It takes no memory.
+    /// Adds the last entry of the list, which is one entry longer. The hash is that of the entry's batch, if that
+    /// has a number. Allocates nothing.
     pub fn add(&mut self, entries: &[Arc<Entry>], hash: u64)
         requires some { 0 < length entries.now }
         requires kept { IsKept (before_last (map arc_value entries.now)) self.old }

@@ -15,7 +15,7 @@ fn feed_bytes(bytes: &[u8], state: &mut DefaultHasher)
     state.write(bytes);
 }
 
-/// A byte for the kind of value, then the value.
+/// Hashes a byte for the kind of value, then the value.
 fn feed_value(value: &TagValue, state: &mut DefaultHasher)
     ensures { state.new ≡ fold sip.write state.old (value_fed value.now) }
 {
@@ -74,7 +74,7 @@ fn number_hash(keys: BatchKeys, number: i64, process: &Process) -> u64
     state.finish()
 }
 
-/// The hash of a batch by its number, 0 where it has none, and its process.
+/// Returns the hash of a batch by its process and its number, or 0 if it has none.
 pub(crate) fn batch_hash(keys: BatchKeys, batch: &Batch) -> u64
     ensures { result ≡ batch_hash keys batch.now }
 {

@@ -1,4 +1,4 @@
-//! The keys of the hash under which batches are found.
+//! The keys of the hash by which batches are found.
 
 ghost use Rattle.std.specs.Prelude.{◌≡◌, true, fold};
 ghost use Rattle.std.specs.Hash.DefaultHasher as sip;
@@ -9,15 +9,14 @@ use crate::hashing::batch_hash;
 use std::hash::{BuildHasher, DefaultHasher, Hasher, RandomState};
 use trace_model::Work;
 
-/// Two numbers that whoever sends batches doesn't know. Lists with the same keys take a hash from one
-/// another.
+/// Two numbers that no client knows. Lists with the same keys can use each other's hashes.
 #[derive(Clone, Copy, PartialEq, Eq)]
 pub struct BatchKeys {
     first: u64,
     second: u64,
 }
 
-/// A number that follows from the keys, another one for each that is asked.
+/// Derives a number from the keys, a different one for each `asked`.
 fn drawn(keys: RandomState, asked: u8) -> u64 {
     let mut state = keys.build_hasher();
     state.write_u8(asked);
@@ -25,7 +24,7 @@ fn drawn(keys: RandomState, asked: u8) -> u64 {
 }
 
 impl BatchKeys {
-    /// Those that follow from the keys that were drawn at the program's start.
+    /// Derives the keys from those that were drawn at the program's start.
     pub fn new(keys: RandomState) -> BatchKeys {
         BatchKeys {
             first: drawn(keys, 0),
@@ -33,7 +32,7 @@ impl BatchKeys {
         }
     }
 
-    /// Computes the hash by which a batch with a number is found. Without such a batch it returns 0.
+    /// Computes the hash by which a batch with a number is found; returns 0 for any other work.
     pub fn hash(self, work: &Work) -> u64
         ensures { has_number work.now ≡ true → result ≡ work_hash self work.now }
     {
@@ -43,7 +42,7 @@ impl BatchKeys {
         }
     }
 
-    /// A hash that has begun with the keys.
+    /// Returns a hasher that has hashed the keys.
     pub(crate) fn start(self) -> DefaultHasher
         ensures { result ≡ fold sip.write sip.initial (keys_fed self) }
     {

@@ -1,16 +1,16 @@
-//! Which batches were sent under which number, in room taken once.
+//! Which batches were sent with which number, with all memory allocated once.
 //!
-//! A batch with a number that is sent again is found by its number and its process, whatever spans it has.
-//! [`SentBatches`] follows a list of entries that grows at its end: each call is given the list, and what it
-//! holds of it is a clause of each call (`IsKept`). Following one more entry takes no memory. Batches are found
-//! by a hash of number and process under a key that is drawn at the program's start, over places of which more
+//! A batch with a number that is resent is found by its number and its process, whatever spans it has.
+//! [`SentBatches`] indexes a list of entries that grows at its end. Each call gets the list, and a clause of
+//! each call relates it to the index (`IsKept`). Adding one more entry allocates nothing. Batches are found by
+//! a hash of number and process under a key that is drawn at the program's start, over places of which more
 //! than half are free. Every part of a process delimits itself in what is hashed, so no sender can make two
-//! batches collide. The caller computes the hash once
-//! ([`BatchKeys::hash`]) and passes it to each call. A batch without a number costs nothing.
+//! batches collide. The caller computes the hash once ([`BatchKeys::hash`]) and passes it to each call. A batch
+//! without a number costs nothing.
 //!
 //! * `batches`: the [`SentBatches`].
 //! * `hashing`: the hash of a batch. `keys`: its [`BatchKeys`].
-//! * `sought`: a batch that is sought among those of entries.
+//! * `sought`: the batch to find, and the entries that are searched.
 #![tactic(auto)]
 
 mod batches;

@@ -1,4 +1,4 @@
-//! A batch that is sought among those of entries.
+//! The batch to find, and the entries that are searched.
 
 ghost use Rattle.std.specs.Prelude.{◌≡◌};
 ghost use Rattle.trace_model.specs.Resending.{is_sent_as};
@@ -8,13 +8,13 @@ use row_places::Sought;
 use std::sync::Arc;
 use trace_model::Entry;
 
-/// A batch that is sought by its number and its process among those of some entries.
+/// The number and process to find, and the batches that are searched.
 #[derive(Drop)]
 pub(crate) struct SoughtBatch<'a> {
     pub(crate) entries: &'a [Arc<Entry>],
-    /// By row how many entries stand before its own.
+    /// For each row the number of entries before its own.
     pub(crate) befores: &'a [u32],
-    /// By row the hash of its batch.
+    /// For each row the hash of its batch.
     pub(crate) hashes: &'a [u64],
     pub(crate) batch: &'a Batch,
 }
@@ -22,14 +22,14 @@ pub(crate) struct SoughtBatch<'a> {
 impl<'a> Sought for SoughtBatch<'a> {
     ghost use Rattle.std.specs.Prelude.{map, get_or, ◌≡◌, length};
     ghost use Rattle.std.specs.Arc.{arc_value};
-    ghost use Rattle.sent_batches.specs.Sent.{AreBehind, is_behind};
+    ghost use Rattle.sent_batches.specs.Sent.{AreAfterEntries, is_sent_after};
 
-    ghost can_read = { λ s. AreBehind (map arc_value s.entries.now) s.befores.now
+    ghost can_read = { λ s. AreAfterEntries (map arc_value s.entries.now) s.befores.now
         × (length s.befores.now ≡ length s.hashes.now) };
 
     ghost hashes = { λ s. s.hashes.now };
 
-    ghost is_sought = { λ s row. is_behind s.batch.now (map arc_value s.entries.now)
+    ghost is_sought = { λ s row. is_sent_after s.batch.now (map arc_value s.entries.now)
         (get_or s.befores.now row 0) };
 
     fn rows(&self) -> usize {
@@ -49,7 +49,7 @@ impl<'a> Sought for SoughtBatch<'a> {
     }
 }
 
-/// Whether both batches have a number, which is the same, and the same process.
+/// Whether both batches have the same number and the same process.
 fn is_sent_as(batch: &Batch, other: &Batch) -> bool
     ensures { result ≡ is_sent_as batch.now other.now }
 {

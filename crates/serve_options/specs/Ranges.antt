@@ -1,7 +1,7 @@
--- The ranges of what a server is asked to do.
+-- The ranges of a server's options.
 use Rattle.std.specs.Prelude.{ℕ, ◌<◌, ◌≤◌, ◌^◌}
 
--- A port and a number of sessions are as large as their types let them be.
+-- A port and a number of sessions may have any value of their types.
 abbrev pub IsWithin : ℕ → ℕ → ℕ → ℕ → ℕ → ℕ → ℕ → Type 0
 IsWithin port workers queue sessions connections idle report =
     (port < 2 ^ 16) × (1 ≤ workers) × (workers ≤ 64) × (1 ≤ queue) × (queue ≤ 4096)

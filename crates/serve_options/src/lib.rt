@@ -1,4 +1,4 @@
-//! What a server is asked to do, as its program's words say it and as it does it.
+//! The options of the server: what the command line sets and the server does.
 //!
 //! * `host`: the addresses that it may listen on.
 //! * `options`: the options, within their ranges.

@@ -4,33 +4,33 @@ ghost use Rattle.serve_options.specs.Ranges.{IsWithin};
 use crate::host::Host;
 use trace_model::Limits;
 
-/// What a server is asked to do, within ranges that each such value keeps.
+/// The options of a server. Each value is within its range.
 #[derive(Clone, Copy, Debug)]
 pub struct ServeOptions {
-    /// How much its store keeps.
+    /// The limits of its store.
     pub limits: Limits,
     /// The address that it listens on.
     pub host: Host,
     /// The port of that address; 0 for any free one.
     pub port: u16,
-    /// How many threads serve connections, 1 to 64.
+    /// The number of threads that serve connections, 1 to 64.
     pub workers: u16,
-    /// How many batches may wait to be accepted, 1 to 4,096.
+    /// The number of batches that may wait to be accepted, 1 to 4,096.
     pub queue: u16,
-    /// After how many connections it ends; 0 is never.
+    /// The number of connections after which it ends; 0 for never.
     pub sessions: u32,
-    /// How many connections may be open at a time, 1 to 65,536.
+    /// The number of connections that may be open at a time, 1 to 65,536.
     pub connections: u32,
-    /// For how many seconds a connection may be silent before it is closed, or leave its response unread, up to
-    /// 86,400; 0 is for ever.
+    /// The number of seconds after which a connection is closed that is silent or doesn't read its response, up to
+    /// 86,400; 0 for never.
     pub idle: u32,
-    /// Every how many seconds it says on standard error what it has counted, up to 86,400; 0 is never.
+    /// The number of seconds between two reports of its counts on standard error, up to 86,400; 0 for none.
     pub report: u32,
     ghost within: { IsWithin port workers queue sessions connections idle report },
 }
 
 impl ServeOptions {
-    /// These options, or None where one is out of its range.
+    /// Returns the options, or `None` if one is out of its range.
     pub fn new(
         limits: Limits,
         host: Host,

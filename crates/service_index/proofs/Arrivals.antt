@@ -1,4 +1,4 @@
--- What is listed of all arrivals answers as the plain store does.
+-- The index of all arrivals answers as the plain store does.
 use Rattle.std.proofs.Common.{◌≡◌, ℕ, Bool, ◌&&◌, List, [], ◌∷◌, ◌++◌, map, sym, ap, ◌∙◌}
 use Rattle.std.specs.Prelude.{filter}
 use Rattle.std.specs.List.{list_any}

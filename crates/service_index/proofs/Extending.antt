@@ -1,4 +1,4 @@
--- An index stays what it was when more numbers have names.
+-- An index doesn't change when more numbers have names.
 use Rattle.std.proofs.Common.{◌≡◌, ℕ, ◌<◌, ◌≤◌, List, [], map, length, get_or, sym, ap, subst, arith}
 use Rattle.std.proofs.lemmas.List.Elements.{All-from_get_or}
 use Rattle.jaeger_model.specs.Texts.{sorted_set}
@@ -13,7 +13,7 @@ use Rattle.service_index.specs.Indexes.{Index, listing_by, owners, IsLinked, IsI
 pub numbers_agree : {X : Type 0} (count : ℕ) (f g : ℕ → X) → ((n : ℕ) → n < count → f n ≡ g n) → (numbers : List ℕ) → ((r : ℕ) → r < length numbers → get_or numbers r 0 < count) → map f numbers ≡ map g numbers
 numbers_agree count f g same numbers held = map_agree f g numbers (All-from_get_or (λ n. f n ≡ g n) numbers 0 (λ r below. same (get_or numbers r 0) (held r below)))
 
--- more labels, and the old ones as they were
+-- more labels, with the old ones unchanged
 pub record Grows (labels more : Labelling) : Type 0 where
   pub count : labels.count ≤ more.count
   pub same : (n : ℕ) → n < labels.count → more.at n ≡ labels.at n

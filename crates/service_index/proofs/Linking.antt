@@ -1,4 +1,4 @@
--- How the operations of a service lead to one another, and what the index answers from them.
+-- How the operations of a service are linked, and what the index answers from them.
 use Rattle.std.proofs.Common.{◌≡◌, ℕ, suc, zero, ◌+◌, ◌-◌, ◌<◌, ◌≤◌, Bool, true, false, ◌||◌, ◌&&◌, not, cond, nat_lt, List, [], ◌∷◌, ◌++◌, map, length, get_or, drop, refl, sym, ap, subst, ◌∙◌, inl, inr, arith, length-append}
 use Rattle.std.specs.Prelude.{◌==◌, filter, Some, None, if◌then◌else◌}
 use Rattle.std.specs.List.{list_any, position_or_len}
@@ -28,7 +28,7 @@ use Rattle.service_index.proofs.Probing.{same_is, label_of}
 use Rattle.trace_model.proofs.Lists.{is_position}
 
 -- ---- rows and tests
--- a test of the numbers' keys passes where the label is the sought one
+-- a test of the numbers' keys passes if the label is the one to find
 abbrev pub FindsLabel : {X : Type 0} → Labelling → LabelValue → (ℕ → X) → (X → Bool) → Type 0
 FindsLabel labels l key test = (n : ℕ) → n < labels.count → same_label l (labels.at n) ≡ test (key n)
 
@@ -66,7 +66,7 @@ service_own services s r is below = ap (λ k. get_or services k []) is ∙ sym (
 pub service_new : (services : List (List ℕ)) (s : List ℕ) (r : ℕ) → r ≡ position_or_len (same_text s) services → length services ≤ r → list_any (same_text s) services ≡ false
 service_new services s r is past = sym (is_position (same_text s) services []) ∙ le-ltb (position_or_len (same_text s) services) (length services) (omega arith)
 
--- numbers have one label exactly where they have one key
+-- numbers have the same label exactly if they have the same key
 abbrev pub AreKeys : Labelling → (ℕ → List ℕ) → Type 0
 AreKeys labels key = (m : ℕ) → m < labels.count → FindsLabel labels (labels.at m) key (same_text (key m))
 
@@ -91,7 +91,7 @@ groups_keyed names g m below n within = and-true (names.group m == names.group n
 operations_keyed : (names : Names) → IsGrouped names → (m : ℕ) → m < names.count → FindsLabel (operation_labels names) ((operation_labels names).at m) names.at (same_listed (names.at m))
 operations_keyed names g m below n within = ap (λ b. b && same_operation (names.at m).operation (names.at n).operation) (g.same m n below within)
 
--- what is asked for
+-- the requested group
 group_asked : (names : Names) (s : List ℕ) (group : ℕ) → IsGroupOf names s (Some group) → FindsLabel (group_labels names) (group_alone group) (alone names) (same_text s)
 group_asked names s group is n within = and-true (group == names.group n) ∙ is n within
 
@@ -284,7 +284,7 @@ name_known names index l group h is =
     known_by_key (operation_labels names) (record { group = group; name = l.operation.name; kind = l.operation.kind }) names.at (same_listed l) index.operations.numbers (service_alone []) (operation_asked names l group is) h.operations.numbers
     ∙ sym (any_set listed_exact (same_listed l) (map names.at index.operations.numbers))
 
--- where no number has the service, none has its operation
+-- if no number has the service, none has its operation
 pub name_unknown : (names : Names) (index : Index) (l : Listed) → IsIndexed names index → IsGroupOf names l.service None → false ≡ list_any (same_listed l) (listing_by names index)
 name_unknown names index l h none =
     let numbers = index.operations.numbers in

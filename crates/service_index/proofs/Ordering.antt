@@ -1,4 +1,4 @@
--- What is sorted and rid of repetitions is a set in order.
+-- A list that is sorted and has no duplicates is a sorted set.
 use Rattle.std.proofs.Common.{◌≡◌, Bool, true, false, ◌||◌, List, [], ◌∷◌, cond, refl, sym, ap, ◌∙◌}
 use Rattle.std.specs.List.{list_any, dedup, dedup_from}
 use Rattle.std.specs.List.Retain.{IsFiltered, DiffersFromLast}

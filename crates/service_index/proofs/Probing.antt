@@ -50,7 +50,7 @@ hash_of_row labels keys numbers row below =
     let l = length-map numbers labels.at in
     get_or-map (hash_of keys) (map labels.at numbers) row no_label 0 (omega arith) ∙ ap (hash_of keys) (label_of labels numbers row (omega arith))
 
--- labels that are the same have the same
+-- equal labels have equal hashes
 pub same_hash : (labels : Labelling) (keys : RandomState) (numbers : List ℕ) (label : LabelValue) (hash row : ℕ) → hash ≡ hash_of keys label → row < length (hashes_of keys (map labels.at numbers)) → is_label labels numbers label row ≡ true
     → get_or (hashes_of keys (map labels.at numbers)) row 0 ≡ hash
 same_hash labels keys numbers label hash row is below e = hash_of_row labels keys numbers row below ∙ ap (hash_of keys) (same_is (labels.at (get_or numbers row 0)) label e) ∙ sym is
@@ -60,7 +60,7 @@ abbrev pub row_in : List ℕ → Option ℕ → ℕ
 row_in numbers (Some r) = r
 row_in numbers None = length numbers
 
--- the same, over the fields as they are read
+-- the row that was found, over the fields as they are read
 pub found_of : (labels : Labelling) (keys : RandomState) (xs numbers : List ℕ) (said label : LabelValue) (r : Option ℕ) → xs ≡ numbers → said ≡ label → Found (length (hashes_of keys (map labels.at xs))) (is_label labels xs said) r
     → Found (length numbers) (is_label labels numbers label) r
 found_of labels keys xs numbers said label r e s f =

@@ -16,7 +16,7 @@ use Rattle.service_index.specs.Listing.{Listed, listed_cmp}
 
 -- ---- sets by their members
 module _ {K : Type 0} {cmp : K → K → Ordering} (o : IsTotalOrder cmp) (exact : IsAntisymmetric cmp) where
-  -- a rising list is the set of each list with its members
+  -- an ascending list is the set of each list with its members
   pub is_set : (xs ys : List K) → IsStrictlySortedBy cmp xs → ((p : K → Bool) → list_any p xs ≡ list_any p ys) → xs ≡ sorted_set cmp ys
   is_set xs ys r same =
       rises_same o exact xs (sorted_set cmp ys) r (sorted_set-rises o ys) (λ q. same (eq_by_cmp cmp q) ∙ sym (any_set exact (eq_by_cmp cmp q) ys))

@@ -1,5 +1,4 @@
--- An index of names that stand elsewhere: what it lists, and how the operations of a service lead to one
--- another.
+-- An index of names that are stored elsewhere: what it lists, and how the operations of a service are linked.
 use Rattle.std.specs.Prelude.{◌≡◌, ℕ, ◌-◌, ◌^◌, ◌<◌, ◌≤◌, Bool, List, [], map, length, get_or}
 use Rattle.std.specs.List.{list_any, position_or_len}
 use Rattle.trace_model.specs.declared.answer.Operation.{Operation}
@@ -9,9 +8,9 @@ use Rattle.service_index.specs.Listing.{Listed, listed_cmp, same_listed, operati
 use Rattle.service_index.specs.Naming.{Names, operation_labels, group_labels}
 use Rattle.service_index.specs.Probes.{Table, IsNamed}
 
--- what is seen of an index: a number for each operation of a service with its kind, a number for each
--- service; for each service the row of its newest operation and one more, for each operation the row of
--- the one of its service before it and one more; how many numbers were added, and how many may be
+-- the value of an index: a number for each operation of a service with its kind; a number for each service; for
+-- each service the row of its newest operation plus one; for each operation the row plus one of the one before it
+-- of the same service; the number of numbers that were added, and the number that may be
 pub record Index : Type 0 where
   pub operations : Table
   pub services : Table
@@ -20,11 +19,11 @@ pub record Index : Type 0 where
   pub used : ℕ
   pub room : ℕ
 
--- what the numbers that were added report, as a set in order
+-- what the numbers that were added report, as a sorted set
 abbrev pub listing_by : Names → Index → List Listed
 listing_by names index = sorted_set listed_cmp (map names.at index.operations.numbers)
 
--- the same with what one more number reports
+-- the listing with what one more number reports
 abbrev pub listing_with : Names → Index → ℕ → List Listed
 listing_with names index n = insert_once listed_cmp (listing_by names index) (names.at n)
 
@@ -49,22 +48,22 @@ owners names numbers = map (λ n. (names.at n).service) numbers
 abbrev pub operations_at : Names → List ℕ → List Operation
 operations_at names numbers = map (λ n. (names.at n).operation) numbers
 
--- the row of a service, or how many rows there are
+-- the row of a service, or the number of rows
 abbrev pub service_row : Names → Index → List ℕ → ℕ
 service_row names index service = position_or_len (same_text service) (owners names index.services.numbers)
 
--- the newest row of the service below a row, given with one more; 0 where there is none
+-- the newest row of the service below a row, given plus one; 0 if there is none
 pub record IsNewest (rows : List (List ℕ)) (service : List ℕ) (at below : ℕ) : Type 0 where
   pub within : at ≤ below
   pub own : 0 < at → get_or rows (at - 1) [] ≡ service
   pub none : (k : ℕ) → at ≤ k → k < below → get_or rows k [] ≡ service → ⊥
 
--- each row leads to the newest of its service before it
+-- each row leads to the newest row before it of its service
 pub record IsChain (rows : List (List ℕ)) (earlier : List ℕ) : Type 0 where
   pub as_many : length earlier ≡ length rows
   pub before : (k : ℕ) → k < length rows → IsNewest rows (get_or rows k []) (get_or earlier k 0) k
 
--- each of so many rows leads to an earlier one, given with one more, or to none
+-- each of the rows leads to an earlier one, given plus one, or to none
 pub record LeadsBack (rows : ℕ) (earlier : List ℕ) : Type 0 where
   pub as_many : length earlier ≡ rows
   pub before : (k : ℕ) → k < rows → get_or earlier k 0 ≤ k
@@ -80,7 +79,7 @@ pub record IsLinked (rows services : List (List ℕ)) (newest earlier : List ℕ
   pub last : (s : ℕ) → s < length services → IsNewest rows (get_or services s []) (get_or newest s 0) (length rows)
 
 -- ---- the index
--- how many of each there are, whatever the names
+-- the number of each of its parts, whatever the names
 pub record IsSized (used room : ℕ) (operations services : Table) (newest earlier : List ℕ) : Type 0 where
   pub fits : room < 2 ^ 32
   pub within : used ≤ room

@@ -1,4 +1,4 @@
--- What was reported, as a set in order, and what it answers.
+-- What was reported, as a sorted set, and the answers from it.
 use Rattle.std.specs.Prelude.{ℕ, Bool, ◌&&◌, List, map, filter}
 use Rattle.std.specs.declared.cmp.Ordering.{Ordering}
 use Rattle.std.specs.Ordering.{ordering_then}
@@ -40,6 +40,6 @@ names_of os = sorted_set text_cmp (map (λ (o : Operation). o.name) os)
 abbrev pub names_in : List ℕ → List Listed → List (List ℕ)
 names_in service ls = names_of (operations_of service ls)
 
--- an empty kind asks for all
+-- an empty kind matches all
 abbrev pub operations_in : List ℕ → List ℕ → List Listed → List Operation
 operations_in service kind ls = filter (is_asked_kind kind) (sorted_set operation_cmp (operations_of service ls))

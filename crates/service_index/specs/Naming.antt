@@ -1,17 +1,16 @@
--- Names of numbers that stand elsewhere, and the labels that tables find numbers by.
+-- Names of numbers that are stored elsewhere, and the labels by which tables find numbers.
 use Rattle.std.specs.Prelude.{◌≡◌, ℕ, ◌==◌, ◌<◌, ◌≤◌, Bool, ◌&&◌, false, List, [], Option, Some, None}
 use Rattle.jaeger_model.specs.Texts.{same_text}
 use Rattle.service_index.specs.declared.labels.Label.{Label}
 use Rattle.service_index.specs.Listing.{Listed}
 
--- the numbers below the count have names; the name of each, and its group, which is the number of its
--- service
+-- the numbers below the count have names; the name of each, and its group, which is the number of its service
 pub record Names : Type 0 where
   pub count : ℕ
   pub at : ℕ → Listed
   pub group : ℕ → ℕ
 
--- numbers have one group exactly where they have one service
+-- numbers have the same group exactly if they have the same service
 pub record IsGrouped (names : Names) : Type 0 where
   pub same : (n m : ℕ) → n < names.count → m < names.count → (names.group n == names.group m) ≡ same_text (names.at n).service (names.at m).service
 
@@ -20,7 +19,7 @@ abbrev pub IsGroupOf : Names → List ℕ → Option ℕ → Type 0
 IsGroupOf names service (Some group) = (n : ℕ) → n < names.count → (group == names.group n) ≡ same_text service (names.at n).service
 IsGroupOf names service None = (n : ℕ) → n < names.count → same_text service (names.at n).service ≡ false
 
--- more names, and the old ones as they were
+-- more names, with the old ones unchanged
 pub record Extends (names more : Names) : Type 0 where
   pub count : names.count ≤ more.count
   pub same : (n : ℕ) → n < names.count → more.at n ≡ names.at n

@@ -8,7 +8,7 @@ use Rattle.std.specs.declared.random_state.RandomState.{RandomState}
 use Rattle.row_places.specs.Leading.{Slots, LeadsTo, AreOnce}
 use Rattle.service_index.specs.Naming.{LabelValue, same_label, Labelling, group_alone}
 
--- what is seen of a table: the numbers in the order of adding, how many there is room for in all, and
+-- the value of a table: the numbers in the order of adding, the number of those that there is room for in all, and
 -- the places that lead to them
 pub record Table : Type 0 where
   pub numbers : List ℕ
@@ -33,7 +33,7 @@ label_at known row = get_or known row no_label
 pub record AreNumbers (count : ℕ) (numbers : List ℕ) : Type 0 where
   pub held : (r : ℕ) → r < length numbers → get_or numbers r 0 < count
 
--- the table leads to its numbers by these labels, no two of which are the same
+-- the table leads to its numbers by these labels, which are all different
 pub record IsNamed (labels : Labelling) (table : Table) : Type 0 where
   pub fits : table.room < 2 ^ 32
   pub within : length table.numbers ≤ table.room
@@ -41,7 +41,7 @@ pub record IsNamed (labels : Labelling) (table : Table) : Type 0 where
   pub once : AreOnce no_label (map labels.at table.numbers)
   pub leads : LeadsTo (hashes_of table.keys (map labels.at table.numbers)) table.slots
 
--- the row of a label, or how many rows there are
+-- the row of a label, or the number of rows
 abbrev pub row_of : Labelling → List ℕ → LabelValue → ℕ
 row_of labels numbers label = position_or_len (same_label label) (map labels.at numbers)
 

@@ -4,25 +4,25 @@ ghost use Rattle.std.specs.Prelude.{◌<◌};
 
 use crate::labels::Label;
 
-/// How many guesses are kept.
+/// The number of guesses.
 const CLASSES: usize = 256;
 
-/// The rows in which labels were found last. Labels fall into classes by their groups, by the lengths of their names and
-/// kinds and by three of their bytes, and for each class one row is kept.
+/// A cache of the rows in which labels were last found. Labels fall into classes by their groups, by the lengths of
+/// their names and kinds and by three of their bytes; each class has one row.
 #[derive(Drop)]
 pub(crate) struct Guesses {
     rows: [u32; CLASSES],
 }
 
-/// The byte at an index, 0 behind the end.
+/// Returns the byte at an index, or 0 past the end.
 fn byte_at(bytes: &[u8], at: usize) -> usize
     ensures { result < 256 }
 {
     bytes.get(at).copied().unwrap_or(0) as usize
 }
 
-/// The class of a label. The factors are odd, so that labels which differ in one of the parts mostly have classes of their
-/// own.
+/// Returns the class of a label. The factors are odd, so that labels which differ in one of the parts mostly have
+/// different classes.
 fn class_of(label: Label<'_>) -> usize
     ensures { result < 256 }
 {
@@ -36,17 +36,17 @@ fn class_of(label: Label<'_>) -> usize
 }
 
 impl Guesses {
-    /// No label was found yet.
+    /// Makes an empty cache.
     pub(crate) fn new() -> Self {
         Guesses { rows: [0; CLASSES] }
     }
 
-    /// A guess of the row of a label.
+    /// Returns a guess of the row of a label.
     pub(crate) fn row(&self, label: Label<'_>) -> u32 {
         self.rows[class_of(label)]
     }
 
-    /// Keeps the row of a label.
+    /// Stores the row of a label.
     pub(crate) fn keep(&mut self, label: Label<'_>, row: u32) {
         self.rows[class_of(label)] = row;
     }

@@ -8,19 +8,19 @@ ghost use Rattle.service_index.specs.Indexes.{listing_by, listing_with, service_
 ghost use Rattle.service_index.specs.Indexes.{owners, AreFrom, IsChain, IsIndexed, LeadsBack};
 
 use crate::labels::Label;
-use crate::links::Links;
+use crate::links::RowLinks;
 use crate::name_table::NameTable;
 use crate::texts::{GroupLabels, OperationLabels, Texts};
 use std::alloc::{AllocError, Global};
 use std::hash::RandomState;
 use std::marker::Model;
 
-/// The services that the spans of some numbers reported, each with its operations and their kinds, in
-/// room that is taken once.
+/// An index of the services that the spans of some numbers reported, each with its operations and their kinds, with
+/// all memory allocated once.
 ///
-/// The names stand with the spans, and each call is given them as [`Texts`]: what they say of the
-/// numbers that were added stays as it was. An operation is found by the number of its service, its name
-/// and its kind: adding a number looks at no text of a service.
+/// The names are in the spans, and each call gets them as [`Texts`]. The names of numbers that were added must not
+/// change. An operation is found by the number of its service, its name and its kind, so adding a number reads no
+/// text of a service.
 #[derive(Drop)]
 pub struct ServiceIndex {
     alloc: Global,
@@ -30,8 +30,8 @@ pub struct ServiceIndex {
     operations: NameTable,
     /// A number for each service, found by its group.
     services: NameTable,
-    /// The rows of the operations, of each service along.
-    links: Links,
+    /// The rows of the operations, linked for each service.
+    links: RowLinks,
 }
 
 impl Model for ServiceIndex {
@@ -47,8 +47,7 @@ impl Model for ServiceIndex {
 }
 
 impl ServiceIndex {
-    /// An index that lists nothing, with room for so many numbers. The keys decide where names stand
-    /// in its tables.
+    /// Makes an empty index, with room for `room` numbers. The keys are those of the hash by which names are found.
     ///
     /// # Errors
     ///
@@ -61,7 +60,7 @@ impl ServiceIndex {
     {
         let operations = NameTable::with_room(alloc, keys, room)?;
         let services = NameTable::with_room(alloc, keys, room)?;
-        let links = Links::with_room(alloc, room)?;
+        let links = RowLinks::with_room(alloc, room)?;
         Ok(ServiceIndex {
             alloc,
             room,
@@ -72,7 +71,7 @@ impl ServiceIndex {
         })
     }
 
-    /// How many numbers were added.
+    /// Returns the number of numbers that were added.
     pub fn used(&self) -> u32
         ensures used { result ≡ self.now.used }
         ensures within { result ≤ self.now.room }
@@ -80,14 +79,14 @@ impl ServiceIndex {
         self.used
     }
 
-    /// One more number may be added.
+    /// Whether one more number may be added.
     pub fn has_room(&self) -> bool
         ensures { IsTrue result ↔ (self.now.used < self.now.room) }
     {
         self.used < self.room
     }
 
-    /// Adds a number: what its span reports is listed from now on. It takes no memory.
+    /// Adds a number: what its span reports is listed from now on. Allocates nothing.
     pub fn add_at<T: Texts>(&mut self, n: u32, texts: &T)
         requires indexed { IsIndexed (T.names texts.now) self.old }
         requires held { n < (T.names texts.now).count }
@@ -144,8 +143,8 @@ impl ServiceIndex {
         (row as usize) < self.links.rows()
     }
 
-    /// The number of one span of each service, in no order. [`texts_in_order`](crate::texts_in_order) puts the services in
-    /// order.
+    /// Returns the number of one span of each service, in no particular order.
+    /// [`sorted_texts`](crate::sorted_texts) sorts the services.
     pub fn service_numbers(&self) -> &[u32]
         ensures held { (names : Names) → IsIndexed names self.now →
             AreNumbers names.count result.now }
@@ -155,7 +154,7 @@ impl ServiceIndex {
         self.services.numbers()
     }
 
-    /// The row of a service, or how many services there are where it is not known.
+    /// Returns the row of a service, or the number of services if it is not known.
     fn service_row<T: Texts>(&self, texts: &T, service: &str) -> u32
         requires { IsIndexed (T.names texts.now) self.now }
         ensures { result ≡ service_row (T.names texts.now) self.now service.now }
@@ -168,9 +167,9 @@ impl ServiceIndex {
         }
     }
 
-    /// The number of one span of each operation of a service with its kind, in no order.
-    /// [`operations_in_order`](crate::operations_in_order) and [`names_in_order`](crate::names_in_order) put the operations,
-    /// or their names, in order.
+    /// Returns the number of one span of each operation of a service with its kind, in no particular order.
+    /// [`sorted_operations`](crate::sorted_operations) and [`sorted_names`](crate::sorted_names) sort the
+    /// operations, or their names.
     ///
     /// # Errors
     ///
@@ -199,7 +198,7 @@ impl ServiceIndex {
     }
 }
 
-/// The label of a group itself.
+/// Returns the label of the group itself.
 fn group_label(group: u32) -> Label<'static>
     ensures { label_value result ≡ group_alone group }
 {
@@ -210,8 +209,8 @@ fn group_label(group: u32) -> Label<'static>
     }
 }
 
-/// The numbers of a service's operations: that of its newest row, which is given with one more, and those of the rows
-/// before it.
+/// Returns the numbers of a service's operations: that of its newest row, which is given plus one, and those of the
+/// earlier rows that it links to.
 fn numbers_along(
     alloc: Global,
     numbers: &[u32],

@@ -1,11 +1,11 @@
-//! Labels, and where the labels of numbers stand.
+//! Labels, and access to the labels of numbers.
 
 ghost use Rattle.std.specs.Prelude.{◌≡◌, ◌<◌};
 ghost use Rattle.jaeger_model.specs.Texts.{same_text};
 ghost use Rattle.service_index.specs.Naming.{label_value, same_label};
 
-/// A name in a group, with a kind. An operation stands in the group of its service, which is the number
-/// of the service; where no groups are made, all names stand in group 0.
+/// A name in a group, with a kind. The group of an operation is the number of its service. A table without groups
+/// has all names in group 0.
 #[derive(Clone, Copy)]
 pub struct Label<'a> {
     pub group: u32,
@@ -13,20 +13,21 @@ pub struct Label<'a> {
     pub kind: &'a str,
 }
 
-/// Where the labels of numbers stand.
+/// Access to the labels of numbers.
 pub trait Labels {
     ghost use Rattle.service_index.specs.Naming.{Labelling};
 
-    /// How many numbers have a label, and the label of each.
+    /// The number of labels, and the label of each number.
     ghost labels: { Self → Labelling };
 
-    /// The label of a number.
+    /// Returns the label of a number.
     fn label_at(&self, n: u32) -> Label<'_>
         requires { n < (labels self.now).count }
         ensures { label_value result ≡ (labels self.now).at n };
 }
 
-/// Whether two texts are the same. Names are short: byte by byte they are compared sooner than by words, as `==` does it.
+/// Whether two texts are equal. Names are short, and comparing them byte by byte is faster than `==`, which
+/// compares words.
 fn is_same(one: &str, other: &str) -> bool
     ensures { result ≡ same_text one.now other.now }
 {

@@ -1,28 +1,28 @@
 //! The index of services and operations: what was ever reported.
 //!
-//! Contracts see a [`ServiceIndex`] as the numbers of spans that were added. What it lists is the set of
-//! what these spans reported, each service with an operation and its kind, in order. Each answer equals
-//! that of a filter over this set, and `laws` says that it is the plain store's answer where the set is
-//! that of all arrivals.
+//! Contracts see a [`ServiceIndex`] as the numbers of spans that were added. What it lists is the set of what
+//! these spans reported, each service with an operation and its kind, in order. Each answer equals that of a
+//! filter over this set, and `laws` says that it is the plain store's answer if the set is that of all
+//! arrivals.
 //!
-//! The index takes its room once. It holds numbers of spans alone, and reads their names where the spans
-//! stand ([`Texts`]). There each service has a number, its group: an operation is found by its group,
-//! its name and its kind, so that no text of a service is hashed or compared when a number is added.
-//! Adding a number takes no memory. Its label is compared with one that was found lately; where that is
-//! another, the label is hashed under keys drawn at the start, and sought in the few places of a table at
-//! most half full that the hash leads to. Before half of the places are taken, the labels are moved to about
-//! four times as many, a few with each new label, in the room that was taken. That it leads to its numbers by
-//! the names is a clause of each call (`IsIndexed`), which every call keeps and which stays true when more
-//! spans arrive (`laws::more_names`).
+//! The index allocates once. It holds only numbers of spans, and reads their names from the spans ([`Texts`]).
+//! There each service has a number, its group: an operation is found by its group, its name and its kind, so
+//! that no text of a service is hashed or compared when a number is added. Adding a number allocates nothing.
+//! Its label is first compared with one that was found recently. If that differs, the label is hashed under
+//! keys drawn at the start, and looked up in the few places to which the hash leads, in a table that is at most
+//! half full. Before half of the places are taken, the labels are moved to about four times as many, a few with
+//! each new label, in memory that was allocated at the start. A clause of each call (`IsIndexed`) says that the
+//! index leads to its numbers by the names. Every call keeps it, and it stays true when more spans arrive
+//! (`laws::more_names`).
 //!
 //! * `index`: the [`ServiceIndex`].
-//! * `texts`: where names stand.
-//! * `labels`: what a table finds its numbers by.
+//! * `texts`: access to the names.
+//! * `labels`: the keys of a table.
 //! * `name_table`: numbers by labels: the [`NameTable`].
-//! * `guesses`: in which rows labels were found last.
-//! * `sought_label`: a label that is sought in the places of its row.
-//! * `links`: the rows of each service, from the newest on: the [`Links`].
-//! * `operation_sets`: services and operations as sets in order.
+//! * `guesses`: the rows in which labels were last found.
+//! * `sought_label`: the label to find, and the rows that are searched.
+//! * `links`: the rows of each service, from the newest on: the [`RowLinks`].
+//! * `operation_sets`: services and operations, sorted and without duplicates.
 //! * `laws`: facts about the definitions of `specs/`.
 #![tactic(auto)]
 
@@ -38,7 +38,7 @@ mod texts;
 
 pub use index::ServiceIndex;
 pub use labels::{Label, Labels};
-pub use links::Links;
+pub use links::RowLinks;
 pub use name_table::NameTable;
-pub use operation_sets::{names_in_order, operations_in_order, texts_in_order};
+pub use operation_sets::{sorted_names, sorted_operations, sorted_texts};
 pub use texts::Texts;

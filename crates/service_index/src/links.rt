@@ -1,4 +1,4 @@
-//! Rows of services, each leading to the one of its service before it.
+//! Rows of services, each linked to the row before it of the same service.
 
 ghost use Rattle.std.specs.Prelude.{◌≡◌, ◌+◌, ◌<◌, ◌≤◌, [], ◌∷◌, ◌++◌, length, get_or, IfOk};
 ghost use Rattle.service_index.specs.LinkedRows.{newest_with};
@@ -6,19 +6,19 @@ ghost use Rattle.service_index.specs.LinkedRows.{newest_with};
 use std::alloc::{AllocError, Global};
 use std::marker::Model;
 
-/// Rows in the order of their adding, each of one service, in room that is taken once. From the newest
-/// row of a service the others are found, one after the other. A row is given with one more, so that 0 is
-/// none; services are numbered from 0 in the order of their first rows.
+/// Rows in the order of adding, each of one service, with all memory allocated once. The newest row of a service
+/// leads to the others, one after the other. A row is given plus one, so that 0 is none; services are numbered from
+/// 0 in the order of their first rows.
 #[derive(Drop)]
-pub struct Links {
+pub struct RowLinks {
     room: u32,
     /// For each service its newest row.
     newest: Vec<u32>,
-    /// For each row the one of its service before it.
+    /// For each row the row before it of the same service.
     earlier: Vec<u32>,
 }
 
-impl Model for Links {
+impl Model for RowLinks {
     ghost use Rattle.std.specs.Prelude.{vec_capacity, ◌≤◌};
     ghost use Rattle.service_index.specs.LinkedRows.{LinkedRows};
 
@@ -29,8 +29,8 @@ impl Model for Links {
     ghost invariant = { λ l. (l.room ≤ vec_capacity l.newest) × (l.room ≤ vec_capacity l.earlier) };
 }
 
-impl Links {
-    /// No row, with room for so many.
+impl RowLinks {
+    /// Makes an empty list, with room for `room` rows.
     ///
     /// # Errors
     ///
@@ -42,14 +42,14 @@ impl Links {
     {
         let newest = Vec::with_capacity(alloc, room as usize)?;
         let earlier = Vec::with_capacity(alloc, room as usize)?;
-        Ok(Links {
+        Ok(RowLinks {
             room,
             newest,
             earlier,
         })
     }
 
-    /// Adds a row of a service, which has rows or is the next one. It takes no memory.
+    /// Adds a row of a service that has rows, or of the next service. Allocates nothing.
     pub fn add_row(&mut self, service: usize)
         requires fewer { length self.old.newest ≤ length self.old.earlier }
         requires room { length self.old.earlier < self.old.room }
@@ -69,7 +69,7 @@ impl Links {
         }
     }
 
-    /// The newest row of a service; 0 where there is no such service.
+    /// Returns the newest row of a service, or 0 if there is no such service.
     pub fn newest_row(&self, service: usize) -> u32
         ensures { result ≡ get_or self.now.newest service 0 }
     {
@@ -80,21 +80,21 @@ impl Links {
         }
     }
 
-    /// For each row the one of its service before it.
+    /// Returns for each row the row before it of the same service.
     pub fn earlier_rows(&self) -> &[u32]
         ensures { result.now ≡ self.now.earlier }
     {
         &self.earlier
     }
 
-    /// How many services have a row.
+    /// Returns the number of services that have a row.
     pub fn services(&self) -> usize
         ensures { result ≡ length self.now.newest }
     {
         self.newest.len()
     }
 
-    /// How many rows there are.
+    /// Returns the number of rows.
     pub fn rows(&self) -> usize
         ensures { result ≡ length self.now.earlier }
     {

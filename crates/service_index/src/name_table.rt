@@ -1,4 +1,4 @@
-//! Numbers by labels that stand elsewhere.
+//! Numbers by labels that are stored elsewhere.
 
 ghost use Rattle.std.specs.Prelude.{◌≡◌, ◌<◌, [], length, IfOk};
 ghost use Rattle.std.specs.Bool.{OnTrue};
@@ -13,15 +13,14 @@ use std::alloc::{AllocError, Global};
 use std::hash::RandomState;
 use std::marker::Model;
 
-/// Numbers of different labels, in the order of adding. The row of a number is how many were added
-/// before it.
+/// Numbers of different labels, in the order of adding. The row of a number is the number of rows before it.
 #[derive(Drop)]
 pub struct NameTable {
     keys: RandomState,
-    /// Lead to the rows of the numbers by the hashes of their labels.
+    /// Leads to the rows of the numbers by the hashes of their labels.
     places: RowPlaces,
     numbers: Vec<u32>,
-    /// Rows that are looked at before the hash of a label is taken.
+    /// Rows that are tried before the label is hashed.
     guesses: Guesses,
 }
 
@@ -37,7 +36,7 @@ impl Model for NameTable {
 }
 
 impl NameTable {
-    /// A table with no number and room for so many.
+    /// Makes an empty table, with room for `room` numbers.
     ///
     /// # Errors
     ///
@@ -57,14 +56,14 @@ impl NameTable {
         })
     }
 
-    /// The numbers, the row of each its place.
+    /// Returns the numbers, by their rows.
     pub fn numbers(&self) -> &[u32]
         ensures { result.now ≡ self.now.numbers }
     {
         &self.numbers
     }
 
-    /// The row of a label, or how many rows there are where the label is not known.
+    /// Returns the row of a label, or the number of rows if the label is not known.
     pub fn row_of<L: Labels>(&self, labels: &L, label: Label<'_>) -> u32
         requires { IsNamed (L.labels labels.now) self.now }
         ensures { result ≡ row_of (L.labels labels.now) self.now.numbers (label_value label.entry) }
@@ -81,7 +80,7 @@ impl NameTable {
         }
     }
 
-    /// Whether a label has this row, without looking it up.
+    /// Whether a label has this row, without a lookup.
     fn has_row<L: Labels>(&self, labels: &L, row: u32, label: Label<'_>) -> bool
         requires { IsNamed (L.labels labels.now) self.now }
         ensures { OnTrue result ((row < length self.now.numbers)
@@ -91,8 +90,8 @@ impl NameTable {
         (row as usize) < numbers.len() && is_label(labels, numbers[row as usize], label)
     }
 
-    /// Adds a number unless a number of its label is there, and gives the row of the label. It takes no
-    /// memory. A label that equals the one found last among those that are much like it isn't looked up.
+    /// Adds a number unless a number with its label is there, and returns the row of the label. Allocates nothing.
+    /// If the label equals the one that was last found in its class, there is no lookup.
     pub fn add<L: Labels>(&mut self, labels: &L, n: u32) -> u32
         requires leads { IsNamed (L.labels labels.now) self.old }
         requires held { n < (L.labels labels.now).count }

@@ -1,4 +1,4 @@
-//! Services and operations as sets in order.
+//! Services and operations, sorted and without duplicates.
 
 ghost use Rattle.std.specs.Prelude.{◌≡◌, IfOk, map};
 ghost use Rattle.jaeger_model.specs.Texts.{text_cmp, sorted_set};
@@ -10,12 +10,12 @@ use jaeger_model::Text;
 use std::alloc::{AllocError, Global};
 use trace_model::Operation;
 
-/// The texts in order, each once.
+/// Sorts the texts and removes duplicates.
 ///
 /// # Errors
 ///
 /// Out of memory, and nothing else.
-pub fn texts_in_order(texts: Vec<Text>) -> Result<Vec<Text>, AllocError>
+pub fn sorted_texts(texts: Vec<Text>) -> Result<Vec<Text>, AllocError>
     ensures { IfOk result (λ v. v.items ≡ sorted_set text_cmp texts.items) }
 {
     let mut texts = texts;
@@ -24,12 +24,12 @@ pub fn texts_in_order(texts: Vec<Text>) -> Result<Vec<Text>, AllocError>
     Ok(texts)
 }
 
-/// The operations in order, each once.
+/// Sorts the operations and removes duplicates.
 ///
 /// # Errors
 ///
 /// Out of memory, and nothing else.
-pub fn operations_in_order(operations: Vec<Operation>) -> Result<Vec<Operation>, AllocError>
+pub fn sorted_operations(operations: Vec<Operation>) -> Result<Vec<Operation>, AllocError>
     ensures { IfOk result (λ v. v.items ≡ sorted_set operation_cmp operations.items) }
 {
     let mut operations = operations;
@@ -38,8 +38,8 @@ pub fn operations_in_order(operations: Vec<Operation>) -> Result<Vec<Operation>,
     Ok(operations)
 }
 
-/// The names of the operations.
-fn names_alone(alloc: Global, operations: Vec<Operation>) -> Result<Vec<Text>, AllocError>
+/// Returns the names of the operations.
+fn names_of_operations(alloc: Global, operations: Vec<Operation>) -> Result<Vec<Text>, AllocError>
     ensures { IfOk result (λ v. v.items ≡ map (λ (o : OperationValue). o.name) operations.items) }
 {
     let mut names = Vec::new(alloc);
@@ -50,14 +50,14 @@ fn names_alone(alloc: Global, operations: Vec<Operation>) -> Result<Vec<Text>, A
     Ok(names)
 }
 
-/// The names of the operations in order, each once.
+/// Returns the names of the operations, sorted and without duplicates.
 ///
 /// # Errors
 ///
 /// Out of memory, and nothing else.
-pub fn names_in_order(alloc: Global, operations: Vec<Operation>) -> Result<Vec<Text>, AllocError>
+pub fn sorted_names(alloc: Global, operations: Vec<Operation>) -> Result<Vec<Text>, AllocError>
     ensures { IfOk result (λ v. v.items ≡ names_of operations.items) }
 {
-    let names = names_alone(alloc, operations)?;
-    texts_in_order(names)
+    let names = names_of_operations(alloc, operations)?;
+    sorted_texts(names)
 }

@@ -1,4 +1,4 @@
-//! A label that is sought among those of numbers.
+//! The label to find, and the numbers whose labels are searched.
 
 ghost use Rattle.std.specs.Prelude.{◌≡◌};
 ghost use Rattle.service_index.specs.Naming.{label_value};
@@ -8,7 +8,7 @@ use crate::labels::{Label, Labels, is_label};
 use row_places::Sought;
 use std::hash::{BuildHasher, Hash, Hasher, RandomState};
 
-/// The hash of a label, each part of which is delimited.
+/// Returns the hash of a label, each part of which is delimited.
 pub(crate) fn label_hash(keys: RandomState, label: Label<'_>) -> u64
     ensures { result ≡ hash_of keys (label_value label.entry) }
 {
@@ -19,7 +19,7 @@ pub(crate) fn label_hash(keys: RandomState, label: Label<'_>) -> u64
     state.finish()
 }
 
-/// A label that is sought among those of numbers.
+/// The label to find, and the numbers whose labels are searched.
 #[derive(Drop)]
 pub(crate) struct SoughtLabel<'a, L> {
     pub(crate) keys: RandomState,

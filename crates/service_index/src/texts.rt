@@ -1,36 +1,36 @@
-//! Where the names of numbers stand.
+//! Access to the names of numbers.
 
 ghost use Rattle.std.specs.Prelude.{◌≡◌, ◌<◌};
 ghost use Rattle.service_index.specs.Naming.{IsGroupOf};
 
 use crate::labels::{Label, Labels};
 
-/// Where the names of numbers stand: what each number's span reported. Services have numbers of their
-/// own, their groups, so that no call compares the service of one span with that of another.
+/// Access to the names of numbers: what each number's span reported. Services have numbers of their own, their
+/// groups, so that no call compares the services of two spans.
 pub trait Texts {
     ghost use Rattle.service_index.specs.Naming.{Names, IsGrouped};
 
-    /// How many numbers have a name, the name of each, and the group of each.
+    /// The number of names, the name of each number, and the group of each.
     ghost names: { Self → Names };
 
-    /// The service, the operation and the kind of the span with this number, the kind empty where it
-    /// has none.
+    /// Returns the service, the operation and the kind of the span with this number; the kind is empty if it has
+    /// none.
     fn name_at(&self, n: u32) -> (&str, &str, &str)
         requires { n < (names self.now).count }
         ensures service { result.0.now ≡ ((names self.now).at n).service }
         ensures operation { result.1.now ≡ ((names self.now).at n).operation.name }
         ensures kind { result.2.now ≡ ((names self.now).at n).operation.kind };
 
-    /// The group of the span with this number: the number of its service.
+    /// Returns the group of the span with this number: the number of its service.
     fn group_at(&self, n: u32) -> u32
         requires { n < (names self.now).count }
         ensures { result ≡ (names self.now).group n };
 
-    /// The group of a service; none where no span has the service.
+    /// Returns the group of a service, or none if no span has the service.
     fn group_of(&self, service: &str) -> Option<u32>
         ensures { IsGroupOf (names self.now) service.now result };
 
-    /// Spans have one group exactly where they have one service.
+    /// Spans have the same group exactly if they have the same service.
     ghost grouped: { (texts : Self) → IsGrouped (names texts) };
 }
 

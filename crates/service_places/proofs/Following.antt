@@ -16,7 +16,7 @@ use Rattle.trace_model.specs.Works.{service_brought}
 use Rattle.service_places.specs.Reported.{Reported, reporters, service_at, service_label, service_labels, group_in, group_of, AreGroups, IsKept}
 use Rattle.service_places.proofs.Grouping.{reporters_push, as_many_reporters, service_old, service_last, group_old, group_new, groups_more}
 
--- how many entries stand before the last one
+-- the number of entries before the last one
 pub last_number : (h0 h : List Entry) (e : Entry) (count : ℕ) → h0 ++ e ∷ [] ≡ h → length h ≡ count → count - 1 ≡ length h0
 last_number h0 h e count is counted =
     let one = length-append h0 (e ∷ []) in
@@ -61,7 +61,7 @@ row_added h numbers now n r more row =
       | inr past ↦ subst (λ (x : List ℕ). r < length x) (sym (number_new labels numbers n (omega arith))) (omega arith)
     ])
 
--- One more entry, e: its number n is among the services, in row s, and the number of its service is noted.
+-- One more entry, e: its number n is among the services, in row s, and the number of its service is stored.
 pub record HasOneMore (h0 h : List Entry) (e : Entry) (old : Reported) (services : Table) (groups : List ℕ) (s n group : ℕ) : Type 0 where
   pub is : h0 ++ e ∷ [] ≡ h
   pub at : n ≡ length h0
@@ -73,7 +73,7 @@ pub record HasOneMore (h0 h : List Entry) (e : Entry) (old : Reported) (services
   pub number : group ≡ get_or services.numbers s 0
   pub noted : groups ≡ old.groups ++ group ∷ []
 
--- what was kept before the entry e, in the words of the longer list
+-- the index before the entry e, in terms of the longer list
 record IsFollowed (h0 h : List Entry) (e : Entry) (old : Reported) (s n : ℕ) : Type 0 where
   pub longer : length h ≡ length h0 + 1
   pub reported : length (reporters h0) ≡ length h0
@@ -108,7 +108,7 @@ record IsNumbered (h : List Entry) (numbers : List ℕ) (s : ℕ) (service : Lis
   pub first : (r : ℕ) → r < length numbers → group_in h (service_at h (get_or numbers r 0)) ≡ get_or numbers r 0
   pub number : get_or numbers s 0 ≡ group_in h service
 
--- where a row has the service
+-- if a row has the service
 numbered_own : (h0 h : List Entry) (e : Entry) (old : Reported) (services : Table) (groups : List ℕ) (s n group : ℕ) → HasOneMore h0 h e old services groups s n group → s < length old.services.numbers
     → IsNumbered h services.numbers s (service_brought e.work)
 numbered_own h0 h e old services groups s n group m below =
@@ -123,7 +123,7 @@ numbered_own h0 h e old services groups s n group m below =
       number = sym (first_old h0 h e numbers s m.is b.held m.kept.first below) ∙ ap (group_in h) there;
     })
 
--- where none has it
+-- if none has it
 numbered_new : (h0 h : List Entry) (e : Entry) (old : Reported) (services : Table) (groups : List ℕ) (s n group : ℕ) → HasOneMore h0 h e old services groups s n group → length old.services.numbers ≤ s
     → IsNumbered h services.numbers s (service_brought e.work)
 numbered_new h0 h e old services groups s n group m beyond =
@@ -217,6 +217,6 @@ pub group_none : (h : List Entry) (kept : Reported) (s : List ℕ) (r : ℕ) →
 group_none h kept s r k is past =
     sym (ap (λ b. cond b (Some (group_in h s)) None) (is_position (same_text s) (reporters h) [] ∙ none_reported h kept s r k is past))
 
--- as many services as are newest places
+-- as many services as newest places
 pub newest_rows : (h : List Entry) (kept : Reported) → IsKept h kept → length kept.newest ≡ length kept.services.numbers
 newest_rows h kept k = k.linked.as_many ∙ length-map kept.services.numbers (service_at h)

@@ -1,4 +1,4 @@
--- The numbers of services, as one more entry comes.
+-- The numbers of services, as one more entry arrives.
 use Rattle.std.proofs.Common.{◌≡◌, ℕ, Bool, true, ◌+◌, ◌<◌, ◌≤◌, List, [], ◌∷◌, ◌++◌, length, get_or, refl, sym, ap, ◌∙◌, inl, inr, arith, length-append}
 use Rattle.std.specs.List.{position_or_len}
 use Rattle.std.proofs.lemmas.Bool.{false≢true, cases_eq, cases_lt}
@@ -56,7 +56,7 @@ service_last h0 h e n is at =
 pub group_within : (h : List Entry) (n : ℕ) → n < length h → group_in h (service_at h n) ≤ n
 group_within h n below = let m = as_many_reporters h in first_low (same_text (service_at h n)) (reporters h) n [] (omega arith) (text_self (service_at h n))
 
--- it stays what it was
+-- it doesn't change
 pub group_known : (h0 h : List Entry) (e : Entry) (s : List ℕ) → h0 ++ e ∷ [] ≡ h → group_in h0 s < length h0 → group_in h s ≡ group_in h0 s
 group_known h0 h e s is below =
     let m = as_many_reporters h0 in
@@ -67,7 +67,7 @@ group_old h0 h e n is below =
     let w = group_within h0 n below in
     ap (group_in h) (service_old h0 h e n is below) ∙ group_known h0 h e (service_at h0 n) is (omega arith)
 
--- a service that no entry had has the number of the last one
+-- the number of a service that no entry had is that of the last entry
 pub group_new : (h0 h : List Entry) (e : Entry) → h0 ++ e ∷ [] ≡ h → length h0 ≤ group_in h0 (service_brought e.work) → group_in h (service_brought e.work) ≡ length h0
 group_new h0 h e is none =
     let m = as_many_reporters h0 in

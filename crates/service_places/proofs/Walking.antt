@@ -12,7 +12,7 @@ along_none : (n : ℕ) (earlier : List ℕ) → along n earlier 0 ≡ []
 along_none zero earlier = refl
 along_none (suc n) earlier = refl
 
--- more steps than the place says change nothing
+-- more steps than the place don't change the result
 along_enough : (earlier : List ℕ) → ((k : ℕ) → k < length earlier → get_or earlier k 0 ≤ k) → (n m at : ℕ) → at ≤ n → at ≤ m → at ≤ length earlier → along n earlier at ≡ along m earlier at
 along_enough earlier back n m zero a b w = along_none n earlier ∙ sym (along_none m earlier)
 along_enough earlier back zero m (suc k) a b w = absurd (omega arith)

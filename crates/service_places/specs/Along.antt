@@ -1,7 +1,8 @@
 -- Places that lead from one to the next.
 use Rattle.std.specs.Prelude.{ℕ, zero, suc, ◌<◌, ◌≤◌, List, [], ◌∷◌, length, get_or}
 
--- at most so many places from this one on; at each index stands the place that follows that of the entry with so many before it, and 0 is the end
+-- at most n places from this one on; the place that follows that of an entry is at the index of the number of
+-- entries before it, and 0 is the end
 abbrev pub along : ℕ → List ℕ → ℕ → List ℕ
 along zero earlier at = []
 along (suc n) earlier zero = []

@@ -12,7 +12,7 @@ use Rattle.service_index.specs.Indexes.{IsLinked}
 abbrev pub reporters : List Entry → List (List ℕ)
 reporters h = map (λ (e : Entry). service_brought e.work) h
 
--- the service of the entry with so many before it
+-- the service of the entry that has n entries before it
 abbrev pub service_at : List Entry → ℕ → List ℕ
 service_at h n = get_or (reporters h) n []
 
@@ -20,7 +20,7 @@ service_at h n = get_or (reporters h) n []
 abbrev pub service_label : List ℕ → LabelValue
 service_label service = record { group = 0; name = service; kind = [] }
 
--- the services of entries as labels, each under how many entries stand before its own
+-- the services of entries as labels, each by the number of entries before its own
 abbrev pub service_labels : List Entry → Labelling
 service_labels h = record { count = length h; at = λ n. service_label (service_at h n) }
 
@@ -34,11 +34,12 @@ abbrev pub places_of : List Entry → List ℕ → List ℕ
 places_of h service = places_upto service (reporters h) (length h)
 
 -- ---- the numbers of services
--- the number of a service: how many entries stand before the first one of it, or how many there are
+-- the number of a service: the number of entries before the first one of it, or the number of all entries if there
+-- is none
 abbrev pub group_in : List Entry → List ℕ → ℕ
 group_in h service = position_or_len (same_text service) (reporters h)
 
--- the number of a service; none where no entry is of it
+-- the number of a service; none if no entry is of it
 abbrev pub group_of : List Entry → List ℕ → Option ℕ
 group_of h service = position (same_text service) (reporters h)
 
@@ -47,8 +48,10 @@ pub record AreGroups (h : List Entry) (groups : List ℕ) : Type 0 where
   pub as_many : length groups ≡ length h
   pub each : (n : ℕ) → n < length h → get_or groups n 0 ≡ group_in h (service_at h n)
 
--- ---- what is kept
--- what is seen of the places that are kept: a number for each service, for each service the place of its newest entry, for each entry the place of the one of its service before it and the number of its service, and how many entries there is room for
+-- ---- the index
+-- the value of the index: a number for each service, for each service the place of its newest entry, for each entry
+-- the place of the one before it of its service and the number of its service, and the number of entries that there
+-- is room for
 pub record Reported : Type 0 where
   pub services : Table
   pub newest : List ℕ
@@ -56,7 +59,7 @@ pub record Reported : Type 0 where
   pub groups : List ℕ
   pub batches : ℕ
 
--- they are those of these entries
+-- the index is that of these entries
 pub record IsKept (h : List Entry) (kept : Reported) : Type 0 where
   pub fits : kept.batches < 2 ^ 32
   pub room : kept.services.room ≡ kept.batches

@@ -5,7 +5,7 @@ use std::marker::Model;
 /// The places of the entries of one service, the newest first.
 #[derive(Drop)]
 pub struct Places<'a> {
-    /// For each entry the place of the one of its service before it, 0 where it is the first.
+    /// For each entry the place of the one before it of the same service, 0 if it is the first.
     pub(crate) earlier: &'a [u32],
     /// The next place; 0 at the end.
     pub(crate) at: u32,

@@ -1,5 +1,5 @@
-//! Facts about the definitions of `specs/`, for a store that follows its list. Each function does
-//! nothing, and its contract is the fact.
+//! Facts about the definitions of `specs/`, for a store that indexes its list. Each function does nothing, and
+//! its contract is the fact.
 
 ghost use Rattle.std.specs.Prelude.{◌≡◌, List, [], ◌∷◌, ◌++◌};
 ghost use Rattle.trace_model.specs.declared.entry.Entry.{Entry as EntryValue};

@@ -1,12 +1,12 @@
-//! Which entries each service reported, by their places, in room taken once.
+//! The places of the entries that each service reported, with all memory allocated once.
 //!
-//! A batch has one process, so each entry stands under one service. A search by a service then looks
-//! at the entries of that service and at no others. The places follow a list of entries that grows at
-//! its end: each call is given the list, and what they hold of it is a clause of each call (`IsKept`).
-//! Following one more entry takes no memory, and costs the same however many entries there are. Its
-//! service is looked up once, and has a number from then on, which stands for its text.
+//! A batch has one process, so each entry belongs to one service, and a search by a service reads only the
+//! entries of that service. The places index a list of entries that grows at its end. Each call gets the list,
+//! and a clause of each call relates it to the index (`IsKept`). Adding one more entry allocates nothing, at a
+//! cost that doesn't depend on the number of entries. Its service is looked up once, and has a number from then
+//! on, which represents its text.
 //!
-//! * `reporters`: the services of entries, where they stand.
+//! * `reporters`: the services of entries, as labels.
 //! * `along`: the places of one service.
 //! * `places`: the [`ServicePlaces`].
 //! * `laws`: facts about the definitions of `specs/`.

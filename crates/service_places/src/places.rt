@@ -7,22 +7,22 @@ ghost use Rattle.service_places.specs.Reported.{service_label, service_labels};
 
 use crate::along::Places;
 use crate::reporters::{Reporters, service_label};
-use service_index::{Links, NameTable};
+use service_index::{NameTable, RowLinks};
 use std::alloc::{AllocError, Global};
 use std::hash::RandomState;
 use std::marker::Model;
 use std::sync::Arc;
 use trace_model::Entry;
 
-/// The places of the entries of each service of a list of entries that grows at its end, and a number for
-/// each service: how many entries stand before the first one of it.
+/// The places of the entries of each service in a list of entries that grows at its end, and a number for each
+/// service: the number of entries before the first one of it.
 #[derive(Drop)]
 pub struct ServicePlaces {
     batches: u32,
-    /// For each service how many entries stand before the first one of it.
+    /// For each service the number of entries before the first one of it.
     services: NameTable,
-    /// The places of the entries, of each service along.
-    links: Links,
+    /// The places of the entries, linked for each service.
+    links: RowLinks,
     /// For each entry the number of its service.
     groups: Vec<u32>,
 }
@@ -39,8 +39,8 @@ impl Model for ServicePlaces {
 }
 
 impl ServicePlaces {
-    /// The places of no entry, with room for so many entries. The keys decide where services stand in
-    /// the table that they are found in.
+    /// Makes an index of no entry, with room for `batches` entries. The keys are those of the hash by which
+    /// services are found.
     ///
     /// # Errors
     ///
@@ -50,7 +50,7 @@ impl ServicePlaces {
         ensures batches { IfOk result (λ places. places.batches ≡ batches) }
     {
         let services = NameTable::with_room(alloc, keys, batches)?;
-        let links = Links::with_room(alloc, batches)?;
+        let links = RowLinks::with_room(alloc, batches)?;
         let groups = Vec::with_capacity(alloc, batches as usize)?;
         Ok(ServicePlaces {
             batches,
@@ -60,7 +60,7 @@ impl ServicePlaces {
         })
     }
 
-    /// Follows the list, which has one more entry at its end. It takes no memory.
+    /// Adds the last entry of the list, which is one entry longer. Allocates nothing.
     pub fn add(&mut self, entries: &[Arc<Entry>])
         requires some { 0 < length entries.now }
         requires kept { IsKept (before_last (map arc_value entries.now)) self.old }
@@ -74,7 +74,7 @@ impl ServicePlaces {
         self.links.add_row(service);
     }
 
-    /// The places of a service's entries, the newest first.
+    /// Returns the places of a service's entries, the newest first.
     pub fn places_of(&self, entries: &[Arc<Entry>], service: &str) -> Places<'_>
         requires { IsKept (map arc_value entries.now) self.now }
         ensures { result ≡ places_of (map arc_value entries.now) service.now }
@@ -86,7 +86,7 @@ impl ServicePlaces {
         }
     }
 
-    /// The number of the service of the entry with so many before it.
+    /// Returns the number of the service of the entry that has `before` entries before it.
     pub fn group_at(&self, before: u32) -> u32
         requires { before < length self.now.groups }
         ensures { result ≡ get_or self.now.groups before 0 }
@@ -94,7 +94,7 @@ impl ServicePlaces {
         self.groups[before as usize]
     }
 
-    /// The number of a service; none where no entry is of it.
+    /// Returns the number of a service, or none if no entry is of it.
     pub fn group_of(&self, entries: &[Arc<Entry>], service: &str) -> Option<u32>
         requires { IsKept (map arc_value entries.now) self.now }
         ensures { result ≡ group_of (map arc_value entries.now) service.now }
@@ -108,7 +108,7 @@ impl ServicePlaces {
         }
     }
 
-    /// The row of a service, or how many services there are where no entry is of it.
+    /// Returns the row of a service, or the number of services if no entry is of it.
     fn row_of(&self, entries: &[Arc<Entry>], service: &str) -> usize
         requires { IsKept (map arc_value entries.now) self.now }
         ensures { result ≡ row_of (service_labels (map arc_value entries.now))

@@ -6,7 +6,7 @@ use service_index::{Label, Labels};
 use std::sync::Arc;
 use trace_model::Entry;
 
-/// A service as a label: all services stand in one group.
+/// Returns a service as a label: all services are in one group.
 pub(crate) fn service_label(service: &str) -> Label<'_>
     ensures { label_value result ≡ service_label service.now }
 {
@@ -17,7 +17,7 @@ pub(crate) fn service_label(service: &str) -> Label<'_>
     }
 }
 
-/// The services of entries as labels, each under how many entries stand before its own.
+/// The services of entries as labels, each by the number of entries before its own.
 #[derive(Drop)]
 pub(crate) struct Reporters<'a> {
     pub(crate) entries: &'a [Arc<Entry>],

@@ -3,17 +3,17 @@ ghost use Rattle.session_devices.specs.Takings.{LeavesOther};
 
 use crate::{Failed, Input, Output};
 
-/// An input and an output at once. Reads and writes of it come one after the other, so that it can be said
-/// what was written before which read.
+/// An input and an output at once. Its reads and writes are in one order, so a contract can name what was written
+/// before each read.
 pub trait Connection: Input + Output {
-    /// A read changes nothing of what was written.
+    /// A read doesn't change what was written.
     ghost reads_leave: { LeavesOther Self Self.gives Self.contents Self.Output.has_failed };
 
-    /// A write changes nothing of what is still to be read.
+    /// A write doesn't change what is still to be read.
     ghost writes_leave: { LeavesOther Self Self.takes Self.remaining Self.Input.has_failed };
 }
 
-/// An input and an output, joined to one connection.
+/// An input and an output, joined into one connection.
 #[derive(Drop)]
 pub struct Join<'a, R, W> {
     pub input: &'a mut R,
@@ -21,7 +21,7 @@ pub struct Join<'a, R, W> {
 }
 
 impl<'a, R, W> Join<'a, R, W> {
-    /// The connection of both.
+    /// Joins an input and an output.
     pub fn new(input: &'a mut R, output: &'a mut W) -> Self
         ensures input { result.input ≡ input.entry }
         ensures output { result.output ≡ output.entry }
@@ -33,7 +33,7 @@ impl<'a, R, W> Join<'a, R, W> {
 impl<'a, R: Input, W: Output> Input for Join<'a, R, W> {
     ghost remaining = { λ s. R.remaining s.input.now };
 
-    // The same references as before, too: whoever lent them learns what became of what they refer to.
+    // The references stay the same too, so the lender learns what became of the values behind them.
     ghost gives = { λ s given t. R.gives s.input.now given t.input.now
         × (t.input.ghost_name ≡ s.input.ghost_name) × (t.output ≡ s.output) };
 

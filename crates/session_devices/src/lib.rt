@@ -1,10 +1,10 @@
-//! Inputs and outputs of a session, whose bytes contracts can name, and which remember whether they failed.
+//! The inputs and outputs of a session. Contracts can name their bytes, and they remember whether they failed.
 //!
-//! A session over an [`Input`] and an [`Output`] can be spoken of by the bytes that were read and
-//! written, and a failure is no end: the device itself says which it was. Of a [`Connection`], which is both,
-//! it can be said too what was written before which read.
+//! A contract of a session over an [`Input`] and an [`Output`] speaks of the bytes that were read and written. A
+//! failure is distinct from the end of the input: the device itself says which one it was. The contract of a session
+//! over a [`Connection`], which is both, also says what was written before each read.
 //!
-//! * `watched`: std's readers and writers, watched.
+//! * `watched`: std's readers and writers as devices.
 //! * `memory`: devices over memory.
 //! * `connection`: an input and an output as one.
 #![tactic(auto)]
@@ -26,23 +26,22 @@ pub use watched::Watched;
 #[derive(Clone, Copy, Debug, PartialEq, Eq)]
 pub struct Failed;
 
-/// An input that remembers whether it has failed.
+/// An input that remembers whether a read failed.
 pub trait Input {
-    /// The bytes that reads will give from here on, where they are known.
+    /// The bytes that later reads return, if they are known.
     ghost remaining: { Self → Option (List ℕ) };
 
-    /// From which state one read that gives these bytes leads to which; one that fails gives none.
+    /// Relates the states before and after one read that returns these bytes. A read that fails returns none.
     ghost gives: { Self → List ℕ → Self → Type 0 };
 
     ghost has_failed: { Self → Bool };
 
-    /// Reads some bytes to the beginning of the buffer and returns how many. 0 for a buffer with room says
-    /// that the input has ended.
+    /// Reads some bytes into the start of the buffer and returns how many. 0 for a nonempty buffer means that the input
+    /// has ended.
     ///
     /// # Errors
     ///
-    /// The device has failed, now and for good; nothing else makes [`Input::failed`] true, and nothing
-    /// makes it false again.
+    /// The device has failed for good. Nothing else makes [`Input::failed`] true, and nothing makes it false again.
     fn read(&mut self, buf: &mut [u8]) -> Result<usize, Failed>
         ensures bound { ReadsAtMost result buf.new }
         ensures bytes { ReadConsumes (remaining self.old) (remaining self.new) result buf.new }
@@ -51,28 +50,26 @@ pub trait Input {
         ensures ok { IfOk result (λ n. has_failed self.new ≡ has_failed self.old) }
         ensures err { OnErr result (has_failed self.new ≡ true) };
 
-    /// Whether a read has failed.
+    /// Returns whether a read has failed.
     fn failed(&self) -> bool
         ensures { result ≡ has_failed self.now };
 }
 
-/// An output that remembers whether it has failed.
+/// An output that remembers whether a write failed.
 pub trait Output {
-    /// The bytes that the output holds, where they are known.
+    /// The bytes that the output holds, if they are known.
     ghost contents: { Self → Option (List ℕ) };
 
-    /// From which state writes that take these bytes lead to which; one that fails takes none.
+    /// Relates the states before and after writes that take these bytes. A write that fails takes none.
     ghost takes: { Self → List ℕ → Self → Type 0 };
 
     ghost has_failed: { Self → Bool };
 
-    /// Writes some bytes from the beginning of the buffer, at least one where it has any, and returns how
-    /// many.
+    /// Writes some bytes from the start of the buffer, at least one unless it is empty, and returns how many.
     ///
     /// # Errors
     ///
-    /// The device has failed, now and for good: also where it took nothing of a buffer that isn't
-    /// empty.
+    /// The device has failed for good. Taking nothing of a nonempty buffer is a failure too.
     fn write(&mut self, buf: &[u8]) -> Result<usize, Failed>
         ensures bound { WritesAtMost result buf.now }
         ensures some { IfOk result (λ n. 0 < length buf.now → 0 < n) }
@@ -82,13 +79,13 @@ pub trait Output {
         ensures ok { IfOk result (λ n. has_failed self.new ≡ has_failed self.old) }
         ensures err { OnErr result (has_failed self.new ≡ true) };
 
-    /// Whether a write has failed.
+    /// Returns whether a write has failed.
     fn failed(&self) -> bool
         ensures { result ≡ has_failed self.now };
 
-    /// No bytes change nothing.
+    /// Writing no bytes changes nothing.
     ghost takes_nothing: { TakesNothing Self takes };
 
-    /// It is all one how the bytes are cut.
+    /// Bytes may be written in any number of pieces.
     ghost takes_joined: { TakesJoined Self takes };
 }

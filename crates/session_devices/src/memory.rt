@@ -3,7 +3,7 @@ ghost use Rattle.std.specs.Prelude.{◌≡◌, ◌++◌, Some, false, []};
 use crate::{Failed, Input, Output};
 use std::alloc::Global;
 
-/// An input over memory, which gives at most so many bytes a call and can be made to fail.
+/// An input over memory. Each read returns at most `step` bytes, and one read can be made to fail.
 #[derive(Drop)]
 pub struct MemoryInput<'a> {
     bytes: &'a [u8],
@@ -14,8 +14,8 @@ pub struct MemoryInput<'a> {
 }
 
 impl<'a> MemoryInput<'a> {
-    /// Gives the bytes, at most `step` a call (one, where that is 0), and fails at call `fails_at`,
-    /// counted from 1; at 0 it never fails.
+    /// Creates an input that returns the bytes, at most `step` a call (one if that is 0), and fails at call `fails_at`,
+    /// counted from 1. With 0 it never fails.
     pub fn new(bytes: &'a [u8], step: usize, fails_at: u64) -> Self
         ensures bytes { result.bytes.now ≡ bytes.now }
         ensures failed { result.failed ≡ false }
@@ -54,7 +54,7 @@ impl<'a> Input for MemoryInput<'a> {
     }
 }
 
-/// An output over memory, which takes at most so many bytes a call and has room for so many.
+/// An output over memory. Each write takes at most `step` bytes, and it fails once `room` bytes were written.
 #[derive(Drop)]
 pub struct MemoryOutput {
     bytes: Vec<u8>,
@@ -64,7 +64,7 @@ pub struct MemoryOutput {
 }
 
 impl MemoryOutput {
-    /// Takes at most `step` bytes a call (one, where that is 0), and `room` bytes in all.
+    /// Creates an output that takes at most `step` bytes a call (one if that is 0) and `room` bytes in all.
     pub fn new(alloc: Global, room: usize, step: usize) -> Self
         ensures bytes { result.bytes.items ≡ [] }
         ensures failed { result.failed ≡ false }
@@ -77,7 +77,7 @@ impl MemoryOutput {
         }
     }
 
-    /// What was written.
+    /// Returns the bytes that were written.
     pub fn as_slice(&self) -> &[u8]
         ensures { result.now ≡ self.now.bytes.items }
     {

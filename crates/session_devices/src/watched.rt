@@ -3,11 +3,11 @@ ghost use Rattle.std.specs.Prelude.{◌≡◌, false};
 use crate::{Failed, Input, Output};
 use std::io::{ErrorKind, Read, Write};
 
-/// How often a call that a signal interrupted is made again before it counts as failed.
-const MOST_INTERRUPTIONS: u32 = 1_000_000;
+/// How many interruptions by a signal make a call count as failed.
+const MAX_INTERRUPTIONS: u32 = 1_000_000;
 
-/// A reader or a writer of std, watched: the same bytes, and every error is a failure, but for a call
-/// that a signal interrupted, which is made again.
+/// A reader or a writer of std as a device. Every error is a failure, except that a call interrupted by a signal is
+/// retried.
 #[derive(Drop)]
 pub struct Watched<T> {
     inner: T,
@@ -15,7 +15,7 @@ pub struct Watched<T> {
 }
 
 impl<T> Watched<T> {
-    /// A device that hasn't failed yet.
+    /// Creates a device that hasn't failed yet.
     pub fn new(inner: T) -> Self
         ensures inner { result.inner ≡ inner }
         ensures failed { result.failed ≡ false }
@@ -37,7 +37,7 @@ impl<T: Read> Input for Watched<T> {
     ghost has_failed = { λ s. s.failed };
 
     fn read(&mut self, buf: &mut [u8]) -> Result<usize, Failed> {
-        for _tried in 0..MOST_INTERRUPTIONS {
+        for _tried in 0..MAX_INTERRUPTIONS {
             match self.inner.read(buf) {
                 Ok(count) => return Ok(count),
                 Err(error) if error.kind() == ErrorKind::Interrupted => {}
@@ -69,7 +69,7 @@ impl<T: Write> Output for Watched<T> {
         (T.contents t.inner) (T.contents u.inner) front back one two };
 
     fn write(&mut self, buf: &[u8]) -> Result<usize, Failed> {
-        for _tried in 0..MOST_INTERRUPTIONS {
+        for _tried in 0..MAX_INTERRUPTIONS {
             match self.inner.write(buf) {
                 Ok(count) if count > 0 || buf.is_empty() => return Ok(count),
                 Err(error) if error.kind() == ErrorKind::Interrupted => {}

@@ -1,4 +1,4 @@
--- A first place lies within the list.
+-- A first place is within the list.
 use Rattle.std.proofs.Common.{◌≡◌, ℕ, ◌<◌, Bool, true, false, List, length, refl, arith}
 use Rattle.std.specs.Prelude.{Some, None, IfSome, nat_lt, cond}
 use Rattle.std.specs.List.{position, position_or_len}

@@ -1,4 +1,4 @@
--- The span as it is shown, by what is said of it.
+-- The span as it is shown, by its warning.
 use Rattle.std.proofs.Common.{◌≡◌, ℕ, ℤ, pos, Bool, true, false, List, [], ◌∷◌, ◌++◌, refl, sym, ap, ◌∙◌, nat_le, nat_abs}
 use Rattle.std.specs.Prelude.{Option, Some, None, not, if◌then◌else◌}
 use Rattle.std.specs.Ordering.{int_eq}
@@ -22,7 +22,7 @@ by_tests m d p false true true = refl
 pub shown_is : (m : ℕ) (d : ℤ) (p : Placed) → shown_by (warning_of m d p.span) p ≡ shifted m d p
 shown_is m d p = by_tests m d p (int_eq d (pos 0)) (nat_le (nat_abs d) m) (all_fit d p.span)
 
--- nothing is said of a span whose clock's delta is 0
+-- a span whose clock's delta is 0 has no warning
 pub nothing_said : (m : ℕ) (d : ℤ) (s : Shown) (o : Option Warning) → o ≡ warning_of m d s.placed.span → o ≡ None → s ≡ said_after s (shifted m d s.placed)
 nothing_said m d s o e none =
     (λ i. record { placed = s.placed; warnings = sym (append-nil s.warnings) i })

@@ -1,4 +1,4 @@
--- What is said of a span by the delta of its clock, and the span as it is shown by that.
+-- The warning about a span by the delta of its clock, and the span as it is shown with that warning.
 use Rattle.std.specs.Prelude.{ℕ, ℤ, pos, IsTrue, not, nat_abs, nat_le, List, [], ◌∷◌, Option, Some, None, if◌then◌else◌}
 use Rattle.std.specs.Ordering.{int_eq}
 use Rattle.jaeger_model.specs.declared.placed.Placed.{Placed}
@@ -25,7 +25,7 @@ abbrev pub warning_texts : Option Warning → List (List ℕ)
 warning_texts None = []
 warning_texts (Some w) = warning_text w ∷ []
 
--- the span as it is shown, and what is said of it
+-- the span as it is shown, with its warning
 abbrev pub shown_by : Option Warning → Placed → Shown
 shown_by None p = unadjusted p
 shown_by (Some (Adjusted d)) p = warned (moved_placed d p) (adjusted_by d)

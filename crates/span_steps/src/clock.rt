@@ -13,7 +13,7 @@ use std::alloc::{AllocError, Global};
 use std::mem;
 use trace_model::Shown;
 
-/// The host that a process names: the text of its first tag `ip`, or an empty one.
+/// Returns the host that a process names: the text of its first tag `ip`, or an empty text.
 ///
 /// # Errors
 ///
@@ -25,30 +25,29 @@ pub fn host_named(alloc: Global, process: &Process) -> Result<Text, AllocError>
     Ok(Text::from_string(host))
 }
 
-/// Each log time so much later is a time.
+/// Whether each log time, moved by the delta, is a time.
 fn all_logs_fit(delta: i128, logs: &[Log]) -> bool
     ensures { result ≡ list_all (λ (l : LogValue). fits (l.at +ℤ delta)) logs.now }
 {
     logs.iter().all(|l| can_move(l.at, delta))
 }
 
-/// Start and log times so much later are all times. The delta is microseconds.
+/// Whether start and log times, moved by the delta in microseconds, are all times.
 pub(crate) fn all_fit(delta: i128, span: &Span) -> bool
     ensures { result ≡ all_fit delta span.now }
 {
     can_move(span.start, delta) && all_logs_fit(delta, span.logs.as_slice())
 }
 
-/// The delta moves the span: it is within the limit, and each time that it gives is one.
+/// Whether the delta moves the span: it is within the limit, and each moved time is a time.
 fn is_applied(max_skew: u64, delta: i128, span: &Span) -> bool
     ensures { result ≡ is_applied max_skew delta span.now }
 {
     is_within(delta, max_skew) && all_fit(delta, span)
 }
 
-/// The start of a span as it is shown, in microseconds since 1970: moved by the delta of its clock,
-/// where that is within the limit and each time of the span stays one. `max_skew` and `delta` are
-/// microseconds.
+/// Returns the shown start of a span, in microseconds since 1970: moved by the delta of its clock, if the delta is
+/// within the limit and each moved time of the span is a time. `max_skew` and `delta` are in microseconds.
 pub fn start_at(max_skew: u64, delta: i128, span: &Span) -> i64
     ensures { result ≡ start_at max_skew delta span.now }
 {
@@ -59,7 +58,7 @@ pub fn start_at(max_skew: u64, delta: i128, span: &Span) -> i64
     }
 }
 
-/// The log so much later.
+/// Moves the log by the delta.
 fn move_log(delta: i128, log: &mut Log)
     requires { IsTrue (fits (log.old.at +ℤ delta)) }
     ensures { log.new ≡ move_log delta log.old }
@@ -67,7 +66,7 @@ fn move_log(delta: i128, log: &mut Log)
     log.at = moved_by(log.at, delta);
 }
 
-/// The logs so much later.
+/// Moves the logs by the delta.
 fn move_logs(delta: i128, logs: &mut [Log])
     requires { IsTrue (list_all (λ (l : LogValue). fits (l.at +ℤ delta)) logs.old) }
     ensures { logs.new ≡ map (move_log delta) logs.old }
@@ -86,7 +85,7 @@ fn moved_logs(delta: i128, logs: Seq<Log>) -> Seq<Log>
     Seq::from_vec(logs)
 }
 
-/// The span so much later.
+/// Moves the span by the delta.
 fn move_span(alloc: Global, delta: i128, span: &mut Span)
     requires { IsTrue (all_fit delta span.old) }
     ensures { span.new ≡ moved delta span.old }
@@ -96,7 +95,7 @@ fn move_span(alloc: Global, delta: i128, span: &mut Span)
     span.logs = moved_logs(delta, logs);
 }
 
-/// The span as it came.
+/// Returns the span as it was reported.
 pub fn unadjusted(alloc: Global, placed: Placed) -> Shown
     ensures { result ≡ unadjusted placed }
 {
@@ -106,7 +105,7 @@ pub fn unadjusted(alloc: Global, placed: Placed) -> Shown
     }
 }
 
-/// The spans as they came.
+/// Returns the spans as they were reported.
 ///
 /// # Errors
 ///
@@ -122,15 +121,15 @@ pub fn all_unadjusted(alloc: Global, spans: Vec<Placed>) -> Result<Seq<Shown>, A
     Ok(Seq::from_vec(shown))
 }
 
-/// Moves the span by the delta of its host, and puts a warning that says so behind those that it
-/// has, or one that says why it is not moved: the delta is above the limit, or a time would leave
-/// the range of times. A delta of 0 changes nothing and says nothing.
+/// Moves the span by the delta of its host's clock, and appends a warning that says so. If the delta is above the
+/// limit, or a time would leave the range of times, the span is not moved and the warning says why. A delta of 0
+/// changes nothing and adds no warning.
 ///
-/// `delta` and `max_skew` are microseconds.
+/// `delta` and `max_skew` are in microseconds.
 ///
 /// # Errors
 ///
-/// Running out of memory alone; the span is then as it was.
+/// Running out of memory alone; the span is then unchanged.
 pub fn shift(alloc: Global, shown: &mut Shown, delta: i128, max_skew: u64) -> Result<(), AllocError>
     ensures ok { OnOk result (shown.new ≡
         said_after shown.old (shifted max_skew delta shown.old.placed)) }

@@ -1,4 +1,4 @@
-//! The conditions of a search that are about a span's service, operation, duration and start.
+//! The conditions of a search on a span's service, operation, duration and start.
 
 ghost use Rattle.std.specs.Prelude.{◌≡◌, [], ◌||◌};
 ghost use Rattle.jaeger_model.specs.Texts.{same_text};
@@ -8,14 +8,14 @@ ghost use Rattle.trace_model.specs.Seeing.{seen};
 use jaeger_model::{Seen, Text};
 use trace_model::Find;
 
-/// Whether the text is the asked one; an empty one asks for any.
-fn is_asked(asked: &Text, text: &Text) -> bool
+/// Whether the text is the requested one; an empty request matches every text.
+fn matches_text(asked: &Text, text: &Text) -> bool
     ensures { result ≡ (same_text asked.now [] || same_text asked.now text.now) }
 {
     asked.as_str() == "" || asked == text
 }
 
-/// Whether the value is not below a bound, if there is one.
+/// Whether the value is at or above the bound, if there is one.
 pub fn is_at_least(low: Option<i64>, value: i64) -> bool
     ensures { result ≡ at_least low value }
 {
@@ -25,7 +25,7 @@ pub fn is_at_least(low: Option<i64>, value: i64) -> bool
     }
 }
 
-/// Whether the value is not above a bound, if there is one.
+/// Whether the value is at or below the bound, if there is one.
 pub fn is_at_most(high: Option<i64>, value: i64) -> bool
     ensures { result ≡ at_most high value }
 {
@@ -35,21 +35,22 @@ pub fn is_at_most(high: Option<i64>, value: i64) -> bool
     }
 }
 
-/// The bound that a search gives for durations, in microseconds; 0 is none.
+/// Returns the bound of a search on durations, in microseconds; 0 is none.
 pub fn duration_bound(duration: i64) -> Option<i64>
     ensures { result ≡ bound duration }
 {
     if duration == 0 { None } else { Some(duration) }
 }
 
-/// Whether service and operation are those that the search asks for; an empty operation asks for any.
+/// Whether service and operation are those of the search; an empty operation matches every one.
 pub fn is_named(at: Seen, query: &Find) -> bool
     ensures { result ≡ is_named query.now (seen at.entry) }
 {
-    query.service == at.process.service && is_asked(&query.operation, &at.span.operation)
+    query.service == at.process.service && matches_text(&query.operation, &at.span.operation)
 }
 
-/// Whether duration and start lie within the bounds of the search, in microseconds; a duration's bound of 0 is none.
+/// Whether duration and start are within the bounds of the search, in microseconds; a duration's bound of 0 is
+/// none.
 pub fn is_timed(at: Seen, query: &Find) -> bool
     ensures { result ≡ is_timed query.now (seen at.entry) }
 {

@@ -1,10 +1,10 @@
-//! Single steps over one span, which the plain store and the store with indexes both take.
+//! Steps over one span that the plain store and the store with indexes share.
 //!
-//! * `references`: which reference of a span names its parent, and this reference put in front.
+//! * `references`: which reference of a span names its parent, and moving it to the front.
 //! * `window`: whether a span starts in a window of time.
 //! * `clock`: the host that a process names, and a span moved by the delta of its host's clock.
-//! * `conditions`: whether a span meets what a search asks of its service, operation, duration and start.
-//! * `warning`: what is said of a span's clock skew.
+//! * `conditions`: whether a span meets a search's conditions on service, operation, duration and start.
+//! * `warning`: the warnings about a span's clock skew.
 //! * `skew`: arithmetic on times.
 #![tactic(auto)]
 

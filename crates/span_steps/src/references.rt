@@ -1,4 +1,4 @@
-//! Which reference of a span names its parent, and this reference put in front.
+//! Which reference of a span names its parent, and moving it to the front.
 
 ghost use Rattle.std.specs.Prelude.{◌≡◌, ◌<◌, IfOk, IfSome, length};
 ghost use Rattle.std.specs.List.{position};
@@ -20,7 +20,7 @@ fn other_place(references: &[SpanRef], trace: TraceId) -> Option<usize>
     references.iter().position(|r| is_own_other(*r, trace))
 }
 
-/// The place of the first child-of reference to the trace, else of the first other one.
+/// Returns the place of the first child-of reference to the trace, else of the first other reference to it.
 #[tactic(auto, using(crate::proofs::Places::place_within))]
 pub fn parent_place(references: &[SpanRef], trace: TraceId) -> Option<usize>
     ensures place { result ≡ parent_place trace references.now }
@@ -32,8 +32,8 @@ pub fn parent_place(references: &[SpanRef], trace: TraceId) -> Option<usize>
     }
 }
 
-/// Puts the reference to the span's parent in front: the first child-of reference to its own trace,
-/// else the first other one, changes places with the first of all. Takes no memory.
+/// Moves the reference to the span's parent to the front: swaps the first child-of reference to its own trace, else
+/// the first other reference to it, with the first of all. Allocates nothing.
 pub fn parent_first(span: &mut Span)
     ensures { span.new ≡ parent_first span.old }
 {
@@ -42,7 +42,7 @@ pub fn parent_first(span: &mut Span)
     }
 }
 
-/// Puts the reference to its parent in front of the span's, among which it may not be yet.
+/// Makes the reference to its parent the first of the span's references; adds it if it is missing.
 ///
 /// # Errors
 ///

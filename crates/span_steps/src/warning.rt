@@ -1,4 +1,4 @@
-//! What is said of a span's clock skew.
+//! The warnings about a span's clock skew.
 
 ghost use Rattle.std.specs.Prelude.{◌≡◌, IfOk};
 ghost use Rattle.trace_model.specs.Adjusting.{past_limit, past_times, adjusted_by};
@@ -9,14 +9,14 @@ use crate::skew::is_within;
 use jaeger_model::{Span, Text};
 use std::alloc::{AllocError, Global};
 
-/// What is said of a span whose clock skew was taken away, or of one where it was not.
+/// A warning: the span's clock skew was adjusted, or why it was not.
 #[derive(Clone, Copy, Debug)]
 pub enum Warning {
-    /// Its times are so many microseconds later than they came.
+    /// Its times were moved by this number of microseconds.
     Adjusted(i128),
-    /// So many microseconds are more than the limit.
+    /// The delta, in microseconds, is above the limit.
     PastLimit { delta: i128, max_skew: u64 },
-    /// So many microseconds later a time would not fit 64 bits.
+    /// Moved by this number of microseconds, a time would not fit into 64 bits.
     PastTimes(i128),
 }
 
@@ -44,8 +44,8 @@ fn adjusted_by(alloc: Global, delta: i128) -> Result<Text, AllocError>
 }
 
 impl Warning {
-    /// What is said of a span where the delta of its clock is to move it: nothing where the delta is 0.
-    /// Both numbers are microseconds.
+    /// Returns the warning for a span and the delta of its clock, or `None` if the delta is 0. Both numbers are in
+    /// microseconds.
     pub fn of_delta(max_skew: u64, delta: i128, span: &Span) -> Option<Warning>
         ensures warning { result ≡ warning_of max_skew delta span.now }
         ensures can_move { CanMove result span.now }
@@ -61,7 +61,7 @@ impl Warning {
         }
     }
 
-    /// The warning in words.
+    /// Returns the text of the warning.
     ///
     /// # Errors
     ///

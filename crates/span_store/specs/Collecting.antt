@@ -1,4 +1,4 @@
--- The answers that come of what queries have collected.
+-- The answers to queries, by what they have collected.
 use Rattle.std.specs.Prelude.{filter}
 use Rattle.jaeger_model.specs.Texts.{text_cmp, sorted_set}
 use Rattle.trace_model.specs.declared.answer.Answer.{Answer}

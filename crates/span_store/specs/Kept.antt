@@ -1,4 +1,4 @@
--- What a store keeps beside its list of entries.
+-- The indexes of a store beside its list of entries.
 use Rattle.std.specs.Prelude.{◌≡◌, ◌<◌, ◌≤◌, ℕ, List, length}
 use Rattle.jaeger_model.specs.declared.ids.TraceId.{TraceId}
 use Rattle.jaeger_model.specs.declared.placed.Placed.{Placed}
@@ -15,29 +15,31 @@ use Rattle.first_starts.specs.Starting.{Starts}
 use Rattle.span_store.specs.Opening.{AreFirst, IsCounted, IsRanged}
 use Rattle.arrival_names.specs.Kept.{Kept as Names, IsKept as NamesKept}
 
--- the ring and its limit are those of these events, where the limit was n before them, and each trace has the spots of its shown spans
+-- the ring and its limit are those of these events, if the limit was n before them, and each trace has the spots of
+-- its shown spans
 pub record Follows (n : ℕ) (es : List (Event (Spot × Placed))) (newest : Window) (spots_at : TraceId → List Spot) : Type 0 where
   pub limit : newest.limit ≡ limit_after n (events_in es)
   pub ring : newest.ids ≡ ring n (events_in es)
   pub spots : (t : TraceId) → spots_at t ≡ shown_spots n es t
 
--- no more traces are in the ring than its limit lets stay
+-- the ring has no more traces than its limit allows
 abbrev pub IsWithin : Window → Type 0
 IsWithin newest = 0 < newest.limit → length newest.ids ≤ newest.limit
 
--- the names of the entries are kept, with room for all that may come
+-- the index of names is that of the entries, with room for all that may arrive
 pub record IsNamed (held : Held) (names : Names) : Type 0 where
   pub kept : NamesKept held.entries names
   pub batches : names.numbers.batches ≡ held.limits.batches
   pub numbers : names.numbers.spans ≡ held.limits.spans
   pub index : names.index.room ≡ held.limits.spans
 
--- the places of services are those of the entries, with room for all that may come
+-- the places of services are those of the entries, with room for all that may arrive
 pub record IsPlaced (held : Held) (reported : Reported) : Type 0 where
   pub kept : PlacesKept held.entries reported
   pub batches : reported.batches ≡ held.limits.batches
 
--- the shown traces with their spots, first starts and ranges, the names and the places of services are those of the entries, and there is room for all spans that may come
+-- the shown traces with their spots, first starts and ranges, the names and the places of services are those of the
+-- entries, and there is room for all spans that may arrive
 pub record IsKept (held : Held) (shown : Assembled) (starts : Starts) (names : Names) (reported : Reported) : Type 0 where
   pub room : shown.room ≡ held.limits.spans
   pub used : shown.used ≡ span_count held.entries

@@ -1,4 +1,4 @@
--- The entry that an owner without seats hands in next.
+-- The next entry of an owner without seats.
 use Rattle.std.specs.Prelude.{◌+◌, length}
 use Rattle.jaeger_model.specs.declared.batch.Batch.{Batch}
 use Rattle.trace_model.specs.declared.entry.Entry.{Entry}

@@ -1,4 +1,4 @@
-//! What is shown follows what one more entry brings.
+//! Updates what is shown by one more entry.
 
 ghost use Rattle.std.specs.Prelude.{◌≡◌, ℕ, ℤ, ◌+◌, ◌^◌, ◌<◌, ◌≤◌, List, [], ◌∷◌, ◌++◌, Some, length, map, drop, position, is_some, if◌then◌else◌};
 ghost use Rattle.jaeger_model.specs.Parents.{same_trace};
@@ -21,9 +21,9 @@ use first_starts::FirstStarts;
 use jaeger_model::{Batch, Span};
 use trace_assembly::{Assembly, Spot};
 use trace_model::{Entry, Work};
-use trace_ring::Gone;
+use trace_ring::Evicted;
 
-/// Adds the start of the span that opened a trace, if it did.
+/// Appends the start of the span that opened a trace, if it did.
 fn add_opened(starts: &mut FirstStarts, opened: bool, start: i64)
     requires { starts.old.used < starts.old.room }
     ensures starts { starts.new.starts ≡
@@ -39,7 +39,7 @@ fn add_opened(starts: &mut FirstStarts, opened: bool, start: i64)
 }
 
 /// Drops the start of the trace that left, if one did.
-fn drop_left(starts: &mut FirstStarts, left: Option<Gone>)
+fn drop_left(starts: &mut FirstStarts, left: Option<Evicted>)
     ensures starts { starts.new.starts ≡
         (if is_some left then drop 1 starts.old.starts else starts.old.starts) }
     ensures used { starts.new.used ≡ starts.old.used }
@@ -52,10 +52,16 @@ fn drop_left(starts: &mut FirstStarts, left: Option<Gone>)
     }
 }
 
-/// Lets one span in, for which there is room: its trace may be opened, and another one may leave for
-/// it. The row that is given is a guess of how many traces were seen before its own, which is the result.
-#[tactic(auto, using(crate::proofs::Following::arrived_within))]
-fn let_in(shown: &mut Assembly, starts: &mut FirstStarts, row: u32, span: &Span, spot: Spot) -> u32
+/// Adds one span, for which there is room: its trace may be opened, and another one may leave for it. The given row
+/// is a guess of the row of its trace, which is the result.
+#[tactic(auto, using(crate::proofs::RingFollowsEvents::arrived_within))]
+fn add_span(
+    shown: &mut Assembly,
+    starts: &mut FirstStarts,
+    row: u32,
+    span: &Span,
+    spot: Spot,
+) -> u32
     requires within { IsWithin shown.old.newest }
     requires room { shown.old.used < shown.old.room }
     requires counted { IsCounted shown.old starts.old }
@@ -77,17 +83,18 @@ fn let_in(shown: &mut Assembly, starts: &mut FirstStarts, row: u32, span: &Span,
         trace_of p ≡ span.now.trace → p.span.start ≡ span.now.start →
         IsRanged n (es ++ came (spot, p) ∷ []) shown.new starts.new }
 {
-    let arrived = shown.arrive_near(row, span.trace, spot);
+    let arrived = shown.arrive_with_guess(row, span.trace, spot);
     add_opened(starts, arrived.opened, span.start);
     drop_left(starts, arrived.left);
+    // For the prover: `len`'s clause `once` is used below.
     let _once = shown.ring().len();
     starts.widen(arrived.place, span.start);
     arrived.row
 }
 
-/// Lets the spans of a batch in, which the entry at the place brings and for which there is room. A span of
-/// the same trace as the one before it isn't looked up.
-fn let_all_in(batch: &Batch, place: u64, shown: &mut Assembly, starts: &mut FirstStarts)
+/// Adds the spans of the batch of the entry at the place, for which there is room. A span of the same trace as the
+/// one before it needs no lookup.
+fn add_batch(batch: &Batch, place: u64, shown: &mut Assembly, starts: &mut FirstStarts)
     requires within { IsWithin shown.old.newest }
     requires fits { length batch.now.spans < 2 ^ 32 }
     requires room { shown.old.used + length batch.now.spans ≤ shown.old.room }
@@ -111,14 +118,14 @@ fn let_all_in(batch: &Batch, place: u64, shown: &mut Assembly, starts: &mut Firs
     let mut index: u32 = 0;
     let mut row = 0;
     for span in batch.spans.as_slice() {
-        row = let_in(shown, starts, row, span, Spot { place, index });
+        row = add_span(shown, starts, row, span, Spot { place, index });
         index += 1;
     }
 }
 
-/// From now on so many traces stay, all where that is 0. The oldest of more leave, and their spots are
-/// forgotten. No memory is taken.
-fn lower(shown: &mut Assembly, starts: &mut FirstStarts, limit: u32)
+/// Sets the limit of traces; 0 is none. The oldest traces beyond it leave, and their spots are removed. Allocates
+/// nothing.
+fn apply_limit(shown: &mut Assembly, starts: &mut FirstStarts, limit: u32)
     requires { length starts.old.starts ≡ length shown.old.newest.ids }
     ensures limit { shown.new.newest.limit ≡ limit }
     ensures ids { shown.new.newest.ids ≡ newest limit shown.old.newest.ids }
@@ -142,8 +149,8 @@ fn lower(shown: &mut Assembly, starts: &mut FirstStarts, limit: u32)
     }
 }
 
-/// Lets in what the entry at the place brings: the spans of a batch, for which there is room, or a limit.
-pub(crate) fn follow(entry: &Entry, place: u64, shown: &mut Assembly, starts: &mut FirstStarts)
+/// Applies the entry at the place: the spans of a batch, for which there is room, or a limit.
+pub(crate) fn apply_entry(entry: &Entry, place: u64, shown: &mut Assembly, starts: &mut FirstStarts)
     requires within { IsWithin shown.old.newest }
     requires fits { length (spans_brought entry.now.work) < 2 ^ 32 }
     requires room { shown.old.used + length (spans_brought entry.now.work) ≤ shown.old.room }
@@ -164,7 +171,7 @@ pub(crate) fn follow(entry: &Entry, place: u64, shown: &mut Assembly, starts: &m
         IsRanged n (located_events (h ++ entry.now ∷ [])) shown.new starts.new }
 {
     match &entry.work {
-        Work::Batch(batch) => let_all_in(batch, place, shown, starts),
-        Work::TraceLimit(limit) => lower(shown, starts, *limit),
+        Work::Batch(batch) => add_batch(batch, place, shown, starts),
+        Work::TraceLimit(limit) => apply_limit(shown, starts, *limit),
     }
 }

@@ -1,4 +1,4 @@
-//! What a query needs of a store once the store is left.
+//! What the answer to a query needs, collected from a store that is then left.
 ghost use Rattle.std.specs.Prelude.{◌≡◌, IfOk, IfErr, filter};
 ghost use Rattle.jaeger_model.specs.Texts.{sorted_set};
 ghost use Rattle.trace_model.specs.Names.{operation_cmp, is_asked_kind};
@@ -12,7 +12,7 @@ use crate::tag_search::TagSearch;
 use crate::window_calls::WindowCalls;
 use arrival_names::TakenOperation;
 use jaeger_model::{Seq, Text};
-use service_index::{names_in_order, operations_in_order, texts_in_order};
+use service_index::{sorted_names, sorted_operations, sorted_texts};
 use std::alloc::{AllocError, Global};
 use std::marker::Model;
 use trace_model::{Answer, Operation, Refusal, ServiceName, with_kind};
@@ -20,24 +20,26 @@ use trace_model::{Answer, Operation, Refusal, ServiceName, with_kind};
 /// What was collected, by the kind of query.
 #[derive(Drop)]
 pub(crate) enum Form<'q> {
-    /// The answer, which the store's numbers decided.
+    /// The answer itself, which needed only the store's numbers.
     Ready(Answer),
-    /// The services, in no order, named by their entries.
+    /// The services, in no particular order. The names refer to their entries.
     Services(Vec<ServiceName>),
-    /// The operations of a service, in no order, named by their entries. Their names are asked.
+    /// The operations of a service, in no particular order, for a query of their names. The names refer to their
+    /// entries.
     OperationNames(Vec<TakenOperation>),
-    /// The operations of a service, in no order, named by their entries. Those of this kind are asked.
+    /// The operations of a service, in no particular order, for a query of this kind. The names refer to their
+    /// entries.
     Operations(Vec<TakenOperation>, &'q Text),
     /// A search by tags.
     Tags(TagSearch<'q>),
     /// The traces that a search without tags found.
     Found(FoundTraces),
-    /// The traces of a window whose calls are asked.
+    /// The traces of a window, for a query of their calls.
     Calls(WindowCalls),
 }
 
-/// What a query needs of a store to be answered: numbers, and entries that are shared. What takes long is done of it once
-/// the store is left: no text was copied before. Contracts see the answer.
+/// What a store has to provide to answer a query: numbers, and shared entries. The slow work is done after the
+/// store is left; no text is copied before. Contracts see the answer.
 #[derive(Drop)]
 pub struct Collected<'q> {
     alloc: Global,
@@ -53,7 +55,7 @@ impl<'q> Model for Collected<'q> {
     ghost view = { λ c. form_answer c.form };
 }
 
-/// The names, copied.
+/// Copies the names.
 fn texts_of(alloc: Global, names: &[ServiceName]) -> Result<Vec<Text>, AllocError>
     ensures { IfOk result (λ v. v.items ≡ names.now) }
 {
@@ -64,7 +66,7 @@ fn texts_of(alloc: Global, names: &[ServiceName]) -> Result<Vec<Text>, AllocErro
     Ok(texts)
 }
 
-/// The operations, copied.
+/// Copies the operations.
 fn operations_of(alloc: Global, taken: &[TakenOperation]) -> Result<Vec<Operation>, AllocError>
     ensures { IfOk result (λ v. v.items ≡ taken.now) }
 {
@@ -75,23 +77,23 @@ fn operations_of(alloc: Global, taken: &[TakenOperation]) -> Result<Vec<Operatio
     Ok(operations)
 }
 
-/// The services, as an answer has them.
+/// Sorts the services for an answer.
 fn answer_services(alloc: Global, services: Vec<ServiceName>) -> Result<Answer, AllocError>
     ensures { IfOk result (λ a. a ≡ form_answer (collected.Services services)) }
 {
     let texts = texts_of(alloc, &services)?;
-    Ok(Answer::Names(Seq::from_vec(texts_in_order(texts)?)))
+    Ok(Answer::Names(Seq::from_vec(sorted_texts(texts)?)))
 }
 
-/// The names of the operations, as an answer has them.
+/// Sorts the names of the operations for an answer.
 fn answer_names(alloc: Global, taken: Vec<TakenOperation>) -> Result<Answer, AllocError>
     ensures { IfOk result (λ a. a ≡ form_answer (collected.OperationNames taken)) }
 {
     let operations = operations_of(alloc, &taken)?;
-    Ok(Answer::Names(Seq::from_vec(names_in_order(alloc, operations)?)))
+    Ok(Answer::Names(Seq::from_vec(sorted_names(alloc, operations)?)))
 }
 
-/// The operations of the asked kind, as an answer has them.
+/// Sorts the operations of the requested kind for an answer.
 fn answer_operations(
     alloc: Global,
     taken: Vec<TakenOperation>,
@@ -100,7 +102,7 @@ fn answer_operations(
     ensures { IfOk result (λ a. a ≡ say.Operations
         (filter (is_asked_kind kind.now) (sorted_set operation_cmp taken.items))) }
 {
-    let known = operations_in_order(operations_of(alloc, &taken)?)?;
+    let known = sorted_operations(operations_of(alloc, &taken)?)?;
     Ok(Answer::Operations(Seq::from_vec(with_kind(known, kind))))
 }
 
@@ -111,7 +113,7 @@ impl<'q> Collected<'q> {
         Collected { alloc, form }
     }
 
-    /// The answer.
+    /// Computes the answer.
     ///
     /// # Errors
     ///

@@ -1,17 +1,17 @@
-//! Searches by a service that many entries are of. Most traces have a span of it, so that a look at each trace costs less than
-//! one at each span of the service. A search with a limit looks at the traces that start last first. What is decided here
-//! makes a search quick, and changes no answer.
+//! Searches by a service that many entries are of. Most traces have a span of it, so that reading each trace
+//! once is cheaper than reading each span of the service. A search with a limit tries the traces that start
+//! last first. These decisions only affect speed, and no answer.
 
 ghost use Rattle.std.specs.Prelude.{◌≡◌, ◌<◌};
 ghost use Rattle.std.specs.Bool.{OnTrue};
 
 use trace_model::Find;
 
-/// A service is common where more than one entry in so many is of it.
-pub(crate) const COMMON: u64 = 8;
+/// A service is common if more than one entry in eight is of it.
+pub(crate) const COMMON_ONE_IN: u64 = 8;
 
-/// Whether a search asks for a service, and for nothing else of a span.
-pub(crate) fn asks_service_alone(query: &Find) -> bool {
+/// Whether a search has a condition on the service, and no other on spans.
+pub(crate) fn is_by_service_alone(query: &Find) -> bool {
     query.operation.as_str().is_empty()
         && query.tags.as_slice().is_empty()
         && query.start_min.is_none()
@@ -20,42 +20,42 @@ pub(crate) fn asks_service_alone(query: &Find) -> bool {
         && query.duration_max == 0
 }
 
-/// Whether a search asks for a window of starts.
-pub(crate) fn asks_window(query: &Find) -> bool {
+/// Whether a search has a window of starts.
+pub(crate) fn has_window(query: &Find) -> bool {
     query.start_min.is_some() || query.start_max.is_some()
 }
 
-/// How many times more traces each try looks at than the one before.
-pub(crate) const GROWTH: usize = 8;
+/// The factor by which each try has more traces than the one before.
+pub(crate) const TRY_GROWTH: usize = 8;
 
-/// How many tries there are at most.
-pub(crate) const TRIES: u32 = 16;
+/// The greatest number of tries.
+pub(crate) const MAX_TRIES: u32 = 16;
 
-/// A try looks at no more traces than one in so many.
-const SHARE: usize = 16;
+/// A try has at most one in sixteen of all traces.
+const TRIED_ONE_IN: usize = 16;
 
-/// A try among so many traces is worth its time where the service has more than one entry for so many of them.
-pub(crate) const PER_ENTRY: usize = 8;
+/// A try pays if the service has more than one entry for each eight of its traces.
+pub(crate) const TRACES_PER_ENTRY: usize = 8;
 
-/// A look at the traces of a window is worth its time where the service has more than so many entries for each of them.
+/// Reading the traces of a window pays if the service has more than four entries for each of them.
 pub(crate) const ENTRIES_PER_TRACE: usize = 4;
 
-/// Among how many of the traces that start last a search looks first: a few for each that it asks for.
+/// Returns the number of traces, of those that start last, in the first try: a few for each that is requested.
 pub(crate) fn first_try(limit: u64) -> usize {
     (limit as usize).saturating_mul(4).max(64)
 }
 
-/// Whether so many traces are few of all.
+/// Whether this number of traces is small compared with all.
 pub(crate) fn are_few(count: usize, all: usize) -> bool {
-    count <= all / SHARE
+    count <= all / TRIED_ONE_IN
 }
 
-/// Whether a search that found so many traces is likely to find as many as it asks for in a larger try.
+/// Whether a search that found this number of traces is likely to reach its limit in a larger try.
 pub(crate) fn is_promising(limit: u64, found: usize) -> bool {
-    found.saturating_mul(GROWTH) as u64 >= limit
+    found.saturating_mul(TRY_GROWTH) as u64 >= limit
 }
 
-/// Whether a search found as many traces as it asks for at most.
+/// Whether a search has reached its limit.
 pub(crate) fn is_full(limit: u64, count: usize) -> bool
     ensures { OnTrue result ((0 < limit) × (count ≡ limit)) }
 {

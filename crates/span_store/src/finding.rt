@@ -1,4 +1,4 @@
-//! Searches over traces that stand in the journal.
+//! Searches over traces in the journal.
 
 ghost use Rattle.std.specs.Prelude.{◌≡◌, ◌<◌, ◌^◌, ◌++◌, ◌∷◌, [], IfOk, OnOk, length, map, slice_index_or};
 ghost use Rattle.trace_model.specs.Searching.{found_in, ids_of};
@@ -9,7 +9,7 @@ use jaeger_model::TraceId;
 use journal_traces::{Candidates, TakenTraces, take_trace};
 use std::alloc::{AllocError, Global};
 
-/// Takes the trace at a place; without spans where there is none.
+/// Collects the trace at a place, without spans if there is none.
 fn take_at(taken: &mut TakenTraces, traces: &Candidates<'_>, place: usize) -> Result<(), AllocError>
     requires few { length traces.now.journal.now.held.entries < 2 ^ 32 }
     ensures spans { OnOk result (map placed_taken taken.new ≡ map placed_taken taken.old
@@ -24,7 +24,7 @@ fn take_at(taken: &mut TakenTraces, traces: &Candidates<'_>, place: usize) -> Re
     }
 }
 
-/// Takes the traces at the places.
+/// Collects the traces at the places.
 fn take_places(
     alloc: Global,
     traces: &Candidates<'_>,
@@ -42,7 +42,7 @@ fn take_places(
     Ok(taken)
 }
 
-/// Takes the traces that a search finds, in the order of its answer.
+/// Collects the traces that a search finds, in the order of its answer.
 pub(crate) fn take_found(alloc: Global, traces: Candidates<'_>) -> Result<TakenTraces, AllocError>
     requires few { length traces.journal.now.held.entries < 2 ^ 32 }
     ensures found { IfOk result (λ t. map placed_taken t ≡
@@ -51,11 +51,12 @@ pub(crate) fn take_found(alloc: Global, traces: Candidates<'_>) -> Result<TakenT
 {
     let mut searched = traces;
     let places = find_traces::find(alloc, &mut searched)?;
+    // For the prover: the binding lets the clauses of `take_places` be used for the result.
     let taken = take_places(alloc, &traces, &places)?;
     Ok(taken)
 }
 
-/// The ids of the traces that a search finds.
+/// Returns the ids of the traces that a search finds.
 pub(crate) fn find_ids(
     alloc: Global,
     traces: &mut Candidates<'_>,
@@ -63,11 +64,12 @@ pub(crate) fn find_ids(
     ensures { IfOk result (λ v. v.items ≡
         ids_of (found_in (query_of traces.old) (traces_of traces.old))) }
 {
+    // For the prover: the binding lets the clauses of `find_ids` be used for the result.
     let ids = find_traces::find_ids(alloc, traces)?;
     Ok(ids)
 }
 
-/// How many traces a search finds.
+/// Returns the number of traces that a search finds.
 pub(crate) fn count_found(alloc: Global, traces: &mut Candidates<'_>) -> Result<usize, AllocError>
     ensures { IfOk result (λ n. n ≡
         length (found_in (query_of traces.old) (traces_of traces.old))) }

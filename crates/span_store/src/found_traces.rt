@@ -1,4 +1,4 @@
-//! The traces that a search found, once they were taken out of the store.
+//! The traces that a search found, collected from the store.
 ghost use Rattle.std.specs.Prelude.{◌≡◌, IfOk, map};
 ghost use Rattle.trace_model.specs.Adjusting.{adjusted};
 ghost use Rattle.trace_model.specs.declared.answer.Answer.TheVariants as say;
@@ -13,7 +13,7 @@ use trace_model::{Answer, Limits};
 /// Traces that were found, in the order of the answer. Contracts see the answer.
 #[derive(Drop)]
 pub(crate) struct FoundTraces {
-    /// Those of the store.
+    /// The limits of the store.
     limits: Limits,
     traces: TakenTraces,
 }
@@ -41,7 +41,7 @@ impl FoundTraces {
         FoundTraces { limits, traces }
     }
 
-    /// The traces as they are to be shown.
+    /// Returns the traces as they are to be shown.
     pub(crate) fn answer(self, alloc: Global) -> Result<Answer, AllocError>
         ensures { IfOk result (λ a. a ≡ self) }
     {

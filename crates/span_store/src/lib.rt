@@ -1,19 +1,18 @@
-//! One store for one thread: the journal of entries, and the newest traces with where the spans of
-//! each stand.
+//! One store for one thread: the journal of entries, and the newest traces with the spots of their spans.
 //!
-//! Contracts see a store as its limits and its list of entries, and nothing else: every answer is
-//! the plain store's answer for that list. What is kept beside the list only makes answers quick,
-//! and one invariant of the type ties it to the list. An entry that is refused changes nothing. All room
-//! is taken when a store is opened: applying an entry takes no memory.
+//! Contracts see a store as its limits and its list of entries, and nothing else: every answer is the plain
+//! store's answer for that list. The indexes beside the list only make answers fast, and one invariant of the
+//! type ties them to the list. An entry that is refused changes nothing. All memory is allocated when a store
+//! is opened: applying an entry allocates nothing.
 //!
 //! * `arrange`: what one more entry changes in what is shown.
-//! * `collected`: what a query needs of a store once the store is left.
-//! * `common`: which searches look at all traces, and not at a service's entries.
-//! * `finding`: searches over traces that stand in the journal.
-//! * `found_traces`, `tag_search`, `window_calls`: what a search found or may find, and traces whose calls are asked,
-//!   taken out of the store.
+//! * `collected`: what the answer to a query needs of a store.
+//! * `common`: which searches read all traces, and not a service's entries.
+//! * `finding`: searches over traces in the journal.
+//! * `found_traces`, `tag_search`, `window_calls`: what a search found or may find, and traces whose calls are
+//!   requested, collected from the store.
 //! * `store`: the [`SpanStore`].
-//! * `replaying`: a store made of a whole list of entries.
+//! * `replaying`: a store made of a list of entries.
 #![tactic(auto)]
 
 mod arrange;

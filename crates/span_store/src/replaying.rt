@@ -1,10 +1,10 @@
-//! A store made of a whole list of entries, whichever of them it refuses.
+//! A store made of a list of entries, some of which it may refuse.
 
 ghost use Rattle.std.specs.Prelude.{◌≡◌, map, OnOk, IfOk, IfErr};
 ghost use Rattle.std.specs.Arc.{arc_value};
 ghost use Rattle.trace_model.specs.Answers.{answer};
 ghost use Rattle.trace_model.specs.declared.refusal.Refusal.TheVariants.{NoMemory};
-ghost use Rattle.trace_model.specs.Refusals.{behind, history_of};
+ghost use Rattle.trace_model.specs.Refusals.{history_after, history_of};
 
 use crate::store::SpanStore;
 use std::alloc::Global;
@@ -12,12 +12,12 @@ use std::hash::RandomState;
 use std::sync::Arc;
 use trace_model::{Answer, Entry, Limits, Query, Refusal};
 
-/// Applies an entry. One that the entries before it refuse is left out.
+/// Applies an entry. One that is refused after the entries before it is left out.
 fn take(store: &mut SpanStore, entry: &Arc<Entry>) -> Result<(), Refusal>
     ensures taken { OnOk result (store.new ≡
         record {
           limits = store.old.limits;
-          entries = behind store.old.limits store.old.entries
+          entries = history_after store.old.limits store.old.entries
               (arc_value entry.now);
         }) }
     ensures reason { IfErr result (λ why. why ≡ NoMemory) }
@@ -28,8 +28,8 @@ fn take(store: &mut SpanStore, entry: &Arc<Entry>) -> Result<(), Refusal>
     }
 }
 
-/// The store after all of these entries in order, accepted or refused: it holds those that are
-/// accepted, each judged after the accepted ones before it.
+/// Returns the store after all of these entries in order, accepted or refused: it has those that are accepted, each
+/// judged after the accepted ones before it.
 ///
 /// # Errors
 ///
@@ -54,8 +54,8 @@ pub fn replay(
     Ok(store)
 }
 
-/// What the store answers after all of these entries in order, accepted or refused: the plain
-/// store's answer of the accepted ones.
+/// Returns the store's answer after all of these entries in order, accepted or refused: the plain store's answer
+/// for the accepted ones.
 ///
 /// # Errors
 ///

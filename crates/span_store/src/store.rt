@@ -20,11 +20,11 @@ ghost use Rattle.span_store.specs.Collecting.{form_answer};
 ghost use Rattle.span_store.specs.Kept.{IsNamed, IsPlaced};
 ghost use Rattle.span_store.specs.NextEntry.{next_entry};
 
-use crate::arrange::follow;
+use crate::arrange::apply_entry;
 use crate::collected::{Collected, Form};
 use crate::common::{
-    COMMON, ENTRIES_PER_TRACE, GROWTH, PER_ENTRY, TRIES, are_few, asks_service_alone, asks_window,
-    first_try, is_full, is_promising,
+    COMMON_ONE_IN, ENTRIES_PER_TRACE, MAX_TRIES, TRACES_PER_ENTRY, TRY_GROWTH, are_few, first_try,
+    has_window, is_by_service_alone, is_full, is_promising,
 };
 use crate::finding;
 use crate::found_traces::FoundTraces;
@@ -32,11 +32,11 @@ use crate::tag_search::TagSearch;
 use crate::window_calls::WindowCalls;
 use arrival_journal::{Journal, Record};
 use arrival_names::ArrivalNames;
-use find_traces::Wanted;
+use find_traces::PreparedSearch;
 use first_starts::FirstStarts;
 use jaeger_model::{Batch, Seq, Text, TraceId};
 use journal_traces::{
-    Candidates, TakenTraces, asked_window, gather, ring_ids, spots_after, spots_along,
+    Candidates, WindowTraces, gather, ring_ids, search_window, spots_after, spots_along,
     spots_reported, spots_within, take_candidates, take_within,
 };
 use service_places::ServicePlaces;
@@ -47,20 +47,20 @@ use std::sync::Arc;
 use trace_assembly::{Assembly, Spots};
 use trace_model::{Admission, Answer, AnsweredTrace, Entry, Find, Limits, Query, Refusal, Work};
 
-/// The accepted entries of one store, and quick answers from them.
+/// The accepted entries of one store, and fast answers from them.
 ///
-/// A trace by its id costs its own spans, and names cost what is listed. A search looks at the entries
-/// of its service, or at the numbers of the services of each trace where it asks for a service alone that many entries
-/// are of, and at the first span of each trace that is left. With a limit and without tags it tries the traces that start
-/// last first, and looks no further where enough of them match. It judges these traces as the answer orders them, until
-/// as many match as it asks for. It copies no span: what it answers shares the entries.
+/// A trace by its id costs its own spans, and names cost what is listed. A search reads the entries of its service,
+/// or, if it requests only a service that many entries are of, the numbers of the services of each trace; and the
+/// first span of each trace that is left. With a limit and without tags it tries the traces that start last first,
+/// and stops if enough of them match. It judges these traces in the order of the answer, until its limit is
+/// reached. It copies no span: the answer shares the entries.
 #[derive(Drop)]
 pub struct SpanStore {
     alloc: Global,
     journal: Journal,
-    /// The shown traces, with where their spans stand.
+    /// The shown traces, with the spots of their spans.
     shown: Assembly,
-    /// The start of each shown trace's first span, and the ranges of the starts of all.
+    /// The start of each shown trace's first span, and the ranges of the starts of all its spans.
     starts: FirstStarts,
     names: ArrivalNames,
     reported: ServicePlaces,
@@ -78,7 +78,7 @@ impl Model for SpanStore {
     ghost invariant = { λ s. IsKept s.journal.held s.shown s.starts s.names s.reported };
 }
 
-/// Room for the names, and for the places of services.
+/// Allocates the room for the names, and for the places of services.
 fn room_for_names(
     alloc: Global,
     keys: RandomState,
@@ -93,8 +93,8 @@ fn room_for_names(
 }
 
 impl SpanStore {
-    /// A store with no entry, and all the room that its limits ask for. Its traces and names are found
-    /// by hashes under these keys, which whoever sends traces doesn't know.
+    /// Opens a store with no entry, and with all the room that its limits need. The keys are those of the hashes by
+    /// which traces and names are found; no client knows them.
     ///
     /// # Errors
     ///
@@ -116,21 +116,21 @@ impl SpanStore {
         })
     }
 
-    /// The limits that it was opened with.
+    /// Returns the limits with which it was opened.
     pub fn limits(&self) -> Limits
         ensures { result ≡ self.now.limits }
     {
         self.journal.limits()
     }
 
-    /// The entries, oldest first.
+    /// Returns the entries, oldest first.
     pub fn entries(&self) -> &[Arc<Entry>]
         ensures { map arc_value result.now ≡ self.now.entries }
     {
         self.journal.entries()
     }
 
-    /// How many entries it holds. They are legal.
+    /// Returns the number of entries. They are legal.
     pub fn len(&self) -> u64
         ensures length { result ≡ length self.now.entries }
         ensures legal { IsLegal self.now.limits self.now.entries }
@@ -145,7 +145,7 @@ impl SpanStore {
         self.journal.is_empty()
     }
 
-    /// The entry of a batch that comes next where all come from seat 0, numbered in their order.
+    /// Returns the next entry of a batch, if all entries come from seat 0, numbered in their order.
     pub fn next_entry(&self, batch: Batch) -> Entry
         ensures { result ≡ next_entry self.now batch }
     {
@@ -156,17 +156,15 @@ impl SpanStore {
         }
     }
 
-    /// Adds an entry at the end and gives its place, the first one being 1. Where its batch was sent before
-    /// with the same spans nothing is added, and the place is that of the entry that has it. It takes no
-    /// memory.
+    /// Adds an entry at the end and returns its place; the first one is 1. If its batch was sent before with the
+    /// same spans, nothing is added, and the place is that of the entry that has it. Allocates nothing.
     ///
     /// # Errors
     ///
-    /// An entry is refused where its batch was sent before with other spans ([`Refusal::Conflict`], with
-    /// the place of the entry that has it), then where its number is not above the last one of its seat
-    /// ([`Refusal::Stale`]), then where it or its spans would pass a limit
-    /// ([`Refusal::JournalFull`], with the counts now held), and for nothing else. A refusal leaves
-    /// the store as it was.
+    /// An entry is refused if its batch was sent before with other spans ([`Refusal::Conflict`], with the place of
+    /// the entry that has it), then if its number is not above the last one of its seat ([`Refusal::Stale`]), then
+    /// if it or its spans would pass a limit ([`Refusal::JournalFull`], with the current counts), and for no other
+    /// reason. A refusal leaves the store unchanged.
     pub fn apply(&mut self, entry: Arc<Entry>) -> Result<u64, Refusal>
         ensures place { result ≡ place_by self.old (arc_value entry) }
         ensures applied { self.new ≡ with_admitted self.old (arc_value entry)
@@ -180,7 +178,7 @@ impl SpanStore {
         }
     }
 
-    /// Says whether the entry may follow, or was sent before.
+    /// Judges an entry: it may be appended, or was sent before.
     ///
     /// # Errors
     ///
@@ -191,8 +189,8 @@ impl SpanStore {
         self.journal.judge(entry)
     }
 
-    /// Appends an entry that was judged before and may follow, and returns its place. It judges nothing, cannot be refused
-    /// and takes no memory.
+    /// Appends an entry that was judged to be added, and returns its place. Judges nothing, can't be refused and
+    /// allocates nothing.
     pub fn append(&mut self, entry: Record) -> u64
         requires { admission_by self.old entry ≡ Ok Added }
         ensures appended { self.new ≡ followed_by self.old entry }
@@ -200,7 +198,7 @@ impl SpanStore {
         ensures legal { IsLegal self.new.limits self.new.entries }
     {
         let place = self.journal.len() + 1;
-        follow(entry.entry(), place, &mut self.shown, &mut self.starts);
+        apply_entry(entry.entry(), place, &mut self.shown, &mut self.starts);
         let kinds = entry.kinds().again();
         self.journal.append(entry);
         let entries = self.journal.entries();
@@ -209,7 +207,7 @@ impl SpanStore {
         place
     }
 
-    /// The traces that are shown, the one opened longest ago first.
+    /// Returns the traces that are shown, the one opened first at the front.
     ///
     /// # Errors
     ///
@@ -221,15 +219,15 @@ impl SpanStore {
         ring_ids(self.alloc, self.shown.ring())
     }
 
-    /// Where the shown spans of a trace stand in the entries, in the order of their arrival: none where
-    /// the trace isn't shown.
+    /// Returns the spots of the shown spans of a trace, in the order of their arrival; none if the trace isn't
+    /// shown.
     pub fn spots(&self, id: TraceId) -> Spots<'_>
         ensures { result ≡ shown_spots self.now.limits.traces (located_events self.now.entries) id }
     {
         self.shown.spots(id)
     }
 
-    /// What the plain store of the entries answers.
+    /// Returns the answer, which is that of the plain store for the entries.
     ///
     /// # Errors
     ///
@@ -241,8 +239,8 @@ impl SpanStore {
         self.collect(query)?.answer()
     }
 
-    /// What this answer needs of the store. Whoever may not stay in the store for long collects here, and goes through
-    /// tags, logs, processes and names elsewhere.
+    /// Collects what the answer needs from the store. A reader that should leave the store soon collects here, and
+    /// reads tags, logs, processes and names after leaving it.
     ///
     /// # Errors
     ///
@@ -266,7 +264,7 @@ impl SpanStore {
         Ok(Collected::new(self.alloc, form))
     }
 
-    /// The services of all arrivals.
+    /// Collects the services of all arrivals.
     fn services(&self) -> Result<Form<'static>, AllocError>
         ensures { IfOk result (λ f. form_answer f ≡
             answer self.now.limits self.now.entries ask.Services) }
@@ -277,7 +275,7 @@ impl SpanStore {
         Ok(Form::Services(names))
     }
 
-    /// The operations of a service, by name.
+    /// Collects the operations of a service, for a query of their names.
     fn operation_names(&self, service: &Text) -> Result<Form<'static>, AllocError>
         ensures { IfOk result (λ f. form_answer f ≡ answer self.now.limits self.now.entries
             (ask.OperationNames service.now)) }
@@ -289,7 +287,7 @@ impl SpanStore {
         Ok(Form::OperationNames(found))
     }
 
-    /// The operations of a service, by name and kind.
+    /// Collects the operations of a service, for a query of this kind.
     fn operations<'q>(&self, service: &Text, kind: &'q Text) -> Result<Form<'q>, AllocError>
         ensures { IfOk result (λ f. form_answer f ≡ answer self.now.limits self.now.entries
             (ask.Operations service.now kind.now)) }
@@ -301,8 +299,8 @@ impl SpanStore {
         Ok(Form::Operations(found, kind))
     }
 
-    /// Whether an arrival is of the service that a search asks for, and of the operation where it asks
-    /// for one. Where none is, nothing is found.
+    /// Whether an arrival is of the search's service, and of its operation if it has one. If none is, the search
+    /// finds nothing.
     fn may_find(&self, query: &Find) -> bool
         ensures { OnFalse result
             (found_in query.now (traces self.now.limits.traces (events self.now.entries)) ≡ []) }
@@ -317,29 +315,31 @@ impl SpanStore {
             .knows_operation(entries, &self.reported, service, operation)
     }
 
-    /// The number of the service of a search that asks for nothing else, where many entries are of it: most traces have a
-    /// span of it then.
+    /// Returns the number of the service of a search that has no other condition, if many entries are of it: most
+    /// traces have a span of it then.
     fn common_service(&self, query: &Find) -> Option<u32>
         ensures { IfSome result (λ n. Some n ≡ group_of self.now.entries query.now.service) }
     {
-        if !asks_service_alone(query) {
+        if !is_by_service_alone(query) {
             return None;
         }
         let entries = self.journal.entries();
         let service = query.service.as_str();
         let mut places = self.reported.places_of(entries, service);
-        // Common is what has one place more than so many.
-        places.nth((self.journal.len() / COMMON) as usize)?;
+        // A service is common if it has at least one place more than this number.
+        places.nth((self.journal.len() / COMMON_ONE_IN) as usize)?;
         self.reported.group_of(entries, service)
     }
 
-    /// The spots of the shown traces of which entries of the service with this number brought a span.
+    /// Returns the spots of the shown traces of which entries of the service with this number brought a span.
     fn candidates_reported(&self, query: &Find, service: u32) -> Result<Vec<Spots<'_>>, AllocError>
         requires { Some service ≡ group_of self.now.entries query.now.service }
         ensures { IfOk result (λ v. found_in query.now (traces_named self.now.entries v.items) ≡
             found_in query.now (traces self.now.limits.traces (events self.now.entries))) }
     {
+        // For the prover: `len`'s clause `legal` is used below.
         let _legal = self.journal.len();
+        // For the prover: the binding lets the clauses of `spots_reported` be used for the result.
         let spots = spots_reported(
             self.alloc,
             &self.shown,
@@ -350,8 +350,8 @@ impl SpanStore {
         Ok(spots)
     }
 
-    /// The spots of the shown traces of which an entry of the search's service has a span that meets the search but for
-    /// its tags, unless the outline of the entry says that it has no span with these tags.
+    /// Returns the spots of the shown traces of which an entry of the search's service has a span that meets the
+    /// search except for its tags, unless the outline of the entry says that it has no span with these tags.
     fn candidates_met(&self, query: &Find) -> Result<Vec<Spots<'_>>, AllocError>
         ensures { IfOk result (λ v. found_in query.now (traces_named self.now.entries v.items) ≡
             found_in query.now (traces self.now.limits.traces (events self.now.entries))) }
@@ -359,6 +359,7 @@ impl SpanStore {
         let places = self
             .reported
             .places_of(self.journal.entries(), query.service.as_str());
+        // For the prover: the binding lets the clauses of `spots_along` be used for the result.
         let spots = spots_along(
             self.alloc,
             &self.shown,
@@ -370,8 +371,8 @@ impl SpanStore {
         Ok(spots)
     }
 
-    /// The spots of the shown traces that a search looks at, those of the one opened longest ago first: it finds the
-    /// same among these traces as among all. No tag is looked at.
+    /// Returns the spots of the shown traces that a search considers, those of the one opened first at the front.
+    /// The search finds the same among these traces as among all. No tag is read.
     fn candidates(&self, query: &Find) -> Result<Vec<Spots<'_>>, AllocError>
         ensures { IfOk result (λ v. found_in query.now (traces_named self.now.entries v.items) ≡
             found_in query.now (traces self.now.limits.traces (events self.now.entries))) }
@@ -385,13 +386,13 @@ impl SpanStore {
         }
     }
 
-    /// Whether a search asks for a window of starts in which few traces may have a span, so that a look at these is worth its
-    /// time: the search's service has more entries.
-    fn is_worth_a_window(&self, query: &Find) -> bool {
-        if !asks_window(query) || !self.may_find(query) {
+    /// Whether a search has a window of starts in which few traces may have a span, compared with the entries of
+    /// its service, so that it pays to read these traces.
+    fn should_try_window(&self, query: &Find) -> bool {
+        if !has_window(query) || !self.may_find(query) {
             return false;
         }
-        let count = self.starts.count_within(asked_window(query));
+        let count = self.starts.count_within(search_window(query));
         let entries = self.journal.entries();
         let mut places = self.reported.places_of(entries, query.service.as_str());
         places
@@ -399,49 +400,51 @@ impl SpanStore {
             .is_some()
     }
 
-    /// The spots of the shown traces that may have a span in the window of a search.
+    /// Returns the spots of the shown traces that may have a span in the window of a search.
     fn candidates_within(&self, query: &Find) -> Result<Vec<Spots<'_>>, AllocError>
         ensures { IfOk result (λ v. found_in query.now (traces_named self.now.entries v.items) ≡
             found_in query.now (traces self.now.limits.traces (events self.now.entries))) }
     {
-        let window = asked_window(query);
+        let window = search_window(query);
+        // For the prover: the binding lets the clauses of `spots_within` be used for the result.
         let spots = spots_within(self.alloc, &self.shown, &self.starts, window)?;
         Ok(spots)
     }
 
-    /// The spots of the shown traces that a search without tags looks at where it isn't worth a look at those that start last:
-    /// those of its window if they are few.
+    /// Returns the spots of the shown traces that a search without tags considers, if it doesn't pay to try those
+    /// that start last: those of its window if they are few.
     fn candidates_timed(&self, query: &Find) -> Result<Vec<Spots<'_>>, AllocError>
         ensures { IfOk result (λ v. found_in query.now (traces_named self.now.entries v.items) ≡
             found_in query.now (traces self.now.limits.traces (events self.now.entries))) }
     {
-        if self.is_worth_a_window(query) {
+        if self.should_try_window(query) {
             return self.candidates_within(query);
         }
         self.candidates(query)
     }
 
-    /// Whether the traces that start last may hold all that a search asks for, so that a look at so many of them is worth its
-    /// time: they are few, and the search's service has many entries.
-    fn is_worth_a_try(&self, query: &Find, count: usize) -> bool {
+    /// Whether it pays to try the `count` traces that start last: they are few, and the search's service has many
+    /// entries.
+    fn should_try_latest(&self, query: &Find, count: usize) -> bool {
         if !are_few(count, self.starts.len()) || !self.may_find(query) {
             return false;
         }
         let entries = self.journal.entries();
         let mut places = self.reported.places_of(entries, query.service.as_str());
-        places.nth(count / PER_ENTRY).is_some()
+        places.nth(count / TRACES_PER_ENTRY).is_some()
     }
 
-    /// The number of the service that a search asks for; none where no entry is of it.
-    fn asked_service(&self, query: &Find) -> Option<u32>
+    /// Returns the number of the search's service; none if no entry is of it.
+    fn service_number(&self, query: &Find) -> Option<u32>
         ensures { result ≡ group_of self.now.entries query.now.service }
     {
         self.reported
             .group_of(self.journal.entries(), query.service.as_str())
     }
 
-    /// The spots of about so many shown traces that start last, those of the one opened longest ago first, if the search
-    /// finds as many among these as it asks for: it finds the same among all then. And how many it finds among these.
+    /// Returns the spots of about `count` shown traces that start last, those of the one opened first at the front,
+    /// if the search reaches its limit among these: it finds the same among all then. Also returns the number of
+    /// traces that it finds among these.
     fn latest(
         &self,
         query: &Find,
@@ -451,18 +454,19 @@ impl SpanStore {
             found_in query.now (traces_named self.now.entries v.items) ≡
             found_in query.now (traces self.now.limits.traces (events self.now.entries)))) }
     {
+        // For the prover: `len`'s clause `legal` is used below.
         let _legal = self.journal.len();
         let Some(time) = self.starts.threshold(self.alloc, count)? else {
             return Ok((None, 0));
         };
-        let wanted = Wanted::new(self.alloc, query)?;
+        let prepared = PreparedSearch::new(self.alloc, query)?;
         let spots = spots_after(self.alloc, &self.shown, &self.starts, time)?;
-        let service = self.asked_service(query);
+        let service = self.service_number(query);
         let mut late = Candidates {
             journal: &self.journal,
             reported: &self.reported,
             service,
-            wanted: &wanted,
+            prepared: &prepared,
             spots: &spots,
         };
         let found = finding::count_found(self.alloc, &mut late)?;
@@ -472,9 +476,9 @@ impl SpanStore {
         Ok((None, found))
     }
 
-    /// The spots of the shown traces that a search without tags looks at, those of the one opened longest ago first: it finds
-    /// the same among these traces as among all. A search with a limit looks at those that start last first. Where it finds
-    /// some, but fewer than it asks for, it looks at more.
+    /// Returns the spots of the shown traces that a search without tags considers, those of the one opened first at
+    /// the front. The search finds the same among these traces as among all. A search with a limit tries those that
+    /// start last first. If it finds some, but fewer than its limit, it tries more.
     fn narrowed(&self, query: &Find) -> Result<Vec<Spots<'_>>, AllocError>
         ensures { IfOk result (λ v. found_in query.now (traces_named self.now.entries v.items) ≡
             found_in query.now (traces self.now.limits.traces (events self.now.entries))) }
@@ -483,8 +487,8 @@ impl SpanStore {
             return self.candidates_timed(query);
         }
         let mut count = first_try(query.limit);
-        for _ in 0..TRIES {
-            if !self.is_worth_a_try(query, count) {
+        for _ in 0..MAX_TRIES {
+            if !self.should_try_latest(query, count) {
                 break;
             }
             let (late, found) = self.latest(query, count)?;
@@ -494,19 +498,20 @@ impl SpanStore {
             if !is_promising(query.limit, found) {
                 break;
             }
-            count = count.saturating_mul(GROWTH);
+            count = count.saturating_mul(TRY_GROWTH);
         }
         self.candidates_timed(query)
     }
 
-    /// A search by tags, with its candidates taken out.
+    /// Collects the candidates of a search by tags.
     fn tag_search<'q>(&self, query: &'q Find, ids_alone: bool) -> Result<TagSearch<'q>, AllocError>
         ensures { IfOk result (λ s. s ≡ answer self.now.limits self.now.entries
             (if ids_alone then ask.FindIds query.now else ask.Find query.now)) }
     {
+        // For the prover: `len`'s clause `legal` is used below.
         let _legal = self.journal.len();
         let spots = self.candidates(query)?;
-        let service = self.asked_service(query);
+        let service = self.service_number(query);
         let traces = take_candidates(
             self.alloc,
             &self.journal,
@@ -518,40 +523,42 @@ impl SpanStore {
         Ok(TagSearch::new(ids_alone, self.limits(), traces))
     }
 
-    /// The ids of the traces that a search without tags finds.
+    /// Returns the ids of the traces that a search without tags finds.
     fn found_ids(&self, query: &Find) -> Result<Answer, AllocError>
         ensures { IfOk result (λ a. a ≡ answer self.now.limits self.now.entries
             (ask.FindIds query.now)) }
     {
+        // For the prover: `len`'s clause `legal` is used below.
         let _legal = self.journal.len();
-        let wanted = Wanted::new(self.alloc, query)?;
+        let prepared = PreparedSearch::new(self.alloc, query)?;
         let spots = self.narrowed(query)?;
-        let service = self.asked_service(query);
+        let service = self.service_number(query);
         let mut traces = Candidates {
             journal: &self.journal,
             reported: &self.reported,
             service,
-            wanted: &wanted,
+            prepared: &prepared,
             spots: &spots,
         };
         let ids = finding::find_ids(self.alloc, &mut traces)?;
         Ok(Answer::Ids(Seq::from_vec(ids)))
     }
 
-    /// The traces that a search without tags finds, taken out in the order of the answer.
+    /// Collects the traces that a search without tags finds, in the order of the answer.
     fn found_traces(&self, query: &Find) -> Result<FoundTraces, AllocError>
         ensures { IfOk result (λ t. t ≡ answer self.now.limits self.now.entries
             (ask.Find query.now)) }
     {
+        // For the prover: `len`'s clause `legal` is used below.
         let _legal = self.journal.len();
-        let wanted = Wanted::new(self.alloc, query)?;
+        let prepared = PreparedSearch::new(self.alloc, query)?;
         let spots = self.narrowed(query)?;
-        let service = self.asked_service(query);
+        let service = self.service_number(query);
         let candidates = Candidates {
             journal: &self.journal,
             reported: &self.reported,
             service,
-            wanted: &wanted,
+            prepared: &prepared,
             spots: &spots,
         };
         let found = finding::take_found(self.alloc, candidates)?;
@@ -559,8 +566,8 @@ impl SpanStore {
         Ok(traces)
     }
 
-    /// What a search finds: the traces as they are shown, or their ids alone. Numbers, and the names of operations,
-    /// decide where no tag is asked.
+    /// Collects what a search finds: the traces as they are shown, or only their ids. Without tags, numbers and the
+    /// names of operations decide it.
     fn search<'q>(&self, query: &'q Find, ids_alone: bool) -> Result<Form<'q>, AllocError>
         ensures { IfOk result (λ f. form_answer f ≡ answer self.now.limits self.now.entries
             (if ids_alone then ask.FindIds query.now else ask.Find query.now)) }
@@ -574,15 +581,16 @@ impl SpanStore {
         Ok(Form::Found(self.found_traces(query)?))
     }
 
-    /// Takes the shown traces that have a span in a window of time, the one opened longest ago first: those
-    /// from whose calls services are seen to call one another there. Their spans have the numbers of
-    /// their services.
-    fn traces_within(&self, end_ms: i64, lookback_ms: i64) -> Result<TakenTraces, AllocError>
+    /// Collects the shown traces that have a span in a window of time, the one opened first at the front: those
+    /// whose calls between services count. The numbers of their spans are those of their services.
+    fn traces_within(&self, end_ms: i64, lookback_ms: i64) -> Result<WindowTraces, AllocError>
         ensures links { IfOk result (λ taken. links_in (map placed_taken taken) ≡
             links end_ms lookback_ms (traces self.now.limits.traces (events self.now.entries))) }
         ensures numbered { IfOk result (λ taken. AreNumbered taken) }
     {
+        // For the prover: `len`'s clause `legal` is used below.
         let _legal = self.journal.len();
+        // For the prover: the binding lets the clauses of `take_within` be used for the result.
         let taken = take_within(
             self.alloc,
             &self.journal,
@@ -595,7 +603,7 @@ impl SpanStore {
         Ok(taken)
     }
 
-    /// How often services call one another in a window of time.
+    /// Collects the calls between services in a window of time.
     fn links(&self, end_ms: i64, lookback_ms: i64) -> Result<WindowCalls, AllocError>
         ensures { IfOk result (λ c. c ≡ answer self.now.limits self.now.entries
             (ask.Links end_ms lookback_ms)) }
@@ -604,7 +612,7 @@ impl SpanStore {
         Ok(WindowCalls::new(taken))
     }
 
-    /// A trace by its id.
+    /// Returns a trace by its id.
     fn trace(&self, id: TraceId, raw: bool) -> Result<Answer, AllocError>
         ensures { IfOk result (λ a. a ≡ answer self.now.limits self.now.entries
             (ask.Trace id raw)) }

@@ -1,21 +1,21 @@
-//! A search by tags, once its candidates were taken out of the store.
+//! A search by tags, after its candidates were collected from the store.
 ghost use Rattle.std.specs.Prelude.{◌≡◌, IfOk};
 ghost use Rattle.journal_traces.specs.Spotted.{traces_spotted};
 ghost use Rattle.span_store.specs.Found.{found_answer};
 
-use find_traces::Wanted;
+use find_traces::PreparedSearch;
 use jaeger_model::Seq;
 use journal_traces::{TagCandidates, TakenSearch, find_kept, find_kept_ids};
 use std::alloc::{AllocError, Global};
 use std::marker::Model;
 use trace_model::{Answer, Limits};
 
-/// A search, and the traces among which it finds what it finds among all. Contracts see its answer.
+/// A search, and candidate traces among which it finds the same as among all. Contracts see its answer.
 #[derive(Drop)]
 pub(crate) struct TagSearch<'q> {
-    /// Whether only the ids of the traces are asked.
+    /// Whether only the ids of the traces are requested.
     ids_alone: bool,
-    /// Those of the store.
+    /// The limits of the store.
     limits: Limits,
     traces: TagCandidates<'q>,
 }
@@ -42,13 +42,13 @@ impl<'q> TagSearch<'q> {
         }
     }
 
-    /// What it finds.
+    /// Computes what the search finds.
     pub(crate) fn answer(self, alloc: Global) -> Result<Answer, AllocError>
         ensures { IfOk result (λ a. a ≡ self.entry) }
     {
-        let wanted = Wanted::new(alloc, self.traces.query())?;
-        let traces = self.traces.met_traces(alloc, &wanted)?;
-        let mut search = TakenSearch::new(alloc, &traces, &wanted);
+        let prepared = PreparedSearch::new(alloc, self.traces.query())?;
+        let traces = self.traces.met_traces(alloc, &prepared)?;
+        let mut search = TakenSearch::new(alloc, &traces, &prepared);
         if self.ids_alone {
             let ids = find_kept_ids(alloc, &mut search)?;
             return Ok(Answer::Ids(Seq::from_vec(ids)));

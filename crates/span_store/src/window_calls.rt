@@ -1,4 +1,4 @@
-//! The calls in a window of time, once its traces were taken out of the store.
+//! The calls in a window of time, after its traces were collected from the store.
 ghost use Rattle.std.specs.Prelude.{◌≡◌, IfOk, map};
 ghost use Rattle.trace_model.specs.declared.answer.Answer.TheVariants as say;
 ghost use Rattle.call_links.specs.Seen.{links_in, AreNumbered};
@@ -6,16 +6,16 @@ ghost use Rattle.journal_traces.specs.Taking.{placed_taken};
 
 use call_links::LinkCounts;
 use jaeger_model::Seq;
-use journal_traces::TakenTraces;
+use journal_traces::WindowTraces;
 use std::alloc::{AllocError, Global};
 use std::marker::Model;
 use trace_model::{Answer, Link};
 
-/// The traces of a window of time, whose spans have the numbers of their services. Contracts see the answer, which
-/// says how often services call one another in these traces.
+/// The traces of a window of time, whose spans have the numbers of their services. Contracts see the answer: the
+/// calls between services in these traces.
 #[derive(Drop)]
 pub(crate) struct WindowCalls {
-    traces: TakenTraces,
+    traces: WindowTraces,
 }
 
 impl Model for WindowCalls {
@@ -32,28 +32,30 @@ impl Model for WindowCalls {
     ghost invariant = { λ w. AreNumbered w.traces };
 }
 
-/// How often services call one another in traces that were taken out.
-fn links_of(alloc: Global, taken: &TakenTraces) -> Result<Vec<Link>, AllocError>
-    requires { AreNumbered taken.now }
-    ensures { IfOk result (λ v. v.items ≡ links_in (map placed_taken taken.now)) }
+/// Counts the calls between services in traces that were collected.
+fn links_of(alloc: Global, traces: &WindowTraces) -> Result<Vec<Link>, AllocError>
+    requires { AreNumbered traces.now }
+    ensures { IfOk result (λ v. v.items ≡ links_in (map placed_taken traces.now)) }
 {
     let mut counts = LinkCounts::new(alloc);
-    for place in 0..taken.count() {
-        counts.add(alloc, taken.trace(place))?;
+    for place in 0..traces.count() {
+        let spans = traces.spans(alloc, place)?;
+        counts.add(alloc, &spans)?;
     }
+    // For the prover: the binding lets the clauses of `finish` be used for the result.
     let links = counts.finish(alloc)?;
     Ok(links)
 }
 
 impl WindowCalls {
-    pub(crate) fn new(traces: TakenTraces) -> WindowCalls
+    pub(crate) fn new(traces: WindowTraces) -> WindowCalls
         requires { AreNumbered traces }
         ensures { result ≡ say.Links (links_in (map placed_taken traces)) }
     {
         WindowCalls { traces }
     }
 
-    /// How often services call one another.
+    /// Computes the calls between services.
     pub(crate) fn answer(self, alloc: Global) -> Result<Answer, AllocError>
         ensures { IfOk result (λ a. a ≡ self) }
     {

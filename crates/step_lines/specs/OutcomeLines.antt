@@ -1,4 +1,4 @@
--- What came of a step, as the text of a line.
+-- The outcome of a step, as the text of a line.
 use Rattle.std.specs.Prelude.{ℕ, List, ◌++◌, codes}
 use Rattle.std.specs.Fmt.{decimal}
 use Rattle.serde_json.specs.Written.{compact_text}
@@ -8,7 +8,7 @@ use Rattle.query_json.specs.Trees.{answer_tree}
 use Rattle.schedule_core.specs.declared.outcome.Outcome.{Outcome}
 use Rattle.schedule_core.specs.declared.outcome.Outcome.TheVariants.{Put, Taken, Again, Refused, Idle, Published, Held, Entered, Answered, Learnt, Left, Inside, Outside, Unknown}
 
--- the body of the HTTP response that gives the answer: for a trace that isn't found, that of the error
+-- the body of the answer's HTTP response: for a trace that isn't found, that of the error
 abbrev pub json_of : Answer → List ℕ
 json_of answer = compact_text (answer_tree answer)
 

@@ -1,4 +1,4 @@
--- How an answer of the program stands to what was to be read.
+-- How the program's answer relates to the definition of what is read.
 use Rattle.std.specs.Prelude.{◌≡◌, Result, Ok, Err}
 use Rattle.step_lines.specs.declared.fault.StepFault.{StepFault}
 use Rattle.step_lines.specs.declared.stop.Stop.{Stop}

@@ -37,22 +37,22 @@ put_by seat hex = do
   batch ← as_batch (batch_in text)
   Ok (Put s batch)
 
--- all words behind the seat are one text: its spaces don't count
+-- all words after the seat are one text: its spaces don't count
 abbrev pub put_of : List (List ℕ) → Result Step StepFault
 put_of [] = Err BadStep
 put_of (seat ∷ hex) = put_by seat (concat hex)
 
--- the step, where no word follows
+-- the step, if no word follows
 abbrev pub alone : Step → List (List ℕ) → Result Step StepFault
 alone step [] = Ok step
 alone step (word ∷ words) = Err BadStep
 
--- the number, where one word follows
+-- the number, if one word follows
 abbrev pub one_number : List (List ℕ) → Result ℕ StepFault
 one_number (word ∷ []) = number_in word
 one_number words = Err BadStep
 
--- both words, where two follow
+-- both words, if two follow
 abbrev pub two_words : List (List ℕ) → Result (List ℕ × List ℕ) StepFault
 two_words (first ∷ second ∷ []) = Ok (first, second)
 two_words words = Err BadStep
@@ -66,7 +66,7 @@ read_of words = do
   query ← query_in target
   Ok (Read r query)
 
--- both numbers, where two words follow
+-- both numbers, if two words follow
 unfoldable pub two_numbers : List (List ℕ) → Result (ℕ × ℕ) StepFault
 two_numbers words = do
   both ← two_words words
@@ -95,7 +95,7 @@ verb_in word =
     else if same_text word (codes "leave") then Ok verb.Leave
     else Err BadStep
 
--- the step of a first word and the words behind it
+-- the step of a first word and the words after it
 abbrev pub step_by : Verb → List (List ℕ) → Result Step StepFault
 step_by verb.Put words = put_of words
 step_by verb.Limit words = with_both Limit (two_numbers words)
@@ -110,6 +110,6 @@ abbrev pub step_of : List (List ℕ) → Result Step StepFault
 step_of [] = Err BadStep
 step_of (first ∷ words) = verb_in first >>= λ v. step_by v words
 
--- bytes that are no UTF-8 are a bad step, whichever word is the first
+-- bytes that are no UTF-8 are a bad step, whatever the first word is
 abbrev pub step_in : List ℕ → Result Step StepFault
 step_in line = if is_utf8 line then step_of (words_of line) else Err BadStep

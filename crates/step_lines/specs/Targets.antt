@@ -22,7 +22,7 @@ is_part part = nat_lt 0 (length part) && list_all (λ b. not (b == 47)) part
 abbrev pub whole : List ℕ → List ℕ → Option (List ℕ)
 whole text path = if same_text path text then Some [] else None
 
--- the path without so many bytes at its beginning and at its end
+-- the path without `front` bytes at its start and `end` bytes at its end
 abbrev pub cut : ℕ → ℕ → List ℕ → List ℕ
 cut front end path = take (length path - front - end) (drop front path)
 
@@ -34,7 +34,7 @@ part_if front end path part = if is_part part && same_text path (front ++ (part 
 abbrev pub between : List ℕ → List ℕ → List ℕ → Option (List ℕ)
 between front end path = part_if front end path (cut (length front) (length end) path)
 
--- the part that the path has as the path of an endpoint, empty where the endpoint's path has none; None for another path
+-- the part of the path for an endpoint, empty if the endpoint's path has none; None for another path
 abbrev pub part_at : Endpoint → List ℕ → Option (List ℕ)
 part_at Traces path = whole (codes "/api/traces") path
 part_at Trace path = between (codes "/api/traces/") [] path

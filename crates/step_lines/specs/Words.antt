@@ -8,7 +8,7 @@ use Rattle.step_lines.specs.declared.fault.StepFault.TheVariants.{BadStep}
 abbrev pub is_space : ℕ → Bool
 is_space c = c == 32
 
--- parted by one space each: there is an empty word between two spaces, and before or behind a space at an end
+-- split at each space: there is an empty word between two spaces, and before or after a space at an end
 abbrev pub words_of : List ℕ → List (List ℕ)
 words_of line = slice_split is_space line
 

@@ -1,4 +1,4 @@
-//! The batch that hexadecimal text spells.
+//! The batch of a hexadecimal text.
 ghost use Rattle.step_lines.specs.Steps.{as_batch};
 ghost use Rattle.step_lines.specs.Reading.{Reads};
 ghost use Rattle.hex_batches.specs.Spelling.{batch_in};
@@ -9,7 +9,7 @@ use hex_batches::decode_hex;
 use jaeger_model::Batch;
 use std::alloc::Global;
 
-/// The batch that hexadecimal text spells.
+/// Reads the batch of a hexadecimal text.
 pub(crate) fn read_batch(alloc: Global, text: &[u8]) -> Result<Batch, Stop>
     ensures { Reads (λ b. b) result (as_batch (batch_in text.now)) }
 {

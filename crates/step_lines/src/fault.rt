@@ -5,12 +5,12 @@ use hex_batches::HexFault;
 use query_http::Parameter;
 use std::fmt;
 
-/// Why a line is no step. A bad step is reported before every other fault, and running out of memory is none.
+/// Why a line is no step. A bad step is reported before every other fault; running out of memory is no fault.
 #[derive(Clone, Copy, Debug, PartialEq, Eq)]
 pub enum StepFault {
-    /// Its words are none of a step's.
+    /// Its words are not those of a step.
     BadStep,
-    /// Its text spells no batch.
+    /// Its text is no batch.
     NoBatch(HexFault),
     /// No endpoint has the target's path.
     NoSuchPath,

@@ -15,9 +15,8 @@ pub fn a_place_is_that_of_its_path()
     ensures none { (path : List ℕ) → (place_of path ≡ None) ↔ IsNoPath path }
 {}
 
-/// The batch of a `put` is all that stands behind the space after the seat, but for its spaces, where
-/// the line is UTF-8.
-pub fn a_batch_is_what_stands_behind_its_seat()
+/// The batch of a `put` is all that follows the space after the seat, except for its spaces, if the line is UTF-8.
+pub fn a_batch_is_what_follows_its_seat()
     ensures { (seat hex : List ℕ) → All (λ c. c ≢ 32) seat →
         is_utf8 (codes "put " ++ (seat ++ 32 ∷ hex)) ≡ true →
         step_in (codes "put " ++ (seat ++ 32 ∷ hex)) ≡

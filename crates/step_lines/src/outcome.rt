@@ -10,17 +10,18 @@ use schedule_core::Outcome;
 use std::alloc::{AllocError, Global};
 use trace_model::Answer;
 
-/// The compact text of an answer's tree.
+/// Returns the compact text of an answer's tree.
 fn json_text(alloc: Global, answer: &Answer) -> Result<String, AllocError>
     ensures { IfOk result (λ s. string_bytes s ≡ compact_text (answer_tree answer.now)) }
 {
     trees_have_no_float();
     let tree = answer_json(alloc, answer)?;
+    // For the prover: the binding lets the clauses of `to_string` be used for the result.
     let text = tree.to_string(alloc)?;
     Ok(text)
 }
 
-/// The text of an answer.
+/// Returns the text of an answer.
 fn answered_text(alloc: Global, front: u64, answer: &Answer) -> Result<String, AllocError>
     ensures { IfOk result (λ s. string_bytes s ≡ outcome_line (Outcome.Answered front answer.now)) }
 {
@@ -29,10 +30,9 @@ fn answered_text(alloc: Global, front: u64, answer: &Answer) -> Result<String, A
     format!(in alloc; "read {front} {json}")
 }
 
-/// The text of an outcome, as a line without its end.
+/// Returns the text of an outcome, as a line without its end.
 ///
-/// An answer is written as the body of the HTTP response that gives it, so a trace that isn't found as the
-/// error 404.
+/// An answer is written as the body of its HTTP response, so a trace that isn't found is written as the error 404.
 ///
 /// # Errors
 ///

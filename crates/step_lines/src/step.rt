@@ -17,7 +17,7 @@ use query_http::Endpoint;
 use schedule_core::Step;
 use std::alloc::{AllocError, Global};
 
-/// The pieces of a text, joined; a bad step where that is empty.
+/// Joins the pieces of a text; an empty text is a bad step.
 fn joined(alloc: Global, pieces: &[&[u8]]) -> Result<Vec<u8>, Stop>
     ensures { Reads (λ v. v.items) result (if_any (concat (map (λ w. w.now) pieces.now))) }
 {
@@ -28,7 +28,7 @@ fn joined(alloc: Global, pieces: &[&[u8]]) -> Result<Vec<u8>, Stop>
     Ok(text)
 }
 
-/// A batch that a seat hands in.
+/// Reads the `put` of a seat and a batch.
 #[tactic(auto, unfolding(crate::specs::Steps::put_by))]
 fn read_put(alloc: Global, words: &[&[u8]]) -> Result<Step, Stop>
     ensures { Reads (λ s. s) result (put_of (map (λ w. w.now) words.now)) }
@@ -42,7 +42,7 @@ fn read_put(alloc: Global, words: &[&[u8]]) -> Result<Step, Stop>
     Ok(Step::Put { seat, batch })
 }
 
-/// A step of one word, with no word behind it.
+/// Reads a step of one word, after which no word may follow.
 fn read_alone(step: Step, words: &[&[u8]]) -> Result<Step, StepFault>
     ensures { result ≡ alone step (map (λ w. w.now) words.now) }
 {
@@ -53,7 +53,7 @@ fn read_alone(step: Step, words: &[&[u8]]) -> Result<Step, StepFault>
     }
 }
 
-/// The number that is the only word.
+/// Reads the number that is the only word.
 fn read_reader(words: &[&[u8]]) -> Result<u32, StepFault>
     ensures { result ≡ one_number (map (λ w. w.now) words.now) }
 {
@@ -63,7 +63,7 @@ fn read_reader(words: &[&[u8]]) -> Result<u32, StepFault>
     }
 }
 
-/// Two words, and no more.
+/// Returns two words, and no more.
 fn two_words<'l>(words: &[&'l [u8]]) -> Result<(&'l [u8], &'l [u8]), Stop>
     ensures { Reads (λ p. (p.0.now, p.1.now)) result (two_words (map (λ w. w.now) words.now)) }
 {
@@ -73,7 +73,7 @@ fn two_words<'l>(words: &[&'l [u8]]) -> Result<(&'l [u8], &'l [u8]), Stop>
     }
 }
 
-/// The numbers that are the only two words.
+/// Reads the numbers that are the only two words.
 #[tactic(auto, unfolding(crate::specs::Steps::two_numbers))]
 fn two_numbers(words: &[&[u8]]) -> Result<(u32, u32), Stop>
     ensures { Reads (λ p. p) result (two_numbers (map (λ w. w.now) words.now)) }
@@ -84,7 +84,7 @@ fn two_numbers(words: &[&[u8]]) -> Result<(u32, u32), Stop>
     Ok((first, second))
 }
 
-/// The query that a reader asks.
+/// Reads the `read` of a reader and a target.
 #[tactic(auto, unfolding(crate::specs::Steps::read_of))]
 fn read_read(alloc: Global, router: &Router<Endpoint>, words: &[&[u8]]) -> Result<Step, Stop>
     requires { router.now ≡ endpoint_rows }
@@ -97,7 +97,7 @@ fn read_read(alloc: Global, router: &Router<Endpoint>, words: &[&[u8]]) -> Resul
     Ok(Step::Read { reader, query })
 }
 
-/// The step that a first word names with the words behind it.
+/// Reads the step of a first word and the words after it.
 fn read_by(
     alloc: Global,
     router: &Router<Endpoint>,
@@ -131,7 +131,7 @@ fn read_by(
     }
 }
 
-/// The step that a line's words name.
+/// Reads the step of a line's words.
 fn read_words(alloc: Global, router: &Router<Endpoint>, words: &[&[u8]]) -> Result<Step, Stop>
     requires { router.now ≡ endpoint_rows }
     ensures { Reads (λ s. s) result (step_of (map (λ w. w.now) words.now)) }
@@ -143,7 +143,7 @@ fn read_words(alloc: Global, router: &Router<Endpoint>, words: &[&[u8]]) -> Resu
     read_by(alloc, router, verb, words)
 }
 
-/// The step that the words of a line name.
+/// Reads the step of a line of text.
 fn read_text(
     alloc: Global,
     router: &Router<Endpoint>,
@@ -160,11 +160,11 @@ fn read_text(
     }
 }
 
-/// The step that a line names, or why it names none. The line is without its end, and can be any bytes;
-/// bytes that are no UTF-8 are a bad step, whichever word is the first.
+/// Returns the step of a line, or why it is none. The line is without its end, and can be any bytes; bytes that are
+/// no UTF-8 are a bad step, whatever the first word is.
 ///
-/// [`StepFault::BadStep`] is reported before the other faults; then of a target [`StepFault::NoSuchPath`]
-/// before [`StepFault::BadParameter`].
+/// [`StepFault::BadStep`] is reported before the other faults; then, for a target, [`StepFault::NoSuchPath`] before
+/// [`StepFault::BadParameter`].
 ///
 /// # Errors
 ///

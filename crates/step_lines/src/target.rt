@@ -1,4 +1,4 @@
-//! The query that a target asks.
+//! The query of a target.
 ghost use Rattle.std.specs.Prelude.{◌≡◌};
 ghost use Rattle.query_http.specs.Paths.{endpoint_rows};
 ghost use Rattle.step_lines.specs.Targets.{query_in};
@@ -12,7 +12,7 @@ use query_http::{Endpoint, QueryFault, parse_query};
 use std::alloc::Global;
 use trace_model::Query;
 
-/// The text of a target. It isn't empty, and bytes that are no UTF-8 are a bad step.
+/// Returns the text of a target. It must not be empty; bytes that are no UTF-8 are a bad step.
 pub(crate) fn read_target(word: &[u8]) -> Result<&str, Stop>
     ensures { Reads (λ t. t.now) result (target_in word.now) }
 {
@@ -25,7 +25,7 @@ pub(crate) fn read_target(word: &[u8]) -> Result<&str, Stop>
     }
 }
 
-/// The query that a GET of a target asks.
+/// Returns the query of a GET of a target.
 pub(crate) fn read_query(
     alloc: Global,
     router: &Router<Endpoint>,

@@ -6,14 +6,14 @@ use crate::fault::StepFault;
 use decimal_digits::{is_number, value_of};
 use std::alloc::{AllocError, Global};
 
-/// The words of a line, parted by one space each.
+/// Splits a line into words, at each space.
 pub(crate) fn words_of(alloc: Global, line: &[u8]) -> Result<Vec<&[u8]>, AllocError>
     ensures { IfOk result (λ v. map (λ w. w.now) v.items ≡ words_of line.now) }
 {
     line.split(|c| *c == b' ').collect(alloc)
 }
 
-/// A number of 1 to 9 digits, and nothing else.
+/// Reads a number of 1 to 9 digits, and nothing else.
 #[tactic(auto, unfolding(crate::specs::Words::number_in))]
 pub(crate) fn read_number(word: &[u8]) -> Result<u32, StepFault>
     ensures { result ≡ number_in word.now }

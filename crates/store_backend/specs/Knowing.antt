@@ -1,4 +1,4 @@
--- What a store knows: lists of entries, and what stands in them.
+-- What a store knows: lists of entries, and what is in them.
 use Rattle.std.specs.Prelude.{◌≡◌, ℕ, ◌+◌, List, ◌∷◌, ◌++◌, length, Result, Ok, Err}
 use Rattle.jaeger_model.specs.declared.batch.Batch.{Batch}
 use Rattle.trace_model.specs.declared.entry.Entry.{Entry}
@@ -13,11 +13,11 @@ use Rattle.trace_model.specs.Answers.{answer}
 abbrev pub History : Type 0
 History = List Entry
 
--- short is the beginning of long, or all of it
-abbrev pub IsBeginning : History → History → Type 0
-IsBeginning short long = (more : History) × (long ≡ short ++ more)
+-- short is a prefix of long, or all of it
+abbrev pub IsPrefixOf : History → History → Type 0
+IsPrefixOf short long = (more : History) × (long ≡ short ++ more)
 
--- an entry with the batch stands at the place, the first one being 1
+-- the entry at this place, counted from 1, has the batch
 pub record HasAt (h : History) (place : ℕ) (batch : Batch) : Type 0 where
   pub before : History
   pub entry : Entry
@@ -38,11 +38,11 @@ pub record Places {S : Type 0} (limits : S → Limits) (knows : S → History �
   pub has : HasAt history place batch
   pub known : knows t history
 
--- the answer is the plain store's of a legal list, which is known then and begins with each list known before
+-- the answer is the plain store's for a legal list, which is known then and starts with every list known before
 pub record AnswersAt {S : Type 0} (limits : S → Limits) (knows : S → History → Type 0) (s : S) (q : Query) (a : Answer) (t : S) : Type 0 where
   pub history : History
   pub legal : IsLegal (limits t) history
-  pub behind : (h : History) → knows s h → IsBeginning h history
+  pub behind : (h : History) → knows s h → IsPrefixOf h history
   pub answer_is : a ≡ answer (limits t) history q
   pub known : knows t history
 

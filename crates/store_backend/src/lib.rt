@@ -1,9 +1,9 @@
-//! What a session asks of a store, whichever it is: one of its own, or one that it shares.
+//! The interface between a session and its store, which is its own or shared.
 //!
-//! Contracts see a store by what it knows: lists of entries that are beginnings of one growing history.
-//! A [`Backend`] says by relations of its own what its calls do, and laws of the trait say what
-//! that means for what it knows: a batch that was accepted stands at its place of a list that is known
-//! from then on, and an answer is the plain store's, of a list that begins with every list known before.
+//! Contracts see a store by what it knows: lists of entries that are prefixes of one growing history. The relations of
+//! a [`Backend`] say what its calls do, and the laws of the trait say what that means for what it knows. An accepted
+//! batch is at its place in a list that is known from then on. An answer is the plain store's, for a list that starts
+//! with every list known before.
 #![tactic(auto)]
 
 ghost use Rattle.std.specs.Prelude.{◌≡◌, ℕ, List, Result};
@@ -19,43 +19,42 @@ use jaeger_model::Batch;
 use std::alloc::Global;
 use trace_model::{Answer, Query, Refusal};
 
-/// A store that is asked through a handle of type `T`, which only some stores use.
+/// A store. Its calls take a handle of type `T`, which only some stores use.
 pub trait Backend<T> {
     /// The limits of its histories.
     ghost limits: { Self → Limits };
 
-    /// The present value knows this list of entries.
+    /// The store knows this list of entries.
     ghost knows: { Self → List Entry → Type 0 };
 
-    /// What handing a batch in may do. A store that promises no more than the law below says just that
-    /// here.
+    /// What submitting a batch may do. A store that promises no more than the law below repeats the law here.
     ghost submits: { Self → BatchValue → Result ℕ RefusalValue → Self → Type 0 };
 
-    /// What asking may do.
+    /// What a query may do.
     ghost reads: { Self → QueryValue → Result AnswerValue RefusalValue → Self → Type 0 };
 
-    /// Hands a batch in. The answer is the place of its entry, the first one being 1.
+    /// Submits a batch. Returns the place of its entry, counted from 1.
     ///
     /// # Errors
     ///
-    /// The batch was not accepted, for the reason that is returned.
+    /// Why the batch was not accepted.
     fn submit(&mut self, rt: &T, alloc: Global, batch: Batch) -> Result<u64, Refusal>
         ensures { submits self.old batch result self.new };
 
-    /// Asks the store.
+    /// Answers a query.
     ///
     /// # Errors
     ///
-    /// There is no answer, for the reason that is returned.
+    /// Why there is no answer.
     fn read(&mut self, alloc: Global, query: &Query) -> Result<Answer, Refusal>
         ensures { reads self.old query.now result self.new };
 
-    /// Nothing known is forgotten, and an accepted batch stands in a list that is known then.
+    /// Nothing known is forgotten, and an accepted batch is in a list that is known then.
     ghost submit_knows: { (s : Self) (b : BatchValue) (r : Result ℕ RefusalValue) (t : Self) →
         submits s b r t → SubmitKnows limits knows s b r t };
 
-    /// Nothing known is forgotten, and an answer is the plain store's of a list that begins with every
-    /// list known before and is known then.
+    /// Nothing known is forgotten, and an answer is the plain store's, for a list that starts with every list known
+    /// before and is known then.
     ghost read_knows: { (s : Self) (q : QueryValue) (r : Result AnswerValue RefusalValue)
         (t : Self) → reads s q r t → ReadKnows limits knows s q r t };
 }

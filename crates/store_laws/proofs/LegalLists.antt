@@ -1,4 +1,4 @@
--- A history is legal with one more entry exactly where that is added, and its beginnings are legal; its splits.
+-- A history is legal with one more entry exactly if that is added; its prefixes are legal; its splits.
 use Rattle.std.proofs.Common.{◌≡◌, ℕ, ◌+◌, ◌<◌, ◌≤◌, List, [], ◌∷◌, ◌++◌, length, refl, sym, ap, ◌∙◌, subst, append_assoc, arith, length-append}
 use Rattle.std.specs.Prelude.{◌==◌, ◌↔◌, Ok}
 use Rattle.std.proofs.lemmas.List.{append-nil}
@@ -24,7 +24,7 @@ legal_snoc limits h e l added =
     legal_push limits h e l f.rises f.unsent f.batches f.spans
 
 -- ---- splits
--- an entry of a rising list is above all in front of it
+-- the number of an entry of an ascending list is above all before it
 rises_at : (before h : List Entry) (e : Entry) (after : List Entry) → RisesAfter before (h ++ e ∷ after) → (0 < e.number) × AboveEach e (before ++ h)
 rises_at before h e after r = rises_pushed before h e (rises_front before (h ++ e ∷ []) after (subst (RisesAfter before) (sym (append_assoc h (e ∷ []) after)) r))
 
@@ -55,7 +55,7 @@ numbers_rise limits before e between f after l =
     let r : RisesAfter [] ((before ++ e ∷ between) ++ f ∷ after) = subst (RisesAfter []) (sym (append_assoc before (e ∷ between) (f ∷ after))) l.rising in
     each_at f before e between (rises_at [] (before ++ e ∷ between) f after r).1
 
--- no entry stands twice
+-- no entry is there twice
 pub never_twice : (limits : Limits) (before : List Entry) (e : Entry) (between after : List Entry) → IsLegal limits (before ++ e ∷ (between ++ e ∷ after)) → ⊥
 never_twice limits before e between after l = let n = numbers_rise limits before e between e after l refl in omega arith
 

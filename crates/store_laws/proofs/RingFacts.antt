@@ -13,7 +13,7 @@ use Rattle.jaeger_model.specs.SameLaws.{same_trace-decides}
 use Rattle.trace_model.specs.Rings.{holds, newest, arrive, LimitedRing, ring_step}
 use Rattle.store_laws.specs.Subsequences.{IsSubsequence}
 use Rattle.trace_model.specs.Events.{Event, came, limited, without_limits}
-use Rattle.trace_model.specs.Showing.{trace_of, ring, limit_after, longer_beginnings, lasting_after, stands, shown, spans_of_trace, if_any, trace_found}
+use Rattle.trace_model.specs.Showing.{trace_of, ring, limit_after, longer_prefixes, lasting_after, is_in_ring, shown, spans_of_trace, if_any, trace_found}
 use Rattle.trace_model.proofs.Shows.{by_pushes, ring_came, ring_limited}
 use Rattle.trace_model.proofs.Traces.{same_is, spans_gone, spans_limited, has_spans}
 
@@ -33,7 +33,7 @@ distinct_arrive n r t d = elim (holds r t) as (λ b. holds r t ≡ b → IsDisti
   | false ↦ λ e. distinct_newest n (r ++ t ∷ []) (IsDistinct-push (decided same_trace same_trace-decides) r t d e)
 ] refl
 
--- no trace stands twice in the ring
+-- no trace is in the ring twice
 none_distinct : IsDistinct same_trace []
 unfolding IsDistinct
 none_distinct = tt
@@ -62,7 +62,7 @@ lasting_subsequence : {A : Type 0} (keeps : List (Event A) → Event A → Bool)
 lasting_subsequence keeps before [] = tt
 lasting_subsequence keeps before (e ∷ rest) =
     let later = lasting_after keeps (before ++ e ∷ []) rest in
-    elim (list_all (λ xs. keeps xs e) (longer_beginnings before (e ∷ rest))) as (λ b. IsSubsequence (without_limits (if b then e ∷ later else later)) (without_limits (e ∷ rest))) [
+    elim (list_all (λ xs. keeps xs e) (longer_prefixes before (e ∷ rest))) as (λ b. IsSubsequence (without_limits (if b then e ∷ later else later)) (without_limits (e ∷ rest))) [
       | true ↦ subsequence_own later rest e (lasting_subsequence keeps (before ++ e ∷ []) rest)
       | false ↦ subsequence_came (without_limits later) rest e (lasting_subsequence keeps (before ++ e ∷ []) rest)
     ]
@@ -77,7 +77,7 @@ subsequence_filter f (x ∷ xs) (y ∷ ys) (inl s) = elim (f x) as (λ b. IsSubs
 subsequence_filter f (x ∷ xs) (y ∷ ys) (inr s) = subsequence_skip (filter f (x ∷ xs)) ys y (subsequence_filter f (x ∷ xs) ys s)
 
 pub shown_subsequence : (n : ℕ) (es : List (Event Placed)) → IsSubsequence (shown n es) (without_limits es)
-shown_subsequence n es = lasting_subsequence (stands trace_of n) [] es
+shown_subsequence n es = lasting_subsequence (is_in_ring trace_of n) [] es
 
 found_is : {X : Type 0} (xs spans : List X) → if_any xs ≡ Some spans → (xs ≡ spans) × (0 < length spans)
 found_is [] spans e = absurd cc

@@ -1,5 +1,4 @@
-//! Facts about rings, shown spans and found traces. Each function does nothing, and its contract is
-//! the fact.
+//! Facts about rings, shown spans and found traces. Each function does nothing, and its contract is the fact.
 
 ghost use Rattle.std.specs.Prelude.{◌≡◌, ◌<◌, ◌≤◌, ℕ, List, [], ◌∷◌, ◌++◌, length, map, fold, true, false, Some, None, if◌then◌else◌};
 ghost use Rattle.std.specs.List.{All, IsDistinct, list_all, list_any};
@@ -18,7 +17,7 @@ pub fn late_span_renews_nothing()
         holds (ring n es) (trace_of p) ≡ true → ring n (es ++ came p ∷ []) ≡ ring n es }
 {}
 
-/// A span of a trace that left opens it with that span alone.
+/// A span of a trace that left the ring opens it again, with that span alone.
 #[tactic(auto, using(trace_model::proofs::Traces::opened_alone))]
 pub fn opened_anew_with_one_span()
     ensures { (n : ℕ) (es : List (Event PlacedValue)) (p : PlacedValue) →
@@ -26,15 +25,15 @@ pub fn opened_anew_with_one_span()
         spans_of_trace n (es ++ came p ∷ []) (trace_of p) ≡ p ∷ [] }
 {}
 
-/// Where no limit is set each span that came is shown.
+/// If no limit is set, every span that arrived is shown.
 #[tactic(auto, using(trace_model::proofs::Traces::shown_all))]
 pub fn no_limit_keeps_all()
     ensures { (es : List (Event PlacedValue)) → list_all limits_none es ≡ true →
         shown 0 es ≡ without_limits es }
 {}
 
-/// After a span comes, a trace keeps its spans and gains its own new one while it stands in the ring, and
-/// loses all when it leaves.
+/// After a span arrives, a trace keeps its spans and gains its own new one as long as it is in the ring; it loses
+/// all of them when it leaves.
 #[tactic(auto, using(trace_model::proofs::Traces::spans_push))]
 pub fn spans_since_opened()
     ensures { (n : ℕ) (es : List (Event PlacedValue)) (p : PlacedValue) (t : TraceIdValue) →
@@ -43,16 +42,15 @@ pub fn spans_since_opened()
         ++ of_trace t (p ∷ []) else []) }
 {}
 
-/// After a limit is set the newest traces, so many, are in the ring, in the same order, and all of them
-/// where the limit is 0.
+/// After a limit is set, the ring has that number of newest traces, in the same order; all of them if the limit is
+/// 0.
 #[tactic(auto, using(trace_model::proofs::Shows::ring_limited))]
 pub fn newest_stay_at_a_limit()
     ensures { (n : ℕ) (es : List (Event PlacedValue)) (m : ℕ) →
         ring n (es ++ limited m ∷ []) ≡ newest m (ring n es) }
 {}
 
-/// After a limit is set the spans of the traces that stay are as they were, and of the others none are
-/// shown.
+/// After a limit is set, the traces that stay keep their shown spans, and the others have none.
 #[tactic(auto, using(trace_model::proofs::Traces::spans_limited))]
 pub fn spans_stay_at_a_limit()
     ensures { (n : ℕ) (es : List (Event PlacedValue)) (m : ℕ) (t : TraceIdValue) →
@@ -60,7 +58,7 @@ pub fn spans_stay_at_a_limit()
         (if holds (newest m (ring n es)) t then spans_of_trace n es t else []) }
 {}
 
-/// A trace that left, or never came, is not in the ring before a span of it comes, whatever limits are
+/// A trace that left, or never arrived, is not in the ring before one of its spans arrives, whatever limits are
 /// set.
 #[tactic(auto, using(trace_model::proofs::Traces::stays_out))]
 pub fn left_trace_stays_out()
@@ -69,7 +67,7 @@ pub fn left_trace_stays_out()
         holds (ring n es) t ≡ false → holds (ring n (es ++ more)) t ≡ false }
 {}
 
-/// None of its spans is shown before one of it comes.
+/// A trace that left shows no span before one of its spans arrives.
 #[tactic(auto, using(trace_model::proofs::Traces::none_shown))]
 pub fn left_trace_shows_nothing()
     ensures { (n : ℕ) (es : List (Event PlacedValue)) (t : TraceIdValue)
@@ -77,7 +75,7 @@ pub fn left_trace_shows_nothing()
         holds (ring n es) t ≡ false → spans_of_trace n (es ++ more) t ≡ [] }
 {}
 
-/// The limit in force is the last one that was set, and before the first one that of the opening.
+/// The current limit is the last one that was set, or that of the opening if none was.
 #[tactic(auto, using(trace_model::proofs::Shows::limit_came, trace_model::proofs::Shows::limit_limited))]
 pub fn limit_in_force()
     ensures opening { (n : ℕ) → limit_after n [] ≡ n }
@@ -87,7 +85,7 @@ pub fn limit_in_force()
         limit_after n (es ++ limited m ∷ []) ≡ m }
 {}
 
-/// A limit that no trace passes changes nothing at once: neither the ring nor what is shown of a trace.
+/// A limit that no trace passes changes nothing at once, neither the ring nor the shown spans of a trace.
 #[tactic(auto, using(crate::proofs::RingFacts::raised_ring, crate::proofs::RingFacts::raised_spans))]
 pub fn raising_changes_nothing_at_once()
     ensures ring { (n : ℕ) (es : List (Event PlacedValue)) (m : ℕ) →
@@ -97,20 +95,20 @@ pub fn raising_changes_nothing_at_once()
         spans_of_trace n (es ++ limited m ∷ []) t ≡ spans_of_trace n es t }
 {}
 
-/// Where no limit is set the ring is that of the arrivals under the opening's limit.
+/// If no limit is set, the ring is that of the arrivals under the opening's limit.
 #[tactic(auto, using(crate::proofs::RingFacts::arrivals_alone))]
 pub fn without_limits_one_arrives_after_the_other()
     ensures { (n : ℕ) (ps : List PlacedValue) →
         ring n (map came ps) ≡ fold (arrive n) [] (map trace_of ps) }
 {}
 
-/// No trace stands twice in the ring.
+/// No trace is in the ring twice.
 #[tactic(auto, using(crate::proofs::RingFacts::ring_distinct))]
 pub fn ring_holds_each_once()
     ensures { (n : ℕ) (es : List (Event PlacedValue)) → IsDistinct same_trace (ring n es) }
 {}
 
-/// Under a limit the ring is no longer than the limit in force.
+/// With a limit, the ring is no longer than the current limit.
 #[tactic(auto, using(trace_model::proofs::Traces::ring_within))]
 pub fn ring_within_limit()
     ensures { (n : ℕ) (es : List (Event PlacedValue)) → 0 < limit_after n es →
@@ -139,7 +137,7 @@ pub fn found_trace_has_spans()
         trace_found n es t ≡ Some spans → 0 < length spans }
 {}
 
-/// What is found are spans of that trace.
+/// The spans found are spans of that trace.
 #[tactic(auto, using(crate::proofs::RingFacts::found_own))]
 pub fn found_spans_are_its_own()
     ensures { (n : ℕ) (es : List (Event PlacedValue)) (t : TraceIdValue)
@@ -147,7 +145,7 @@ pub fn found_spans_are_its_own()
         trace_found n es t ≡ Some spans → All (λ p. trace_of p ≡ t) spans }
 {}
 
-/// What is found stands in the order in which it arrived.
+/// The spans found are in the order of their arrival.
 #[tactic(auto, using(crate::proofs::RingFacts::found_subsequence))]
 pub fn found_spans_keep_their_order()
     ensures { (n : ℕ) (es : List (Event PlacedValue)) (t : TraceIdValue)

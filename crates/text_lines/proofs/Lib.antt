@@ -1,7 +1,7 @@
 pub mod Feeds
 pub mod LineEnds
 pub mod Taking
-pub mod Pages
+pub mod Buffers
 pub mod Progress
 pub mod Wholes
 pub mod LineResults

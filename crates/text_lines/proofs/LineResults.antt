@@ -1,24 +1,24 @@
--- Lines that are taken one after the other come to what their function says.
+-- Lines that are handled one after the other have the result of their function.
 use Rattle.std.proofs.Common.{◌≡◌, ℕ, ◌+◌, List, [], ◌∷◌, ◌++◌, refl, sym, ap, ◌∙◌, subst, append_assoc}
-use Rattle.text_lines.specs.Taking.{Said, Takes, TakesEach, joined}
+use Rattle.text_lines.specs.Taking.{LineReply, Takes, TakesEach, joined}
 use Rattle.text_lines.specs.Results.{LineResult, result_of_lines}
 
 module _ {S : Type 0} (of_line : ℕ → S → List ℕ → LineResult S) where
-  -- what is said to lines begins with what is said to the first of them
-  pub said_append : (n : ℕ) (s : S) (xs ys : List (List ℕ)) → (more : List ℕ) × ((result_of_lines of_line n s (xs ++ ys)).said.text ≡ (result_of_lines of_line n s xs).said.text ++ more)
-  said_append n s [] ys = ((result_of_lines of_line n s ys).said.text, refl)
+  -- the reply to lines starts with the reply to the first of them
+  pub said_append : (n : ℕ) (s : S) (xs ys : List (List ℕ)) → (more : List ℕ) × ((result_of_lines of_line n s (xs ++ ys)).reply.text ≡ (result_of_lines of_line n s xs).reply.text ++ more)
+  said_append n s [] ys = ((result_of_lines of_line n s ys).reply.text, refl)
   said_append n s (x ∷ xs) ys =
       let here : LineResult S = of_line n s x in
       let r = said_append (n + 1) here.held xs ys in
-      (r.0, ap (λ t. here.said.text ++ t) r.1 ∙ sym (append_assoc here.said.text (result_of_lines of_line (n + 1) here.held xs).said.text r.0))
+      (r.0, ap (λ t. here.reply.text ++ t) r.1 ∙ sym (append_assoc here.reply.text (result_of_lines of_line (n + 1) here.held xs).reply.text r.0))
 
-  -- where each line that is taken comes to what the function says, whatever stands for what is held
+  -- if each line that is handled has the result of the function, however the state is represented
   module _ {W : Type 0} (StandsFor : W → S → Type 0) (takes : Takes W)
-      (each : (w : W) (n : ℕ) (line : List ℕ) (said : Said) (v : W) → takes w n line said v → (s : S) → StandsFor w s → StandsFor v (of_line n s line).held × (said ≡ (of_line n s line).said)) where
-    pub lines_come_to : (w : W) (s : S) (n : ℕ) (lines : List (List ℕ)) (said : Said) (v : W) → StandsFor w s → TakesEach takes w n lines said v
-        → StandsFor v (result_of_lines of_line n s lines).held × (said ≡ (result_of_lines of_line n s lines).said)
-    lines_come_to w s n [] said v stands e = (subst (λ x. StandsFor x s) (sym e.0) stands, e.1)
-    lines_come_to w s n (line ∷ lines) said v stands e =
+      (each : (w : W) (n : ℕ) (line : List ℕ) (reply : LineReply) (v : W) → takes w n line reply v → (s : S) → StandsFor w s → StandsFor v (of_line n s line).held × (reply ≡ (of_line n s line).reply)) where
+    pub lines_come_to : (w : W) (s : S) (n : ℕ) (lines : List (List ℕ)) (reply : LineReply) (v : W) → StandsFor w s → TakesEach takes w n lines reply v
+        → StandsFor v (result_of_lines of_line n s lines).held × (reply ≡ (result_of_lines of_line n s lines).reply)
+    lines_come_to w s n [] reply v stands e = (subst (λ x. StandsFor x s) (sym e.0) stands, e.1)
+    lines_come_to w s n (line ∷ lines) reply v stands e =
         let here = each w n line e.1 e.0 e.3 s stands in
         let r = lines_come_to e.0 (of_line n s line).held (n + 1) lines e.2 v here.0 e.4 in
         (r.0, e.5 ∙ (λ i. joined (here.1 i) (r.1 i)))

@@ -1,4 +1,4 @@
--- Whole runs, from what their lines come to.
+-- Complete runs, from the results of their lines.
 use Rattle.std.proofs.Common.{◌≡◌, ℕ, Bool, false, inl, inr, List, [], ◌++◌, Option, refl, sym, ap, ◌∙◌, subst, append-nil, append_assoc}
 use Rattle.std.specs.Io.KnownBytes.{Appends}
 use Rattle.std.proofs.KnownBytes.{Appends-nil, Appends-trans, Consumes-nil}
@@ -8,12 +8,12 @@ use Rattle.text_lines.specs.RunErrors.{IsWhy, IsWhyOf, StopsShort, WritesSome, s
 use Rattle.text_lines.specs.Taking.{AnswersAll, AnswersSome, Takes}
 use Rattle.text_lines.proofs.Progress.{holds_all, holds_nothing_read, nothing_read}
 
--- a beginning of a text is one of each longer text
+-- a prefix of a text is a prefix of each longer text
 pub some_more : (a b : Option (List ℕ)) (text more whole : List ℕ) → whole ≡ text ++ more → WritesSome a b text → WritesSome a b whole
 some_more a b text more whole is w =
     (w.0, w.1, (w.2.0 ++ more, sym (append_assoc w.0 w.2.0 more) ∙ ap (λ x. x ++ more) w.2.1 ∙ sym is))
 
--- a text, and then a beginning of another
+-- a text, and then a prefix of another
 pub some_after : (a b c : Option (List ℕ)) (text other : List ℕ) → Appends a b text → WritesSome b c other → WritesSome a c (text ++ other)
 some_after a b c text other first w =
     (text ++ w.0, Appends-trans a b c text w.0 first w.1, (w.2.0, append_assoc text w.0 w.2.0 ∙ ap (λ x. text ++ x) w.2.1))

@@ -5,7 +5,7 @@ abbrev pub begins_with_feed : List ℕ → Bool
 begins_with_feed [] = false
 begins_with_feed (c ∷ rest) = c == 10
 
--- the byte goes in front of the first line, and is a line of its own where there is none
+-- puts the byte before the first line; it is a line of its own if there is none
 abbrev pub onto_first : ℕ → List (List ℕ) → List (List ℕ)
 onto_first c [] = (c ∷ []) ∷ []
 onto_first c (line ∷ rest) = (c ∷ line) ∷ rest
@@ -19,7 +19,7 @@ lines_of (c ∷ rest) =
     else if c == 13 && begins_with_feed rest then lines_of rest
     else onto_first c (lines_of rest)
 
--- without a carriage return at the end
+-- the line without a carriage return at its end
 abbrev pub without_return : List ℕ → List ℕ
 without_return [] = []
 without_return (c ∷ []) = if c == 13 then [] else c ∷ []

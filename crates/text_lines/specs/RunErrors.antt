@@ -1,10 +1,10 @@
--- Why a run stopped, and what stands written then.
+-- Why a run stopped, and what was written by then.
 use Rattle.std.specs.Prelude.{◌≡◌, ℕ, ◌⊎◌, ◌++◌, ◌≤◌, Bool, true, false, List, length, Option, Some, None, Result, Ok, Err}
 use Rattle.std.specs.Io.KnownBytes.{Appends, Consumes, IsAtEnd}
 use mathlib.Core.List.{IsPrefix}
 use Rattle.text_lines.specs.declared.run_error.RunError.{RunError}
 use Rattle.text_lines.specs.declared.run_error.RunError.TheVariants.{Device, Memory}
-use Rattle.text_lines.specs.declared.line_buffer.TheConstants.{MOST_READS}
+use Rattle.text_lines.specs.declared.line_buffer.TheConstants.{MAX_READS}
 
 abbrev pub status_by : RunError → ℕ
 status_by Device = 4
@@ -14,37 +14,37 @@ status_by Memory = 5
 abbrev pub BothWork : Bool → Bool → Type 0
 BothWork in_failed out_failed = (in_failed ≡ false) × (out_failed ≡ false)
 
--- a device failed, or the limit was met; where memory ran out neither device has failed
+-- a device failed or the limit was reached; if memory ran out, neither device has failed
 abbrev pub IsWhy : RunError → Bool → Bool → Type 0 → Type 0
 IsWhy Device in_failed out_failed Met = (in_failed ≡ true) ⊎ (out_failed ≡ true) ⊎ Met
 IsWhy Memory in_failed out_failed Met = BothWork in_failed out_failed
 
--- the same of a call that only writes
+-- like IsWhy, for a call that only writes
 abbrev pub IsWhyOf : RunError → Bool → Type 0
 IsWhyOf Device out_failed = out_failed ≡ true
 IsWhyOf Memory out_failed = out_failed ≡ false
 
--- some bytes were written off the beginning of what was to be written
+-- a prefix of the waiting text was written, and the rest still waits
 abbrev pub Moves : Option (List ℕ) → Option (List ℕ) → List ℕ → List ℕ → Type 0
 Moves out0 out1 waited waits = (written : List ℕ) × Appends out0 out1 written × (waited ≡ written ++ waits)
 
--- a beginning of the text was written
+-- a prefix of the text was written
 abbrev pub WritesSome : Option (List ℕ) → Option (List ℕ) → List ℕ → Type 0
 WritesSome out0 out1 text = (written : List ℕ) × Appends out0 out1 written × IsPrefix written text
 
--- the text was written, or a beginning of it
-abbrev pub Says : {T : Type 0} → Option (List ℕ) → Option (List ℕ) → Bool → List ℕ → Result T RunError → Type 0
-Says out0 out1 out_failed text (Ok _) = Appends out0 out1 text × (out_failed ≡ false)
-Says out0 out1 out_failed text (Err error) = WritesSome out0 out1 text × IsWhyOf error out_failed
+-- the text was written, or a prefix of it if that failed
+abbrev pub WritesText : {T : Type 0} → Option (List ℕ) → Option (List ℕ) → Bool → List ℕ → Result T RunError → Type 0
+WritesText out0 out1 out_failed text (Ok _) = Appends out0 out1 text × (out_failed ≡ false)
+WritesText out0 out1 out_failed text (Err error) = WritesSome out0 out1 text × IsWhyOf error out_failed
 
--- the bytes that an input holds are these, where they are known
+-- the input holds these bytes, if its bytes are known
 abbrev pub Holds : Option (List ℕ) → List ℕ → Type 0
 Holds None bytes = Unit {0}
 Holds (Some known) bytes = known ≡ bytes
 
--- ---- whole runs, which write one function of their input
+-- ---- complete runs, whose output is a function of their input
 
--- all of the input was read, and its output was written and nothing else
+-- all of the input was read, and exactly its output was written
 pub record Finishes (in0 in1 out0 out1 : Option (List ℕ)) (in_failed out_failed : Bool) (output_of : List ℕ → List ℕ) (status_of : List ℕ → ℕ) (status : ℕ) : Type 0 where
   pub input : List ℕ
   pub read : Consumes in0 in1 input
@@ -54,8 +54,8 @@ pub record Finishes (in0 in1 out0 out1 : Option (List ℕ)) (in_failed out_faile
   pub input_works : in_failed ≡ false
   pub output_works : out_failed ≡ false
 
--- 4 only where a device failed or the limit of reads was met, 5 only where memory ran out; what was written is
--- a beginning of the output of the whole input, of which some was read
+-- 4 only if a device failed or the limit of reads was reached, 5 only if memory ran out; some of the input was read,
+-- and a prefix of the output of all of it was written
 pub record StopsShort (in0 in1 out0 out1 : Option (List ℕ)) (in_failed out_failed : Bool) (output_of : List ℕ → List ℕ) (status : ℕ) : Type 0 where
   pub error : RunError
   pub taken : List ℕ
@@ -63,7 +63,7 @@ pub record StopsShort (in0 in1 out0 out1 : Option (List ℕ)) (in_failed out_fai
   pub read : Consumes in0 in1 taken
   pub held : Holds in0 (taken ++ rest)
   pub written : WritesSome out0 out1 (output_of (taken ++ rest))
-  pub why : IsWhy error in_failed out_failed (MOST_READS ≤ length taken)
+  pub why : IsWhy error in_failed out_failed (MAX_READS ≤ length taken)
   pub status_is : status ≡ status_by error
 
 abbrev pub RunsAs : (in0 in1 out0 out1 : Option (List ℕ)) → Bool → Bool → (List ℕ → List ℕ) → (List ℕ → ℕ) → ℕ → Type 0

@@ -1,26 +1,25 @@
-//! The lines of an input, answered on an output one by one.
+//! Answers the lines of an input one by one on an output.
 //!
-//! [`answer_lines`] takes the lines of an [`Input`](session_devices::Input) and hands each to a
-//! [`LineTaker`], whose words are written before the next read, so that a person at a terminal sees
-//! what came of a line. Where it ends, all of the input was taken, and what was written is what was
-//! said to its lines, in order. Where a device fails or memory runs out, what was written is a
-//! beginning of that.
+//! [`answer_lines`] reads the lines of an [`Input`](session_devices::Input) and passes each to a [`LineHandler`]. The
+//! reply is written before the next read, so a user at a terminal sees the answer to a line at once. If it succeeds,
+//! all of the input was read, and the replies to its lines were written in order. If a device fails or memory runs
+//! out, a prefix of that was written.
 //!
-//! * `answering`: the lines of an input, answered one by one.
-//! * `taker`: what takes lines.
-//! * `line_buffer`: the lines of an input, one at a time.
-//! * `page`: text that waits to be written.
-//! * `run_error`: why a run stops before the end of its input.
+//! * `answering`: answers the lines of an input one by one.
+//! * `handler`: handles lines.
+//! * `line_buffer`: reads the lines of an input one at a time.
+//! * `output_buffer`: text that waits to be written.
+//! * `run_error`: why a run stopped before the end of its input.
 #![tactic(auto)]
 
 mod answering;
+mod handler;
 mod line_buffer;
-mod page;
+mod output_buffer;
 mod run_error;
-mod taker;
 
 pub use answering::answer_lines;
-pub use line_buffer::MOST_READS;
-pub use page::{Page, say};
+pub use handler::LineHandler;
+pub use line_buffer::MAX_READS;
+pub use output_buffer::{OutputBuffer, write_text};
 pub use run_error::RunError;
-pub use taker::LineTaker;

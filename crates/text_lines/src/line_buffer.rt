@@ -1,24 +1,24 @@
-//! The lines of an input, one at a time.
+//! Reads the lines of an input one at a time.
 ghost use Rattle.std.specs.Prelude.{◌≡◌, ℕ, ◌≤◌, ◌<◌, ◌+◌, ◌*◌, ◌⊎◌, true, false, List, [], ◌∷◌, ◌++◌, IfErr, IfOk, OnOk, drop, take, vec_len, MatchBool, length};
 ghost use Rattle.std.specs.Io.KnownBytes.{Keeps};
 ghost use Rattle.text_lines.specs.Lines.{without_return};
 ghost use Rattle.text_lines.specs.Reading.{Feed, Fills, StopsReading, TakesLine, TakesNone};
 ghost use Rattle.text_lines.specs.RunErrors.{BothWork, Moves};
 
-use crate::page::Page;
+use crate::output_buffer::OutputBuffer;
 use crate::run_error::RunError;
 use memchr::memchr;
 use session_devices::{Input, Output};
 use std::alloc::{AllocError, Global};
 use std::marker::Model;
 
-/// How many bytes a read asks for.
+/// The number of bytes that a read asks for.
 const PIECE: usize = 65_536;
 
-/// How many reads a run makes. One more counts as a failed read.
-pub const MOST_READS: u64 = 1_099_511_627_776;
+/// The number of reads that a run may make. One more counts as a failed read.
+pub const MAX_READS: u64 = 1_099_511_627_776;
 
-/// What was read of a text and not yet taken as lines.
+/// The bytes that were read and not yet returned as lines.
 #[derive(Drop)]
 pub struct LineBuffer {
     piece: Vec<u8>,
@@ -38,20 +38,20 @@ impl Model for LineBuffer {
 }
 
 impl LineBuffer {
-    /// Nothing was read.
+    /// Creates a buffer before the first read.
     ///
     /// # Errors
     ///
     /// Out of memory, and nothing else.
     pub fn new(alloc: Global) -> Result<LineBuffer, AllocError>
-        ensures { IfOk result (λ s. s ≡ record { waiting = []; left = MOST_READS; ended = false }) }
+        ensures { IfOk result (λ s. s ≡ record { waiting = []; left = MAX_READS; ended = false }) }
     {
         let piece = vec![in alloc; 0u8; PIECE]?;
         Ok(LineBuffer {
             piece,
             at: 0,
             end: 0,
-            left: MOST_READS,
+            left: MAX_READS,
             ended: false,
         })
     }
@@ -81,7 +81,7 @@ impl LineBuffer {
         self.ended
     }
 
-    /// One read.
+    /// Makes one read.
     fn fill<R: Input>(&mut self, input: &mut R) -> Result<(), RunError>
         requires none { self.old.waiting ≡ [] }
         requires works { R.has_failed input.old ≡ false }
@@ -104,20 +104,20 @@ impl LineBuffer {
         Ok(())
     }
 
-    /// Takes the next line off the input, without its end, and returns whether there was one. A carriage
-    /// return right before the line feed belongs to the line's end. What is behind the last line feed
-    /// is a line too, unless it is empty.
+    /// Reads the next line into `line`, without its end, and returns whether there was one. A carriage return right
+    /// before the line feed belongs to the line's end. What follows the last line feed is a line too, unless it is
+    /// empty.
     ///
-    /// The page is written before each read, so that what was said so far shows while the input waits.
+    /// The output buffer is flushed before each read, so the replies so far are visible while the input is awaited.
     ///
     /// # Errors
     ///
-    /// A device failed, the limit of reads was met, or memory ran out.
+    /// A device failed, the limit of reads was reached, or memory ran out.
     pub fn next<R: Input, W: Output>(
         &mut self,
         input: &mut R,
         output: &mut W,
-        page: &mut Page,
+        buffer: &mut OutputBuffer,
         line: &mut Vec<u8>,
     ) -> Result<bool, RunError>
         requires input_works { R.has_failed input.old ≡ false }
@@ -127,7 +127,8 @@ impl LineBuffer {
             self.old self.new line.new.items)
             (TakesNone (R.remaining input.old) (R.remaining input.new)
             self.old self.new)) }
-        ensures page { Moves (W.contents output.old) (W.contents output.new) page.old page.new }
+        ensures buffer { Moves (W.contents output.old) (W.contents output.new)
+            buffer.old buffer.new }
         ensures works { OnOk result (BothWork (R.has_failed input.new) (W.has_failed output.new)) }
         ensures err { IfErr result (StopsReading (R.remaining input.old) (R.remaining input.new)
             self.old (R.has_failed input.new) (W.has_failed output.new)) }
@@ -145,13 +146,13 @@ impl LineBuffer {
             if self.has_ended() {
                 return Ok(!line.is_empty());
             }
-            page.hand_out(output)?;
+            buffer.flush(output)?;
             self.fill(input)?;
         }
     }
 }
 
-/// Takes a carriage return off the end of the line.
+/// Removes a carriage return from the end of the line.
 fn drop_return(line: &mut Vec<u8>)
     ensures { line.new.items ≡ without_return line.old.items }
 {

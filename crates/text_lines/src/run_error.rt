@@ -4,17 +4,17 @@ ghost use Rattle.text_lines.specs.RunErrors.{status_by};
 use session_devices::Failed;
 use std::alloc::AllocError;
 
-/// Why a run stops before the end of its input.
+/// Why a run stopped before the end of its input.
 #[derive(Clone, Copy, Debug, PartialEq, Eq)]
 pub enum RunError {
-    /// A read or a write failed, or the limit of reads was met.
+    /// A read or a write failed, or the limit of reads was reached.
     Device,
-    /// A growth was refused.
+    /// Out of memory.
     Memory,
 }
 
 impl RunError {
-    /// The exit status of a run that stops so.
+    /// Returns the exit status of a run that stopped with this error.
     pub fn status(self) -> u8
         ensures { result ≡ status_by self }
     {

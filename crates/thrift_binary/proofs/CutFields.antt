@@ -1,15 +1,15 @@
--- Fields up to the stop byte have places for their faults where each field's value has.
+-- The faults of fields up to the stop byte have places if those of each field's value have.
 use Rattle.std.proofs.Common.{◌≡◌, ℕ, ℤ, zero, suc, ◌<◌, ◌≤◌, List, [], ◌∷◌, ◌++◌, length, take, Option, Some, None, Result, Ok, Err, refl, ap, arith, length-append}
 use Rattle.thrift_binary.specs.declared.fault.WireError.{WireError}
 use Rattle.thrift_binary.specs.declared.fault.WireError.TheVariants.{Truncated}
 use Rattle.thrift_binary.specs.Reading.{◌>>=◌, lift, Read, field_at}
 use Rattle.thrift_binary.specs.Fields.{Take, behind_field, fields_in, fields_at}
 use Rattle.thrift_binary.specs.Cuts.{Cut, unsettled, IsCutSafe}
-use Rattle.thrift_binary.proofs.Found.{field_found, stop_found, lift_ok}
+use Rattle.thrift_binary.proofs.ReadBytesSpell.{field_found, stop_found, lift_ok}
 use Rattle.thrift_binary.proofs.Cuts.{cut_ok, cut_then_at, cut_lift, cut_same, values_have_ends}
 use Rattle.thrift_binary.proofs.CutReadings.{field_cut}
 
--- a head takes bytes
+-- a head takes at least one byte
 head_shorter : (w : List ℕ) (f : Option (ℕ × ℤ)) (r : List ℕ) → field_at w ≡ Ok (f, r) → length r < length w
 head_shorter w None r e = omega (arith, ap length (stop_found w r e))
 head_shorter w (Some f) r e = let h = field_found w f.0 f.1 r e in omega (arith, ap length h.parts, length-append h.text r)
@@ -18,7 +18,7 @@ module _ {S E : Type 0} (wire : WireError → E) (gets : Take S E) (safe : (s : 
   value_no_longer : (s : S) (c : ℕ) (i : ℤ) (w : List ℕ) (t : S) (r : List ℕ) → gets s c i w ≡ Ok (t, r) → length r ≤ length w
   value_no_longer s c i w t r e = let h = values_have_ends (wire Truncated) (gets s c i) (safe s c i) w t r e in omega (arith, ap length h.1, length-append h.0 r)
 
-  -- behind a first field two readings are one where they are one of fewer bytes
+  -- after a first field two readings agree if they agree on fewer bytes
   same_behind : (one other : S → List ℕ → Result (S × List ℕ) E) (s : S) (w : List ℕ) → ((t : S) (v : List ℕ) → length v < length w → one t v ≡ other t v)
       → (lift wire (field_at w) >>= λ h. behind_field one gets s h.0 h.1) ≡ (lift wire (field_at w) >>= λ h. behind_field other gets s h.0 h.1)
   same_behind one other s w same = by (field_at w) refl
@@ -33,7 +33,7 @@ module _ {S E : Type 0} (wire : WireError → E) (gets : Take S E) (safe : (s : 
       by (Ok (None, r)) head = refl
       by (Ok (Some f, r)) head = after r (head_shorter w (Some f) r head) (gets s f.0 f.1 r) (λ t v e. value_no_longer s f.0 f.1 r t v e)
 
-  -- any room of at least the number of bytes gives one answer
+  -- with any bound of at least the number of bytes the result is the same
   room : (n m : ℕ) (s : S) (w : List ℕ) → length w ≤ n → length w ≤ m → fields_in wire gets n s w ≡ fields_in wire gets m s w
   unfolding fields_in field_at
   room zero zero s w p q = refl

@@ -1,4 +1,4 @@
--- Lists of values of one type have places for their faults where each value has.
+-- The faults of a list of values of one type have places if those of each value have.
 use Rattle.std.proofs.Common.{ℕ, zero, suc, cond, eqb, ◌||◌, List, [], ◌∷◌, Result, Ok, Err, refl}
 use Rattle.thrift_binary.specs.declared.fault.WireError.{WireError}
 use Rattle.thrift_binary.specs.declared.fault.WireError.TheVariants.{Truncated, BadType}
@@ -8,7 +8,7 @@ use Rattle.thrift_binary.specs.Cuts.{IsCutSafe}
 use Rattle.thrift_binary.proofs.Cuts.{cut_ok, cut_err, cut_then, cut_if, cut_lift, cut_map}
 use Rattle.thrift_binary.proofs.CutReadings.{list_head_cut}
 
--- n values, one after the other
+-- a sequence of n values
 pub items_cut : {A E : Type 0} (short : E) (one : List ℕ → Result (A × List ℕ) E) → IsCutSafe short one → (n : ℕ) → IsCutSafe short (items_at one n)
 unfolding items_at
 items_cut short one safe zero = cut_ok short (items_at one zero) [] (λ v. refl)

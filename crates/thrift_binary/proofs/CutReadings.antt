@@ -1,4 +1,4 @@
--- The readings of this crate have places for their faults.
+-- The faults of each reading of this crate have places.
 use Rattle.std.proofs.Common.{◌≡◌, ℕ, ℤ, zero, suc, ◌^◌, Bool, true, false, cond, eqb, ltb, ◌&&◌, ◌||◌, List, [], ◌∷◌, take, Option, Some, None, Ok, Err, refl, sym, ap, ◌∙◌, append-nil, arith, w16}
 use Rattle.std.proofs.lemmas.List.{length-take-le, take_at}
 use Rattle.std.specs.Int.{Width, cast_signed}
@@ -8,7 +8,7 @@ use Rattle.thrift_binary.specs.declared.fault.WireError.TheVariants.{Truncated, 
 use Rattle.thrift_binary.specs.Reading.{◌>>=◌, Read, byte_at, bool_at, bytes_at, number_at, signed_at, size_at, string_at, stopped, typed, field_at, field_behind, list_at, map_at, is_code}
 use Rattle.thrift_binary.specs.Skipping.{width}
 use Rattle.thrift_binary.specs.Cuts.{whole, unsettled, IsCutSafe}
-use Rattle.thrift_binary.proofs.Found.{big_number-take}
+use Rattle.thrift_binary.proofs.ReadBytesSpell.{big_number-take}
 use Rattle.thrift_binary.proofs.Cuts.{cut_ok, cut_err, cut_beginning, cut_then, cut_if}
 
 pub byte_cut : IsCutSafe Truncated byte_at
@@ -48,7 +48,7 @@ bool_cut = cut_then Truncated byte_at behind byte_cut (λ b w. cut_if Truncated 
 pass_cut : {A : Type 0} (x : A) → IsCutSafe Truncated (λ v. Ok (x, v))
 pass_cut {A = A} x = let ok : List ℕ → Read A = λ v. Ok (x, v) in cut_ok Truncated ok x (λ v. refl)
 
--- it is x where the test holds, else the fault
+-- it is x if the test holds, else the fault
 test_cut : {A : Type 0} (b : Bool) (x : A) (e : WireError) → IsCutSafe Truncated (λ v. cond b (Ok (x, v)) (Err e))
 test_cut {A = A} b x e w =
     let ok : List ℕ → Read A = λ v. Ok (x, v) in

@@ -1,12 +1,12 @@
--- Skipped values have places for their faults.
+-- The faults of skipped values have places.
 use Rattle.std.proofs.Common.{◌≡◌, ℕ, zero, suc, ◌<◌, cond, eqb, ltb, List, [], length, Ok, Err, refl, ap, arith, length-append}
 use Rattle.thrift_binary.specs.declared.fault.WireError.{WireError}
 use Rattle.thrift_binary.specs.declared.fault.WireError.TheVariants.{Truncated, BadType, TooDeep}
 use Rattle.thrift_binary.specs.Reading.{string_at, list_at, map_at}
 use Rattle.thrift_binary.specs.Skipping.{Skip, past, both, times, text, struct, items, pairs, container, width, leaf, is_container, value_at, skip_at}
 use Rattle.thrift_binary.specs.Cuts.{IsCutSafe}
-use Rattle.thrift_binary.proofs.SkipFound.{value_found}
-use Rattle.thrift_binary.proofs.SkipAgain.{value_some}
+use Rattle.thrift_binary.proofs.SkippedAreValues.{value_found}
+use Rattle.thrift_binary.proofs.ValuesAreSkipped.{value_some}
 use Rattle.thrift_binary.proofs.Cuts.{cut_ok, cut_err, cut_beginning, cut_then, cut_if, cut_map, cut_unless_empty}
 use Rattle.thrift_binary.proofs.CutReadings.{string_cut, list_head_cut, map_head_cut}
 use Rattle.thrift_binary.proofs.CutFields.{fields_cut}

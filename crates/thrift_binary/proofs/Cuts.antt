@@ -1,14 +1,14 @@
--- Readings whose faults have places: the parts, and what is made of parts.
+-- Readings whose faults have places: single readings, and compositions of them.
 use Rattle.std.proofs.Common.{◌≡◌, ℕ, zero, suc, ◌+◌, ◌-◌, ◌<◌, ◌≤◌, Bool, true, false, cond, eqb, ltb, List, [], ◌∷◌, ◌++◌, length, take, drop, Result, Ok, Err, refl, sym, ap, ◌∙◌, append_assoc, length-append, arith, inl, inr, ◌⊎◌}
 use Rattle.std.proofs.Math.Seq.{take-append_seam, take-append-add, take-length}
 use Rattle.std.proofs.lemmas.List.{take-append-le, take-append-drop, length-take-le, length-take, take_at, drop_at}
 use Rattle.std.proofs.lemmas.Bool.{ltb-false, ltb-true, le-ltb, lt-ltb, ne_eqb}
 use Rattle.thrift_binary.specs.declared.fault.WireError.{WireError}
 use Rattle.thrift_binary.specs.Reading.{◌>>=◌, lift}
-use Rattle.thrift_binary.proofs.Found.{done, err_is, ok_is_no_err, both_are}
+use Rattle.thrift_binary.proofs.ReadBytesSpell.{done, err_is, ok_is_no_err, both_are}
 use Rattle.thrift_binary.specs.Cuts.{Settled, Cut, whole, faulty, unsettled, IsCutSafe, FaultsHavePlaces, ValuesHaveEnds, ShortStaysShort}
 
--- ---- a beginning of two texts
+-- ---- a prefix of two texts
 
 take_beginning : (m : ℕ) (a b : List ℕ) → m < length a → take m (a ++ b) ≡ take m a
 take_beginning m a b lt = take-append-le m a b (omega arith)
@@ -21,11 +21,11 @@ take_past m a b le =
 -- ---- what follows from it
 
 module _ {A E : Type 0} (short : E) (read : List ℕ → Result (A × List ℕ) E) where
-  -- the answer at the bytes themselves
+  -- the result at the bytes themselves
   settled_here : (w : List ℕ) (answer : List ℕ → Result (A × List ℕ) E) (s : Settled short read w answer) → read w ≡ answer s.rest
   settled_here w answer s = ap read s.parts ∙ s.same s.rest
 
-  -- too short where the bytes end in front of the place, and where what is behind it is too short
+  -- too short if the bytes end before the place, or if what follows it is too short
   short_behind : (w : List ℕ) (answer : List ℕ → Result (A × List ℕ) E) (s : Settled short read w answer) (u : List ℕ) (m : ℕ) → (length s.text ≤ m → answer (take (m - length s.text) u) ≡ Err short) → read (take m (s.text ++ u)) ≡ Err short
   short_behind w answer s u m behind = by (ltb m (length s.text)) refl
     where
@@ -98,7 +98,7 @@ module _ {A E : Type 0} (short : E) (read : List ℕ → Result (A × List ℕ) 
   pub cut_err : (e : E) → ((v : List ℕ) → read v ≡ Err e) → IsCutSafe short read
   cut_err e is w = faulty e (record { text = []; rest = w; parts = refl; same = is; before = λ m lt. absurd (omega arith) })
 
--- n bytes, of which the value is made
+-- n bytes, from which the value is computed
 abbrev pub beginning_at : {A E : Type 0} → E → ℕ → (List ℕ → A) → List ℕ → Result (A × List ℕ) E
 beginning_at short n value w = cond (ltb (length w) n) (Err short) (Ok (value w, drop n w))
 
@@ -125,7 +125,7 @@ cut_beginning {A = A} {E = E} short n value near w = by (ltb (length w) n) refl
           before = λ m lt. less (take m (take n w)) (omega (arith, length-take m (take n w)));
         })
 
--- ---- one reading, and then one of its value
+-- ---- one reading, and then one that depends on its value
 
 module _ {A B E : Type 0} (short : E) (read : List ℕ → Result (A × List ℕ) E) (next : A → List ℕ → Result (B × List ℕ) E) where
   first_ok : (v u : List ℕ) (x : A) (r : Result (B × List ℕ) E) → read v ≡ Ok (x, u) → next x u ≡ r → (read v >>= λ y. next y.0 y.1) ≡ r
@@ -154,11 +154,11 @@ module _ {A B E : Type 0} (short : E) (read : List ℕ → Result (A × List ℕ
   pub cut_then : IsCutSafe short read → ((x : A) → IsCutSafe short (next x)) → IsCutSafe short (λ v. read v >>= λ y. next y.0 y.1)
   cut_then first more w = cut_then_at w (first w) (λ x text rest parts e. more x rest)
 
--- the value turned into another
+-- the value mapped to another
 pub cut_map : {A B E : Type 0} (short : E) (read : List ℕ → Result (A × List ℕ) E) (f : A → B) → IsCutSafe short read → IsCutSafe short (λ v. read v >>= λ y. Ok (f y.0, y.1))
 cut_map short read f first = cut_then short read (λ x u. Ok (f x, u)) first (λ x. cut_ok short (λ u. Ok (f x, u)) (f x) (λ v. refl))
 
--- a test that doesn't look at the bytes
+-- a test that doesn't read the bytes
 pub cut_if : {A E : Type 0} (short : E) (b : Bool) (f g : List ℕ → Result (A × List ℕ) E) (w : List ℕ) → Cut short f w → Cut short g w → Cut short (λ v. cond b (f v) (g v)) w
 cut_if short true f g w one two = one
 cut_if short false f g w one two = two
@@ -169,7 +169,7 @@ cut_lift wire short read w (whole x s) = whole x (record { text = s.text; rest =
 cut_lift wire short read w (faulty e s) = faulty (wire e) (record { text = s.text; rest = s.rest; parts = s.parts; same = λ v. ap (lift wire) (s.same v); before = λ m lt. ap (lift wire) (s.before m lt) })
 cut_lift wire short read w (unsettled b) = unsettled (λ m. ap (lift wire) (b m))
 
--- a reading that isn't begun where nothing is left
+-- a reading that doesn't begin if no byte remains
 abbrev pub unless_empty : {A E : Type 0} → E → (List ℕ → Result (A × List ℕ) E) → List ℕ → Result (A × List ℕ) E
 unless_empty short read w = cond (eqb (length w) 0) (Err short) (read w)
 

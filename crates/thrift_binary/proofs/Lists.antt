@@ -1,4 +1,4 @@
--- Lists of values of one type: what is read is spelled so, and what is spelled so is read.
+-- Lists of values of one type: the bytes that are read spell the list, and every spelling of it is read.
 use Rattle.std.proofs.Common.{◌≡◌, ℕ, zero, suc, ◌<◌, Bool, true, false, cond, eqb, ◌||◌, List, [], ◌∷◌, ◌++◌, length, Result, Ok, Err, refl, sym, ap, subst, ◌∙◌, append_assoc, arith, inl, inr}
 use Rattle.std.proofs.lemmas.Bool.{eqb-true}
 use Rattle.std.proofs.lemmas.Bool.Decides.{eqb_tells}
@@ -7,9 +7,9 @@ use Rattle.thrift_binary.specs.declared.fault.WireError.TheVariants.{BadType}
 use Rattle.thrift_binary.specs.Reading.{◌>>=◌, lift, size_at, list_at, is_code}
 use Rattle.thrift_binary.specs.Lists.{items_at, list_of}
 use Rattle.thrift_binary.specs.Spelling.{Beginning, IsSize, IsEach, IsListHead, IsTypedList}
-use Rattle.thrift_binary.proofs.Found.{bind_ok, lift_ok, both_are}
-use Rattle.thrift_binary.proofs.SkipFound.{list_head_found}
-use Rattle.thrift_binary.proofs.Again.{size_again}
+use Rattle.thrift_binary.proofs.ReadBytesSpell.{bind_ok, lift_ok, both_are}
+use Rattle.thrift_binary.proofs.SkippedAreValues.{list_head_found}
+use Rattle.thrift_binary.proofs.SpellingsAreRead.{size_again}
 
 one_then_other : (w a v b r : List ℕ) → w ≡ a ++ v → v ≡ b ++ r → w ≡ (a ++ b) ++ r
 one_then_other w a v b r p q = p ∙ ap (λ (t : List ℕ). a ++ t) q ∙ sym (append_assoc a b r)

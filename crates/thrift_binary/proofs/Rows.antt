@@ -1,10 +1,10 @@
--- Worked rows: what the definitions say of single inputs.
+-- Examples: what the definitions say of single inputs.
 use Rattle.std.proofs.Common.{◌≡◌, [], ◌∷◌, Some, Ok, Err, refl, negsuc}
 use Rattle.thrift_binary.specs.declared.fault.WireError.TheVariants.{Truncated, BadLength, BadType, TooDeep, BadBool}
 use Rattle.thrift_binary.specs.Reading.{bool_at, size_at, field_at, list_at}
 use Rattle.thrift_binary.specs.Skipping.{value_at, items, times}
 
--- a head is read whole before it is judged
+-- all bytes of a head are read before it is checked
 field_cut_short : field_at (255 ∷ 0 ∷ []) ≡ Err Truncated
 unfolding field_at
 field_cut_short = refl
@@ -18,7 +18,7 @@ field_below_zero : field_at (10 ∷ 255 ∷ 254 ∷ 9 ∷ []) ≡ Ok (Some (10, 
 unfolding field_at
 field_below_zero = refl
 
--- the size is judged before the type, and of no elements the type isn't looked at
+-- the size is checked before the type, and the type of an empty list isn't checked
 size_before_type : list_at (16 ∷ 255 ∷ 255 ∷ 255 ∷ 255 ∷ []) ≡ Err BadLength
 unfolding list_at size_at
 size_before_type = refl

@@ -1,4 +1,4 @@
--- What is written spells the value that it was made of.
+-- What is written spells the value.
 use Rattle.std.proofs.Common.{◌≡◌, ℕ, ℤ, ◌<◌, ◌^◌, Bool, true, false, List, [], ◌∷◌, length, refl, sym, ap, ◌∙◌, append-nil, arith, w16, w32, w64, to_z-of_z, SFits}
 use Rattle.std.specs.Int.{Width, cast_signed, cast_unsigned}
 use Rattle.std.specs.List.{AllByRecursion, flat_map}

@@ -1,4 +1,4 @@
--- The refusals of reading, with their numbers and names.
+-- The errors of reading, with their numbers and names.
 use Rattle.std.specs.Prelude.{ℕ, List, codes}
 use Rattle.thrift_binary.specs.declared.fault.WireError.{WireError}
 use Rattle.thrift_binary.specs.declared.fault.WireError.TheVariants.{Truncated, BadLength, BadType, TooDeep, BadBool, BadText}

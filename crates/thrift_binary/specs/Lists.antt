@@ -4,7 +4,7 @@ use Rattle.thrift_binary.specs.declared.fault.WireError.{WireError}
 use Rattle.thrift_binary.specs.declared.fault.WireError.TheVariants.{BadType}
 use Rattle.thrift_binary.specs.Reading.{◌>>=◌, lift, list_at}
 
--- n values, one after the other
+-- a sequence of n values
 unfoldable pub items_at : {A E : Type 0} → (List ℕ → Result (A × List ℕ) E) → ℕ → List ℕ → Result (List A × List ℕ) E
 items_at one zero w = Ok ([], w)
 items_at one (suc n) w = one w >>= λ x. items_at one n x.1 >>= λ y. Ok (x.0 ∷ y.0, y.1)

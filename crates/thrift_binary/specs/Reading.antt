@@ -1,4 +1,4 @@
--- Reading from left to right, with the first fault that is met.
+-- Reading from left to right, with the first fault, and lemmas about it.
 use Rattle.std.specs.Prelude.{◌≡◌, ℕ, ℤ, ◌^◌, List, [], ◌∷◌, length, take, drop, Option, Some, None, Result, Ok, Err, Bool, true, false, ◌&&◌, ◌||◌, nat_lt, ◌==◌, if◌then◌else◌}
 use Rattle.std.proofs.Common.{◌∙◌}
 use Rattle.std.specs.Int.{Width, w16, cast_signed}
@@ -6,7 +6,7 @@ use Rattle.byteorder.specs.Endian.{big_number}
 use Rattle.thrift_binary.specs.declared.fault.WireError.{WireError}
 use Rattle.thrift_binary.specs.declared.fault.WireError.TheVariants.{Truncated, BadLength, BadType, BadBool}
 
--- what is read, and the bytes after it
+-- the value, and the bytes after it
 abbrev pub Read : Type 0 → Type 0
 Read A = Result (A × List ℕ) WireError
 
@@ -20,7 +20,7 @@ abbrev pub lift : {A E : Type 0} → (WireError → E) → Result A WireError �
 lift wire (Ok x) = Ok x
 lift wire (Err e) = Err (wire e)
 
--- A call on a cursor that held `old` gave what the reading gives, and left the bytes after it; a refusal leaves none.
+-- A call on a cursor over `old` returned what the reading yields, and left the bytes after it; a call that failed left none.
 abbrev pub Reads : {X Y : Type 0} → (X → Y) → (List ℕ → Read Y) → List ℕ → Result X WireError → List ℕ → Type 0
 Reads view read old (Ok x) new = read old ≡ Ok (view x, new)
 Reads view read old (Err e) new = (read old ≡ Err e) × (new ≡ [])
@@ -40,7 +40,7 @@ bool_at w = do
   b ← byte_at w
   if b.0 == 0 then Ok (false, b.1) else if b.0 == 1 then Ok (true, b.1) else Err BadBool
 
--- a number of n bytes, the highest byte first
+-- a big-endian number of n bytes
 abbrev pub number_at : ℕ → List ℕ → Read ℕ
 number_at n w = if nat_lt (length w) n then Err Truncated else Ok (big_number n w, drop n w)
 
@@ -69,7 +69,7 @@ stopped rest = Ok (None, rest)
 abbrev pub typed : ℕ → ℤ × List ℕ → Read (Option (ℕ × ℤ))
 typed c i = if is_code c then Ok (Some (c, i.0), i.1) else Err BadType
 
--- behind a field's type: its id; the type 0 is the stop byte
+-- after a field's type: its id; the type 0 is the stop byte
 abbrev pub field_behind : ℕ → List ℕ → Read (Option (ℕ × ℤ))
 field_behind c rest = if c == 0 then stopped rest else (signed_at w16 2 rest >>= typed c)
 
@@ -98,7 +98,7 @@ pub Reads-same : {X Y : Type 0} (view : X → Y) (f g : List ℕ → Read Y) (ol
 Reads-same view f g old (Ok x) new e h = e ∙ h
 Reads-same view f g old (Err d) new e h = (e ∙ h.0, h.1)
 
--- the exit of a `?`
+-- an error that a `?` returns
 pub Reads-exit : {X Y : Type 0} (view : X → Y) (f : List ℕ → Read Y) (old : List ℕ) (r : Result X WireError) (d : WireError) (new : List ℕ) → r ≡ Err d → f old ≡ Err d → new ≡ [] → Reads view f old r new
 Reads-exit view f old (Ok x) d new e h n = absurd cc
 Reads-exit view f old (Err c) d new e h n = (cc, n)

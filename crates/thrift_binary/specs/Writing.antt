@@ -1,4 +1,4 @@
--- The one spelling of each value that is written, and what a call on an output does.
+-- The one spelling in which each value is written, and what a call on an output does.
 use Rattle.std.specs.Prelude.{◌≡◌, ℕ, ℤ, ◌^◌, List, [], ◌∷◌, ◌++◌, length, Bool, true, false, nat_lt, Result, Ok, Err, MatchBool, FitsSigned, codes}
 use Rattle.std.specs.Int.{w16, w32, w64, cast_unsigned}
 use Rattle.std.specs.List.{flat_map}
@@ -13,7 +13,7 @@ abbrev pub bool_text : Bool → List ℕ
 bool_text true = 1 ∷ []
 bool_text false = 0 ∷ []
 
--- a number in two's complement, the highest byte first
+-- a big-endian number in two's complement
 unfoldable pub i32_text : ℤ → List ℕ
 i32_text z = big_bytes 4 (cast_unsigned w32 z)
 
@@ -44,7 +44,7 @@ stop_text = 0 ∷ []
 unfoldable pub list_head_text : ℕ → ℕ → List ℕ
 list_head_text c n = c ∷ size_text n
 
--- fields one after the other, and the stop byte
+-- a sequence of fields, and the stop byte
 abbrev pub fields_text : List Field → List ℕ
 fields_text [] = stop_text
 fields_text (f ∷ fs) = field_text f.code f.id ++ (f.text ++ fields_text fs)
@@ -53,7 +53,7 @@ fields_text (f ∷ fs) = field_text f.code f.id ++ (f.text ++ fields_text fs)
 abbrev pub list_text : {A : Type 0} → ℕ → (A → List ℕ) → List A → List ℕ
 list_text c one xs = list_head_text c (length xs) ++ flat_map one xs
 
--- a refusal's number, and its name, as which it is printed
+-- an error's number, and its name, which is how it prints
 abbrev pub refusal_number : WriteError → ℕ
 refusal_number BadLength = 2
 refusal_number Memory = 22
@@ -62,11 +62,11 @@ abbrev pub refusal_name : WriteError → List ℕ
 refusal_name BadLength = codes "BadLength"
 refusal_name Memory = codes "NoMemory"
 
--- A call on an output that held `old` left `new`: the text stands at the end, or, without memory for it, nothing is written.
+-- A call on an output `old` left `new`: the text is appended, or, without memory for it, nothing is written.
 abbrev pub Writes : List ℕ → List ℕ → Result (Unit {0}) WriteError → List ℕ → Type 0
 Writes text old (Ok x) new = new ≡ old ++ text
 Writes text old (Err e) new = (e ≡ Memory) × (new ≡ old)
 
--- The same where the text has a length or a size of n; one that four bytes can't hold as a signed number is refused, and nothing is written.
+-- Like `Writes`, for a text with a length or a size of n; an n that doesn't fit a signed number of four bytes is refused, and nothing is written.
 abbrev pub WritesSized : ℕ → List ℕ → List ℕ → Result (Unit {0}) WriteError → List ℕ → Type 0
 WritesSized n text old result new = MatchBool (nat_lt n (2 ^ 31)) (Writes text old result new) ((result ≡ Err BadLength) × (new ≡ old))

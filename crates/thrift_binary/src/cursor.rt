@@ -8,12 +8,12 @@ use crate::types::is_code;
 use byteorder::{BigEndian, ByteOrder};
 use std::marker::Model;
 
-/// Reads values from the beginning of bytes, in the Thrift binary protocol. It takes no memory.
+/// Reads values from the front of a byte slice, in the Thrift binary protocol. It doesn't allocate.
 ///
-/// Contracts see a cursor as the list of the bytes that are left. A call that succeeds takes the bytes of its value
-/// from the beginning. A refusal leaves no bytes, so every later call answers [`WireError::Truncated`].
+/// Contracts see a cursor as the list of the remaining bytes. A call that succeeds consumes the bytes of its value.
+/// A call that fails leaves no bytes, so every later call returns [`WireError::Truncated`].
 ///
-/// [`Cursor::next`], [`Cursor::beginning`] and [`Cursor::up_to`] are for values whose bytes come in pieces: they wait for
+/// [`Cursor::next`], [`Cursor::prefix`] and [`Cursor::at_most`] are for values whose bytes come in pieces: they wait for
 /// no byte that isn't there, and refuse nothing.
 ///
 /// Each clause `exact` names the reading from left to right (`specs/Reading.antt`) that the call is, faults included;
@@ -31,7 +31,7 @@ impl<'a> Model for Cursor<'a> {
 }
 
 impl<'a> Cursor<'a> {
-    /// A cursor in front of all the bytes.
+    /// Returns a cursor over the bytes.
     #[inline]
     pub fn new(bytes: &'a [u8]) -> Self
         ensures bytes { result ≡ bytes.now }
@@ -39,7 +39,7 @@ impl<'a> Cursor<'a> {
         Cursor { bytes }
     }
 
-    /// The bytes that are left.
+    /// Returns the remaining bytes.
     #[inline]
     pub fn rest(&self) -> &'a [u8]
         ensures bytes { result.now ≡ self.now }
@@ -47,7 +47,7 @@ impl<'a> Cursor<'a> {
         self.bytes
     }
 
-    /// Nothing is left.
+    /// Whether no byte remains.
     #[inline]
     pub fn is_empty(&self) -> bool
         ensures empty { result ≡ (length self.now == 0) }
@@ -55,7 +55,7 @@ impl<'a> Cursor<'a> {
         self.bytes.is_empty()
     }
 
-    /// The next byte, where there is one.
+    /// Takes the next byte, if there is one.
     #[inline]
     pub fn next(&mut self) -> Option<u8>
         ensures { MatchOption result ((self.old ≡ []) × (self.new ≡ []))
@@ -70,9 +70,9 @@ impl<'a> Cursor<'a> {
         }
     }
 
-    /// The first n bytes, where there are as many; else none is taken.
+    /// Takes the first n bytes, or none if there are fewer.
     #[inline]
-    pub fn beginning(&mut self, n: usize) -> Option<&'a [u8]>
+    pub fn prefix(&mut self, n: usize) -> Option<&'a [u8]>
         ensures parts { MatchOption result (self.new ≡ self.old)
             (λ t. self.old ≡ t.now ++ self.new) }
         ensures size { MatchOption result (length self.old < n) (λ t. length t.now ≡ n) }
@@ -80,14 +80,14 @@ impl<'a> Cursor<'a> {
         if self.bytes.len() < n {
             return None;
         }
-        let (beginning, rest) = self.bytes.split_at(n);
+        let (prefix, rest) = self.bytes.split_at(n);
         self.bytes = rest;
-        Some(beginning)
+        Some(prefix)
     }
 
-    /// The first n bytes, or all where there are fewer.
+    /// Takes the first n bytes, or all if there are fewer.
     #[inline]
-    pub fn up_to(&mut self, n: usize) -> &'a [u8]
+    pub fn at_most(&mut self, n: usize) -> &'a [u8]
         ensures parts { self.old ≡ result.now ++ self.new }
         ensures size { length result.now ≡ min n (length self.old) }
     {
@@ -96,9 +96,9 @@ impl<'a> Cursor<'a> {
         } else {
             n
         };
-        let (beginning, rest) = self.bytes.split_at(size);
+        let (prefix, rest) = self.bytes.split_at(size);
         self.bytes = rest;
-        beginning
+        prefix
     }
 
     #[cold]
@@ -110,19 +110,19 @@ impl<'a> Cursor<'a> {
         Err(error)
     }
 
-    /// The first n bytes.
+    /// Takes the first n bytes.
     #[inline]
     pub(crate) fn take(&mut self, n: usize) -> Result<&'a [u8], WireError>
         ensures exact { Reads (λ x. x.now) (bytes_at n) self.old result self.new }
         ensures no_longer { OnOk result (length self.new ≤ length self.old) }
     {
-        let Some(front) = self.beginning(n) else {
+        let Some(front) = self.prefix(n) else {
             return self.refuse(WireError::Truncated);
         };
         Ok(front)
     }
 
-    /// The first N bytes, copied. (A reference to them, as `take` gives it, would be tested for null once more.)
+    /// Takes a copy of the first N bytes. (The reference that `take` returns would need a second null test.)
     #[inline]
     fn array<const N: usize>(&mut self) -> Result<[u8; N], WireError>
         ensures exact { Reads (λ x. x) (bytes_at N) self.old result self.new }
@@ -137,13 +137,13 @@ impl<'a> Cursor<'a> {
         Ok(bytes)
     }
 
-    /// A bool: one byte, 1 for true and 0 for false.
+    /// Reads a bool: one byte, 1 for true and 0 for false.
     ///
     /// (Thrift binary protocol, base types; Apache's readers take other bytes too.)
     ///
     /// # Errors
     ///
-    /// [`WireError::Truncated`] without a byte; [`WireError::BadBool`] where it is another one.
+    /// [`WireError::Truncated`] if no byte remains; [`WireError::BadBool`] if the byte is neither 0 nor 1.
     #[tactic(auto, unfolding(crate::specs::Reading::bool_at))]
     #[inline]
     pub fn read_bool(&mut self) -> Result<bool, WireError>
@@ -158,13 +158,13 @@ impl<'a> Cursor<'a> {
         }
     }
 
-    /// The eight bytes of a double as they stand, the highest first; they are not interpreted.
+    /// Reads the eight bytes of a double in big-endian order, without interpreting them.
     ///
     /// (Thrift binary protocol, base types.)
     ///
     /// # Errors
     ///
-    /// [`WireError::Truncated`] where fewer bytes are left.
+    /// [`WireError::Truncated`] if fewer bytes remain.
     #[inline]
     pub fn read_double(&mut self) -> Result<[u8; 8], WireError>
         ensures exact { Reads (λ x. x) (bytes_at 8) self.old result self.new }
@@ -174,13 +174,13 @@ impl<'a> Cursor<'a> {
         self.array()
     }
 
-    /// A signed number of 32 bits, the highest byte first: an i32 or an enum.
+    /// Reads a big-endian signed number of 32 bits: an i32 or an enum.
     ///
     /// (Thrift binary protocol, integer and enum encoding.)
     ///
     /// # Errors
     ///
-    /// [`WireError::Truncated`] where fewer than four bytes are left.
+    /// [`WireError::Truncated`] if fewer than four bytes remain.
     #[inline]
     pub fn read_i32(&mut self) -> Result<i32, WireError>
         ensures exact { Reads (λ x. x) (signed_at w32 4) self.old result self.new }
@@ -190,13 +190,13 @@ impl<'a> Cursor<'a> {
         Ok(BigEndian::read_i32(&self.array::<4>()?))
     }
 
-    /// A signed number of 64 bits, the highest byte first: an i64.
+    /// Reads a big-endian signed number of 64 bits: an i64.
     ///
     /// (Thrift binary protocol, integer encoding.)
     ///
     /// # Errors
     ///
-    /// [`WireError::Truncated`] where fewer than eight bytes are left.
+    /// [`WireError::Truncated`] if fewer than eight bytes remain.
     #[inline]
     pub fn read_i64(&mut self) -> Result<i64, WireError>
         ensures exact { Reads (λ x. x) (signed_at w64 8) self.old result self.new }
@@ -233,7 +233,7 @@ impl<'a> Cursor<'a> {
         Ok(byte)
     }
 
-    /// A length or a size: a number of 32 bits that is not negative.
+    /// Reads a length or a size: a number of 32 bits that is not negative.
     #[tactic(auto, unfolding(crate::specs::Reading::size_at))]
     #[inline]
     fn read_size(&mut self) -> Result<u32, WireError>
@@ -247,13 +247,13 @@ impl<'a> Cursor<'a> {
         Ok(number)
     }
 
-    /// The bytes of a string or binary: a length of four bytes, then that many bytes. Nothing is copied.
+    /// Reads a string or binary: a length of four bytes, then that many bytes. It copies nothing.
     ///
     /// (Thrift binary protocol, string and binary encoding.)
     ///
     /// # Errors
     ///
-    /// [`WireError::BadLength`] where the length is negative; [`WireError::Truncated`] where bytes are missing.
+    /// [`WireError::BadLength`] if the length is negative; [`WireError::Truncated`] if bytes are missing.
     #[tactic(auto, unfolding(crate::specs::Reading::string_at))]
     #[inline]
     pub fn read_bytes(&mut self) -> Result<&'a [u8], WireError>
@@ -265,14 +265,14 @@ impl<'a> Cursor<'a> {
         self.take(len as usize)
     }
 
-    /// The type and the id of the next field of a struct; `None` at the stop byte, which is taken too.
+    /// Reads the type and the id of a struct's next field. Returns `None` at the stop byte, which it takes too.
     ///
     /// (Thrift binary protocol, struct encoding.)
     ///
     /// # Errors
     ///
-    /// [`WireError::Truncated`] where bytes are missing; [`WireError::BadType`] where the type is outside the
-    /// table ([`crate::types`]), once the id was there.
+    /// [`WireError::Truncated`] if bytes are missing; [`WireError::BadType`] if the type is outside the table
+    /// ([`crate::types`]) and the id is complete.
     #[tactic(auto, unfolding(crate::specs::Reading::field_at))]
     #[inline]
     pub fn field(&mut self) -> Result<Option<(u8, i16)>, WireError>
@@ -293,14 +293,14 @@ impl<'a> Cursor<'a> {
         Ok(Some((code, id)))
     }
 
-    /// The type and the number of the elements of a list or set.
+    /// Reads the type and the number of the elements of a list or set.
     ///
     /// (Thrift binary protocol, list and set encoding.)
     ///
     /// # Errors
     ///
-    /// [`WireError::Truncated`] where bytes are missing; else [`WireError::BadLength`] where the number is negative;
-    /// else [`WireError::BadType`] where the type is outside the table ([`crate::types`]), except before no elements.
+    /// [`WireError::Truncated`] if bytes are missing; else [`WireError::BadLength`] if the number is negative; else
+    /// [`WireError::BadType`] if the type is outside the table ([`crate::types`]) and the number isn't 0.
     #[tactic(auto, unfolding(crate::specs::Reading::list_at))]
     #[inline]
     pub fn list_head(&mut self) -> Result<(u8, u32), WireError>
@@ -316,7 +316,7 @@ impl<'a> Cursor<'a> {
         Ok((code, size))
     }
 
-    /// The key type, the value type and the number of the pairs of a map.
+    /// Reads the key type, the value type and the number of the pairs of a map.
     #[tactic(auto, unfolding(crate::specs::Reading::map_at))]
     pub(crate) fn map_head(&mut self) -> Result<(u8, u8, u32), WireError>
         ensures exact { Reads (λ x. ((x.0, x.1), x.2)) map_at self.old result self.new }

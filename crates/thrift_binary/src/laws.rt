@@ -1,10 +1,10 @@
-//! Facts about reading and writing. Each function does nothing, and its contract is the fact.
+//! Facts about reading and writing. Each function has an empty body; its contract states the fact.
 //!
-//! - `cuts_of_..`: a fault other than Truncated has one place: every shorter beginning of the bytes is Truncated, and
-//!   whatever follows that place, the fault is the same. A value ends at one place, in the same way. And bytes that
-//!   are Truncated have Truncated beginnings only. So bytes that come in pieces are refused as soon as the fault's
-//!   place has come, and never before, however they are cut. (`proofs/Cuts.antt` and the files beside it have this for
-//!   every reading that is made of these: one after the other, under a test, in lists, and in fields up to a stop byte.)
+//! - `cuts_of_..`: a fault other than Truncated has one place: every shorter prefix of the bytes is Truncated, and
+//!   whatever follows that place, the fault is the same. A value ends at one place, in the same way. If bytes are
+//!   Truncated, so is each prefix of them. Bytes that arrive in pieces are therefore refused as soon as the fault's
+//!   place has arrived, and never before, however they are cut. (`proofs/Cuts.antt` and the files beside it prove this
+//!   for every reading composed of these: in sequence, under a test, in lists, and in fields up to a stop byte.)
 //! - `nothing_left_is_truncated`, `spelled_values_are_read`, `written_values_spell`: how reading, writing and the
 //!   protocol's rules for whole texts (`specs/Spelling.antt`) fit together.
 
@@ -18,35 +18,35 @@ ghost use Rattle.thrift_binary.specs.Spelling.{Field, IsBool, IsI32, IsI64, IsDo
 ghost use Rattle.thrift_binary.specs.Writing.{bool_text, i32_text, i64_text, string_text, field_text, stop_text, list_head_text, fields_text, HasHead};
 ghost use Rattle.thrift_binary.specs.declared.fault.WireError.TheVariants.{Truncated};
 
-/// A skipped value of any type.
+/// The cuts of a skipped value of any type.
 pub fn cuts_of_skipped_values()
     ensures faults { (c : ℕ) → FaultsHavePlaces Truncated (skip_at c) }
     ensures values { (c : ℕ) → ValuesHaveEnds Truncated (skip_at c) }
     ensures truncated { (c : ℕ) → ShortStaysShort Truncated (skip_at c) }
 {}
 
-/// The head of a field, or the stop byte.
+/// The cuts of a field's head, or of the stop byte.
 pub fn cuts_of_fields()
     ensures faults { FaultsHavePlaces Truncated field_at }
     ensures values { ValuesHaveEnds Truncated field_at }
     ensures truncated { ShortStaysShort Truncated field_at }
 {}
 
-/// The head of a list.
+/// The cuts of a list's head.
 pub fn cuts_of_list_heads()
     ensures faults { FaultsHavePlaces Truncated list_at }
     ensures values { ValuesHaveEnds Truncated list_at }
     ensures truncated { ShortStaysShort Truncated list_at }
 {}
 
-/// A string.
+/// The cuts of a string.
 pub fn cuts_of_strings()
     ensures faults { FaultsHavePlaces Truncated string_at }
     ensures values { ValuesHaveEnds Truncated string_at }
     ensures truncated { ShortStaysShort Truncated string_at }
 {}
 
-/// Of no bytes every reading is Truncated: so after a refusal, which leaves none, every later call is.
+/// Without bytes every reading is Truncated. After an error, which leaves no bytes, every later call therefore is.
 pub fn nothing_left_is_truncated()
     ensures bool { bool_at [] ≡ Err Truncated }
     ensures i32 { signed_at w32 4 [] ≡ Err Truncated }
@@ -58,7 +58,7 @@ pub fn nothing_left_is_truncated()
     ensures skipped { (c : ℕ) → skip_at c [] ≡ Err Truncated }
 {}
 
-/// What spells a value is read as that value, whatever follows, and all that follows is left.
+/// Bytes that spell a value are read as that value, whatever follows them, and what follows remains.
 pub fn spelled_values_are_read()
     ensures bool { (t r : List ℕ) (b : Bool) → IsBool t b → bool_at (t ++ r) ≡ Ok (b, r) }
     ensures i32 { (t r : List ℕ) (z : ℤ) → IsI32 t z → signed_at w32 4 (t ++ r) ≡ Ok (z, r) }
@@ -73,7 +73,7 @@ pub fn spelled_values_are_read()
     ensures skipped { (c : ℕ) (t r : List ℕ) → IsValue 64 c t → skip_at c (t ++ r) ≡ Ok (tt, r) }
 {}
 
-/// What [`crate::Out`] writes spells the value that it was given: so it is read back as that value, whatever follows.
+/// What [`crate::Out`] writes spells the value that it was given, so it is read back as that value, whatever follows.
 pub fn written_values_spell()
     ensures bool { (b : Bool) → IsBool (bool_text b) b }
     ensures i32 { (z : ℤ) → FitsSigned w32 z → IsI32 (i32_text z) z }

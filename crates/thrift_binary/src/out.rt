@@ -8,7 +8,7 @@ use std::error::Error;
 use std::fmt;
 use std::marker::Model;
 
-/// The greatest length or size that the protocol has.
+/// The greatest length or size of the protocol.
 const MAX_LENGTH: usize = 0x7fff_ffff;
 
 /// Why a value could not be written.
@@ -29,7 +29,7 @@ impl From<AllocError> for WriteError {
 }
 
 impl WriteError {
-    /// The number of the refusal: 2 for a length, as in reading, and 22 where memory ran out.
+    /// Returns the error's number: 2 for a length, as in reading, and 22 if memory ran out.
     pub fn number(self) -> u8
         ensures number { result ≡ refusal_number self }
     {
@@ -39,7 +39,7 @@ impl WriteError {
         }
     }
 
-    /// The name of the refusal.
+    /// Returns the error's name.
     pub fn name(self) -> &'static str
         ensures name { result.now ≡ refusal_name self }
     {
@@ -61,10 +61,10 @@ impl fmt::Display for WriteError {
 
 impl Error for WriteError {}
 
-/// Writes values at the end of bytes, in the Thrift binary protocol.
+/// Appends values to a buffer, in the Thrift binary protocol.
 ///
-/// Contracts see an output as the list of the bytes written so far. A refusal writes nothing: the output is as it was
-/// before the call. The one text of each value is defined in `specs/Writing.antt`, and
+/// Contracts see an output as the list of the bytes written so far. A call that fails writes nothing: the output is
+/// unchanged. The one text of each value is defined in `specs/Writing.antt`, and
 /// [`crate::laws::written_values_spell`] says that it spells the value.
 #[derive(Debug, Drop)]
 pub struct Out {
@@ -78,7 +78,7 @@ impl Model for Out {
 }
 
 impl Out {
-    /// An output without bytes.
+    /// Returns an empty output.
     pub fn new(alloc: Global) -> Self
         ensures empty { result ≡ [] }
     {
@@ -87,7 +87,7 @@ impl Out {
         }
     }
 
-    /// The bytes that were written.
+    /// Returns the bytes that were written.
     pub fn into_bytes(self) -> Vec<u8>
         ensures bytes { result.items ≡ self }
     {
@@ -101,11 +101,11 @@ impl Out {
         Ok(())
     }
 
-    /// The head of a field: the type code of its value ([`crate::types`]), and its id. Its value is written next.
+    /// Writes the head of a field: the type code of its value ([`crate::types`]) and its id. Write its value next.
     /// (Thrift binary protocol, struct encoding.)
     ///
     /// # Errors
-    /// [`WriteError::Memory`] alone.
+    /// Only [`WriteError::Memory`].
     #[tactic(auto, unfolding(crate::specs::Writing::field_text))]
     pub fn field(&mut self, code: u8, id: i16) -> Result<(), WriteError>
         ensures appends { Writes (field_text code id) self.old result self.new }
@@ -115,31 +115,31 @@ impl Out {
         self.append(&text)
     }
 
-    /// The byte that ends a struct, behind its last field. (Thrift binary protocol, struct encoding.)
+    /// Writes the stop byte, which ends a struct after its last field. (Thrift binary protocol, struct encoding.)
     ///
     /// # Errors
-    /// [`WriteError::Memory`] alone.
+    /// Only [`WriteError::Memory`].
     pub fn stop(&mut self) -> Result<(), WriteError>
         ensures appends { Writes stop_text self.old result self.new }
     {
         self.append(&[0])
     }
 
-    /// A bool: one byte, 1 for true and 0 for false. (Thrift binary protocol, base types.)
+    /// Writes a bool: one byte, 1 for true and 0 for false. (Thrift binary protocol, base types.)
     ///
     /// # Errors
-    /// [`WriteError::Memory`] alone.
+    /// Only [`WriteError::Memory`].
     pub fn bool(&mut self, value: bool) -> Result<(), WriteError>
         ensures appends { Writes (bool_text value) self.old result self.new }
     {
         self.append(&[u8::from(value)])
     }
 
-    /// A signed number of 32 bits, the highest byte first: an i32 or an enum.
+    /// Writes a big-endian signed number of 32 bits: an i32 or an enum.
     /// (Thrift binary protocol, integer and enum encoding.)
     ///
     /// # Errors
-    /// [`WriteError::Memory`] alone.
+    /// Only [`WriteError::Memory`].
     #[tactic(auto, unfolding(crate::specs::Writing::i32_text))]
     pub fn i32(&mut self, number: i32) -> Result<(), WriteError>
         ensures appends { Writes (i32_text number) self.old result self.new }
@@ -149,10 +149,10 @@ impl Out {
         self.append(&text)
     }
 
-    /// A signed number of 64 bits, the highest byte first: an i64. (Thrift binary protocol, integer encoding.)
+    /// Writes a big-endian signed number of 64 bits: an i64. (Thrift binary protocol, integer encoding.)
     ///
     /// # Errors
-    /// [`WriteError::Memory`] alone.
+    /// Only [`WriteError::Memory`].
     #[tactic(auto, unfolding(crate::specs::Writing::i64_text))]
     pub fn i64(&mut self, number: i64) -> Result<(), WriteError>
         ensures appends { Writes (i64_text number) self.old result self.new }
@@ -162,20 +162,20 @@ impl Out {
         self.append(&text)
     }
 
-    /// A double: its eight bytes as they stand, the highest first. (Thrift binary protocol, base types.)
+    /// Writes a double, given as its eight bytes in big-endian order. (Thrift binary protocol, base types.)
     ///
     /// # Errors
-    /// [`WriteError::Memory`] alone.
+    /// Only [`WriteError::Memory`].
     pub fn double(&mut self, bytes: [u8; 8]) -> Result<(), WriteError>
         ensures appends { Writes bytes self.old result self.new }
     {
         self.append(&bytes)
     }
 
-    /// A string or binary: its length, then its bytes. (Thrift binary protocol, string and binary encoding.)
+    /// Writes a string or binary: its length, then its bytes. (Thrift binary protocol, string and binary encoding.)
     ///
     /// # Errors
-    /// [`WriteError::BadLength`] where there are more than 2,147,483,647 bytes, else [`WriteError::Memory`] alone.
+    /// [`WriteError::BadLength`] if there are more than 2,147,483,647 bytes, else only [`WriteError::Memory`].
     #[tactic(auto, unfolding(crate::specs::Writing::string_text, crate::specs::Writing::size_text))]
     pub fn bytes(&mut self, bytes: &[u8]) -> Result<(), WriteError>
         ensures appends { WritesSized (length bytes.now) (string_text bytes.now) self.old result
@@ -195,11 +195,11 @@ impl Out {
         Ok(())
     }
 
-    /// The head of a list: the type code ([`crate::types`]) and the number of its elements. They are written next.
+    /// Writes the head of a list: the type code ([`crate::types`]) and the number of its elements. Write them next.
     /// (Thrift binary protocol, list encoding.)
     ///
     /// # Errors
-    /// [`WriteError::BadLength`] where the number is above 2,147,483,647, else [`WriteError::Memory`] alone.
+    /// [`WriteError::BadLength`] if the number is above 2,147,483,647, else only [`WriteError::Memory`].
     #[tactic(auto, unfolding(crate::specs::Writing::list_head_text, crate::specs::Writing::size_text))]
     pub fn list_head(&mut self, code: u8, size: usize) -> Result<(), WriteError>
         ensures appends { WritesSized size (list_head_text code size) self.old result self.new }

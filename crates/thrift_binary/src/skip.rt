@@ -7,11 +7,11 @@ use crate::cursor::Cursor;
 use crate::fault::WireError;
 use crate::types;
 
-/// The levels of containers that a skipped value may have.
-const LEVELS: u8 = 64;
+/// The greatest number of levels of containers in a skipped value.
+const MAX_LEVELS: u8 = 64;
 
 impl<'a> Cursor<'a> {
-    fn past(&mut self, n: usize) -> Result<(), WireError>
+    fn skip_bytes(&mut self, n: usize) -> Result<(), WireError>
         ensures exact { Reads (λ _. tt) (past n) self.old result self.new }
         ensures no_longer { OnOk result (length self.new ≤ length self.old) }
     {
@@ -20,7 +20,7 @@ impl<'a> Cursor<'a> {
     }
 
     #[tactic(auto, unfolding(crate::specs::Skipping::text))]
-    fn past_text(&mut self) -> Result<(), WireError>
+    fn skip_text(&mut self) -> Result<(), WireError>
         ensures exact { Reads (λ _. tt) text self.old result self.new }
         ensures no_longer { OnOk result (length self.new ≤ length self.old) }
     {
@@ -28,31 +28,31 @@ impl<'a> Cursor<'a> {
         Ok(())
     }
 
-    /// A value that is no container.
+    /// Skips a value that is no container.
     fn leaf(&mut self, code: u8) -> Result<(), WireError>
         ensures exact { Reads (λ _. tt) (leaf code) self.old result self.new }
         ensures no_longer { OnOk result (length self.new ≤ length self.old) }
     {
         match code {
-            types::BOOL | types::BYTE => self.past(1),
-            types::I16 => self.past(2),
-            types::I32 => self.past(4),
-            types::I64 | types::DOUBLE => self.past(8),
-            types::STRING => self.past_text(),
+            types::BOOL | types::BYTE => self.skip_bytes(1),
+            types::I16 => self.skip_bytes(2),
+            types::I32 => self.skip_bytes(4),
+            types::I64 | types::DOUBLE => self.skip_bytes(8),
+            types::STRING => self.skip_text(),
             _ => self.refuse(WireError::BadType),
         }
     }
 
-    /// Reads past a value of the type: one with a type code of the table ([`crate::types`]) and with at most
-    /// 64 levels of containers. A container that holds none has one level. A bool may be any byte here, and a
-    /// string any bytes.
+    /// Skips a value of the type, which is a code of the table ([`crate::types`]). The value has at most 64 levels of
+    /// containers; a container without containers in it has one level. A bool may be any byte here, and a string any
+    /// bytes.
     ///
     /// (Thrift binary protocol, all encodings; the bound on levels is this crate's own.)
     ///
     /// # Errors
     ///
-    /// [`WireError::Truncated`] without bytes. Else the first fault in the value: [`WireError::BadType`] at a type
-    /// outside the table, [`WireError::TooDeep`] at a container below 64 levels, before any of its bytes is read,
+    /// [`WireError::Truncated`] if no byte remains. Else the first fault in the value: [`WireError::BadType`] at a type
+    /// outside the table, [`WireError::TooDeep`] at a container inside 64 others, before any of its bytes is read,
     /// [`WireError::BadLength`] at a negative size, or [`WireError::Truncated`].
     #[tactic(auto, unfolding(crate::specs::Skipping::skip_at))]
     pub fn skip(&mut self, code: u8) -> Result<(), WireError>
@@ -65,7 +65,7 @@ impl<'a> Cursor<'a> {
         if self.rest().is_empty() {
             return self.refuse(WireError::Truncated);
         }
-        self.value(code, LEVELS)
+        self.value(code, MAX_LEVELS)
     }
 
     #[cycle(skip)]

@@ -1,4 +1,4 @@
-//! The type codes of the protocol. No other code is a type; 0 in a field's place is the stop byte.
+//! The type codes of the protocol. No other code is a type; 0 instead of a field's type is the stop byte.
 ghost use Rattle.std.specs.Prelude.{◌≡◌};
 ghost use Rattle.thrift_binary.specs.Reading.{is_code};
 
@@ -6,15 +6,15 @@ ghost use Rattle.thrift_binary.specs.Reading.{is_code};
 pub const BOOL: u8 = 2;
 /// One byte.
 pub const BYTE: u8 = 3;
-/// Eight bytes, IEEE 754, the highest first.
+/// Eight bytes, IEEE 754, big-endian.
 pub const DOUBLE: u8 = 4;
-/// Two bytes in two's complement, the highest first.
+/// Two bytes in two's complement, big-endian.
 pub const I16: u8 = 6;
-/// Four bytes in two's complement, the highest first; an enum too.
+/// Four bytes in two's complement, big-endian; also an enum.
 pub const I32: u8 = 8;
-/// Eight bytes in two's complement, the highest first.
+/// Eight bytes in two's complement, big-endian.
 pub const I64: u8 = 10;
-/// A length of four bytes, then that many bytes; binary too.
+/// A length of four bytes, then that many bytes; also a binary.
 pub const STRING: u8 = 11;
 /// Fields, then the stop byte.
 pub const STRUCT: u8 = 12;
@@ -25,7 +25,7 @@ pub const SET: u8 = 14;
 /// An element type, a size of four bytes, then that many elements.
 pub const LIST: u8 = 15;
 
-/// The code is one of this table.
+/// Whether the code is in this table.
 #[inline]
 pub fn is_code(code: u8) -> bool
     ensures table { result ≡ is_code code }

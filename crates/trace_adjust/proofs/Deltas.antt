@@ -1,4 +1,4 @@
--- Spans moved by deltas that are held.
+-- Spans moved by stored deltas.
 use Rattle.std.proofs.Common.{◌≡◌, ℕ, zero, suc, ℤ, pos, ◌+◌, ◌<◌, Bool, true, List, [], ◌∷◌, ◌++◌, map, take, length, length-append, get_or, refl, sym, ap, ◌∙◌, arith}
 use Rattle.std.specs.Prelude.{Option, Some, not, nat_le, nat_abs, drop, slice_get, if◌then◌else◌}
 use Rattle.std.specs.List.{list_all}
@@ -33,7 +33,7 @@ delta_more m ps cs g i p d had has l here known first one many inv put =
     lent_more m ps cs g i p (shifted m d p) (shifted_all m had (take i ps)) (shifted_all m has (take (i + 1) ps)) l here known first (ap (λ e. shifted m e p) one) inv
     (ap (λ ds. shifted_all m ds (take (i + 1) ps)) put ∙ ap (shifted_all m (had ++ d ∷ [])) more ∙ shifted_push m had (take i ps) d p long)
 
--- ---- where no span moves
+-- ---- if no span moves
 abbrev pub all_zero : List ℤ → Bool
 all_zero ds = list_all (λ (d : ℤ). int_eq d (pos 0)) ds
 
@@ -57,7 +57,7 @@ none_moves m (d ∷ ds) (p ∷ ps) e =
     let zero_now = no_delta d ds e in
     (λ j. still m d p zero_now.0 j ∷ none_moves m ds ps zero_now.1 j)
 
--- ---- spans that are lent as they came
+-- ---- spans that are borrowed unchanged
 pub lent_raw : (m : ℕ) (ps : List Placed) → shifted_all m [] (map (placed_as true) ps) ≡ map unadjusted ps
 lent_raw m [] = refl
 lent_raw m (p ∷ ps) = ap (λ r. unadjusted p ∷ r) (lent_raw m ps)

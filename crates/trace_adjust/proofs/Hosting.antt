@@ -31,7 +31,7 @@ number_there hosts t n e = subst (λ o. IfSome o (λ h. h ≡ t)) (sym (place_fo
 pub is_number : (hosts : List (List ℕ)) (t : List ℕ) (n : ℕ) → number_in hosts t ≡ Some n → IsNumber hosts n
 is_number hosts t n e = ap (number_in hosts) (number_there hosts t n e) ∙ e
 
--- two hosts have one number where they are the same
+-- two hosts have the same number if they are equal
 pub same_number : (hosts : List (List ℕ)) (t u : List ℕ) (n k : ℕ) → number_in hosts t ≡ Some n → number_in hosts u ≡ Some k → (n == k) ≡ same_text t u
 same_number hosts t u n k e f =
     same_where n k t u (λ one. sym (number_there hosts t n e) ∙ ap (λ j. get_or hosts j []) one ∙ number_there hosts u k f)
@@ -134,7 +134,7 @@ number_stays (h ∷ hosts) more t n e = elim (same_text t h) as (λ b. (if b the
     later stays None r q = absurd (false≢true (ap is_some q))
     later stays (Some k) r q = ap (option_map suc) (stays k r) ∙ q
 
--- the number that stands at a place
+-- the number at a place
 pub number_read : (hosts : List (List ℕ)) (trace : List Placed) (ns : List ℕ) (i : ℕ) (d : Placed) (e : ℕ) → i < length trace → AreNumbers hosts trace ns → number_in hosts (host_of (get_or trace i d)) ≡ Some (get_or ns i e)
 number_read hosts [] ns i d e l are = absurd (omega arith)
 number_read hosts (p ∷ trace) [] i d e l are = absurd (cc are)
@@ -176,7 +176,7 @@ module _ (ps : List Placed) (i : ℕ) (p : Placed) (l : i < length ps) (e : p �
   pub fresh_is : length before ≡ i + 1
   fresh_is = let a = length-map (take i ps) host_of in let c = length-take-le i ps (omega (arith, l)) in omega (arith, a, c)
 
-  -- ---- what is kept under places
+  -- ---- what is stored for places
   known_more : (t : List ℕ) (n : ℕ) → number_in before t ≡ Some n → number_in (hosts_of (take (i + 1) ps)) t ≡ Some n
   known_more t n is = ap (λ hs. number_in hs t) before_more ∙ number_stays before (host_of p ∷ []) t n is
 
@@ -206,7 +206,7 @@ module _ (ps : List Placed) (i : ℕ) (p : Placed) (l : i < length ps) (e : p �
         host = (λ j. number_in (before_more j) (host_at j)) ∙ number ∙ q;
       }
 
-  -- a span has the host of each span whose entry stands at its place
+  -- a span has the host of each span whose entry is at its place
   pub same_host : (places : List ℕ) (j place : ℕ) → ShareProcesses ps places → j < i → slice_get places j ≡ Some place → slice_get places i ≡ Some place → get_or all (j + 1) [] ≡ host_of p
   same_host places j place share above there own =
       let one : get_or places j 0 ≡ get_or places i 0 = get_or_from_slice_get places j place 0 there ∙ sym (get_or_from_slice_get places i place 0 own) in
@@ -216,7 +216,7 @@ module _ (ps : List Placed) (i : ℕ) (p : Placed) (l : i < length ps) (e : p �
       ∙ ap (λ q. first_text (codes "ip") q.tags) (share j i p (slice_get_within places j place there, slice_get_within places i place own, one))
       ∙ ap host_of (sym e)
 
-  -- the number that is kept under a span's place is its host's
+  -- the number that is stored for a span's place is its host's
   pub own_number : (places : List ℕ) (own : Option ℕ) (m : ℕ → Option ℕ) (n : ℕ) → ShareProcesses ps places → own ≡ slice_get places i → AreKept ps places i m → option_and_then m own ≡ Some n
       → number_in before (host_of p) ≡ Some n
   own_number places None m n share at known found = absurd (cc found)
@@ -224,7 +224,7 @@ module _ (ps : List Placed) (i : ℕ) (p : Placed) (l : i < length ps) (e : p �
       let k = known place n found in
       ap (number_in before) (sym (same_host places k.index place share k.before k.stands (sym at))) ∙ k.host
 
--- the place of an entry, as a look-up lends it
+-- the place of an entry, as a look-up borrows it
 pub place_read : (places : List ℕ) (i : ℕ) (r : Option (Bor ℕ)) → IsItemAt places i r → option_copied r ≡ slice_get places i
 place_read places i None h = sym (slice_get_past places i h.3)
 place_read places i (Some x) h = ap Some (h.3.1 x.now) ∙ sym (slice_get-get_or places i x.now h.3.0)
@@ -238,7 +238,7 @@ number_given hosts h o n fresh is given long =
     by_cases None = refl
     by_cases (Some k) = refl
 
--- the table as it is after that
+-- the table after that
 pub table_given : (hosts : List (List ℕ)) (h : List ℕ) (old new : List ℕ → Option ℕ) (fresh : ℕ) → ((t : List ℕ) → old t ≡ number_in hosts t) → length hosts ≡ fresh
     → ((t : List ℕ) → new t ≡ option_or (old t) (cond (same_text t h) (Some fresh) None)) → (t : List ℕ) → new t ≡ number_in (hosts ++ h ∷ []) t
 table_given hosts h old new fresh is long put t = put t ∙ (λ i. option_or (is t i) (cond (same_text t h) (Some ((sym long) i)) None)) ∙ sym (place_push (same_text t) hosts h)

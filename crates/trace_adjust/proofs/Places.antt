@@ -1,4 +1,4 @@
--- First places, as a table of them grows, and what stands there.
+-- First places, as a table of them grows, and what is there.
 use Rattle.std.proofs.Common.{◌≡◌, ℕ, zero, suc, ◌+◌, ◌<◌, nat_lt, Bool, true, false, ◌||◌, cond, List, [], ◌∷◌, ◌++◌, map, take, length, get_or, refl, sym, ap, ◌∙◌, arith, eqb-true, eq-eqb}
 use Rattle.std.proofs.lemmas.Bool.Decides.{nat_tests}
 use Rattle.std.specs.Prelude.{Option, Some, None, option_map, is_some, find, not, unwrap_or, ◌==◌, if◌then◌else◌}
@@ -43,7 +43,7 @@ pub place_kept : (q : ℕ) (g : ℕ → Option ℕ) (xs : List Placed) (i : ℕ)
     → ((id : ℕ) → g id ≡ first_at id (take i xs)) → is_some (g x.span.id.0) ≡ true → g q ≡ first_at q (take (i + 1) xs)
 place_kept q g xs i x l e inv some = let id = x.span.id.0 in kept g id q i (id == q) (eqb-true id q) some ∙ first_more q xs i x (g q) l e (inv q)
 
--- ---- what stands at a first place
+-- ---- the item at a first place
 place_is : {X : Type 0} (test : X → Bool) (xs : List X) → place_of test xs ≡ position test xs
 place_is test [] = refl
 place_is test (x ∷ xs) = elim (test x) as (λ b. cond b (Some 0) (option_map suc (place_of test xs)) ≡ cond (nat_lt (cond (not b) (1 + position_or_len test xs) 0) (suc (length xs))) (Some (cond (not b) (1 + position_or_len test xs) 0)) None) [
@@ -76,7 +76,7 @@ one_on : (o : Option ℕ) (k : ℕ) → (unwrap_or (option_map suc o) (suc k) ==
 one_on None k = same_more k k
 one_on (Some j) k = same_more j k
 
--- ---- a span is the first of its id where no span in front has it
+-- ---- a span is the first of its id if no span before it has it
 pub is_first : (ps : List Placed) (i : ℕ) (d : Placed) → i < length ps → (unwrap_or (first_at (get_or ps i d).span.id.0 ps) i == i) ≡ not (list_any (has_id (get_or ps i d).span.id) (take i ps))
 is_first [] i d l = absurd (omega arith)
 is_first (p ∷ ps) zero d l = ap (λ b. unwrap_or (cond b (Some 0) (option_map suc (first_at p.span.id.0 ps))) 0 == 0) (eq-eqb p.span.id.0 p.span.id.0 refl)

@@ -1,4 +1,4 @@
--- Clocks that are set from above are the spans' clocks, and where none can be set any more all are known.
+-- Clocks that are set from above are the spans' clocks; if none can be set any more, all are known.
 use Rattle.std.proofs.Common.{◌≡◌, ℕ, zero, suc, ◌+◌, ◌<◌, ◌⊎◌, inl, inr, ⊎_elim, Bool, true, false, ◌&&◌, cond, List, [], map, length, get_or, set, refl, sym, ap, ◌∙◌, arith, subst, length-set, get_or-set_same, get_or-set_other}
 use Rattle.std.proofs.lemmas.List.{length-map, get_or_default, set-get_or, get_or-map}
 use Rattle.std.proofs.lemmas.List.Elements.{All-from_recursion}
@@ -62,7 +62,7 @@ module _ (max_skew : ℕ) (trace : List Placed) where
   none_near cs d p n None q up h = absurd (false≢true (sym (ap is_some h)))
   none_near cs d p n (Some j) q up h = ap (option_map (λ a. clock_below max_skew a p)) (up j (place_below trace p j q) (hosted_none (λ a. clock_below max_skew a p) (get_or cs j None) h))
 
-  -- where nothing is set any more, a clock that is not set is none
+  -- if nothing is set any more, a clock that is not set is none
   none_within : (cs : List (Option Clock)) (d : Placed) → AreClosed max_skew trace (length trace) cs → (n k : ℕ) → k < length trace → get_or cs k None ≡ None → clock_within max_skew n trace (get_or trace k d) ≡ None
   none_within cs d closed zero k l e = within_none max_skew trace (get_or trace k d)
   none_within cs d closed (suc n) k l e =
@@ -95,7 +95,7 @@ written_fewer {X} cs i n l = by_now (get_or cs i None) refl
     by_now None q = set_there n q
     by_now (Some c) q = omega arith
 
--- ---- before any
+-- ---- before any is set
 pub none_set : (m : ℕ) (trace : List Placed) (cs : List (Option HostClock)) → length cs ≡ length trace → ((k : ℕ) → get_or cs k None ≡ None) → AreSet m trace cs
 none_set m trace cs len none = (
   (
@@ -111,7 +111,7 @@ closed_more m trace i cs new e before here k l = ⊎_elim
     (λ (other : k ≡ i → ⊥). subst (IsClosed m trace k) (sym (ap (all_hosted (hosts_of trace)) e)) (before k (omega arith)))
     (cases_eq k i)
 
--- the step at a place of the trace, whose parent's place stands in the list of those
+-- the step at a place of the trace, whose parent's place is in the list of those
 pub parent_read : (trace : List Placed) (parents : List (Option ℕ)) (i : ℕ) (d : Placed) → i < length trace → parents ≡ map (place_in trace) trace → get_or parents i None ≡ place_in trace (get_or trace i d)
 parent_read trace parents i d l e = ap (λ ps. get_or ps i None) e ∙ get_or-map (place_in trace) trace i d None l
 

@@ -43,7 +43,7 @@ adjusted_at m all before (s ∷ ss) (suc i) d l =
     adjusted_at m all (before ++ s.placed ∷ []) ss i d (omega arith)
     ∙ ap (λ b. said_after (get_or ss i d) (shown_after m all b (get_or ss i d).placed)) (append_assoc before (s.placed ∷ []) (take i (spans_of ss)))
 
--- one more element of the new list is written over the old one
+-- one more element of the new list overwrites the old one
 module _ {X : Type 0} (xs ys items : List X) (i : ℕ) (d : X) (l : i < length xs) (many : length ys ≡ length xs) (inv : items ≡ take i ys ++ drop i xs) where
   few : length (take i ys) ≡ i
   few = length-take-le i ys (omega (arith, l, many))
@@ -67,7 +67,7 @@ all_written m ss items i l inv =
     let many = as_many_shown m (spans_of ss) [] ss in
     inv ∙ ap (λ r. take i ys ++ r) (drop_all i ss l) ∙ append-nil (take i ys) ∙ take_all i ys (omega (arith, l, many))
 
--- the loop's step: s is what stands at the place, and v what it becomes
+-- the loop's step: s is the span at the place, and v what it becomes
 pub shifted_more : (m : ℕ) (ss items : List Shown) (cs : List (Option Clock)) (g : ℕ → Option ℕ) (i : ℕ) (s v : Shown) → i < length ss
     → s ≡ get_or items i s → AreClocks m (spans_of ss) cs → ((id : ℕ) → g id ≡ first_at id (spans_of ss))
     → v ≡ said_after s (shifted m (delta_at g cs i s.placed.span.id.0) s.placed) → items ≡ take i (shown_adjusted m ss) ++ drop i ss
@@ -83,7 +83,7 @@ shifted_more m ss items cs g i s v l here known first one inv =
     ∙ ap (λ x. said_after x (shown_after m all (take i all) x.placed)) there ∙ sym (adjusted_at m all [] ss i s l) in
     written ss (shown_adjusted m ss) items i s l many inv v right
 
--- ---- where nothing was said before
+-- ---- if there was no warning before
 fresh_after : (m : ℕ) (all before rest : List Placed) → shown_adjusted_after m all before (map unadjusted rest) ≡ skew_adjusted_after m all before rest
 fresh_after m all before [] = refl
 fresh_after m all before (p ∷ rest) = ap (λ r. shown_after m all before p ∷ r) (fresh_after m all (before ++ p ∷ []) rest)
@@ -91,7 +91,7 @@ fresh_after m all before (p ∷ rest) = ap (λ r. shown_after m all before p ∷
 pub fresh : (m : ℕ) (ps : List Placed) → shown_adjusted m (map unadjusted ps) ≡ skew_adjusted m ps
 fresh m ps = ap (λ all. shown_adjusted_after m all [] (map unadjusted ps)) (same_spans ps) ∙ fresh_after m ps [] ps
 
--- ---- one more span that is lent
+-- ---- one more span that is borrowed
 many_skewed : (m : ℕ) (all before rest : List Placed) → length (skew_adjusted_after m all before rest) ≡ length rest
 many_skewed m all before [] = refl
 many_skewed m all before (p ∷ rest) = ap suc (many_skewed m all (before ++ p ∷ []) rest)

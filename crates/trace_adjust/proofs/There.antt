@@ -1,4 +1,4 @@
--- Spans that are there.
+-- Spans that exist.
 use Rattle.std.proofs.Common.{◌≡◌, ◌<◌, ◌∙◌, ℕ, zero, suc, Bool, List, [], ◌∷◌, length, get_or, map, refl, sym, ap, arith}
 use Rattle.std.specs.Prelude.{Option, Some, None, filter, is_some, option_map}
 use Rattle.std.proofs.lemmas.List.{get_or-map}
@@ -35,7 +35,7 @@ never_none (None ∷ ks) i k there within at none = none_first (spans_there ks) 
 never_none (Some p ∷ ks) zero k there within at none = cc (at, none)
 never_none (Some p ∷ ks) (suc i) k there within at none = never_none ks i k (cc (there)) (omega (arith, within)) at none
 
--- one of them, as it is lent
+-- one of them, as it is borrowed
 pub lent_there : (raw : Bool) (ks : List (Option Placed)) (i : ℕ) (p : Placed) → AreThere ks → i < length ks → Some p ≡ option_map (placed_as raw) (get_or ks i None) → p ≡ get_or (map (placed_as raw) (spans_there ks)) i p
 lent_there raw ks i p there within is =
     let here : Some p ≡ Some (placed_as raw (get_or (spans_there ks) i p)) = is ∙ ap (option_map (placed_as raw)) (there_at ks i None p there within) in

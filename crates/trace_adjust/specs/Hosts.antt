@@ -1,4 +1,4 @@
--- The hosts of the spans of a trace by numbers, and clocks that name them so.
+-- Numbers for the hosts of the spans of a trace, and clocks with these numbers.
 use Rattle.std.specs.Prelude.{◌≡◌, ◌+◌, ◌<◌, ℕ, pos, List, [], ◌∷◌, get_or, slice_get, map, take, not, ◌||◌, ◌==◌, Option, Some, None, option_map, ℤ, if◌then◌else◌}
 use Rattle.jaeger_model.specs.declared.placed.Placed.{Placed}
 use Rattle.jaeger_model.specs.declared.span.Span.{Span}
@@ -8,11 +8,11 @@ use Rattle.trace_model.specs.Adjusting.{host_of, start_at, delta_between}
 use Rattle.trace_adjust.specs.Settling.{place_of, near_in, delta_in, AreRight}
 use Rattle.trace_adjust.specs.declared.clock.HostClock.{HostClock}
 
--- the hosts of the spans, behind the empty one
+-- the hosts of the spans, after the empty one
 abbrev pub hosts_of : List Placed → List (List ℕ)
 hosts_of trace = [] ∷ map host_of trace
 
--- the number of a host: where it stands first
+-- the number of a host: its first place
 abbrev pub number_in : List (List ℕ) → List ℕ → Option ℕ
 number_in hosts host = place_of (same_text host) hosts
 
@@ -20,19 +20,19 @@ number_in hosts host = place_of (same_text host) hosts
 abbrev pub AreNumbers : List (List ℕ) → List Placed → List ℕ → Type 0
 AreNumbers hosts trace ns = map Some ns ≡ map (λ p. number_in hosts (host_of p)) trace
 
--- the numbers by places, one more put under a place, where that is known
+-- the numbers by places, with one more stored for a place, if that is known
 abbrev pub kept_under : Option ℕ → ℕ → (ℕ → Option ℕ) → ℕ → Option ℕ
 kept_under None number old place = old place
 kept_under (Some own) number old place = if own == place then Some number else old place
 
--- the number is that of the host of one of the first spans, whose entry stands at the place
+-- the number is that of the host of one of the first spans, whose entry is at the place
 pub record IsKept (trace : List Placed) (places : List ℕ) (count place number : ℕ) : Type 0 where
   pub index : ℕ
   pub before : index < count
   pub stands : slice_get places index ≡ Some place
   pub host : number_in (hosts_of (take count trace)) (get_or (hosts_of trace) (index + 1) []) ≡ Some number
 
--- each number that is kept under a place is
+-- each number is that of the place for which it is stored
 abbrev pub AreKept : List Placed → List ℕ → ℕ → (ℕ → Option ℕ) → Type 0
 AreKept trace places count kept = (place number : ℕ) → kept place ≡ Some number → IsKept trace places count place number
 
@@ -58,7 +58,7 @@ AreNumbered hosts cs = (k : ℕ) → IsNumbered hosts (get_or cs k None)
 abbrev pub AreSet : ℕ → List Placed → List (Option HostClock) → Type 0
 AreSet max_skew trace cs = AreRight max_skew trace (all_hosted (hosts_of trace) cs) × AreNumbered (hosts_of trace) cs
 
--- ---- what Adjusting and Settling say of clocks, by numbers
+-- ---- the definitions of Adjusting and Settling, by numbers
 abbrev pub clock_by : ℕ → ℕ → ℤ → Span → HostClock
 clock_by max_skew n delta s = record { host = n; delta = delta; start = start_at max_skew delta s; duration = s.duration }
 

@@ -18,19 +18,19 @@ first_at id ps = place_of (λ (p : Placed). p.span.id.0 == id) ps
 abbrev pub place_in : List Placed → Placed → Option ℕ
 place_in trace p = if (parent p.span).0 == 0 then None else first_at (parent p.span).0 trace
 
--- a root's clock, or the one below the clock at a place, where that is known
+-- a root's clock, or the one below the clock at a place, if that is known
 abbrev pub near_in : {C : Type 0} → C → (C → C) → List (Option C) → Option ℕ → Option C
 near_in root below cs None = Some root
 near_in root below cs (Some j) = option_map below (get_or cs j None)
 
--- the clock of a span by that of the span at the place, where that is known
+-- the clock of a span by that of the span at the place, if that is known
 abbrev pub near : ℕ → List (Option Clock) → Placed → Option ℕ → Option Clock
 near max_skew cs p o = near_in (clock_at max_skew (host_of p) (pos 0) p.span) (λ (above : Clock). clock_below max_skew above p) cs o
 
 abbrev pub is_unset : {X : Type 0} → Option X → Bool
 is_unset o = not (is_some o)
 
--- what is known is put at a place where nothing is set
+-- a known value is written to a place that is not set
 abbrev pub written : {X : Type 0} → List (Option X) → ℕ → Option X → List (Option X)
 written cs i o = if is_unset (get_or cs i None) then set cs i o else cs
 
@@ -46,18 +46,18 @@ AreRight max_skew trace cs = (length cs ≡ length trace) × ((k : ℕ) (d : Pla
 abbrev pub IsClosed : ℕ → List Placed → ℕ → List (Option Clock) → Type 0
 IsClosed max_skew trace k cs = (d : Placed) → get_or cs k None ≡ None → near max_skew cs (get_or trace k d) (place_in trace (get_or trace k d)) ≡ None
 
--- the same for each of the first n spans
+-- each of the first n spans has a clock, or none can be set there
 abbrev pub AreClosed : ℕ → List Placed → ℕ → List (Option Clock) → Type 0
 AreClosed max_skew trace n cs = (k : ℕ) → k < n → IsClosed max_skew trace k cs
 
--- each span has its clock, or None where it has none
+-- each span has its clock, or None if it has none
 abbrev pub AreClocks : ℕ → List Placed → List (Option Clock) → Type 0
 AreClocks max_skew trace cs = (length cs ≡ length trace) × ((k : ℕ) (d : Placed) → k < length trace → get_or cs k None ≡ clock_of max_skew trace (get_or trace k d))
 
 abbrev pub unset_count : {X : Type 0} → List (Option X) → ℕ
 unset_count cs = count_by is_unset cs
 
--- the same by a table of first places
+-- the place of the parent by a table of first places
 abbrev pub parent_at : (ℕ → Option ℕ) → Placed → Option ℕ
 parent_at first p = if (parent p.span).0 == 0 then None else first (parent p.span).0
 
@@ -65,7 +65,7 @@ abbrev pub delta_or_none : {C : Type 0} → (C → ℤ) → Option C → ℤ
 delta_or_none delta None = pos 0
 delta_or_none delta (Some c) = delta c
 
--- the delta of a span: its clock's where it is the first of its id
+-- the delta of a span: its clock's if it is the first of its id
 abbrev pub delta_in : {C : Type 0} → (C → ℤ) → (ℕ → Option ℕ) → List (Option C) → ℕ → ℕ → ℤ
 delta_in delta first cs i id = if unwrap_or (first id) i == i then delta_or_none delta (get_or cs i None) else pos 0
 

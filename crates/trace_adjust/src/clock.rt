@@ -7,11 +7,10 @@ ghost use Rattle.trace_adjust.specs.Hosts.{clock_by, below_by};
 use crate::lent_placed::LentPlaced;
 use span_steps::delta_between;
 
-/// The number of the empty host, which is that of a span whose process names none.
+/// The number of the empty host: that of a span whose process names none.
 pub(crate) const NO_HOST: usize = 0;
 
-/// What a span hands down to the spans below it: a [`trace_model::Clock`] with a number in the place
-/// of its host.
+/// What a span passes to the spans below it: a [`trace_model::Clock`] with a number for its host.
 #[derive(Clone, Copy)]
 pub(crate) struct HostClock {
     pub(crate) host: usize,
@@ -31,21 +30,21 @@ fn clock_at(max_skew: u64, host: usize, delta: i128, placed: &LentPlaced) -> Hos
     }
 }
 
-/// The clock of a span whose parent is not in its trace: its own host's, with no delta.
+/// Returns the clock of a span whose parent is not in its trace: its own host's, with no delta.
 pub(crate) fn root_clock(host: usize, placed: &LentPlaced, max_skew: u64) -> HostClock
     ensures { result ≡ clock_by max_skew host (pos 0) placed.now.span }
 {
     clock_at(max_skew, host, 0, placed)
 }
 
-/// The host is none, or another than the one whose clock runs there.
+/// Whether the host is empty, or isn't the host of this clock.
 fn is_elsewhere(above: HostClock, host: usize) -> bool
     ensures { result ≡ ((host == 0) || not (host == above.host)) }
 {
     host == NO_HOST || host != above.host
 }
 
-/// What brings the span into the time of its parent, which has this clock.
+/// Returns the delta that moves the span into the time of its parent, which has this clock.
 fn new_delta(above: HostClock, placed: &LentPlaced) -> i128
     ensures { result ≡ delta_between above.start above.duration
         placed.now.span.start placed.now.span.duration }
@@ -58,8 +57,8 @@ fn new_delta(above: HostClock, placed: &LentPlaced) -> i128
     )
 }
 
-/// The clock of a span whose parent has this one: the parent's where the span is of the same host,
-/// else its own host's, with a delta that brings the span into its parent's time.
+/// Returns the clock of a span whose parent has this one: the parent's if the span is of the same host, else its
+/// own host's, with a delta that moves the span into its parent's time.
 pub(crate) fn clock_below(
     above: HostClock,
     host: usize,

@@ -8,9 +8,9 @@ use crate::clock::{HostClock, clock_below, root_clock};
 use crate::lent_placed::LentPlaced;
 use std::alloc::{AllocError, Global};
 
-/// The places of the spans in an order in which parents stand in front of their children wherever
-/// no cycle forbids it: from each span on up to one that was reached before, and back. The order
-/// decides how soon all clocks are known, and nothing else.
+/// Returns the places of the spans in an order in which parents come before their children, unless a cycle prevents
+/// it: from each span up to one that was reached before, and back. The order only decides how soon all clocks are
+/// known.
 fn downward_order(alloc: Global, parents: &[Option<usize>]) -> Result<Vec<usize>, AllocError> {
     let mut order = Vec::new(alloc);
     let mut path = Vec::new(alloc);
@@ -24,7 +24,7 @@ fn downward_order(alloc: Global, parents: &[Option<usize>]) -> Result<Vec<usize>
     Ok(order)
 }
 
-/// Goes up from a span, and puts each place that was not reached before behind the path.
+/// Climbs from a span to its ancestors, and appends each place that was not reached before to the path.
 fn climb(
     parents: &[Option<usize>],
     start: usize,
@@ -43,7 +43,7 @@ fn climb(
     Ok(())
 }
 
-/// The clock of a span by that of its parent, where that is known.
+/// Returns the clock of a span by that of its parent, if that is known.
 fn clock_near(
     clocks: &[Option<HostClock>],
     host: usize,
@@ -62,9 +62,9 @@ fn clock_near(
     }
 }
 
-/// Sets the clock of the span at the place, where it is not set and its parent's is known. Returns
-/// whether it is set now and was not before.
-fn settle(
+/// Sets the clock of the span at the place, if it is not set and its parent's is known. Returns whether it was set
+/// by this call.
+fn set_clock(
     clocks: &mut Vec<Option<HostClock>>,
     place: usize,
     host: usize,
@@ -86,8 +86,8 @@ fn settle(
     clock.is_some()
 }
 
-/// The same for the span at the place, where there is one.
-fn settle_at(
+/// Like [`set_clock`], for the span at the place, if there is one.
+fn set_clock_at(
     trace: &[LentPlaced],
     parents: &[Option<usize>],
     hosts: &[usize],
@@ -106,7 +106,7 @@ fn settle_at(
     ensures fewer { unset_count clocks.new.items + cond result 1 0 ≡ unset_count clocks.old.items }
 {
     let placed = &trace[place];
-    settle(
+    set_clock(
         clocks,
         place,
         hosts[place],
@@ -116,9 +116,8 @@ fn settle_at(
     )
 }
 
-/// Sets each clock that can be set, from the first span to the last, and returns whether there was
-/// one.
-fn settle_all(
+/// Sets each clock that can be set, from the first span to the last, and returns whether there was one.
+fn set_all_clocks(
     trace: &[LentPlaced],
     parents: &[Option<usize>],
     hosts: &[usize],
@@ -136,14 +135,14 @@ fn settle_all(
 {
     let mut changed = false;
     for place in 0..trace.len() {
-        if settle_at(trace, parents, hosts, clocks, place, max_skew) {
+        if set_clock_at(trace, parents, hosts, clocks, place, max_skew) {
             changed = true;
         }
     }
     changed
 }
 
-/// So many clocks, none of them set.
+/// Returns `count` clocks, none of them set.
 fn no_clocks(alloc: Global, count: usize) -> Result<Vec<Option<HostClock>>, AllocError>
     ensures len { IfOk result (λ v. length v.items ≡ count) }
     ensures none { IfOk result (λ v. (k : ℕ) → get_or v.items k None ≡ None) }
@@ -151,11 +150,10 @@ fn no_clocks(alloc: Global, count: usize) -> Result<Vec<Option<HostClock>>, Allo
     vec![in alloc; None; count]
 }
 
-/// The clock of each span: those that lead to a root have one, those on a cycle and below one have
-/// none.
+/// Returns the clock of each span. Spans that reach a root have one; those on a cycle and below one have none.
 ///
-/// The clocks are set along the order of [`downward_order`], each by its parent's; the pass that
-/// follows finds none that is left to set, which shows that the others have none.
+/// The clocks are set in the order of [`downward_order`], each by its parent's. The pass after that sets none,
+/// which shows that the others have none.
 pub(crate) fn all_clocks(
     alloc: Global,
     trace: &[LentPlaced],
@@ -171,11 +169,11 @@ pub(crate) fn all_clocks(
     let mut clocks = no_clocks(alloc, trace.len())?;
     for place in downward_order(alloc, parents)? {
         if place < trace.len() {
-            settle_at(trace, parents, hosts, &mut clocks, place, max_skew);
+            set_clock_at(trace, parents, hosts, &mut clocks, place, max_skew);
         }
     }
     loop {
-        if !settle_all(trace, parents, hosts, &mut clocks, max_skew) {
+        if !set_all_clocks(trace, parents, hosts, &mut clocks, max_skew) {
             return Ok(clocks);
         }
     }

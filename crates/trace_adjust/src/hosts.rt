@@ -1,4 +1,4 @@
-//! The hosts of the spans of a trace by numbers, so that no clock has a host's text.
+//! Numbers for the hosts of the spans of a trace, so that no clock has a host's text.
 
 ghost use Rattle.std.specs.Prelude.{◌≡◌, ℕ, List, IfOk, OnOk, cond, Some, unwrap_or, option_and_then};
 ghost use Rattle.std.specs.BTreeMap.{get};
@@ -14,7 +14,7 @@ use jaeger_model::Text;
 use std::alloc::{AllocError, Global};
 use std::collections::BTreeMap;
 
-/// The number of a host, which gets the fresh one where it has none.
+/// Returns the number of a host, which gets the fresh one if it has none.
 fn number_of(
     numbers: &mut BTreeMap<Text, usize>,
     host: Text,
@@ -31,14 +31,14 @@ fn number_of(
     Ok(fresh)
 }
 
-/// The number that is kept under the place of a span's entry, if there is one.
+/// Returns the number that is stored for the place of a span's entry, if there is one.
 fn kept_number(kept: &BTreeMap<u64, usize>, place: Option<u64>) -> Option<usize>
     ensures { result ≡ option_and_then (get nat_cmp kept.now) place }
 {
     kept.get(&place?).copied()
 }
 
-/// Keeps the number of a span's host under the place of its entry, where that is known.
+/// Stores the number of a span's host for the place of its entry, if that is known.
 fn keep_number(
     kept: &mut BTreeMap<u64, usize>,
     place: Option<u64>,
@@ -53,9 +53,9 @@ fn keep_number(
     Ok(())
 }
 
-/// The number of the host of each span: one more than the index of the first span that has it, and
-/// that of [`NO_HOST`] where it is empty. A host's text is looked at once for the spans of one entry,
-/// which have one process, and else for each span.
+/// Returns the number of the host of each span: one more than the index of the first span that has it, or
+/// [`NO_HOST`] if it is empty. A host's text is read once for the spans of one entry, which have one process, and
+/// else for each span.
 pub(crate) fn host_numbers(
     alloc: Global,
     trace: &[LentPlaced],

@@ -1,4 +1,4 @@
-//! Traces of an answer as they are shown: spans are lent by the entries that keep them, and none is copied.
+//! Traces of an answer as they are shown: spans are borrowed from their entries, and none is copied.
 
 ghost use Rattle.std.specs.Prelude.{◌≡◌, ℕ, List, pos, false, IfOk, map};
 ghost use Rattle.std.specs.List.{list_all};
@@ -16,7 +16,7 @@ use crate::skew::{TraceClocks, clocks_of};
 use std::alloc::{AllocError, Global};
 use trace_model::{KeptSpan, KeptTrace};
 
-/// The spans that are there, before their clock skew is taken away.
+/// Borrows the spans that exist, before their clock skew is adjusted.
 fn all_lent<'a>(alloc: Global, kept: &'a [KeptSpan]) -> Result<Vec<LentPlaced<'a>>, AllocError>
     ensures { IfOk result (λ v. v.items ≡ map with_parent_first (spans_there kept.now)) }
 {
@@ -29,7 +29,7 @@ fn all_lent<'a>(alloc: Global, kept: &'a [KeptSpan]) -> Result<Vec<LentPlaced<'a
     Ok(lent)
 }
 
-/// The delta of each span's clock, 0 where it has none.
+/// Returns the delta of each span's clock, 0 if it has none.
 fn all_deltas(
     alloc: Global,
     trace: &[LentPlaced],
@@ -46,14 +46,14 @@ fn all_deltas(
     Ok(deltas)
 }
 
-/// No span moves.
+/// Whether no span moves.
 fn are_zero(deltas: &[i128]) -> bool
     ensures { result ≡ list_all (λ d. int_eq d (pos 0)) deltas.now }
 {
     deltas.iter().all(|delta| *delta == 0)
 }
 
-/// These deltas, or none where each is 0.
+/// Returns these deltas, or none if each is 0.
 fn needed(alloc: Global, deltas: Vec<i128>) -> Vec<i128>
     ensures { (max_skew : ℕ) (ps : List PlacedValue) →
         shifted_all max_skew result.items ps ≡ shifted_all max_skew deltas.items ps }
@@ -64,7 +64,7 @@ fn needed(alloc: Global, deltas: Vec<i128>) -> Vec<i128>
     deltas
 }
 
-/// The deltas of the spans of a trace, which are lent so; none where no span moves.
+/// Returns the deltas of these spans of a trace, or none if no span moves.
 fn deltas_of(alloc: Global, trace: &KeptTrace, lent: &[LentPlaced]) -> Result<Vec<i128>, AllocError>
     requires shares { KeptShares trace.now }
     requires lent { lent.now ≡ map with_parent_first (spans_there trace.now.spans.items) }
@@ -75,7 +75,7 @@ fn deltas_of(alloc: Global, trace: &KeptTrace, lent: &[LentPlaced]) -> Result<Ve
     Ok(needed(alloc, all_deltas(alloc, lent, &clocks)?))
 }
 
-/// The deltas of the spans of a trace as it is to be shown.
+/// Returns the deltas of the spans of a trace as it is to be shown.
 fn shown_deltas(alloc: Global, trace: &KeptTrace) -> Result<Vec<i128>, AllocError>
     requires { KeptShares trace.now }
     ensures { IfOk result (λ v. shown_by_deltas trace.now v.items ≡ kept_value trace.now) }
@@ -87,7 +87,7 @@ fn shown_deltas(alloc: Global, trace: &KeptTrace) -> Result<Vec<i128>, AllocErro
     deltas_of(alloc, trace, &lent)
 }
 
-/// Drops the spans that their entries lack, which takes no memory.
+/// Drops the spans that their entries lack. Allocates nothing.
 fn without_missing(trace: KeptTrace) -> KeptTrace
     ensures there { AreThere result.spans.items }
     ensures spans { spans_there result.spans.items ≡ spans_there trace.spans.items }
@@ -105,8 +105,8 @@ fn without_missing(trace: KeptTrace) -> KeptTrace
     }
 }
 
-/// The spans of a trace as they are shown, each lent by the entry that keeps it, and the places of the entries that
-/// brought the first spans: spans with one place have one process.
+/// Returns the spans of a trace as they are shown, each borrowed from its entry, and the places of the entries that
+/// brought the first spans. Spans with one place have one process.
 ///
 /// # Errors
 ///

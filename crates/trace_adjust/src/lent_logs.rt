@@ -1,4 +1,4 @@
-//! The logs of a lent span as they are shown.
+//! The logs of a borrowed span as they are shown.
 
 ghost use Rattle.std.specs.Prelude.{◌≡◌, ◌==◌, ◌<◌, ◌+ℤ◌, length, slice_get, IsTrue, Some};
 ghost use Rattle.trace_model.specs.Adjusting.{fits, move_log};
@@ -8,7 +8,7 @@ use jaeger_model::{Log, Tag};
 use span_steps::moved_by;
 use std::marker::Model;
 
-/// A log of a lent span as it is shown.
+/// A log of a borrowed span as it is shown.
 #[derive(Clone, Copy)]
 pub struct LentLog<'a> {
     /// Microseconds since 1970.
@@ -16,7 +16,7 @@ pub struct LentLog<'a> {
     pub fields: &'a [Tag],
 }
 
-/// The logs of a lent span. Contracts see them as they are shown.
+/// The logs of a borrowed span. Contracts see them as they are shown.
 #[derive(Drop)]
 pub struct LentLogs<'a> {
     logs: &'a [Log],
@@ -35,7 +35,7 @@ impl<'a> Model for LentLogs<'a> {
     ghost invariant = { λ l. LogsCanMove l.delta l.logs.now };
 }
 
-/// The log as it is kept.
+/// Returns the log unchanged.
 fn unmoved(log: &Log) -> LentLog
     ensures { lent_log result ≡ log.now }
 {
@@ -45,7 +45,7 @@ fn unmoved(log: &Log) -> LentLog
     }
 }
 
-/// The log so much later.
+/// Returns the log moved by the delta.
 fn moved(log: &Log, delta: i128) -> LentLog
     requires { IsTrue (fits (log.now.at +ℤ delta)) }
     ensures { lent_log result ≡ move_log delta log.now }
@@ -56,7 +56,7 @@ fn moved(log: &Log, delta: i128) -> LentLog
     }
 }
 
-/// The log at the index, moved where there is a delta.
+/// Returns the log at the index, moved if there is a delta.
 fn log_at(logs: &[Log], delta: Option<i128>, index: usize) -> LentLog
     requires can_move { LogsCanMove delta logs.now }
     requires within { index < length logs.now }
@@ -70,7 +70,7 @@ fn log_at(logs: &[Log], delta: Option<i128>, index: usize) -> LentLog
 }
 
 impl<'a> LentLogs<'a> {
-    /// The logs, moved where there is a delta.
+    /// Borrows the logs, to be moved if there is a delta.
     pub(crate) fn new(logs: &'a [Log], delta: Option<i128>) -> LentLogs<'a>
         requires { LogsCanMove delta logs.now }
         ensures { result ≡ logs_by delta logs.now }
@@ -78,7 +78,7 @@ impl<'a> LentLogs<'a> {
         LentLogs { logs, delta }
     }
 
-    /// The number of logs.
+    /// Returns the number of logs.
     pub fn len(&self) -> usize
         ensures { result ≡ length self.now }
     {
@@ -92,7 +92,7 @@ impl<'a> LentLogs<'a> {
         self.len() == 0
     }
 
-    /// The log at the index.
+    /// Returns the log at the index.
     pub fn log(&self, index: usize) -> LentLog<'a>
         requires { index < length self.now }
         ensures { slice_get self.now index ≡ Some (lent_log result) }

@@ -1,4 +1,4 @@
-//! A span with its process, lent by what keeps both.
+//! A span with its process, borrowed from what keeps both.
 
 ghost use Rattle.std.specs.Prelude.{◌≡◌, ◌+◌, ◌<◌, ◌∷◌, length, slice_get, Some, IfOk, swap};
 ghost use Rattle.jaeger_model.specs.Parents.{parent, parent_reference, with_parent};
@@ -15,19 +15,19 @@ use span_steps::{Warning, host_named, parent_place, start_at};
 use std::alloc::{AllocError, Global};
 use std::marker::Model;
 
-/// Where the reference to a span's parent stands among those that are shown.
+/// Where the reference to a span's parent is among those that are shown.
 #[derive(Clone, Copy)]
 pub(crate) enum ParentReference {
-    /// The references are those that are kept.
+    /// The stored references, unchanged.
     AsKept,
-    /// One is made of the parent's id, in front of those that are kept.
+    /// A reference that is made of the parent's id, before the stored ones.
     Made,
-    /// The kept one at this place has changed places with the first.
-    InFront(usize),
+    /// The stored reference at this place is swapped with the first.
+    MovedFirst(usize),
 }
 
-/// A span with its process where they are kept, and the reference to its parent where it is to stand. Contracts
-/// see the span so.
+/// A borrowed span with its process, and where its reference to its parent is shown. Contracts see the span with
+/// the reference there.
 #[derive(Drop)]
 pub(crate) struct LentPlaced<'a> {
     process: &'a Process,
@@ -46,7 +46,7 @@ impl<'a> Model for LentPlaced<'a> {
     ghost invariant = { λ l. IsReferred l.parent l.span.now };
 }
 
-/// The reference to its parent among the span's, as a store keeps it.
+/// The reference to its parent is among the span's references, as a store keeps it.
 fn among(span: &Span) -> ParentReference
     ensures span { referred result span.now ≡ with_parent span.now }
     ensures kept { IsReferred result span.now }
@@ -58,8 +58,8 @@ fn among(span: &Span) -> ParentReference
     }
 }
 
-/// The same in front of the others.
-fn in_front(span: &Span) -> ParentReference
+/// The reference to its parent is the first one.
+fn parent_moved_first(span: &Span) -> ParentReference
     ensures span { referred result span.now ≡ parent_first (with_parent span.now) }
     ensures kept { IsReferred result span.now }
 {
@@ -67,12 +67,12 @@ fn in_front(span: &Span) -> ParentReference
         return ParentReference::Made;
     }
     match parent_place(span.references.as_slice(), span.trace) {
-        Some(place) => ParentReference::InFront(place),
+        Some(place) => ParentReference::MovedFirst(place),
         None => ParentReference::AsKept,
     }
 }
 
-/// The reference at an index, once the one at the place has changed places with the first.
+/// Returns the reference at an index, after the one at the place was swapped with the first.
 fn swapped(references: &[SpanRef], place: usize, index: usize) -> SpanRef
     requires place { place < length references.now }
     requires index { index < length references.now }
@@ -87,7 +87,7 @@ fn swapped(references: &[SpanRef], place: usize, index: usize) -> SpanRef
     }
 }
 
-/// The reference at an index, one that is made in front of the others.
+/// Returns the reference at an index, after one was made before the others.
 fn with_made(span: &Span, index: usize) -> SpanRef
     requires { index < length span.now.references + 1 }
     ensures { slice_get (parent_reference span.now ∷ span.now.references) index ≡ Some result }
@@ -99,8 +99,8 @@ fn with_made(span: &Span, index: usize) -> SpanRef
 }
 
 impl<'a> LentPlaced<'a> {
-    /// The span as it is.
-    pub(crate) fn as_it_is(placed: &'a Placed) -> LentPlaced<'a>
+    /// Borrows the span unchanged.
+    pub(crate) fn unchanged(placed: &'a Placed) -> LentPlaced<'a>
         ensures { result ≡ placed.now }
     {
         LentPlaced {
@@ -110,7 +110,7 @@ impl<'a> LentPlaced<'a> {
         }
     }
 
-    /// A span that was reported so, its parent among its references.
+    /// Borrows a span that was reported, with its parent among its references.
     pub(crate) fn with_parent(reported: Seen<'a>) -> LentPlaced<'a>
         ensures { result ≡ placed_by_its_entry reported.entry }
     {
@@ -121,14 +121,14 @@ impl<'a> LentPlaced<'a> {
         }
     }
 
-    /// A span that was reported so, the reference to its parent in front of its others.
+    /// Borrows a span that was reported, with the reference to its parent before the others.
     pub(crate) fn with_parent_first(reported: Seen<'a>) -> LentPlaced<'a>
         ensures { result ≡ with_parent_first (placed_by_its_entry reported.entry) }
     {
         LentPlaced {
             process: reported.process,
             span: reported.span,
-            parent: in_front(reported.span),
+            parent: parent_moved_first(reported.span),
         }
     }
 
@@ -144,7 +144,7 @@ impl<'a> LentPlaced<'a> {
         parent_of(self.span)
     }
 
-    /// Where it is kept.
+    /// Returns the stored span.
     pub(crate) fn kept(&self) -> &'a Span
         ensures { IsLent result.now self.now.span }
     {
@@ -169,7 +169,7 @@ impl<'a> LentPlaced<'a> {
         let kept = self.span.references.as_slice().len();
         match self.parent {
             ParentReference::Made => kept + 1,
-            ParentReference::AsKept | ParentReference::InFront(_) => kept,
+            ParentReference::AsKept | ParentReference::MovedFirst(_) => kept,
         }
     }
 
@@ -181,11 +181,11 @@ impl<'a> LentPlaced<'a> {
         match self.parent {
             ParentReference::AsKept => kept[index],
             ParentReference::Made => with_made(self.span, index),
-            ParentReference::InFront(place) => swapped(kept, place, index),
+            ParentReference::MovedFirst(place) => swapped(kept, place, index),
         }
     }
 
-    /// What is said of it where the delta of its clock is to move it.
+    /// Returns its warning, by the delta of its clock.
     pub(crate) fn warning(&self, max_skew: u64, delta: i128) -> Option<Warning>
         ensures warning { result ≡ warning_of max_skew delta self.now.span }
         ensures can_move { CanMove result self.now.span }
@@ -193,28 +193,28 @@ impl<'a> LentPlaced<'a> {
         Warning::of_delta(max_skew, delta, self.span)
     }
 
-    /// Microseconds since 1970.
+    /// Returns the start in microseconds since 1970.
     pub(crate) fn start(&self) -> i64
         ensures { result ≡ self.now.span.start }
     {
         self.span.start
     }
 
-    /// Microseconds.
+    /// Returns the duration in microseconds.
     pub(crate) fn duration(&self) -> i64
         ensures { result ≡ self.now.span.duration }
     {
         self.span.duration
     }
 
-    /// The start as it is shown, moved by the delta of the span's clock where that can be.
+    /// Returns the shown start: moved by the delta of the span's clock, if that can be.
     pub(crate) fn start_at(&self, max_skew: u64, delta: i128) -> i64
         ensures { result ≡ start_at max_skew delta self.now.span }
     {
         start_at(max_skew, delta, self.span)
     }
 
-    /// Its host, or an empty text.
+    /// Returns its host, or an empty text.
     pub(crate) fn host(&self, alloc: Global) -> Result<Text, AllocError>
         ensures { IfOk result (λ t. t ≡ host_of self.now) }
     {

@@ -1,4 +1,4 @@
-//! A span of an answer, lent by the entry that keeps it.
+//! A span of an answer, borrowed from its entry.
 
 ghost use Rattle.std.specs.Prelude.{◌≡◌, ◌<◌, length, slice_get, Some};
 ghost use Rattle.trace_model.specs.Adjusting.{shifted};
@@ -11,8 +11,8 @@ use jaeger_model::{Process, Span, SpanRef};
 use span_steps::{Warning, moved_by};
 use std::marker::Model;
 
-/// A span of an answer where its entry keeps it, with what is shown otherwise than it is kept. Contracts see the
-/// span as it is shown.
+/// A span of an answer, borrowed from its entry, with what is shown differently. Contracts see the span as it is
+/// shown.
 #[derive(Drop)]
 pub struct LentSpan<'a> {
     placed: LentPlaced<'a>,
@@ -31,7 +31,7 @@ impl<'a> Model for LentSpan<'a> {
 }
 
 impl<'a> LentSpan<'a> {
-    /// The span moved by the delta of its host, or left with a warning; as it came where the delta is 0.
+    /// The span moved by the delta of its host's clock, or left with a warning; unchanged if the delta is 0.
     pub(crate) fn shifted(placed: LentPlaced<'a>, delta: i128, max_skew: u64) -> LentSpan<'a>
         ensures { result ≡ shifted max_skew delta placed.entry }
     {
@@ -39,21 +39,21 @@ impl<'a> LentSpan<'a> {
         LentSpan { placed, warning }
     }
 
-    /// The span where it is kept, with its own references and times.
+    /// Returns the stored span, with its own references and times.
     pub fn span(&self) -> &'a Span
         ensures { IsLent result.now self.now.placed.span }
     {
         self.placed.kept()
     }
 
-    /// The process that reported it.
+    /// Returns the process that reported it.
     pub fn process(&self) -> &'a Process
         ensures { result.now ≡ self.now.placed.process }
     {
         self.placed.process()
     }
 
-    /// The start as it is shown, in microseconds since 1970.
+    /// Returns the shown start, in microseconds since 1970.
     pub fn start(&self) -> i64
         ensures { result ≡ self.now.placed.span.start }
     {
@@ -64,7 +64,7 @@ impl<'a> LentSpan<'a> {
         }
     }
 
-    /// The logs as they are shown.
+    /// Returns the shown logs.
     pub fn logs(&self) -> LentLogs<'a>
         ensures { result ≡ self.now.placed.span.logs }
     {
@@ -77,14 +77,14 @@ impl<'a> LentSpan<'a> {
         }
     }
 
-    /// The number of its references as they are shown.
+    /// Returns the number of its shown references.
     pub fn reference_count(&self) -> usize
         ensures { result ≡ length self.now.placed.span.references }
     {
         self.placed.reference_count()
     }
 
-    /// The reference at the index, as they are shown.
+    /// Returns the shown reference at the index.
     pub fn reference(&self, index: usize) -> SpanRef
         requires { index < length self.now.placed.span.references }
         ensures { slice_get self.now.placed.span.references index ≡ Some result }
@@ -92,7 +92,7 @@ impl<'a> LentSpan<'a> {
         self.placed.reference(index)
     }
 
-    /// What is said of it.
+    /// Returns its warning, if it has one.
     pub fn warning(&self) -> Option<Warning>
         ensures { self.now.warnings ≡ warning_texts result }
     {

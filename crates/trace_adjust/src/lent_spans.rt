@@ -1,4 +1,4 @@
-//! The spans of a trace of an answer as they are shown, lent one by one by the entries that keep them.
+//! The spans of a trace of an answer as they are shown, borrowed one by one from their entries.
 
 ghost use Rattle.std.specs.Prelude.{◌≡◌, ◌<◌, pos, get_or, length, slice_get, Some, None, option_map};
 ghost use Rattle.trace_model.specs.Seeing.{placed_by_its_entry};
@@ -10,14 +10,14 @@ use jaeger_model::Seen;
 use std::marker::Model;
 use trace_model::KeptSpan;
 
-/// The spans of a trace, lent by the entries that keep them. Of each span it holds where it is and the delta of its
-/// clock; all else is found when the span is looked at. Contracts see the spans as they are shown.
+/// The spans of a trace, borrowed from their entries. Of each span it holds its entry, its index and the delta of
+/// its clock; all else is computed when the span is read. Contracts see the spans as they are shown.
 #[derive(Drop)]
 pub struct LentSpans {
     pub(crate) spans: Vec<KeptSpan>,
-    /// Whether the spans are shown as they came, and not adjusted.
+    /// Whether the spans are shown as reported, without adjustment.
     pub(crate) raw: bool,
-    /// The most clock skew that is taken away, in microseconds.
+    /// The greatest clock skew that is adjusted, in microseconds.
     pub(crate) max_skew: u64,
     /// The deltas of the spans, in microseconds; 0 for the spans after the last delta.
     pub(crate) deltas: Vec<i128>,
@@ -35,7 +35,7 @@ impl Model for LentSpans {
     ghost invariant = { λ l. AreThere l.spans.items };
 }
 
-/// A span that was reported so: as a store keeps it where `raw` is asked, else the reference to its parent in front.
+/// Borrows a reported span: as a store keeps it if `raw` is set, else with the reference to its parent first.
 fn lent_as<'a>(raw: bool, reported: Seen<'a>) -> LentPlaced<'a>
     ensures { result ≡ placed_as raw (placed_by_its_entry reported.entry) }
 {
@@ -46,14 +46,14 @@ fn lent_as<'a>(raw: bool, reported: Seen<'a>) -> LentPlaced<'a>
     }
 }
 
-/// The delta of the span at the index.
+/// Returns the delta of the span at the index.
 fn delta_at(deltas: &[i128], index: usize) -> i128
     ensures { result ≡ get_or deltas.now index (pos 0) }
 {
     deltas.get(index).copied().unwrap_or(0)
 }
 
-/// The span at the index, as it is lent.
+/// Borrows the span at the index.
 fn lent_at<'a>(raw: bool, spans: &'a [KeptSpan], index: usize) -> LentPlaced<'a>
     requires there { AreThere spans.now }
     requires index { index < length spans.now }
@@ -66,14 +66,14 @@ fn lent_at<'a>(raw: bool, spans: &'a [KeptSpan], index: usize) -> LentPlaced<'a>
 }
 
 impl LentSpans {
-    /// The number of the spans.
+    /// Returns the number of spans.
     pub fn len(&self) -> usize
         ensures { result ≡ length self.now }
     {
         self.spans.len()
     }
 
-    /// The span at the index. Takes no memory.
+    /// Returns the span at the index. Allocates nothing.
     pub fn at(&self, index: usize) -> LentSpan<'_>
         requires { index < length self.now }
         ensures { slice_get self.now index ≡ Some result }

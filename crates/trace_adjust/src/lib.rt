@@ -1,18 +1,18 @@
-//! A trace as it is shown, made from the one that is kept: in each span the reference to its parent
-//! in front, and its times moved into those of its root's host. The answers are those of
-//! `plain_store::adjusted_trace`, in time linear in the spans up to a logarithm and without
-//! recursion, however deep the trace is.
+//! A trace as it is shown, made from the stored one: in each span the reference to its parent is the first one,
+//! and its times are moved into those of its root's host. The answers are those of
+//! `plain_store::adjusted_trace`, in time linear in the spans up to a logarithm and without recursion, however
+//! deep the trace is.
 //!
-//! * `lent_placed`: a span with its process, lent by what keeps both.
+//! * `lent_placed`: a span with its process, borrowed from what keeps both.
 //! * `parents`: the places of parents in a trace.
-//! * `hosts`: the hosts of a trace by numbers.
+//! * `hosts`: numbers for the hosts of a trace.
 //! * `clock`: the clock of one span.
 //! * `clocks`: the clock of each span.
 //! * `skew`: the spans moved by their clocks.
 //! * `showing`: traces of an answer, whose spans are copied from their entries.
-//! * `lent_span`, `lent_logs`: a span of an answer where its entry keeps it, with what is shown otherwise.
-//! * `lent_spans`: the spans of a trace of an answer, lent one by one.
-//! * `lending`: what is held for that: the trace as it is kept, and the deltas of its clocks.
+//! * `lent_span`, `lent_logs`: a span of an answer, borrowed from its entry, with what is shown differently.
+//! * `lent_spans`: the spans of a trace of an answer, borrowed one by one.
+//! * `lending`: the stored trace and the deltas of its clocks, from which the spans are borrowed.
 #![tactic(auto)]
 
 mod clock;

@@ -1,4 +1,4 @@
-//! Where the parents of spans stand.
+//! The places of the parents of spans.
 
 ghost use Rattle.std.specs.Prelude.{◌≡◌, ℕ, IfOk, map};
 ghost use Rattle.std.specs.Ordering.{nat_cmp};
@@ -9,7 +9,7 @@ use crate::lent_placed::LentPlaced;
 use std::alloc::{AllocError, Global};
 use std::collections::BTreeMap;
 
-/// The place of the first span with each id.
+/// Returns the place of the first span with each id.
 pub(crate) fn first_places(
     alloc: Global,
     trace: &[LentPlaced],
@@ -26,7 +26,7 @@ pub(crate) fn first_places(
     Ok(first)
 }
 
-/// The place of a span's parent.
+/// Returns the place of a span's parent.
 fn place_of_parent(first: &BTreeMap<u64, usize>, placed: &LentPlaced) -> Option<usize>
     ensures { result ≡ parent_at (λ id. get nat_cmp first.now id) placed.now }
 {
@@ -37,7 +37,7 @@ fn place_of_parent(first: &BTreeMap<u64, usize>, placed: &LentPlaced) -> Option<
     first.get(&parent.0).copied()
 }
 
-/// The places of the parents of the spans.
+/// Returns the places of the parents of the spans.
 pub(crate) fn parent_places(
     alloc: Global,
     trace: &[LentPlaced],

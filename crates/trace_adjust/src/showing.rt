@@ -1,4 +1,4 @@
-//! Traces of an answer as they are shown: spans that their entries keep are copied.
+//! Traces of an answer as they are shown: spans are copied from their entries.
 
 ghost use Rattle.std.specs.Prelude.{◌≡◌, IfOk};
 ghost use Rattle.trace_model.specs.Adjusting.{shown_as};
@@ -11,7 +11,7 @@ use span_steps::all_unadjusted;
 use std::alloc::{AllocError, Global};
 use trace_model::{AnsweredTrace, KeptSpan, KeptTrace, Limits, ShownTrace, TraceForm};
 
-/// The spans that are there, copied.
+/// Copies the spans that exist.
 fn copied(alloc: Global, kept: &[KeptSpan]) -> Result<Vec<Placed>, AllocError>
     ensures { IfOk result (λ v. v.items ≡ spans_there kept.now) }
 {
@@ -24,8 +24,8 @@ fn copied(alloc: Global, kept: &[KeptSpan]) -> Result<Vec<Placed>, AllocError>
     Ok(spans)
 }
 
-/// The spans of a trace, which the entries at these places brought, as they are shown: as they arrived
-/// where `raw` is asked, else adjusted.
+/// Returns the spans of a trace as they are shown: as reported if `raw` is set, else adjusted. `places` are those
+/// of the entries that brought them.
 fn shown_as(
     alloc: Global,
     spans: Vec<Placed>,
@@ -44,7 +44,7 @@ fn shown_as(
     Ok(ShownTrace::new(Seq::from_vec(shown), places))
 }
 
-/// A trace whose spans their entries keep, as it is shown. Its spans are copied, and their processes shared.
+/// Returns a trace as it is shown. Its spans are copied from their entries, and their processes are shared.
 ///
 /// # Errors
 ///
@@ -58,7 +58,7 @@ pub fn show(alloc: Global, trace: &KeptTrace) -> Result<ShownTrace, AllocError>
     shown_as(alloc, spans, places, trace.limits, trace.raw)
 }
 
-/// A trace of an answer as it is shown.
+/// Returns a trace of an answer as it is shown.
 ///
 /// # Errors
 ///

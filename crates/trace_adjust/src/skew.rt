@@ -27,7 +27,7 @@ pub(crate) struct TraceClocks {
     clocks: Vec<Option<HostClock>>,
 }
 
-/// The clocks of a trace's spans, which the entries at these places brought.
+/// Returns the clocks of a trace's spans, which the entries at these places brought.
 pub(crate) fn clocks_of(
     alloc: Global,
     trace: &[LentPlaced],
@@ -44,22 +44,19 @@ pub(crate) fn clocks_of(
     Ok(TraceClocks { first, clocks })
 }
 
-/// The spans, lent as they are.
+/// Borrows the spans unchanged.
 #[tactic(auto, using(std::proofs::lemmas::List::map_more))]
-fn lent_as_they_are<'a>(
-    alloc: Global,
-    trace: &'a [Shown],
-) -> Result<Vec<LentPlaced<'a>>, AllocError>
+fn all_unchanged<'a>(alloc: Global, trace: &'a [Shown]) -> Result<Vec<LentPlaced<'a>>, AllocError>
     ensures { IfOk result (λ v. v.items ≡ spans_of trace.now) }
 {
     let mut lent = Vec::with_capacity(alloc, trace.len())?;
     for shown in trace {
-        lent.push(LentPlaced::as_it_is(&shown.placed))?;
+        lent.push(LentPlaced::unchanged(&shown.placed))?;
     }
     Ok(lent)
 }
 
-/// The clocks of spans that are made.
+/// Returns the clocks of spans that are copied.
 fn clocks_of_shown(
     alloc: Global,
     trace: &[Shown],
@@ -69,12 +66,11 @@ fn clocks_of_shown(
     requires { ShareProcesses (spans_of trace.now) places.now }
     ensures { IfOk result (λ s. AreTraceClocks max_skew (spans_of trace.now) s) }
 {
-    let lent = lent_as_they_are(alloc, trace)?;
+    let lent = all_unchanged(alloc, trace)?;
     clocks_of(alloc, &lent, places, max_skew)
 }
 
-/// The delta of the span at the place: 0 where it has no clock, or where a span in front of it has
-/// its id.
+/// Returns the delta of the span at the place: 0 if it has no clock, or if a span before it has its id.
 fn delta_at(
     first: &BTreeMap<u64, usize>,
     clocks: &[Option<HostClock>],
@@ -93,7 +89,7 @@ fn delta_at(
 }
 
 impl TraceClocks {
-    /// The delta of the span at the place, which has this id.
+    /// Returns the delta of the span at the place, which has this id.
     pub(crate) fn delta_at(&self, place: usize, id: SpanId) -> i128
         ensures { result ≡ delta_by (λ id. get nat_cmp self.now.first id)
             self.now.clocks.items place id.0 }
@@ -121,18 +117,16 @@ fn shift_all(
     Ok(())
 }
 
-/// Takes the clock skew of a trace away: the times of each span move into those of its root's
-/// host, and a warning behind those that the span has says by how much, or why not. A span on a
-/// cycle of parents or below one stays as it is, and so does each later one of several spans with
-/// one id.
+/// Adjusts the clock skew of a trace: the times of each span move into those of its root's host, and a warning is
+/// appended that says by how much, or why not. A span on a cycle of parents or below one stays unchanged, and so
+/// does each later one of several spans with one id.
 ///
-/// `places` are those of the entries that brought the spans, as far as they are known: the process
-/// of spans that have one place is looked at once. `max_skew` is the largest
-/// difference of clocks, in microseconds, that is taken away.
+/// `places` are those of the entries that brought the spans, as far as they are known: the process of spans that
+/// have one place is read once. `max_skew` is the largest difference of clocks, in microseconds, that is adjusted.
 ///
 /// # Errors
 ///
-/// Running out of memory alone; some of the first spans are then adjusted, and the others as they were.
+/// Running out of memory alone; some of the first spans are then adjusted, and the others unchanged.
 pub fn adjust_skew(
     alloc: Global,
     trace: &mut [Shown],
@@ -147,7 +141,7 @@ pub fn adjust_skew(
     shift_all(alloc, trace, &clocks, max_skew)
 }
 
-/// The spans in their order, in each the reference to its parent in front.
+/// Moves the reference to the parent to the front in each of the spans.
 #[tactic(auto, using(std::proofs::lemmas::List::map_push))]
 fn with_parents_first(alloc: Global, trace: Vec<Placed>) -> Result<Vec<Shown>, AllocError>
     ensures { IfOk result (λ v. v.items ≡ map unadjusted (map with_parent_first trace.items)) }
@@ -159,8 +153,8 @@ fn with_parents_first(alloc: Global, trace: Vec<Placed>) -> Result<Vec<Shown>, A
     Ok(shown)
 }
 
-/// The trace as it is shown: in each span the reference to its parent, which is made of its parent
-/// id where none is there yet, in front, and its clock skew taken away as by [`adjust_skew`].
+/// Returns the trace as it is shown: in each span the reference to its parent is the first one, made of its parent
+/// id if it is missing, and its clock skew is adjusted by [`adjust_skew`].
 ///
 /// `places` and `max_skew` are those of [`adjust_skew`].
 ///

@@ -49,7 +49,7 @@ spots_of_event : (t : TraceId) (ls : List (Spot × Placed)) (e : Event (Spot × 
 spots_of_event t ls (came l) = spots_of_own t ls l
 spots_of_event t ls (limited m) = ap (λ k. spots_in (own_of t k)) (append-nil ls)
 
--- after an event a trace that stands in the ring keeps its spots and gains that of its own new span, and any other one has none
+-- after an event a trace in the ring keeps its spots and gains that of its own new span, and any other one has none
 pub shown_spots_push_law : (n : ℕ) (es : List (Event (Spot × Placed))) (e : Event (Spot × Placed)) (t : TraceId)
     → shown_spots n (es ++ e ∷ []) t ≡ (if holds (ring n (events_in (es ++ e ∷ []))) t then with_event e (shown_spots n es) t else [])
 shown_spots_push_law n es e t =
@@ -92,7 +92,7 @@ spans_at_shown_law n h t =
 pub shown_spots-gone : (n : ℕ) (es : List (Event (Spot × Placed))) (t : TraceId) → holds (ring n (events_in es)) t ≡ false → shown_spots n es t ≡ []
 shown_spots-gone n es t gone = ap spots_in (map_nil span_of (own_of t (shown_in n es)) (spans-own n es t ∙ spans_gone n (events_in es) t gone))
 
--- ---- spots added and hidden as the ring says are those of the shown spans
+-- ---- spots that are added and removed as the ring says are those of the shown spans
 before_too : (r : List TraceId) (t u : TraceId) → holds (opened_by r t) u ≡ false → holds r u ≡ false
 before_too r t u e = elim (holds r t) as (λ b. holds (if b then r else r ++ t ∷ []) u ≡ false → holds r u ≡ false) [
   | true ↦ λ e. e
@@ -132,7 +132,8 @@ comes_in_law n limit es l left old new spots comes same t =
     ∙ ap (λ r. if holds r t then with_spot (trace_of l.1) l.0 (shown_spots n es) t else []) now
     ∙ sym (shown_spots_push_law n es (came l) t)
 
--- where the spots of each trace are those of its shown spans, hiding the traces that leave at a limit keeps them so
+-- if the spots of each trace are those of its shown spans, they still are after the spots of the traces that leave
+-- at a limit are removed
 pub lowers_law : (n m : ℕ) (es : List (Event (Spot × Placed))) (old new : List TraceId) (spots : TraceId → List Spot)
     → Lowers n m es old new → AreShown n es spots → AreShown n (es ++ limited m ∷ []) (without_left old new spots)
 lowers_law n m es old new spots lowers same t =

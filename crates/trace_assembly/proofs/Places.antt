@@ -1,4 +1,4 @@
--- Where the spans of a history lie.
+-- Where the spans of a history are.
 use Rattle.std.proofs.Common.{◌≡◌, ℕ, suc, ◌+◌, List, [], ◌∷◌, ◌++◌, length, map, refl, sym, ap, subst, ◌∙◌, arith, append_assoc, length-append, Some, ◌<◌, take, get_or}
 use Rattle.std.specs.List.{AllByRecursion}
 use Rattle.std.specs.Prelude.{slice_get}
@@ -17,7 +17,7 @@ use Rattle.trace_model.proofs.Arriving.{came_of}
 use Rattle.trace_model.proofs.Lists.{each_append}
 use Rattle.trace_model.specs.Histories.{arrivals, events}
 use Rattle.trace_model.specs.Works.{events_brought, placed_brought}
-use Rattle.trace_model.specs.Showing.{stands}
+use Rattle.trace_model.specs.Showing.{is_in_ring}
 use Rattle.trace_assembly.specs.declared.spot.Spot.{Spot}
 use Rattle.trace_assembly.specs.Located.{located_in, located_by, located_from, located_events, span_at, spans_in, spots_in, events_in, located_trace, shown_in, own_of, located_upto}
 use Rattle.trace_assembly.proofs.Lists.{OfCame, each_came, each_filter, each_lasting, each_without_limits, slice_get_middle}
@@ -87,11 +87,11 @@ located_from-lies before (e ∷ es) =
     each_append (OfCame (LiesIn (before ++ e ∷ es))) (located_by (suc (length before)) e.work) (located_from (suc (suc (length before))) es)
     (located_by-lies (before ++ e ∷ es) e (length before) e.work refl (slice_get_middle before e es)) later
 
--- each span of a history lies at its spot
+-- each span of a history is at its spot
 pub located-lies : (h : List Entry) → AllByRecursion (OfCame (LiesIn h)) (located_events h)
 located-lies h = located_from-lies [] h
 
--- what lies at its spot is found there
+-- what is at its spot is found there
 pub at_spots : (h : List Entry) (ls : List (Spot × Placed)) → AllByRecursion (LiesIn h) ls → map (span_at h) (spots_in ls) ≡ map (λ p. Some p) (spans_in ls)
 at_spots h [] lies = refl
 at_spots h (l ∷ ls) lies = λ i. lies.0 i ∷ at_spots h ls lies.1 i
@@ -101,7 +101,7 @@ spans_of_events [] = refl
 spans_of_events (came l ∷ es) = ap (λ ps. l.1 ∷ ps) (spans_of_events es)
 spans_of_events (limited m ∷ es) = spans_of_events es
 
--- what the spots of a history name are its arrivals
+-- the spans at the spots of a history are its arrivals
 pub spans_at_located_law : (h : List Entry) → map (span_at h) (spots_in (without_limits (located_events h))) ≡ map (λ p. Some p) (arrivals h)
 spans_at_located_law h =
     at_spots h (without_limits (located_events h)) (each_without_limits (LiesIn h) (located_events h) (located-lies h))
@@ -109,7 +109,7 @@ spans_at_located_law h =
 
 pub shown-lies : (h : List Entry) (n : ℕ) (t : TraceId) → AllByRecursion (LiesIn h) (own_of t (shown_in n (located_events h)))
 shown-lies h n t =
-    each_filter (LiesIn h) _ (shown_in n (located_events h)) (each_without_limits (LiesIn h) _ (each_lasting (OfCame (LiesIn h)) (stands located_trace n) [] (located_events h) (located-lies h)))
+    each_filter (LiesIn h) _ (shown_in n (located_events h)) (each_without_limits (LiesIn h) _ (each_lasting (OfCame (LiesIn h)) (is_in_ring located_trace n) [] (located_events h) (located-lies h)))
 
 -- ---- one more batch, span by span
 pub upto_none : (h : List Entry) (b : Batch) → located_upto h b 0 ≡ located_events h

@@ -1,4 +1,4 @@
--- Where the spans of a history lie, and which spots are shown.
+-- Where the spans of a history are, and which spots are shown.
 use Rattle.std.specs.Prelude.{◌≡◌, ℕ, suc, Bool, false, List, [], ◌∷◌, ◌++◌, map, filter, Option, Some, None, IfSome, option_to_list, slice_get, ◌+◌, length, take, ◌&&◌, not, if◌then◌else◌}
 use Rattle.std.specs.Option.{option_and_then}
 use Rattle.jaeger_model.specs.declared.ids.TraceId.{TraceId}
@@ -22,7 +22,7 @@ abbrev pub located_in : ℕ → ℕ → List Placed → List (Spot × Placed)
 located_in place index [] = []
 located_in place index (p ∷ ps) = (record { place = place; index = index }, p) ∷ located_in place (suc index) ps
 
--- what the entry at this place is, each of its spans with its spot
+-- the events of the entry at this place, each of its spans with its spot
 abbrev pub located_by : ℕ → Work → List (Event (Spot × Placed))
 located_by place (brings.Batch b) = map came (located_in place 0 (domain b))
 located_by place (brings.TraceLimit n) = limited n ∷ []
@@ -32,11 +32,11 @@ abbrev pub located_from : ℕ → List Entry → List (Event (Spot × Placed))
 located_from place [] = []
 located_from place (e ∷ es) = located_by place e.work ++ located_from (suc place) es
 
--- the events of a history, each span with its spot; the first entry stands at place 1
+-- the events of a history, each span with its spot; the first entry is at place 1
 abbrev pub located_events : List Entry → List (Event (Spot × Placed))
 located_events h = located_from 1 h
 
--- those of a history and of the spans below this index of one more batch
+-- the events of a history and of the first spans of one more batch, up to this index
 abbrev pub located_upto : List Entry → Batch → ℕ → List (Event (Spot × Placed))
 located_upto h b index = located_events h ++ map came (located_in (length h + 1) 0 (map (placed b) (take index b.spans)))
 
@@ -53,11 +53,11 @@ spots_in ls = map (λ l. l.0) ls
 abbrev pub located_trace : Spot × Placed → TraceId
 located_trace l = trace_of l.1
 
--- the same events of the spans alone
+-- the events of the spans alone
 abbrev pub events_in : List (Event (Spot × Placed)) → List (Event Placed)
 events_in es = map (event_map (λ l. l.1)) es
 
--- the located spans that are shown: each one's trace stands in the ring of every beginning that holds the span
+-- the located spans that are shown: each one's trace is in the ring after every prefix that holds the span
 abbrev pub shown_in : ℕ → List (Event (Spot × Placed)) → List (Spot × Placed)
 shown_in n es = shown_by located_trace n es
 
@@ -68,25 +68,25 @@ own_of t ls = filter (λ l. same_trace t (trace_of l.1)) ls
 abbrev pub shown_spots : ℕ → List (Event (Spot × Placed)) → TraceId → List Spot
 shown_spots n es t = spots_in (own_of t (shown_in n es))
 
--- the spots of each trace with that which came
+-- the spots of each trace, with that of a span that arrived
 abbrev pub with_event : Event (Spot × Placed) → (TraceId → List Spot) → TraceId → List Spot
 with_event (came l) spots t = with_spot (trace_of l.1) l.0 spots t
 with_event (limited m) spots t = spots t
 
--- the trace stood in the ring and doesn't any more
+-- the trace was in the ring and isn't any more
 abbrev pub has_left : List TraceId → List TraceId → TraceId → Bool
 has_left old new t = holds old t && not (holds new t)
 
--- the spots of each trace once those that left were hidden
+-- the spots of each trace after those of the traces that left are removed
 abbrev pub without_left : List TraceId → List TraceId → (TraceId → List Spot) → TraceId → List Spot
 without_left old new spots t = if has_left old new t then [] else spots t
 
--- the spots of each trace once this trace has left, if one has
+-- the spots of each trace after this trace has left, if one has
 abbrev pub after_leaving : Option TraceId → (TraceId → List Spot) → TraceId → List Spot
 after_leaving None spots t = spots t
 after_leaving (Some gone) spots t = without_spots gone spots t
 
--- the spots of each trace after an arrival, for which this trace has left
+-- the spots of each trace after an arrival, for which this trace has left, if one has
 abbrev pub after_arrival : Spot × Placed → Option TraceId → (TraceId → List Spot) → TraceId → List Spot
 after_arrival l left spots t = with_spot (trace_of l.1) l.0 (after_leaving left spots) t
 
@@ -94,7 +94,8 @@ after_arrival l left spots t = with_spot (trace_of l.1) l.0 (after_leaving left 
 abbrev pub AreShown : ℕ → List (Event (Spot × Placed)) → (TraceId → List Spot) → Type 0
 AreShown n es spots = (t : TraceId) → spots t ≡ shown_spots n es t
 
--- behind these events a span comes into the ring, whose traces were the old ones and are the new ones; for it this trace has left, if one has
+-- after these events a span arrives, and the ring changes from the old traces to the new ones; this trace has left
+-- for it, if one has
 pub record ComesIn (n limit : ℕ) (es : List (Event (Spot × Placed))) (l : Spot × Placed) (left : Option TraceId) (old new : List TraceId) : Type 0 where
   pub limit_is : limit ≡ limit_after n (events_in es)
   pub before : old ≡ ring n (events_in es)
@@ -102,7 +103,7 @@ pub record ComesIn (n limit : ℕ) (es : List (Event (Spot × Placed))) (l : Spo
   pub split : opened_by old (trace_of l.1) ≡ option_to_list left ++ new
   pub gone : IfSome left (λ gone. holds new gone ≡ false)
 
--- behind these events a limit is set, which leaves these traces of the old ones
+-- after these events a limit is set, which leaves these traces of the old ones
 pub record Lowers (n m : ℕ) (es : List (Event (Spot × Placed))) (old new : List TraceId) : Type 0 where
   pub before : old ≡ ring n (events_in es)
   pub after : new ≡ newest m old

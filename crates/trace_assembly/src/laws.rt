@@ -20,8 +20,7 @@ pub fn spots_name_the_arrivals()
 {}
 
 #[tactic(auto, using(crate::proofs::Places::located_push_law))]
-/// One more entry adds what it is: the spans of a batch, each at the entry's place and its own index, or a
-/// limit.
+/// One more entry adds its events: the spans of a batch, each at the entry's place and its own index, or a limit.
 pub fn an_entry_adds_its_spans()
     ensures { (h : List Entry) (e : Entry) →
         located_events (h ++ e ∷ []) ≡ located_events h ++ located_by (length h + 1) e.work }
@@ -38,8 +37,8 @@ pub fn spots_since_opened()
 {}
 
 #[tactic(auto, using(crate::proofs::Feeding::comes_in_law))]
-/// Where the spots of each trace are those of its shown spans, hiding the trace that leaves and then
-/// adding the spot of the newcomer keeps them so.
+/// If the spots of each trace are those of its shown spans, they still are after the spots of the trace that leaves
+/// are removed and the new spot is added.
 pub fn fed_as_the_ring_says()
     ensures { (n limit : ℕ) (es : List (Event (SpotValue × PlacedValue)))
         (l : SpotValue × PlacedValue) (left : Option TraceIdValue) (old new : List TraceIdValue)
@@ -48,8 +47,8 @@ pub fn fed_as_the_ring_says()
 {}
 
 #[tactic(auto, using(crate::proofs::Feeding::lowers_law))]
-/// Where the spots of each trace are those of its shown spans, hiding the traces that leave at a limit
-/// keeps them so.
+/// If the spots of each trace are those of its shown spans, they still are after the spots of the traces that leave
+/// at a limit are removed.
 pub fn lowered_as_the_ring_says()
     ensures { (n m : ℕ) (es : List (Event (SpotValue × PlacedValue)))
         (old new : List TraceIdValue) (spots : TraceIdValue → List SpotValue) →

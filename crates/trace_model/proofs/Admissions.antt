@@ -1,5 +1,5 @@
--- What follows from each answer to an entry that is handed in. Whoever stands above uses these facts, and
--- looks into `admission` no further.
+-- What follows from each answer to a submitted entry. Proofs of crates above use these facts, and never unfold
+-- `admission`.
 use Rattle.std.proofs.Common.{◌≡◌, ℕ, suc, ◌+◌, ◌<◌, ◌≤◌, Bool, true, false, ◌&&◌, List, [], length, get_or, Some, None, refl, sym, ap, ◌∙◌, arith}
 use Rattle.std.specs.Prelude.{Result, Ok, Err, nat_le, position, if◌then◌else◌}
 use Rattle.std.specs.List.{list_any}
@@ -37,8 +37,8 @@ not_sent h e none = none_passes (λ (d : Entry). resends e.work d.work) h none
 pub sent_nowhere : (h : List Entry) (e : Entry) → is_sent h e ≡ false → sent_before h e ≡ None
 sent_nowhere h e none = no_place (λ (d : Entry). resends e.work d.work) h none
 
--- ---- what each answer says
--- it stands at the end: a history that is legal stays so
+-- ---- what each answer means
+-- it is added at the end: a legal history stays legal
 pub record MayFollow (limits : Limits) (h : List Entry) (e : Entry) : Type 0 where
   pub rises : last_number e.seat h < e.number
   pub unsent : is_sent h e ≡ false
@@ -96,7 +96,7 @@ repeated_said limits h e n at =
       | false ↦ λ s. record { with_other = get_or h n e; stands = stands; resent = found.1; other = λ q. false≢true (sym s ∙ (same_work-decides e.work (get_or h n e).work).1 (sym q)); sent = sent }
     ] refl
 
--- each answer says what it has to
+-- each answer has its meaning
 pub admission_says : (limits : Limits) (h : List Entry) (e : Entry) → IsSaid limits h e (admission limits h e)
 unfolding admission
 admission_says limits h e = elim (sent_before h e) as (λ o. sent_before h e ≡ o → IsSaid limits h e (option_map_or (repeated h e) o (admitted_anew limits h e))) [

@@ -1,4 +1,4 @@
--- What came of a history.
+-- The items that arrived in a history.
 use Rattle.std.proofs.Common.{◌≡◌, List, [], ◌∷◌, ◌++◌, refl, ◌∙◌}
 use Rattle.jaeger_model.specs.Parents.{domain}
 use Rattle.trace_model.specs.declared.entry.Entry.{Entry}
@@ -13,7 +13,7 @@ came_with : (c : Work) → without_limits (events_brought c) ≡ placed_brought 
 came_with (brings.Batch b) = without_limits-came (domain b)
 came_with (brings.TraceLimit n) = refl
 
--- the arrivals of a history are what came of its events
+-- the arrivals of a history are the items that arrived in its events
 pub came_of : (h : List Entry) → without_limits (events h) ≡ arrivals h
 came_of [] = refl
 came_of (e ∷ h) = without_limits-append (events_brought e.work) (events h) ∙ (λ i. came_with e.work i ++ came_of h i)

@@ -1,4 +1,4 @@
--- Spans that entries keep, one by one.
+-- Spans that are in their entries, one by one.
 use Rattle.std.proofs.Common.{◌≡◌, ℕ, zero, suc, ◌+◌, ◌<◌, List, [], ◌∷◌, ◌++◌, map, length, take, get_or, refl, sym, ap, ◌∙◌, arith}
 use Rattle.std.specs.Prelude.{Option, Some, None, IsSome, is_some, slice_get, option_map}
 use Rattle.std.proofs.lemmas.Bool.{false≢true}
@@ -23,7 +23,7 @@ none_last [] = refl
 none_last (None ∷ ks) = none_last ks
 none_last (Some q ∷ ks) = ap (λ l. q ∷ l) (none_last ks)
 
--- one more span is kept, which is there
+-- one more span, which exists
 pub one_more : (ks more : List (Option Placed)) (kept : Option Placed) (p : Placed) → more ≡ ks ++ kept ∷ [] → kept ≡ Some p → spans_there more ≡ spans_there ks ++ p ∷ []
 one_more ks more kept p put is = ap spans_there (put ∙ ap (λ k. ks ++ k ∷ []) is) ∙ there_last ks p
 

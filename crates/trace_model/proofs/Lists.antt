@@ -1,4 +1,4 @@
--- Lists: what holds of each item, what stands at a place, and one item more.
+-- Lists: what holds of each item, what is at an index, and one item more.
 use Rattle.std.proofs.Common.{◌≡◌, ℕ, zero, suc, ◌+◌, ◌<◌, nat_lt, Bool, true, false, cond, List, [], ◌∷◌, ◌++◌, map, length, take, get_or, refl, sym, ap, ◌∙◌, arith, inl, inr, Some, None, slice_get}
 use Rattle.std.specs.Prelude.{Option, option_map, is_some, find, filter_map, not, ◌==◌, if◌then◌else◌}
 use Rattle.std.specs.List.{All, AllByRecursion, cons_option, list_any, position, position_or_len}
@@ -35,7 +35,7 @@ module _ {X : Type 0} (P : X → Type 0) where
   each_behind (x ∷ xs) ys h = each_behind xs ys h.1
 
 -- ---- whether one passes
--- the first place that passes is one of the places where one passes
+-- the first place that passes is one of the places that pass
 pub is_position : {X : Type 0} (p : X → Bool) (xs : List X) (d : X) → nat_lt (position_or_len p xs) (length xs) ≡ list_any p xs
 is_position p xs d = elim (cases_lt (position_or_len p xs) (length xs)) [
   | inl below ↦ lt-ltb (position_or_len p xs) (length xs) below ∙ sym (list_any_at p xs (position_or_len p xs) d below (passes_at_first p xs d below))
@@ -54,8 +54,8 @@ pub none_is : {X : Type 0} (o : Option X) → is_some o ≡ false → o ≡ None
 none_is None e = refl
 none_is (Some x) e = absurd (false≢true (sym e))
 
--- ---- what stands at a place
--- the list in front of an item, and the list behind it
+-- ---- what is at an index
+-- the list before an item, and the list after it
 pub split_at : {X : Type 0} (list : List X) (n : ℕ) (x : X) → slice_get list n ≡ Some x → (before : List X) × (after : List X) × (list ≡ before ++ x ∷ after) × (n ≡ length before)
 split_at [] n x h = absurd cc
 split_at (y ∷ list) zero x h = ([], list, cc h, refl)
@@ -67,7 +67,7 @@ zero_first m = grind (arith, nat_tests)
 one_later : (n m : ℕ) → nat_lt (1 + n) (suc m) ≡ nat_lt n m
 one_later n m = grind (arith, nat_tests)
 
--- what stands at the first place that passes
+-- the item at the first place that passes
 pub found_at : {X : Type 0} (t : X → Bool) (xs : List X) (d : X) → option_map (λ j. get_or xs j d) (position t xs) ≡ find t xs
 found_at t [] d = refl
 found_at {X} t (x ∷ xs) d = elim (t x) as (λ b. option_map (λ j. get_or (x ∷ xs) j d) (cond (nat_lt (cond (not b) (1 + position_or_len t xs) 0) (suc (length xs))) (Some (cond (not b) (1 + position_or_len t xs) 0)) None) ≡ cond b (Some x) (find t xs)) [
@@ -80,7 +80,7 @@ found_at {X} t (x ∷ xs) d = elim (t x) as (λ b. option_map (λ j. get_or (x �
     past false = refl
     past true = let e : 1 + position_or_len t xs ≡ suc (position_or_len t xs) = omega arith in ap (λ k. Some (get_or (x ∷ xs) k d)) e
 
--- ---- what each item gives, with one item more
+-- ---- what each item yields, with one item more
 module _ {X Y : Type 0} (f : X → Option Y) where
   pub kept_some : (xs : List X) (x : X) (y : Y) → f x ≡ Some y → filter_map f (xs ++ x ∷ []) ≡ filter_map f xs ++ y ∷ []
   kept_some xs x y e = filter_map-append f xs (x ∷ []) ∙ ap (λ o. filter_map f xs ++ cons_option o []) e

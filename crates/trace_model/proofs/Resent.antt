@@ -1,4 +1,4 @@
--- Batches that were sent as one another, and what was sent nowhere.
+-- Batches that were sent as one another, and work that never resends anything.
 use Rattle.std.proofs.Common.{◌≡◌, ℕ, true, false, ◌&&◌, List, None, get_or, refl, ap, ◌∙◌}
 use Rattle.std.specs.Option.{is_some}
 use Rattle.std.proofs.lemmas.Bool.{false≢true, and_parts}
@@ -33,7 +33,7 @@ as_sent a b s =
     ∙ ap (λ x. x && same_process a.process b.process) ((same_number-decides a.seq_no b.seq_no).1 s.number)
     ∙ (same_process-decides a.process b.process).1 s.process
 
--- a batch was sent as one exactly where it was sent as the other
+-- another batch was sent as the one exactly if it was sent as the other
 pub alike : (v w : Work) → resends v w ≡ true → (x : Work) → resends v x ≡ resends w x
 alike (brings.Batch a) (brings.Batch b) e (brings.Batch c) =
     let o = sent_as a b e in

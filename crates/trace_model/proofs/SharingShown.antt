@@ -1,4 +1,4 @@
--- Spans that share a process share it as they are shown: no adjuster changes a process.
+-- Spans that share a process also share it as shown: no adjuster changes a process.
 use Rattle.std.proofs.Common.{◌≡◌, ℕ, zero, suc, Bool, true, false, List, [], ◌∷◌, map, get_or, refl, sym, ap, ◌∙◌, subst}
 use Rattle.std.proofs.lemmas.List.{map-id}
 use Rattle.jaeger_model.specs.declared.batch.Process.{Process}
@@ -18,7 +18,7 @@ still_process f [] k d = refl
 still_process f (x ∷ xs) zero d = refl
 still_process f (x ∷ xs) (suc k) d = still_process f xs k d
 
--- spans that are the same but for their times share alike
+-- spans that differ only in their times share their processes alike
 shared_alike : {X : Type 0} (f : X → Placed) (ps : List Placed) (xs : List X) (places : List ℕ) → map (λ x. still (f x)) xs ≡ map still ps → ShareProcesses ps places → ShareProcesses (map f xs) places
 shared_alike f ps xs places alike share j k d one = same j ∙ share j k d one ∙ sym (same k)
   where

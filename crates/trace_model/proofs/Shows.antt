@@ -1,4 +1,4 @@
--- How ring and shown spans change with one more event.
+-- How the ring and the shown spans change with one more event.
 use Rattle.std.proofs.Common.{◌≡◌, ℕ, Bool, true, false, ◌&&◌, cond, List, [], ◌∷◌, ◌++◌, map, refl, sym, ap, subst, ◌∙◌, append_assoc}
 use Rattle.std.specs.Prelude.{filter, fold, if◌then◌else◌}
 use Rattle.std.specs.List.{list_all}
@@ -8,9 +8,9 @@ use Rattle.jaeger_model.specs.declared.ids.TraceId.{TraceId}
 use Rattle.jaeger_model.specs.declared.placed.Placed.{Placed}
 use Rattle.trace_model.specs.Events.{Event, came, limited, event_map, without_limits}
 use Rattle.trace_model.specs.Rings.{holds, arrive, newest, LimitedRing, ring_step, limited_ring}
-use Rattle.trace_model.specs.Showing.{trace_of, ring, limit_after, longer_beginnings, lasting_after, stands, shown_by, shown}
+use Rattle.trace_model.specs.Showing.{trace_of, ring, limit_after, longer_prefixes, lasting_after, is_in_ring, shown_by, shown}
 
--- induction from the front on
+-- induction from the front
 pub by_pushes : {X : Type 0} (P : List X → Type 0) → P [] → ((xs : List X) (x : X) → P xs → P (xs ++ x ∷ [])) → (xs : List X) → P xs
 by_pushes {X} P none more xs = go [] xs none
   where
@@ -18,17 +18,17 @@ by_pushes {X} P none more xs = go [] xs none
     go done [] p = subst P (sym (append-nil done)) p
     go done (x ∷ rest) p = subst P (append_assoc done (x ∷ []) rest) (go (done ++ x ∷ []) rest (more done x p))
 
--- those whose trace stands in the ring
+-- those whose trace is in the ring
 abbrev pub in_ring_by : {A : Type 0} → (A → TraceId) → List TraceId → List A → List A
 in_ring_by trace r xs = filter (λ x. holds r (trace x)) xs
 
 abbrev pub in_ring : List TraceId → List Placed → List Placed
 in_ring r ps = in_ring_by trace_of r ps
 
-longer_push : {X : Type 0} (before rest : List X) (x : X) → longer_beginnings before (rest ++ x ∷ []) ≡ longer_beginnings before rest ++ (before ++ (rest ++ x ∷ [])) ∷ []
+longer_push : {X : Type 0} (before rest : List X) (x : X) → longer_prefixes before (rest ++ x ∷ []) ≡ longer_prefixes before rest ++ (before ++ (rest ++ x ∷ [])) ∷ []
 longer_push before [] x = refl
 longer_push before (y ∷ rest) x =
-    ap (λ l. (before ++ y ∷ []) ∷ l) (longer_push (before ++ y ∷ []) rest x ∙ ap (λ l. longer_beginnings (before ++ y ∷ []) rest ++ l ∷ []) (append_assoc before (y ∷ []) (rest ++ x ∷ [])))
+    ap (λ l. (before ++ y ∷ []) ∷ l) (longer_push (before ++ y ∷ []) rest x ∙ ap (λ l. longer_prefixes (before ++ y ∷ []) rest ++ l ∷ []) (append_assoc before (y ∷ []) (rest ++ x ∷ [])))
 
 pub all_push : {X : Type 0} (t : X → Bool) (xs : List X) (x : X) → list_all t (xs ++ x ∷ []) ≡ (list_all t xs && t x)
 all_push t [] x = elim (t x) as (λ b. (b && true) ≡ b) [ true ↦ refl | false ↦ refl ]
@@ -38,7 +38,7 @@ one_more : {X : Type 0} (a : Bool) (f : X → Bool) (q : X) (s l t : List X) →
 one_more true f q s l t e = elim (f q) as (λ b. (if b then q ∷ l else l) ≡ cond b (q ∷ filter f (s ++ t)) (filter f (s ++ t))) [ true ↦ ap (λ m. q ∷ m) e | false ↦ e ]
 one_more false f q s l t e = e
 
--- after one more, those that lasted before and the new one stay where the test holds of the whole list
+-- after one more, the earlier ones that lasted and the new one stay if the test holds of the whole list
 pub lasting_after_push : {X : Type 0} (keeps : List X → X → Bool) (before rest : List X) (x : X)
     → lasting_after keeps before (rest ++ x ∷ []) ≡ filter (keeps (before ++ (rest ++ x ∷ []))) (lasting_after keeps before rest ++ x ∷ [])
 lasting_after_push {X} keeps before [] x =
@@ -49,9 +49,9 @@ lasting_after_push {X} keeps before (y ∷ rest) x =
     let s = lasting_after keeps (before ++ y ∷ []) rest in
     let l = lasting_after keeps (before ++ y ∷ []) (rest ++ x ∷ []) in
     let test : List X → Bool = λ xs. keeps xs y in
-    let a = list_all test (longer_beginnings before (y ∷ rest)) in
-    let kept : list_all test (longer_beginnings before (y ∷ rest ++ x ∷ [])) ≡ (a && keeps all y) =
-    ap (list_all test) (longer_push before (y ∷ rest) x) ∙ all_push test (longer_beginnings before (y ∷ rest)) all in
+    let a = list_all test (longer_prefixes before (y ∷ rest)) in
+    let kept : list_all test (longer_prefixes before (y ∷ rest ++ x ∷ [])) ≡ (a && keeps all y) =
+    ap (list_all test) (longer_push before (y ∷ rest) x) ∙ all_push test (longer_prefixes before (y ∷ rest)) all in
     let later : l ≡ filter (keeps all) (s ++ x ∷ []) =
     lasting_after_push keeps (before ++ y ∷ []) rest x ∙ ap (λ xs. filter (keeps xs) (s ++ x ∷ [])) (append_assoc before (y ∷ []) (rest ++ x ∷ [])) in
     ap (λ b. if b then y ∷ l else l) kept ∙ one_more a (keeps all) y s l (x ∷ []) later
@@ -76,27 +76,28 @@ module _ {A : Type 0} (trace : A → TraceId) (n : ℕ) where
   pub limited_ring_push : (es : List (Event A)) (e : Event A) → limited_ring trace n (es ++ e ∷ []) ≡ ring_step trace (limited_ring trace n es) e
   limited_ring_push es e = fold_push (ring_step trace) (record { limit = n; ids = [] }) es e
 
-  standing : (es xs : List (Event A)) → without_limits (filter (stands trace n es) xs) ≡ in_ring_by trace (limited_ring trace n es).ids (without_limits xs)
+  standing : (es xs : List (Event A)) → without_limits (filter (is_in_ring trace n es) xs) ≡ in_ring_by trace (limited_ring trace n es).ids (without_limits xs)
   standing es [] = refl
-  standing es (came x ∷ xs) = elim (holds (limited_ring trace n es).ids (trace x)) as (λ b. without_limits (cond b (came x ∷ filter (stands trace n es) xs) (filter (stands trace n es) xs)) ≡ cond b (x ∷ in_ring_by trace (limited_ring trace n es).ids (without_limits xs)) (in_ring_by trace (limited_ring trace n es).ids (without_limits xs))) [
+  standing es (came x ∷ xs) = elim (holds (limited_ring trace n es).ids (trace x)) as (λ b. without_limits (cond b (came x ∷ filter (is_in_ring trace n es) xs) (filter (is_in_ring trace n es) xs)) ≡ cond b (x ∷ in_ring_by trace (limited_ring trace n es).ids (without_limits xs)) (in_ring_by trace (limited_ring trace n es).ids (without_limits xs))) [
     | true ↦ ap (λ l. x ∷ l) (standing es xs)
     | false ↦ standing es xs
   ]
   standing es (limited m ∷ xs) = standing es xs
 
-  -- what is shown after one more event: what was shown before and what came, less those whose trace left the ring
+  -- what is shown after one more event: what was shown before and what arrived, without those whose trace left the
+  -- ring
   pub shown_by_push : (es : List (Event A)) (e : Event A) → shown_by trace n (es ++ e ∷ []) ≡ in_ring_by trace (limited_ring trace n (es ++ e ∷ [])).ids (shown_by trace n es ++ without_limits (e ∷ []))
   shown_by_push es e =
-      ap without_limits (lasting_after_push (stands trace n) [] es e)
-      ∙ standing (es ++ e ∷ []) (lasting_after (stands trace n) [] es ++ e ∷ [])
-      ∙ ap (in_ring_by trace (limited_ring trace n (es ++ e ∷ [])).ids) (without_limits-append (lasting_after (stands trace n) [] es) (e ∷ []))
+      ap without_limits (lasting_after_push (is_in_ring trace n) [] es e)
+      ∙ standing (es ++ e ∷ []) (lasting_after (is_in_ring trace n) [] es ++ e ∷ [])
+      ∙ ap (in_ring_by trace (limited_ring trace n (es ++ e ∷ [])).ids) (without_limits-append (lasting_after (is_in_ring trace n) [] es) (e ∷ []))
 
-  -- the trace of what is shown stands in the ring
+  -- the trace of what is shown is in the ring
   pub shown_by_in_ring : (es : List (Event A)) → in_ring_by trace (limited_ring trace n es).ids (shown_by trace n es) ≡ shown_by trace n es
   shown_by_in_ring = by_pushes (λ es. in_ring_by trace (limited_ring trace n es).ids (shown_by trace n es) ≡ shown_by trace n es) refl (λ es e _.
       ap (in_ring_by trace (limited_ring trace n (es ++ e ∷ [])).ids) (shown_by_push es e) ∙ filter_again _ (shown_by trace n es ++ without_limits (e ∷ [])) ∙ sym (shown_by_push es e))
 
--- the same by a trace that is read through a map
+-- a ring of mapped items is the ring of the items
 pub limited_ring-mapped : {A B : Type 0} (trace : B → TraceId) (f : A → B) (n : ℕ) (es : List (Event A)) → limited_ring trace n (map (event_map f) es) ≡ limited_ring (λ x. trace (f x)) n es
 limited_ring-mapped {A} trace f n es = go (record { limit = n; ids = [] }) es
   where

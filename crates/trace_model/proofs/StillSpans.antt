@@ -1,4 +1,4 @@
--- What adjusting leaves of a span as it is: all but its times and the order of its references.
+-- What adjusting leaves unchanged in a span: all but its times and the order of its references.
 use Rattle.std.proofs.Common.{◌≡◌, ℕ, ℤ, pos, Bool, true, false, ◌&&◌, List, [], ◌∷◌, ◌++◌, map, refl, ap, ◌∙◌, nat_le, nat_abs}
 use Rattle.std.specs.Prelude.{Option, Some, None, not, if◌then◌else◌}
 use Rattle.std.specs.Ordering.{int_eq}
@@ -12,7 +12,7 @@ use Rattle.trace_model.specs.Linking.{has_id}
 use Rattle.trace_model.specs.Adjusting.{unadjusted, warned, past_limit, past_times, adjusted_by, all_fit, is_applied, move_log, moved_placed, shifted, shifted_by, shown_after, skew_adjusted_after, parent_first, with_parent_first, adjusted, clock_of}
 use Rattle.trace_model.specs.Steadiness.{still, still_log}
 
--- a span stays as it is, or is left with a warning, or is moved
+-- a span stays unchanged, or is left with a warning, or is moved
 pub shifted_cases : (P : Shown → Type 0) (m : ℕ) (d : ℤ) (p : Placed) → (int_eq d (pos 0) ≡ true → P (unadjusted p)) → ((w : List ℕ) → is_applied m d p.span ≡ false → P (warned p w))
     → (is_applied m d p.span ≡ true → P (warned (moved_placed d p) (adjusted_by d))) → P (shifted m d p)
 shifted_cases P m d p = by_tests (int_eq d (pos 0)) (nat_le (nat_abs d) m) (all_fit d p.span)
@@ -41,7 +41,7 @@ still_by m p (Some c) = still_shifted m c.delta p
 still_after : (m : ℕ) (trace before : List Placed) (p : Placed) → still (shown_after m trace before p).placed ≡ still p
 still_after m trace before p = elim (list_any (has_id p.span.id) before) as (λ b. still (if b then unadjusted p else shifted_by m p (clock_of m trace p)).placed ≡ still p) [ true ↦ refl | false ↦ still_by m p (clock_of m trace p) ]
 
--- neither a reference more nor their order shows
+-- a further reference and the order of references don't matter
 pub still_first : (p : Placed) → still (with_parent_first p) ≡ still p
 still_first p = elim (needs_no_reference p.span) as (λ b. still (record { process = p.process; span = parent_first (if b then p.span else record p.span { references = parent_reference p.span ∷ p.span.references }) }) ≡ still p) [
   | true ↦ refl

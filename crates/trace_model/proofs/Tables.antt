@@ -1,4 +1,4 @@
--- A table with one more entry: t says that its key is the one that is sought.
+-- A table with one more entry: t says that its key is the one that is looked up.
 use Rattle.std.proofs.Common.{◌≡◌, Bool, true, false, cond, refl, sym, ap, ◌∙◌}
 use Rattle.std.specs.Prelude.{Option, Some, None, is_some, option_map}
 use Rattle.std.specs.Option.{option_or}
@@ -16,17 +16,17 @@ or_present : {V : Type 0} (o p : Option V) → is_some o ≡ true → o ≡ opti
 or_present None p e = absurd (false≢true e)
 or_present (Some v) p e = refl
 
--- where the table did not have the key
+-- if the table did not have the key
 pub entered : {K V : Type 0} (g : K → Option V) (key q : K) (v : V) (t : Bool) → (t ≡ true → key ≡ q) → is_some (g key) ≡ false → cond t (Some v) (g q) ≡ option_or (g q) (cond t (Some v) None)
 entered g key q v true same none = or_absent (g q) (Some v) (ap (λ k. is_some (g k)) (sym (same refl)) ∙ none)
 entered g key q v false same none = sym (or_none (g q))
 
--- and where it has the key
+-- if the table has the key
 pub kept : {K V : Type 0} (g : K → Option V) (key q : K) (v : V) (t : Bool) → (t ≡ true → key ≡ q) → is_some (g key) ≡ true → g q ≡ option_or (g q) (cond t (Some v) None)
 kept g key q v true same some = or_present (g q) (Some v) (ap (λ k. is_some (g k)) (sym (same refl)) ∙ some)
 kept g key q v false same some = sym (or_none (g q))
 
--- the same of what a function makes of the values
+-- the values of a mapped table are the mapped values
 pub entry_map : {V W : Type 0} (f : V → W) (o : Option V) (t : Bool) (v : V) → option_map f (option_or o (cond t (Some v) None)) ≡ option_or (option_map f o) (cond t (Some (f v)) None)
 entry_map f (Some x) t v = refl
 entry_map f None true v = refl

@@ -24,7 +24,7 @@ same_is a b = (same_trace-decides a b).0
 pub same_self : (a : TraceId) → same_trace a a ≡ true
 same_self a = (same_trace-decides a a).1 refl
 
--- of two tests where the second says the same of all that pass the first
+-- the second test has one result for all that pass the first
 pub filter_within : {X : Type 0} (f g : X → Bool) (b : Bool) → ((x : X) → f x ≡ true → g x ≡ b) → (xs : List X) → filter f (filter g xs) ≡ (if b then filter f xs else [])
 filter_within f g b h [] = elim b as (λ c. filter f (filter g []) ≡ (if c then filter f [] else [])) [ true ↦ refl | false ↦ refl ]
 filter_within {X} f g b h (x ∷ xs) =
@@ -45,7 +45,8 @@ filter_within {X} f g b h (x ∷ xs) =
 pub of_trace-in_ring : (t : TraceId) (r : List TraceId) (ps : List Placed) → of_trace t (in_ring r ps) ≡ (if holds r t then of_trace t ps else [])
 of_trace-in_ring t r ps = filter_within (λ p. same_trace t (trace_of p)) (λ p. holds r (trace_of p)) (holds r t) (λ p e. ap (holds r) (sym (same_is t (trace_of p) e))) ps
 
--- what a trace keeps after one more event: nothing if it isn't in the ring, else what it kept and the new span if one came that is its own
+-- what a trace keeps after one more event: nothing if it isn't in the ring, else what it kept and the new span if
+-- one arrived that is its own
 pub spans_push : (n : ℕ) (es : List (Event Placed)) (e : Event Placed) (t : TraceId)
     → spans_of_trace n (es ++ e ∷ []) t ≡ (if holds (ring n (es ++ e ∷ [])) t then spans_of_trace n es t ++ of_trace t (without_limits (e ∷ [])) else [])
 spans_push n es e t =
@@ -57,7 +58,7 @@ pub spans_gone : (n : ℕ) (es : List (Event Placed)) (t : TraceId) → holds (r
 spans_gone n es t e =
     ap (of_trace t) (sym (shown_in_ring n es)) ∙ of_trace-in_ring t (ring n es) (shown n es) ∙ ap (λ b. if b then of_trace t (shown n es) else []) e
 
--- the newest are kept
+-- the newest trace is kept
 holds-newest : (n : ℕ) (r : List TraceId) (t : TraceId) → holds (newest n (r ++ t ∷ [])) t ≡ true
 holds-newest zero r t = list_any-append (same_trace t) r (t ∷ []) ∙ ap (λ b. list_any (same_trace t) r || (b || false)) (same_self t) ∙ or-true (list_any (same_trace t) r)
 holds-newest (suc n) r t =
@@ -79,7 +80,7 @@ opened_alone n es p e =
     ∙ ap (λ l. l ++ of_trace (trace_of p) (p ∷ [])) (spans_gone n es (trace_of p) e)
     ∙ ap (λ b. cond b (p ∷ []) []) (same_self (trace_of p))
 
--- with no limit the ring only grows
+-- without a limit the ring only grows
 holds-arrive : (r : List TraceId) (t s : TraceId) → holds r t ≡ true → holds (arrive 0 r s) t ≡ true
 holds-arrive r t s e = elim (holds r s) as (λ h. holds (if h then r else r ++ s ∷ []) t ≡ true) [ true ↦ e | false ↦ list_any-append (same_trace t) r (s ∷ []) ∙ ap (λ b. b || list_any (same_trace t) (s ∷ [])) e ]
 
@@ -87,7 +88,7 @@ length-filter : {X : Type 0} (f : X → Bool) (xs : List X) → length (filter f
 length-filter f [] = omega arith
 length-filter f (x ∷ xs) = elim (f x) as (λ b. length (cond b (x ∷ filter f xs) (filter f xs)) ≤ suc (length xs)) [ true ↦ omega (arith, length-filter f xs) | false ↦ omega (arith, length-filter f xs) ]
 
--- what a filter keeps whole passes its test
+-- each item of a list that a filter leaves unchanged passes its test
 passes : {X : Type 0} (f : X → Bool) (x : X) (xs : List X) → filter f (x ∷ xs) ≡ x ∷ xs → (f x ≡ true) × (filter f xs ≡ xs)
 passes {X} f x xs e = elim (f x) as (λ b. cond b (x ∷ filter f xs) (filter f xs) ≡ x ∷ xs → (b ≡ true) × (filter f xs ≡ xs)) [
   | true ↦ λ e. (refl, ap (λ (l : List X). drop 1 l) e)
@@ -137,7 +138,7 @@ all_stay = by_pushes (λ es. list_all limits_none es ≡ true → (limit_after 0
       shown_push 0 es e ∙ ap (λ l. in_ring (ring 0 (es ++ e ∷ [])) (l ++ without_limits (e ∷ []))) b.2 ∙ ap (in_ring (ring 0 (es ++ e ∷ []))) (sym (without_limits-append es (e ∷ []))) ∙ stay ∙ without_limits-append es (e ∷ []) ∙ sym (without_limits-append es (e ∷ [])),
     )))
 
--- where no event sets a limit, limit 0 keeps all that came
+-- if no event sets a limit, limit 0 keeps all that arrived
 pub shown_all : (es : List (Event Placed)) → list_all limits_none es ≡ true → shown 0 es ≡ without_limits es
 shown_all es none = (all_stay es none).2
 
@@ -155,7 +156,7 @@ holds-from_newest : (n : ℕ) (r : List TraceId) (t : TraceId) → holds (newest
 holds-from_newest zero r t e = e
 holds-from_newest (suc n) r t e = drop_any (same_trace t) (length r - suc n) r e
 
--- a trace of the ring after an arrival was in it before, or is the arrival's own
+-- a trace of the ring after an arrival was in it before, or is the arrival's own trace
 pub old_or_own : {P : Type 0} (n : ℕ) (r : List TraceId) (s t : TraceId) → holds (arrive n r s) t ≡ true → (holds r t ≡ true → P) → (same_trace t s ≡ true → P) → P
 old_or_own {P} n r s t e old own = elim (holds r s) as (λ h. holds (if h then r else newest n (r ++ s ∷ [])) t ≡ true → P) [
   | true ↦ λ e. old e
@@ -181,11 +182,11 @@ has_spans n t = by_pushes (λ es. holds (ring n es) t ≡ true → 0 < length (s
         subst (λ (l : List Placed). 0 < length l) (sym spans) (more old)
 
 -- ---- limits
--- after a limit the traces among so many newest keep their shown spans, and the others have none
+-- after a limit of m the m newest traces keep their shown spans, and the others have none
 pub spans_limited : (n : ℕ) (es : List (Event Placed)) (m : ℕ) (t : TraceId) → spans_of_trace n (es ++ limited m ∷ []) t ≡ (if holds (newest m (ring n es)) t then spans_of_trace n es t else [])
 spans_limited n es m t = spans_push n es (limited m) t ∙ (λ i. if holds (ring_limited n es m i) t then append-nil (spans_of_trace n es t) i else [])
 
--- a trace that isn't in the ring stays out by an event that doesn't bring it, whatever limit is set
+-- a trace that isn't in the ring stays out by an event that doesn't bring it, whatever the limit
 out_one : (n : ℕ) (es : List (Event Placed)) (t : TraceId) (e : Event Placed) → comes_for t e ≡ false → holds (ring n es) t ≡ false → holds (ring n (es ++ e ∷ [])) t ≡ false
 out_one n es t (came p) other out = false_from_ne_true _ (λ h.
     old_or_own (limit_after n es) (ring n es) (trace_of p) t (ap (λ r. holds r t) (sym (ring_came n es p)) ∙ h) (λ old. false≢true (sym out ∙ old)) (λ own. false≢true (sym other ∙ own)))
@@ -196,7 +197,7 @@ or_both : {P : Type 0} (a b : Bool) → (a || b) ≡ false → (a ≡ false → 
 or_both true b e f = absurd (false≢true (sym e))
 or_both false b e f = f refl e
 
--- a trace that left doesn't come back before one of its spans comes
+-- a trace that left doesn't come back before one of its spans arrives
 pub stays_out : (n : ℕ) (es : List (Event Placed)) (t : TraceId) (more : List (Event Placed)) → list_any (comes_for t) more ≡ false → holds (ring n es) t ≡ false → holds (ring n (es ++ more)) t ≡ false
 stays_out n es t [] none out = ap (λ xs. holds (ring n xs) t) (append-nil es) ∙ out
 stays_out n es t (e ∷ more) none out =
@@ -217,7 +218,7 @@ newest_short (suc m) r some = drop_short m r
 pub arrive_short : (m : ℕ) (r : List TraceId) (t : TraceId) → (0 < m → length r ≤ m) → 0 < m → length (arrive m r t) ≤ m
 arrive_short m r t short some = elim (holds r t) as (λ b. length (if b then r else newest m (r ++ t ∷ [])) ≤ m) [ true ↦ short some | false ↦ newest_short m (r ++ t ∷ []) some ]
 
--- under a limit the ring is no longer than the limit in force
+-- with a limit the ring is no longer than the current limit
 pub ring_within : (n : ℕ) (es : List (Event Placed)) → 0 < limit_after n es → length (ring n es) ≤ limit_after n es
 ring_within n = by_pushes (λ es. 0 < limit_after n es → length (ring n es) ≤ limit_after n es) (λ _. omega arith) go
   where

@@ -11,7 +11,7 @@ use Rattle.trace_model.specs.Resending.{SentOnceAfter}
 abbrev pub arrivals : List Entry → List Placed
 arrivals h = flat_map (λ (e : Entry). placed_brought e.work) h
 
--- the arrivals with the limits that were set among them
+-- the arrivals with the limits that were set between them
 abbrev pub events : List Entry → List (Event Placed)
 events h = flat_map (λ (e : Entry). events_brought e.work) h
 
@@ -26,12 +26,12 @@ before_last h = take (length h - 1) h
 abbrev pub last_number : ℕ → List Entry → ℕ
 last_number seat h = fold (λ n (e : Entry). if e.seat == seat then max n e.number else n) 0 h
 
--- the number is above each of the seat's in the list
+-- the number is above each number of its seat in the list
 abbrev pub AboveEach : Entry → List Entry → Type 0
 AboveEach e [] = Unit {0}
 AboveEach e (d ∷ ds) = (d.seat ≡ e.seat → d.number < e.number) × AboveEach e ds
 
--- each number is above 0 and above every earlier one of its seat, where the entries of before came first
+-- each number is above 0 and above every earlier one of its seat, also those of `before`
 abbrev pub RisesAfter : List Entry → List Entry → Type 0
 RisesAfter before [] = Unit {0}
 RisesAfter before (e ∷ rest) = (0 < e.number) × AboveEach e before × RisesAfter (before ++ e ∷ []) rest

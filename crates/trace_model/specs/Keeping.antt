@@ -1,4 +1,4 @@
--- Traces of an answer whose spans their entries keep.
+-- Traces of an answer whose spans are in their entries.
 use Rattle.std.specs.Prelude.{List, Option, filter_map}
 use Rattle.jaeger_model.specs.declared.placed.Placed.{Placed}
 use Rattle.trace_model.specs.declared.answer.Shown.{Shown}
@@ -8,7 +8,7 @@ use Rattle.trace_model.specs.declared.answered_trace.TraceForm.TheVariants.{Read
 use Rattle.trace_model.specs.Adjusting.{shown_as}
 use Rattle.trace_model.specs.Sharing.{ShareProcesses}
 
--- the spans that are there
+-- the spans that exist
 abbrev pub spans_there : List (Option Placed) → List Placed
 spans_there spans = filter_map (λ s. s) spans
 
@@ -16,7 +16,7 @@ spans_there spans = filter_map (λ s. s) spans
 abbrev pub kept_value : KeptTrace → List Shown
 kept_value t = shown_as t.limits t.raw (spans_there t.spans.items)
 
--- those that have one place have one process
+-- spans with one place have one process
 abbrev pub KeptShares : KeptTrace → Type 0
 KeptShares t = ShareProcesses (spans_there t.spans.items) t.places.items
 

@@ -1,4 +1,4 @@
--- Whether a history takes an entry, and why not.
+-- Whether a history accepts an entry, and why not.
 use Rattle.std.specs.Prelude.{ℕ, suc, ◌+◌, Bool, ◌&&◌, List, [], ◌∷◌, ◌++◌, length, fold, Option, Result, Ok, Err, get_or, if◌then◌else◌, nat_le}
 use Rattle.std.specs.Option.{option_map_or}
 use Rattle.std.specs.Result.{result_err}
@@ -17,7 +17,8 @@ use Rattle.trace_model.specs.Held.{Held}
 abbrev pub has_room : Limits → List Entry → Entry → Bool
 has_room limits h e = nat_le (length h + 1) limits.batches && nat_le (span_count h + length (spans_brought e.work)) limits.spans
 
--- an entry whose batch stands behind so many already: with the same spans it is answered by that place
+-- an entry whose batch was sent before, with n entries before that one: if the spans are equal, that place answers
+-- for it
 abbrev pub repeated : List Entry → Entry → ℕ → Result Admission Refusal
 repeated h e before =
     if same_work e.work (get_or h before e).work then Ok (Resent (suc before))
@@ -30,12 +31,12 @@ admitted_anew limits h e =
     else if has_room limits h e then Ok Added
     else Err (JournalFull (length h) (span_count h))
 
--- what becomes of an entry that is handed in where this history stands
--- (proofs use the facts of proofs/Admissions, and unfold it nowhere else)
+-- what becomes of an entry that is submitted after this history (proofs use the facts of proofs/Admissions, and
+-- unfold it nowhere else)
 unfoldable pub admission : Limits → List Entry → Entry → Result Admission Refusal
 admission limits h e = option_map_or (repeated h e) (sent_before h e) (admitted_anew limits h e)
 
--- the refusal, and None where it is taken or was sent before
+-- the refusal, or None if the entry is accepted or was sent before
 abbrev pub refusal_of : Limits → List Entry → Entry → Option Refusal
 refusal_of limits h e = result_err (admission limits h e)
 
@@ -43,21 +44,21 @@ refusal_of limits h e = result_err (admission limits h e)
 abbrev pub followed_by : Held → Entry → Held
 followed_by held e = record held { entries = held.entries ++ e ∷ [] }
 
--- the history behind the entry: longer by it where it was added, and as it was else
+-- the history after the entry: longer by it if it was added, else unchanged
 abbrev pub with_admitted : Held → Entry → Result Admission Refusal → Held
 with_admitted held e (Ok Added) = followed_by held e
 with_admitted held e (Ok (Resent place)) = held
 with_admitted held e (Err why) = held
 
--- the history behind one more entry that is handed in
-abbrev pub behind : Limits → List Entry → Entry → List Entry
-behind limits h e = (with_admitted (record { limits = limits; entries = h }) e (admission limits h e)).entries
+-- the history after one more submitted entry
+abbrev pub history_after : Limits → List Entry → Entry → List Entry
+history_after limits h e = (with_admitted (record { limits = limits; entries = h }) e (admission limits h e)).entries
 
--- the history behind entries that are handed in one after the other, each judged after the accepted ones before it
+-- the history after entries that are submitted in order, each judged after the accepted ones before it
 abbrev pub history_of : Limits → List Entry → List Entry
-history_of limits es = fold (behind limits) [] es
+history_of limits es = fold (history_after limits) [] es
 
--- where the entry stands, or the one that answers for it
+-- the place of the entry, or of the one that answers for it
 abbrev pub place_of : List Entry → Admission → ℕ
 place_of h Added = length h + 1
 place_of h (Resent place) = place

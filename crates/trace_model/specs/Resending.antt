@@ -8,11 +8,11 @@ use Rattle.trace_model.specs.declared.entry.Entry.{Entry}
 use Rattle.trace_model.specs.declared.entry.Work.{Work}
 use Rattle.trace_model.specs.declared.entry.Work.TheVariants as brings
 
--- both have a number, which is the same, and the same process
+-- both have the same number and the same process
 abbrev pub is_sent_as : Batch → Batch → Bool
 is_sent_as a b = is_some a.seq_no && (same_number a.seq_no b.seq_no && same_process a.process b.process)
 
--- a limit is never sent again
+-- a limit is never resent
 abbrev pub resends : Work → Work → Bool
 resends (brings.Batch a) (brings.Batch b) = is_sent_as a b
 resends a b = false
@@ -21,11 +21,11 @@ resends a b = false
 abbrev pub is_sent : List Entry → Entry → Bool
 is_sent h e = list_any (λ (d : Entry). resends e.work d.work) h
 
--- how many entries stand before that one
+-- the number of entries before that one
 abbrev pub sent_before : List Entry → Entry → Option ℕ
 sent_before h e = position (λ (d : Entry). resends e.work d.work) h
 
--- no batch was sent before, where the entries of before came first
+-- no batch was sent twice, also counting those of `before`
 abbrev pub SentOnceAfter : List Entry → List Entry → Type 0
 SentOnceAfter before [] = Unit {0}
 SentOnceAfter before (e ∷ rest) = (is_sent before e ≡ false) × SentOnceAfter (before ++ e ∷ []) rest

@@ -8,25 +8,25 @@ use Rattle.trace_model.specs.Events.{Event, came, limited}
 abbrev pub holds : List TraceId → TraceId → Bool
 holds ring t = list_any (same_trace t) ring
 
--- the last n, or all where n is 0
+-- the last n, or all if n is 0
 abbrev pub newest : ℕ → List TraceId → List TraceId
 newest zero ring = ring
 newest (suc n) ring = drop (length ring - suc n) ring
 
--- the ring once a span of the trace has arrived
+-- the ring after a span of the trace has arrived
 abbrev pub arrive : ℕ → List TraceId → TraceId → List TraceId
 arrive n ring t = if holds ring t then ring else newest n (ring ++ t ∷ [])
 
--- the newest traces, oldest first, and how many stay, all where that is 0
+-- the newest traces, oldest first, and the limit; 0 is no limit
 pub record LimitedRing : Type 0 where
   pub limit : ℕ
   pub ids : List TraceId
 
--- an arrival meets the limit in force; a limit is in force from then on, and the traces that it lets go are gone
+-- an arrival obeys the current limit; a new limit replaces it, and drops the oldest traces beyond it
 abbrev pub ring_step : {A : Type 0} → (A → TraceId) → LimitedRing → Event A → LimitedRing
 ring_step trace r (came x) = record r { ids = arrive r.limit r.ids (trace x) }
 ring_step trace r (limited n) = record { limit = n; ids = newest n r.ids }
 
--- after these events, where the limit was n before them
+-- the ring after these events, if the limit was n before them
 abbrev pub limited_ring : {A : Type 0} → (A → TraceId) → ℕ → List (Event A) → LimitedRing
 limited_ring trace n es = fold (ring_step trace) (record { limit = n; ids = [] }) es

@@ -1,8 +1,8 @@
--- Spans that were taken out of a store.
+-- Spans that were collected from a store.
 use Rattle.std.specs.Prelude.{ℕ, Option}
 use Rattle.jaeger_model.specs.declared.placed.Placed.{Placed}
 
--- a span, where there is one, and its number
+-- a span, if there is one, and its number
 pub record Taken : Type 0 where
   pub span : Option Placed
   pub number : ℕ

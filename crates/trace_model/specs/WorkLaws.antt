@@ -1,4 +1,5 @@
--- Laws that the impls of this crate name. A clause can name nothing of its own crate's proofs/, so they stand in specs/.
+-- Laws that the impls of this crate name. A clause can name nothing of its own crate's proofs/, so they are in
+-- specs/.
 use Rattle.std.specs.Prelude.{◌≡◌, ◌==◌}
 use Rattle.std.specs.Bool.{Decides}
 use Rattle.std.proofs.Common.{ap}

@@ -23,12 +23,12 @@ abbrev pub service_brought : Work → List ℕ
 service_brought (brings.Batch b) = b.process.service
 service_brought (brings.TraceLimit n) = []
 
--- the spans as they are kept, each with its process and its parent among its references
+-- the spans as they are kept, each with its process and with its parent among its references
 abbrev pub placed_brought : Work → List Placed
 placed_brought (brings.Batch b) = domain b
 placed_brought (brings.TraceLimit n) = []
 
--- what happens to a store by it
+-- the events of the entry
 abbrev pub events_brought : Work → List (Event Placed)
 events_brought (brings.Batch b) = map came (domain b)
 events_brought (brings.TraceLimit n) = limited n ∷ []

@@ -1,8 +1,8 @@
 /// What became of an entry that a history did not refuse.
 #[derive(Clone, Copy, Debug, PartialEq, Eq)]
 pub enum Admission {
-    /// It stands at the end.
+    /// It was added at the end.
     Added,
-    /// Its batch was sent before and stands at this place, so nothing was added.
+    /// Its batch was sent before and is at this place, so nothing was added.
     Resent { place: u64 },
 }

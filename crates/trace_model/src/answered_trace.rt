@@ -1,4 +1,4 @@
-//! A trace of an answer: made already, or by its spans where their entries keep them.
+//! A trace of an answer: either copied, or as references to the entries that have its spans.
 
 ghost use Rattle.std.specs.Prelude.{◌≡◌, slice_get, is_some, IfOk, option_map};
 ghost use Rattle.std.specs.Arc.{arc_value};
@@ -15,8 +15,8 @@ use std::alloc::{AllocError, Global};
 use std::marker::Model;
 use std::sync::Arc;
 
-/// A span where its entry keeps it: the entry is shared, and nothing of it is copied. Contracts see the span with
-/// its process and its parent among its references, or None where the entry has no span at the index.
+/// A span, read from its shared entry without a copy. Contracts see the span with its process and with its parent
+/// among its references, or None if the entry has no span at the index.
 #[derive(Debug, Drop)]
 pub struct KeptSpan {
     entry: Arc<Entry>,
@@ -34,7 +34,7 @@ impl Model for KeptSpan {
     ghost view = { λ s. slice_get (placed_brought (arc_value s.entry).work) s.index };
 }
 
-/// The span of a batch at an index, copied; its process is shared.
+/// Copies the span of a batch at an index; its process is shared.
 fn placed_in(alloc: Global, batch: &Batch, index: u32) -> Result<Option<Placed>, AllocError>
     ensures { IfOk result (λ p. p ≡ slice_get (domain batch.now) index) }
 {
@@ -44,7 +44,7 @@ fn placed_in(alloc: Global, batch: &Batch, index: u32) -> Result<Option<Placed>,
     }
 }
 
-/// The span of a batch at an index, to look at as it was reported.
+/// Borrows the span of a batch at an index, as it was reported.
 pub fn reported_in(batch: &Batch, index: u32) -> Option<Seen>
     ensures { option_map placed_by_its_entry result ≡ slice_get (domain batch.now) index }
 {
@@ -56,7 +56,7 @@ pub fn reported_in(batch: &Batch, index: u32) -> Option<Seen>
 }
 
 impl KeptSpan {
-    /// The span of the entry at an index, the first being 0.
+    /// Refers to the span of the entry at an index, which counts from 0.
     ///
     /// # Errors
     ///
@@ -76,8 +76,7 @@ impl KeptSpan {
         (self.index as usize) < self.entry.work.spans().len()
     }
 
-    /// The span where its entry keeps it, as it was reported: its parent need not be among its references. Takes
-    /// no memory.
+    /// Returns the span as it was reported: its parent need not be among its references. Allocates nothing.
     pub fn reported(&self) -> Option<Seen>
         ensures { option_map placed_by_its_entry result ≡ self.now }
     {
@@ -87,7 +86,7 @@ impl KeptSpan {
         }
     }
 
-    /// The span, copied; its process is shared.
+    /// Copies the span; its process is shared.
     ///
     /// # Errors
     ///
@@ -102,29 +101,28 @@ impl KeptSpan {
     }
 }
 
-/// A trace whose spans their entries keep, and how it is to be shown.
+/// A trace whose spans are in their entries, and how to show it.
 #[derive(Debug, Drop)]
 pub struct KeptTrace {
     pub spans: Vec<KeptSpan>,
-    /// The places of the entries that brought them.
+    /// The places of the entries that brought the spans.
     pub places: Vec<u64>,
-    /// Those of the store.
+    /// The limits of the store.
     pub limits: Limits,
-    /// Whether the spans are shown as they came, and not adjusted.
+    /// Whether the spans are shown as reported, without adjustment.
     pub raw: bool,
 }
 
 /// The two forms of a trace of an answer.
 #[derive(Debug, Drop)]
 pub enum TraceForm {
-    /// Its spans are made.
+    /// Its spans are copied and adjusted.
     Ready(ShownTrace),
-    /// Its spans lie in their entries.
+    /// Its spans are in their entries.
     Kept(KeptTrace),
 }
 
-/// A trace of an answer. Contracts see the list of its spans as they are shown, whether they are made already or
-/// will be made of those that their entries keep.
+/// A trace of an answer. Contracts see the list of its spans as they are shown, in either form.
 #[derive(Debug, Drop)]
 pub struct AnsweredTrace {
     form: TraceForm,
@@ -143,7 +141,7 @@ impl Model for AnsweredTrace {
 }
 
 impl AnsweredTrace {
-    /// A trace that is made already; takes no memory.
+    /// Makes an answer of a trace that is copied already. Allocates nothing.
     pub fn made(trace: ShownTrace) -> AnsweredTrace
         ensures { result ≡ trace }
     {
@@ -152,7 +150,7 @@ impl AnsweredTrace {
         }
     }
 
-    /// A trace whose spans their entries keep; takes no memory.
+    /// Makes an answer of a trace whose spans are in their entries. Allocates nothing.
     pub fn kept(trace: KeptTrace) -> AnsweredTrace
         requires { KeptShares trace }
         ensures { result ≡ kept_value trace }
@@ -162,7 +160,7 @@ impl AnsweredTrace {
         }
     }
 
-    /// Its form.
+    /// Returns the form.
     pub fn form(&self) -> &TraceForm
         ensures value { form_value result.now ≡ self.now }
         ensures shares { FormShares result.now }
@@ -170,7 +168,7 @@ impl AnsweredTrace {
         &self.form
     }
 
-    /// Its form, taken out.
+    /// Takes the form out.
     pub fn into_form(self) -> TraceForm
         ensures value { form_value result ≡ self }
         ensures shares { FormShares result }

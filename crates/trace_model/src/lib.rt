@@ -1,14 +1,13 @@
-//! Entries, questions and answers, and what a history of entries answers, as definitions over the
-//! plain list.
+//! Entries, queries and answers; and, as definitions over the plain list, what a history of entries answers.
 //!
-//! * `limits`, `entry`, `admission`, `refusal`: what is kept, and why an entry is turned away.
-//! * `query`, `answer`: what can be asked, and what is answered; `shown_trace`: the spans of a trace that is shown;
-//!   `answered_trace`: a trace of an answer, whose spans are made or lie in their entries; `service_name`: the name of
-//!   a service in an answer; `taken_span`: a span of a trace that was taken out of a store.
-//! * `clock`: what the spans below a span are given of its host's clock.
+//! * `limits`, `entry`, `admission`, `refusal`: what is stored, and why an entry is refused.
+//! * `query`, `answer`: queries and their answers; `shown_trace`: the spans of a trace that is shown;
+//!   `answered_trace`: a trace of an answer, copied or in its entries; `service_name`: the name of a service in
+//!   an answer; `taken_span`: a span of a trace that was collected from a store.
+//! * `clock`: what a span passes to the spans below it, for the adjustment of clocks.
 //!
-//! `specs/` says what is shown and answered. The program of crate `plain_store` computes it, and
-//! crate `store_laws` says in the subject's own words what it comes to.
+//! `specs/` defines what is shown and answered. The program of crate `plain_store` computes it, and crate
+//! `store_laws` states what follows from it, in the terms of tracing.
 #![tactic(auto)]
 
 mod admission;

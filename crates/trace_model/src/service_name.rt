@@ -9,17 +9,17 @@ use std::alloc::AllocError;
 use std::marker::Model;
 use std::sync::Arc;
 
-/// Where a name stands.
+/// Where the text of a name is.
 #[derive(Debug, Drop)]
 enum NameForm {
-    /// It is a text of its own.
+    /// In a text of its own.
     Own(Text),
-    /// It is that of the process of the entry's batch.
+    /// In the process of the entry's batch.
     Kept(Arc<Entry>),
 }
 
-/// The name of a service: a text of its own, or where an entry keeps it, which is shared; so however many links
-/// name a service, its name is in memory once. Contracts see its bytes.
+/// The name of a service: a text of its own, or a reference to an entry that has it. All links that name one
+/// service share its name in memory. Contracts see its bytes.
 #[derive(Debug, Drop)]
 pub struct ServiceName {
     form: NameForm,
@@ -35,7 +35,7 @@ impl Model for ServiceName {
 }
 
 impl ServiceName {
-    /// A text of its own; takes no memory.
+    /// Makes a name of a text of its own. Allocates nothing.
     pub fn own(text: Text) -> ServiceName
         ensures { result ≡ text }
     {
@@ -44,7 +44,8 @@ impl ServiceName {
         }
     }
 
-    /// The service of the batch that the entry brings, empty where it brings none. The entry is shared.
+    /// Refers to the service of the entry's batch; the name is empty if the entry has no batch. The entry is
+    /// shared.
     ///
     /// # Errors
     ///
@@ -58,7 +59,7 @@ impl ServiceName {
         })
     }
 
-    /// Its bytes.
+    /// Returns the text.
     pub fn as_str(&self) -> &str
         ensures { result.now ≡ self.now }
     {

@@ -1,4 +1,4 @@
-//! The spans of a trace as they are shown, with what is known of which of them share a process.
+//! The spans of a trace as they are shown, and which of them are known to share a process.
 
 ghost use Rattle.std.specs.Prelude.{◌≡◌, ◌==◌, length};
 ghost use Rattle.trace_model.specs.Adjusting.{spans_of};
@@ -9,8 +9,8 @@ use jaeger_model::Seq;
 use std::alloc::Global;
 use std::marker::Model;
 
-/// The spans of a trace as they are shown, and the places of the entries that brought them, as far as those are
-/// known: spans with one place have one process, which need not be compared. Contracts see the list of the spans.
+/// The spans of a trace as they are shown, with the places of the entries that brought them, as far as they are
+/// known. Spans with one place have one process, so it need not be compared. Contracts see the list of the spans.
 #[derive(Debug, Drop)]
 pub struct ShownTrace {
     spans: Seq<Shown>,
@@ -31,7 +31,8 @@ impl Model for ShownTrace {
 }
 
 impl ShownTrace {
-    /// The spans, and the places of the entries that brought the first of them; takes no memory.
+    /// Makes a trace of its spans, and of the places of the entries that brought the first of them. Allocates
+    /// nothing.
     pub fn new(spans: Seq<Shown>, places: Vec<u64>) -> ShownTrace
         requires { ShareProcesses (spans_of spans) places.items }
         ensures { result ≡ spans }
@@ -39,28 +40,28 @@ impl ShownTrace {
         ShownTrace { spans, places }
     }
 
-    /// Spans of which it isn't known who brought them; takes no memory.
-    pub fn of_unknown(alloc: Global, spans: Seq<Shown>) -> ShownTrace
+    /// Makes a trace of spans whose entries aren't known. Allocates nothing.
+    pub fn without_places(alloc: Global, spans: Seq<Shown>) -> ShownTrace
         ensures { result ≡ spans }
     {
         ShownTrace::new(spans, Vec::new(alloc))
     }
 
-    /// The spans.
+    /// Returns the spans.
     pub fn as_slice(&self) -> &[Shown]
         ensures { result.now ≡ self.now }
     {
         self.spans.as_slice()
     }
 
-    /// The places of the entries that brought the first spans: spans with one place have one process.
+    /// Returns the places of the entries that brought the first spans. Spans with one place have one process.
     pub fn places(&self) -> &[u64]
         ensures { ShareProcesses (spans_of self.now) result.now }
     {
         &self.places
     }
 
-    /// The number of spans.
+    /// Returns the number of spans.
     pub fn len(&self) -> usize
         ensures { result ≡ length self.now }
     {

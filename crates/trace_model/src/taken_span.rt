@@ -1,4 +1,4 @@
-//! A span of a trace that was taken out of a store.
+//! A span of a trace that was collected from a store.
 ghost use Rattle.std.specs.Prelude.{◌≡◌, Some, slice_get, IfOk, IfSome, option_map};
 ghost use Rattle.std.specs.Option.{option_and_then};
 ghost use Rattle.std.specs.Arc.{arc_value};
@@ -13,9 +13,9 @@ use std::alloc::AllocError;
 use std::marker::Model;
 use std::sync::Arc;
 
-/// A span where its entry keeps it, with a number that its owner gives it. The entry is shared and nothing of it is
-/// copied, so that the span can be looked at once the store is left that it was taken out of. Contracts see the span
-/// with its process and its parent among its references, and the number.
+/// A span, read from its shared entry, with a number from its owner. Nothing of the entry is copied, so the span
+/// can be read after its store is left. Contracts see the span with its process and with its parent among its
+/// references, and the number.
 #[derive(Debug, Drop)]
 pub struct TakenSpan {
     entry: Arc<Entry>,
@@ -37,7 +37,8 @@ impl Model for TakenSpan {
 }
 
 impl TakenSpan {
-    /// The span of the entry at an index, the first being 0, with this number; `None` where the entry has no such span.
+    /// Refers to the span of the entry at an index, which counts from 0, with this number. Returns `None` if the
+    /// entry has no such span.
     ///
     /// # Errors
     ///
@@ -58,14 +59,14 @@ impl TakenSpan {
         Ok(None)
     }
 
-    /// Its number.
+    /// Returns its number.
     pub fn number(&self) -> u32
         ensures { result ≡ self.now.number }
     {
         self.number
     }
 
-    /// The span as it was reported: its parent need not be among its references. Takes no memory.
+    /// Returns the span as it was reported: its parent need not be among its references. Allocates nothing.
     pub fn seen(&self) -> Seen<'_>
         ensures { Some (placed_by_its_entry result) ≡ self.now.span }
     {
@@ -78,7 +79,7 @@ impl TakenSpan {
         seen
     }
 
-    /// The span for a trace of an answer.
+    /// Returns the span in the form of an answer's trace.
     ///
     /// # Errors
     ///
@@ -89,7 +90,7 @@ impl TakenSpan {
         KeptSpan::new(&self.entry, self.index)
     }
 
-    /// The name of the service that reported it.
+    /// Returns the name of the service that reported it.
     ///
     /// # Errors
     ///

@@ -1,4 +1,4 @@
--- What the samples are.
+-- The values of the samples.
 use Rattle.std.specs.Prelude.{ℕ, pos, List, [], ◌∷◌, codes, None}
 use Rattle.jaeger_model.specs.declared.ids.TraceId.{TraceId}
 use Rattle.jaeger_model.specs.declared.ids.SpanId.{SpanId}

@@ -1,12 +1,12 @@
-//! Values of traces for tests: spans, tags, processes, batches and searches that are alike but for what a
-//! test is about, and a batch as bytes with its requests and answers.
+//! Values of traces for tests: spans, tags, processes, batches and searches with default contents, and a batch
+//! as bytes with its requests and responses.
 //!
-//! Each constructor says exactly what it makes. A test names what it wants and changes a field where
-//! it wants another value, as `span.start = 900`. Nothing but tests stands on this crate.
+//! Each constructor says exactly what it makes. A test calls it, and changes a field if it needs another value,
+//! as `span.start = 900`. Only tests use this crate.
 //!
 //! * `parts`: tags, processes, spans, batches and entries of them, and searches.
-//! * `seeing`: spans that are only looked at, and those of a trace that is made.
-//! * `exchanges`: requests that hand a batch in and look for it, and what is answered to them, as bytes.
+//! * `seeing`: spans that are borrowed, and those of a trace that is copied.
+//! * `exchanges`: requests that submit a batch and query it, and their responses, as bytes.
 //! * `spellings`: batches as hexadecimal digits, as Apache Thrift spells them among them.
 #![tactic(auto)]
 
@@ -16,7 +16,7 @@ mod seeing;
 pub mod spellings;
 
 pub use parts::{
-    again, batch, beside, first_otherwise, handed_in, host_process, kept, list_of, placed, process,
-    service_find, span, text_tag,
+    batch, beside, first_mismatch, host_process, kept, list_of, placed, process, retry,
+    service_find, span, submitted, text_tag,
 };
 pub use seeing::{made_spans, seen_trace, seen_traces};

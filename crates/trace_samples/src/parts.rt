@@ -10,7 +10,7 @@ use std::alloc::{AllocError, Global};
 use std::sync::Arc;
 use trace_model::{Entry, Find, Work};
 
-/// A list of one item.
+/// Makes a list of one item.
 ///
 /// # Errors
 ///
@@ -23,7 +23,7 @@ pub fn list_of<T: Drop>(alloc: Global, item: T) -> Result<Seq<T>, AllocError>
     Ok(Seq::from_vec(items))
 }
 
-/// A tag whose value is a text.
+/// Makes a tag whose value is a text.
 ///
 /// # Errors
 ///
@@ -37,7 +37,7 @@ pub fn text_tag(alloc: Global, key: &str, text: &str) -> Result<Tag, AllocError>
     })
 }
 
-/// A service without tags.
+/// Makes the process of a service without tags.
 ///
 /// # Errors
 ///
@@ -50,7 +50,7 @@ pub fn process(alloc: Global, service: &str) -> Result<Process, AllocError>
     Ok(Process { service, tags })
 }
 
-/// A service with the one tag `ip`, the host that it runs on.
+/// Makes the process of a service with one tag, `ip`, the host that it runs on.
 ///
 /// # Errors
 ///
@@ -64,8 +64,8 @@ pub fn host_process(alloc: Global, service: &str, host: &str) -> Result<Process,
     })
 }
 
-/// A span without parent: operation `op`, from 1000 for 50 microseconds, with flags 1 and no
-/// reference, tag or log. `trace` is the low half of its trace's id, whose high half is 0.
+/// Makes a span without parent: operation `op`, from 1000 for 50 microseconds, with flags 1 and no reference, tag
+/// or log. `trace` is the low half of its trace's id, whose high half is 0.
 ///
 /// # Errors
 ///
@@ -90,7 +90,7 @@ pub fn span(alloc: Global, trace: u64, id: u64) -> Result<Span, AllocError>
     })
 }
 
-/// The span as a service without tags reported it.
+/// Returns the span as a service without tags reported it.
 ///
 /// # Errors
 ///
@@ -103,7 +103,7 @@ pub fn placed(alloc: Global, service: &str, span: Span) -> Result<Placed, AllocE
     Ok(Placed { process, span })
 }
 
-/// The spans as a service without tags hands them in, with no number of the sender's own.
+/// Makes a batch of the spans by a service without tags, with no `seqNo`.
 ///
 /// # Errors
 ///
@@ -120,12 +120,12 @@ pub fn batch(alloc: Global, service: &str, spans: Vec<Span>) -> Result<Batch, Al
     })
 }
 
-/// What a seat handed in under a number.
+/// Makes the entry that a seat submitted with a number.
 ///
 /// # Errors
 ///
 /// Out of memory, and nothing else.
-pub fn handed_in(
+pub fn submitted(
     alloc: Global,
     seat: u16,
     number: u64,
@@ -137,7 +137,7 @@ pub fn handed_in(
     Ok(Arc::new(alloc, Entry { seat, number, work })?)
 }
 
-/// The value, where what was done with it succeeded.
+/// Returns the value if what was done with it succeeded.
 pub fn kept<T: Drop, E>(value: T, done: Result<(), E>) -> Result<T, E>
     ensures { result ≡ result_map_both (λ _. value) (λ why. why) done }
 {
@@ -147,7 +147,7 @@ pub fn kept<T: Drop, E>(value: T, done: Result<(), E>) -> Result<T, E>
     }
 }
 
-/// The value and what was made beside it, where that succeeded.
+/// Returns the value and what was made with it, if that succeeded.
 pub fn beside<T: Drop, U, E>(value: T, made: Result<U, E>) -> Result<(T, U), E>
     ensures { result ≡ result_map_both (λ it. (value, it)) (λ why. why) made }
 {
@@ -157,8 +157,9 @@ pub fn beside<T: Drop, U, E>(value: T, made: Result<U, E>) -> Result<(T, U), E>
     }
 }
 
-/// The first row that isn't as the test wants it, each looked at behind the ones before; None where all are.
-pub fn first_otherwise<T, E, F: FnMut(&T) -> Result<bool, E>>(
+/// Returns the index of the first row that isn't as the test wants it, each judged after the ones before; None if
+/// all are.
+pub fn first_mismatch<T, E, F: FnMut(&T) -> Result<bool, E>>(
     rows: &[T],
     mut is_so: F,
 ) -> Result<Option<usize>, E>
@@ -172,8 +173,8 @@ pub fn first_otherwise<T, E, F: FnMut(&T) -> Result<bool, E>>(
     Ok(None)
 }
 
-/// What a call answers, made once more where it found no memory.
-pub fn again<T, E: PartialEq + Copy, F: Fn() -> Result<T, E>>(no_memory: E, call: F) -> Result<T, E>
+/// Returns the result of a call, which is repeated once if it ran out of memory.
+pub fn retry<T, E: PartialEq + Copy, F: Fn() -> Result<T, E>>(no_memory: E, call: F) -> Result<T, E>
     requires { F.IsAlwaysCallable call }
 {
     match call() {
@@ -182,7 +183,7 @@ pub fn again<T, E: PartialEq + Copy, F: Fn() -> Result<T, E>>(no_memory: E, call
     }
 }
 
-/// A search by a service, without any other condition and without a limit.
+/// Makes a search by a service, without any other condition and without a limit.
 ///
 /// # Errors
 ///

@@ -5,7 +5,7 @@ use jaeger_model::{Placed, Seen};
 use std::alloc::{AllocError, Global};
 use trace_model::{AnsweredTrace, Shown, TraceForm};
 
-/// The spans of a trace, looked at in their order.
+/// Borrows the spans of a trace, in their order.
 ///
 /// # Errors
 ///
@@ -22,7 +22,7 @@ pub fn seen_trace(alloc: Global, trace: &[Placed]) -> Result<Vec<Seen<'_>>, Allo
     Ok(all)
 }
 
-/// The spans of each trace, looked at in their order.
+/// Borrows the spans of each trace, in their order.
 ///
 /// # Errors
 ///
@@ -38,7 +38,7 @@ pub fn seen_traces(alloc: Global, traces: &[Vec<Placed>]) -> Result<Vec<Vec<Seen
     Ok(all)
 }
 
-/// The spans of a trace that is made already, as the plain store's are.
+/// Returns the spans of a trace that is copied already, as the plain store's are.
 pub fn made_spans(trace: &AnsweredTrace) -> &[Shown] {
     match trace.form() {
         TraceForm::Ready(made) => made.as_slice(),

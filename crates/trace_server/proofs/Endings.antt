@@ -8,10 +8,10 @@ use Rattle.atomic_table.specs.Seated.{TableId}
 use Rattle.trace_model.specs.declared.limits.Limits.{Limits}
 use Rattle.intake.specs.Seats.{SeatValue}
 use Rattle.serve_options.specs.declared.host.Host.{Host}
-use Rattle.text_lines.specs.RunErrors.{WritesSome, IsWhyOf, Says, status_by}
+use Rattle.text_lines.specs.RunErrors.{WritesSome, IsWhyOf, WritesText, status_by}
 use Rattle.text_lines.specs.declared.run_error.RunError.{RunError}
 use Rattle.text_lines.specs.declared.run_error.RunError.TheVariants.{Device, Memory}
-use Rattle.text_lines.proofs.Pages.{moves_nothing, some_written}
+use Rattle.text_lines.proofs.Buffers.{moves_nothing, some_written}
 use Rattle.text_lines.proofs.Wholes.{some_after, some_more}
 use Rattle.trace_server.specs.WorkerSeats.{AreNew}
 use Rattle.trace_server.specs.Serving.{StopsIn, Ends, StopsEarly, Completes, Reports, Serves, listening_line, served_line, last_lines}
@@ -23,7 +23,7 @@ all_written : (a b : Option (List ℕ)) (text : List ℕ) → Appends a b text �
 all_written a b text all = (text, all, ([], append-nil text))
 
 -- the second of two lines was said, or was not
-pub said_both : (a b c : Option (List ℕ)) (failed : Bool) (first second : List ℕ) (r : Result (Unit {0}) RunError) → Appends a b first → Says b c failed second r → Says a c failed (first ++ second) r
+pub said_both : (a b c : Option (List ℕ)) (failed : Bool) (first second : List ℕ) (r : Result (Unit {0}) RunError) → Appends a b first → WritesText b c failed second r → WritesText a c failed (first ++ second) r
 said_both a b c failed first second (Ok u) said s = (Appends-trans a b c first second said s.0, s.1)
 said_both a b c failed first second (Err h) said s = (some_after a b c first second said s.0, s.1)
 
@@ -51,12 +51,12 @@ unheard a b failed host port h status is w = record {
   stops = (h, is, some_more a b (listening_line host port) (served_line 0) (listening_line host port ++ served_line 0) refl w.0, w.1);
 }
 
-stopped_behind : (a b c : Option (List ℕ)) (failed : Bool) (first text : List ℕ) (status : ℕ) → Appends a b first → StopsIn b c failed text status → StopsIn a c failed (first ++ text) status
-stopped_behind a b c failed first text status said s = (s.0, s.1, some_after a b c first text said s.2, s.3)
+stopped_after : (a b c : Option (List ℕ)) (failed : Bool) (first text : List ℕ) (status : ℕ) → Appends a b first → StopsIn b c failed text status → StopsIn a c failed (first ++ text) status
+stopped_after a b c failed first text status said s = (s.0, s.1, some_after a b c first text said s.2, s.3)
 
-ended_behind : (a b c : Option (List ℕ)) (failed : Bool) (first text : List ℕ) (lost : Bool) (status : ℕ) → Appends a b first → Ends b c failed text lost status → Ends a c failed (first ++ text) lost status
-ended_behind a b c failed first text lost status said (inl all) = inl (all.0, Appends-trans a b c first text said all.1, all.2)
-ended_behind a b c failed first text lost status said (inr some) = inr (stopped_behind a b c failed first text status said some)
+ended_after : (a b c : Option (List ℕ)) (failed : Bool) (first text : List ℕ) (lost : Bool) (status : ℕ) → Appends a b first → Ends b c failed text lost status → Ends a c failed (first ++ text) lost status
+ended_after a b c failed first text lost status said (inl all) = inl (all.0, Appends-trans a b c first text said all.1, all.2)
+ended_after a b c failed first text lost status said (inr some) = inr (stopped_after a b c failed first text status said some)
 
 -- it listened, and then reported
 pub reported : (host : Host) (limits : Limits) (workers : ℕ) (desk : TableId) (opened : List SeatValue) (a b c : Option (List ℕ)) (failed : Bool) (port status : ℕ) → AreNew desk opened → Appends a b (listening_line host port)
@@ -64,7 +64,7 @@ pub reported : (host : Host) (limits : Limits) (workers : ℕ) (desk : TableId) 
 reported host limits workers desk opened a b c failed port status new said (inl early) = inr (inl (record {
   port = port;
   served = early.0;
-  stops = stopped_behind a b c failed (listening_line host port) (served_line early.0) status said early.1;
+  stops = stopped_after a b c failed (listening_line host port) (served_line early.0) status said early.1;
 }))
 reported host limits workers desk opened a b c failed port status new said (inr closes) = inr (inr (record {
   port = port;
@@ -82,6 +82,6 @@ reported host limits workers desk opened a b c failed port status new said (inr 
     gone_on = closes.gone_on;
     one_for_each = closes.one_for_each;
     books = closes.books;
-    ends = ended_behind a b c failed (listening_line host port) (last_lines closes.served closes.acknowledged closes.refused closes.left) closes.failed status said closes.ends;
+    ends = ended_after a b c failed (listening_line host port) (last_lines closes.served closes.acknowledged closes.refused closes.left) closes.failed status said closes.ends;
   };
 }))

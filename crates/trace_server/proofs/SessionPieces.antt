@@ -7,9 +7,9 @@ use Rattle.store_backend.specs.Knowing.{Keeps}
 use Rattle.http_session.specs.Pieces.{AsksOnce}
 use Rattle.http_session.specs.Sessions.{Step}
 use Rattle.http_session.specs.declared.verdict.Verdict.{Verdict}
-use Rattle.http_session.specs.declared.verdict.Verdict.TheVariants.{Submit, Ask, Say}
+use Rattle.http_session.specs.declared.verdict.Verdict.TheVariants.{Submit, Ask, Reject}
 use Rattle.http_session.specs.declared.reply.Reply.{Reply}
-use Rattle.http_session.specs.declared.reply.Reply.TheVariants.{Accepted, Answered, Refused, Said, Broken}
+use Rattle.http_session.specs.declared.reply.Reply.TheVariants.{Accepted, Answered, Refused, Error, Malformed}
 use Rattle.live_store.specs.Sharing.{LiveValue, LiveKnows, GoesOn, LiveSubmits, LiveReads}
 use Rattle.live_store.proofs.Seats.{stays_same, submit_goes_on, read_goes_on}
 use Rattle.trace_server.specs.Underway.{live_store}
@@ -18,18 +18,18 @@ step_goes_on : (limits : Limits) (s : LiveValue) (v : Verdict) (r : Reply) (t : 
 step_goes_on limits s (Submit b) Accepted t d = submit_goes_on limits s b (Ok d.0) t d.1
 step_goes_on limits s (Submit b) (Refused why) t d = submit_goes_on limits s b (Err why) t d
 step_goes_on limits s (Submit b) (Answered a) t d = absurd d
-step_goes_on limits s (Submit b) (Said m) t d = absurd d
-step_goes_on limits s (Submit b) (Broken m) t d = absurd d
+step_goes_on limits s (Submit b) (Error m) t d = absurd d
+step_goes_on limits s (Submit b) (Malformed m) t d = absurd d
 step_goes_on limits s (Ask q) (Answered a) t d = read_goes_on limits s q (Ok a) t d
 step_goes_on limits s (Ask q) (Refused why) t d = read_goes_on limits s q (Err why) t d
 step_goes_on limits s (Ask q) Accepted t d = absurd d
-step_goes_on limits s (Ask q) (Said m) t d = absurd d
-step_goes_on limits s (Ask q) (Broken m) t d = absurd d
-step_goes_on limits s (Say m) (Said said) t d = stays_same s.seat t.seat (ap (λ (z : LiveValue). z.seat) d.1)
-step_goes_on limits s (Say m) Accepted t d = absurd d
-step_goes_on limits s (Say m) (Answered a) t d = absurd d
-step_goes_on limits s (Say m) (Refused why) t d = absurd d
-step_goes_on limits s (Say m) (Broken b) t d = absurd d
+step_goes_on limits s (Ask q) (Error m) t d = absurd d
+step_goes_on limits s (Ask q) (Malformed m) t d = absurd d
+step_goes_on limits s (Reject m) (Error said) t d = stays_same s.seat t.seat (ap (λ (z : LiveValue). z.seat) d.1)
+step_goes_on limits s (Reject m) Accepted t d = absurd d
+step_goes_on limits s (Reject m) (Answered a) t d = absurd d
+step_goes_on limits s (Reject m) (Refused why) t d = absurd d
+step_goes_on limits s (Reject m) (Malformed b) t d = absurd d
 
 pub asking_goes_on : (limits : Limits) (s t : LiveValue) → AsksOnce (live_store limits) s t → GoesOn s.seat t.seat
 asking_goes_on limits s t (inl same) = stays_same s.seat t.seat (ap (λ (z : LiveValue). z.seat) same)

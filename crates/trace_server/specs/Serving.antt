@@ -1,4 +1,4 @@
--- What a server says of itself, and how it ends.
+-- The output of a server, and how it ends.
 use Rattle.std.specs.Prelude.{◌≡◌, ℕ, ◌⊎◌, ◌++◌, Bool, false, if◌then◌else◌, List, [], Option, codes, length, map, All}
 use Rattle.std.specs.List.{range_with_len, AllZip}
 use Rattle.std.specs.Fmt.{decimal}
@@ -35,8 +35,8 @@ last_lines served acknowledged refused left =
 
 -- ---- what became of the batches
 
--- A clerk of an empty store judged some jobs, which led to these lists, and some jobs are left. All that these seats
--- handed in is among them, for each seat whole and in order. The counts are those of the answers, and of what is left.
+-- A clerk of an empty store judged some jobs, which led to these lists, and some jobs are left. All jobs of these seats
+-- are among them, for each seat complete and in order. The counts are those of the answers, and of the jobs left.
 pub record ClosesBooks (limits : Limits) (lists : Lists) (seats : List SeatValue) (acknowledged refused left : ℕ) : Type 0 where
   pub judged_jobs : List Entry
   pub accounts : List Account
@@ -53,22 +53,23 @@ OneForEach workers seats = map (λ (s : SeatValue). s.seat) seats ≡ range_with
 
 -- ---- how it ends
 
--- 4 where a worker could accept no more
+-- 4 if a worker couldn't accept any more
 abbrev pub status_if : Bool → ℕ
 status_if failed = if failed then 4 else 0
 
--- a beginning of the text was written: 4 where the output failed, 5 where memory or threads ran out
+-- a prefix of the text was written: 4 if the output failed, 5 if memory or threads ran out
 abbrev pub StopsIn : Option (List ℕ) → Option (List ℕ) → Bool → List ℕ → ℕ → Type 0
 StopsIn out0 out1 out_failed text status =
     (error : RunError) × (status ≡ status_by error) × WritesSome out0 out1 text × IsWhyOf error out_failed
 
--- all of the text was written, or it stopped
+-- all of the text was written, or a prefix
 abbrev pub Ends : Option (List ℕ) → Option (List ℕ) → Bool → List ℕ → Bool → ℕ → Type 0
 Ends out0 out1 out_failed text failed status =
     ((status ≡ status_if failed) × Appends out0 out1 text × (out_failed ≡ false))
     ⊎ StopsIn out0 out1 out_failed text status
 
--- it said nothing, though the output works: memory or threads ran out, or the system gave no address of the socket
+-- nothing was written, though the output works: memory or threads ran out, or the system didn't return the socket's
+-- address
 abbrev pub IsSilent : Option (List ℕ) → Option (List ℕ) → Bool → ℕ → Type 0
 IsSilent out0 out1 out_failed status = (status ≡ 5) × (out1 ≡ out0) × (out_failed ≡ false)
 
@@ -78,8 +79,8 @@ pub record StopsEarly (host : Host) (out0 out1 : Option (List ℕ)) (out_failed 
   pub served : ℕ
   pub stops : StopsIn out0 out1 out_failed (listening_line host port ++ served_line served) status
 
--- it closed the books of the seats that these have become, and said how many connections were taken and what became of
--- the batches, behind this front
+-- it closed the books of the seats that these have become, and wrote the number of connections and the totals of the
+-- batches after this text
 pub record Closes (limits : Limits) (workers : ℕ) (opened : List SeatValue) (front : List ℕ) (out0 out1 : Option (List ℕ)) (out_failed : Bool) (status : ℕ) : Type 0 where
   pub served : ℕ
   pub failed : Bool
@@ -93,14 +94,14 @@ pub record Closes (limits : Limits) (workers : ℕ) (opened : List SeatValue) (f
   pub books : ClosesBooks limits lists seats acknowledged refused left
   pub ends : Ends out0 out1 out_failed (front ++ last_lines served acknowledged refused left) failed status
 
--- behind the first line: it stopped before its books were closed, or it closed those of the seats that these have become
+-- after the first line: it stopped before its books were closed, or it closed those of the seats that these have become
 abbrev pub Reports : Limits → ℕ → List SeatValue → Option (List ℕ) → Option (List ℕ) → Bool → ℕ → Type 0
 Reports limits workers opened out0 out1 out_failed status =
     ((served : ℕ) × StopsIn out0 out1 out_failed (served_line served) status)
     ⊎ Closes limits workers opened [] out0 out1 out_failed status
 
--- it closed its books: where it listens is said, and at the end how many connections were taken and what
--- became of the batches that were handed in by the seats of one desk, which were new when it began
+-- it closed its books: its output is the listening line, and at the end the number of connections and the totals of the
+-- batches that were submitted by the seats of one desk, which were new at the start
 pub record Completes (host : Host) (limits : Limits) (workers : ℕ) (out0 out1 : Option (List ℕ)) (out_failed : Bool) (status : ℕ) : Type 0 where
   pub port : ℕ
   pub desk : TableId

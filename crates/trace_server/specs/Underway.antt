@@ -11,6 +11,6 @@ use Rattle.open_connections.specs.declared.socket.Socket.{Socket}
 abbrev pub live_store : Limits → Store LiveValue
 live_store limits = store_of (LiveSubmits limits) (LiveReads limits) LiveKnows (λ _. limits)
 
--- The session of each connection is underway from where it began, over this seat and this pass as they are now.
+-- The session of each connection is underway from its start, over the present state of this seat and this pass.
 abbrev pub AllUnderway : Limits → LiveValue → Slab (OpenConnection Socket) → Type 0
 AllUnderway limits live connections = AllOpen (live_store limits) socket_line live connections

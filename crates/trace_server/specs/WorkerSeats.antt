@@ -10,16 +10,17 @@ use Rattle.intake.specs.Books.{Ran, AllTaken}
 use Rattle.intake.specs.Books.{acknowledged as acknowledged_of, refused as refused_of}
 use Rattle.live_store.specs.Sharing.{GoesOn}
 
--- seats of this desk that may hand in more
+-- seats of this desk that may submit more
 abbrev pub AreOpen : TableId → List SeatValue → Type 0
 AreOpen desk seats = All (λ (s : SeatValue). (s.desk ≡ desk) × (s.hands_in ≡ true)) seats
 
--- seats of this desk that have handed in nothing yet, and may
+-- seats of this desk that have submitted nothing yet, and may
 abbrev pub AreNew : TableId → List SeatValue → Type 0
 AreNew desk seats =
     All (λ (s : SeatValue). (s.desk ≡ desk) × (s.hands_in ≡ true) × (s.jobs ≡ [])) seats
 
--- a clerk of an empty store judged all that it took, which led to these lists, and the counts are those of its answers
+-- a clerk of an empty store judged all jobs that it took, which led to these lists, and the counts are those of its
+-- answers
 pub record HasJudged (limits : Limits) (taken : List Entry) (accounts : List Account) (lists : Lists) (acknowledged refused : ℕ) : Type 0 where
   pub ran : Ran limits [] [] no_entries taken accounts lists
   pub acknowledged_is : acknowledged ≡ acknowledged_of accounts
@@ -31,11 +32,11 @@ pub record KeepsBooks {A : Type 0} (limits : Limits) (opened closed : TableId) (
   pub same_desk : closed ≡ opened
   pub none_left : left ≡ []
 
--- these jobs were taken, and all of them are left
+-- these jobs were taken, and all of them are left over
 abbrev pub Moves : List Entry → List Entry → List Entry → List Entry → Type 0
 Moves taken left taken' left' =
     (moved : List Entry) × (taken' ≡ taken ++ moved) × (left' ≡ left ++ moved)
 
--- all that the seats handed in was taken
+-- all jobs of the seats were taken
 abbrev pub AreTaken : List Entry → List SeatValue → Type 0
 AreTaken taken seats = All (λ (s : SeatValue). AllTaken s.seat s.jobs taken) seats

@@ -1,7 +1,7 @@
 //! The connections that a worker accepts.
 
 use crate::gate::Gate;
-use crate::notices::say_accepts_no_more;
+use crate::notices::print_accepts_no_more;
 use crate::sessions::Sessions;
 use crate::worker::{Server, WorkerOutcome};
 use libc::net::listen;
@@ -13,19 +13,20 @@ use std::os::fd::AsRawFd;
 use std::sync::Wait;
 use std::time::{Clock, Duration};
 
-/// How many milliseconds pass before a connection is accepted if there is no room for one more.
+/// The number of milliseconds without accepting after the system had no room for one more connection.
 const SHORTAGE_PAUSE: u64 = 100;
 
-/// How many milliseconds a worker first leaves a connection to those that have fewer. Each further time is twice as long.
+/// The number of milliseconds for which a worker first leaves a connection to workers that have fewer. Each further
+/// time is twice as long.
 const DEFERRAL: u64 = 1;
 
-/// How often it does so before it accepts the connection itself: after 127 ms in all.
+/// The number of times that it does so before it accepts the connection itself, after 127 ms in all.
 const MAX_DEFERRALS: u32 = 7;
 
-/// How many connections may wait in the system's queue until they are accepted, if the system allows as many.
+/// The length of the system's queue of connections that wait to be accepted, if the system allows it.
 const MAX_QUEUED: i32 = 4_096;
 
-// Linux's numbers of errors.
+// The error numbers of Linux.
 const ENOMEM: i32 = 12;
 
 const ENFILE: i32 = 23;
@@ -34,33 +35,33 @@ const EMFILE: i32 = 24;
 
 const ENOBUFS: i32 = 105;
 
-/// What accepting came to.
+/// The result of accepting.
 #[derive(Drop)]
 enum Arrival {
     Came(TcpStream),
-    /// No connection waits.
+    /// No connection is waiting.
     Nobody,
     /// The system has no room for one more.
     Shortage(io::Error),
-    /// None can be accepted any more.
+    /// No more connections can be accepted.
     Over(io::Error),
 }
 
-/// Which connections a worker may accept, and which it accepted.
+/// The state of a worker's accepting.
 #[derive(Drop)]
 pub(crate) struct Arrivals {
-    /// None can be accepted any more.
+    /// No more connections can be accepted.
     over: bool,
-    /// A connection may wait to be accepted.
+    /// A connection may be waiting.
     pending: bool,
-    /// How often the next one was left to another worker.
+    /// The number of times that the next connection was left to another worker.
     deferrals: u32,
-    /// None is accepted before this time.
+    /// No connection is accepted before this time.
     not_before: Duration,
     outcome: WorkerOutcome,
 }
 
-/// Whether an accept failed for this once: it was interrupted, or the client has gone.
+/// Returns whether the error is temporary: the call was interrupted, or the client has disconnected.
 fn is_passing(error: &io::Error) -> bool {
     matches!(
         error.kind(),
@@ -68,7 +69,7 @@ fn is_passing(error: &io::Error) -> bool {
     )
 }
 
-/// Whether the system has no memory, no buffer or no file descriptor left for one more connection.
+/// Returns whether the system has no memory, buffer or file descriptor left for one more connection.
 fn is_shortage(error: &io::Error) -> bool {
     matches!(
         error.raw_os_error(),
@@ -76,13 +77,13 @@ fn is_shortage(error: &io::Error) -> bool {
     )
 }
 
-/// Makes room in the system's queue for clients that connect at the same time: `bind` leaves it at 128. Where the system
-/// refuses, the queue stays as it is.
+/// Lengthens the system's queue, which `bind` leaves at 128, for clients that connect at the same time. If the system
+/// refuses, the queue keeps its length.
 pub(crate) fn lengthen_queue(listener: &TcpListener) {
     let _status = listen(listener.as_raw_fd(), MAX_QUEUED);
 }
 
-/// Accepts a connection that waits. It accepts again after a call that was interrupted or whose client has gone.
+/// Accepts a waiting connection. Retries after a temporary error.
 fn accept<N: StoreName, G: Gate, R: Wait>(rt: &R, server: &Server<'_, N, G>) -> Arrival {
     for _ in rt.forever() {
         match server.listener.accept() {
@@ -97,7 +98,7 @@ fn accept<N: StoreName, G: Gate, R: Wait>(rt: &R, server: &Server<'_, N, G>) -> 
 }
 
 impl Arrivals {
-    /// Has accepted none.
+    /// Creates the state before the first connection.
     pub(crate) fn new() -> Arrivals {
         Arrivals {
             over: false,
@@ -121,12 +122,12 @@ impl Arrivals {
         self.outcome
     }
 
-    /// Learns that the listener is ready.
+    /// Records that the listener is ready.
     pub(crate) fn arrived(&mut self) {
         self.pending = true;
     }
 
-    /// Returns when to look for a connection that waits.
+    /// Returns when to look for a waiting connection.
     pub(crate) fn due(&self) -> Option<Duration> {
         if self.pending && !self.over {
             Some(self.not_before)
@@ -135,12 +136,12 @@ impl Arrivals {
         }
     }
 
-    /// Accepts nothing for so many milliseconds.
+    /// Accepts nothing for this number of milliseconds.
     fn pause(&mut self, now: Duration, milliseconds: u64) {
         self.not_before = now.saturating_add(Duration::from_millis(milliseconds));
     }
 
-    /// Returns whether a worker with so many connections leaves the next one to a worker that has fewer.
+    /// Returns whether a worker with this number of connections leaves the next one to a worker that has fewer.
     fn defers<N: StoreName, G: Gate>(
         &mut self,
         server: &Server<'_, N, G>,
@@ -156,7 +157,7 @@ impl Arrivals {
         true
     }
 
-    /// Accepts a connection that waits, if a place was taken and a session claimed for it.
+    /// Accepts a waiting connection, if it gets a place and a session can be claimed for it.
     fn accept_one<N: StoreName, G: Gate, R: Wait + Eprint>(
         &mut self,
         rt: &R,
@@ -177,11 +178,11 @@ impl Arrivals {
                 self.pending = false;
             }
             Arrival::Shortage(error) => {
-                server.notices.say_shortage(rt, &error);
+                server.notices.print_shortage(rt, &error);
                 self.pause(now, SHORTAGE_PAUSE);
             }
             Arrival::Over(error) => {
-                say_accepts_no_more(rt, worker, &error);
+                print_accepts_no_more(rt, worker, &error);
                 self.over = true;
                 self.outcome.failed = true;
             }
@@ -191,8 +192,8 @@ impl Arrivals {
         None
     }
 
-    /// Accepts the next connection, to the worker with this number, which has so many: if one waits, may be accepted, and is
-    /// not left to another worker. Its place is the caller's to give back.
+    /// Accepts the next connection for a worker, if one is waiting, may be accepted, and isn't left to another worker.
+    /// The caller must give its place back.
     pub(crate) fn next<N: StoreName, G: Gate, R: Wait + Clock + Eprint>(
         &mut self,
         rt: &R,
@@ -206,7 +207,7 @@ impl Arrivals {
             return None;
         }
         if !server.loads.take_place() {
-            server.notices.say_all_taken(rt);
+            server.notices.print_all_taken(rt);
             self.pause(now, SHORTAGE_PAUSE);
             return None;
         }

@@ -1,13 +1,13 @@
-//! How a server is set up.
+//! The configuration of a server.
 
 use serve_options::ServeOptions;
 use std::hash::RandomState;
 
-/// How a server is set up.
+/// The configuration of a server.
 #[derive(Clone, Copy, Debug)]
 pub struct ServerConfig {
-    /// What it is asked to do, but for the port, which is that of the socket that it gets. The socket listens on the host.
+    /// Its options. The port is that of the socket that it gets, which listens on the host.
     pub options: ServeOptions,
-    /// The keys of the hash by which its store finds traces.
+    /// The keys of the hash function of its store.
     pub keys: RandomState,
 }

@@ -1,27 +1,27 @@
-//! What became of batches and queries, as each worker counts it. Nothing rests on these counts but what an operator is told.
+//! Counts of batches and queries by worker. They are only used for the operator's notices.
 
 use std::alloc::{AllocError, Global};
 use std::fmt;
 use std::sync::atomic::{AtomicU64, Ordering};
 use trace_model::Refusal;
 
-/// The least number of a refusal.
+/// The smallest number of a refusal.
 const FIRST_REFUSAL: usize = 20;
 
-/// How many refusals there are.
+/// The number of refusals.
 const REFUSALS: usize = 11;
 
-/// What one worker counts.
+/// The counts of one worker.
 #[derive(Drop)]
 struct WorkerCounts {
     acknowledged: AtomicU64,
     queries: AtomicU64,
-    /// By the number of the refusal, from [`FIRST_REFUSAL`] on.
+    /// Refused batches by the number of the refusal, from [`FIRST_REFUSAL`] on.
     refused: Vec<AtomicU64>,
 }
 
 impl WorkerCounts {
-    /// Has counted nothing.
+    /// Creates counts of 0.
     ///
     /// # Errors
     ///
@@ -38,7 +38,7 @@ impl WorkerCounts {
         })
     }
 
-    /// Returns how many batches were refused by this number.
+    /// Returns the number of batches that were refused by this number.
     fn refused(&self, number: usize) -> u64 {
         match self.refused.get(number.saturating_sub(FIRST_REFUSAL)) {
             Some(count) => count.load(Ordering::SeqCst),
@@ -47,14 +47,14 @@ impl WorkerCounts {
     }
 }
 
-/// What each worker counts. A worker adds to its own counts alone.
+/// The counts of all workers. A worker only adds to its own.
 #[derive(Drop)]
 pub(crate) struct Counts {
     workers: Vec<WorkerCounts>,
 }
 
 impl Counts {
-    /// No worker has counted anything.
+    /// Creates counts of 0 for each worker.
     ///
     /// # Errors
     ///
@@ -91,7 +91,7 @@ impl Counts {
         }
     }
 
-    /// Returns how many batches were acknowledged.
+    /// Returns the number of acknowledged batches.
     fn acknowledged(&self) -> u64 {
         let mut all: u64 = 0;
         for counts in &self.workers {
@@ -100,7 +100,7 @@ impl Counts {
         all
     }
 
-    /// Returns how many queries came.
+    /// Returns the number of queries.
     fn queries(&self) -> u64 {
         let mut all: u64 = 0;
         for counts in &self.workers {
@@ -109,7 +109,7 @@ impl Counts {
         all
     }
 
-    /// Returns how many batches were refused by this number.
+    /// Returns the number of batches that were refused by this number.
     fn refused(&self, number: usize) -> u64 {
         let mut all: u64 = 0;
         for counts in &self.workers {
@@ -119,7 +119,7 @@ impl Counts {
     }
 }
 
-/// `400 acknowledged, 97 queries, 3 refused 20, 1 refused 29`: a number by which nothing was refused is left out.
+/// `400 acknowledged, 97 queries, 3 refused 20, 1 refused 29`. Refusals that didn't occur are left out.
 impl fmt::Display for Counts {
     fn fmt<W: fmt::Write>(&self, f: &mut fmt::Formatter<W>) -> fmt::Result {
         let acknowledged = self.acknowledged();

@@ -1,4 +1,4 @@
-//! The end: every seat is taken in, and the store is closed.
+//! The end of the server: every seat is taken in, and the store is closed.
 
 ghost use Rattle.std.specs.Prelude.{◌≡◌, [], map, IfOk, OnOk};
 ghost use Rattle.std.specs.Arc.{arc_value};
@@ -13,16 +13,16 @@ use read_side::StoreName;
 use std::sync::Wait;
 use trace_model::Refusal;
 
-/// What became of the batches that were handed in.
+/// What became of the batches that were submitted.
 #[derive(Clone, Copy, Debug)]
 pub(crate) struct Totals {
     pub(crate) acknowledged: u64,
     pub(crate) refused: u64,
-    /// How many were neither acknowledged nor refused.
+    /// The number that were neither acknowledged nor refused.
     pub(crate) left: u64,
 }
 
-/// Takes the workers' seats in, until one finds no memory.
+/// Takes the workers' seats in, until memory runs out.
 fn take_all_in<N: StoreName, R: Wait>(
     rt: &R,
     books: &mut Books<N>,
@@ -51,7 +51,7 @@ fn take_all_in<N: StoreName, R: Wait>(
 ///
 /// # Errors
 ///
-/// Out of memory, for jobs that are left. The store is closed then too.
+/// Out of memory for the jobs that are left. The store is closed in this case too.
 pub(crate) fn close_books<N: StoreName, R: Wait>(
     rt: &R,
     books: Books<N>,

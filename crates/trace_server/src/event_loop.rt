@@ -1,4 +1,4 @@
-//! A worker's connections: it waits for them, and takes a turn with each that is ready.
+//! A worker's event loop: waits for its connections, and gives each one that is ready a turn.
 
 ghost use Rattle.std.specs.Prelude.{◌≡◌, IfOk};
 ghost use Rattle.live_store.specs.Sharing.{GoesOn};
@@ -6,13 +6,13 @@ ghost use Rattle.open_connections.specs.Open.{IsEmpty, IsRest};
 ghost use Rattle.trace_server.specs.Underway.{AllUnderway};
 
 use crate::arrivals::Arrivals;
-use crate::connection::{patience, prepare};
+use crate::connection::{idle_limit, prepare};
 use crate::gate::Gate;
 use crate::gated::Gated;
 use crate::leaving::{Leaving, Step};
 use crate::worker::Server;
 use open_connections::{
-    ConnectionSet, MAX_REPORTS, Moment, Outbox, Progress, Readiness, Report, Socket, Turn,
+    ConnectionProgress, ConnectionSet, MAX_REPORTS, Moment, Outbox, Readiness, Report, Socket, Turn,
 };
 use read_side::StoreName;
 use std::alloc::Global;
@@ -29,17 +29,17 @@ use std::time::{Clock, Duration};
 /// The token of the listener.
 const LISTENER: usize = usize::MAX;
 
-/// How many seconds lie between two looks for connections that were silent for too long.
+/// The number of seconds between two checks for connections that were silent for too long.
 const CHECK_SECONDS: u64 = 1;
 
-/// The most bytes of responses that wait at a worker, if those of several clients do. Those of a large answer aren't made yet: it
-/// takes about a tenth of them.
+/// The limit of the response bytes that wait at a worker for several clients. The text of a large answer isn't made
+/// yet: it takes about a tenth of its bytes.
 const MAX_WAITING_BYTES: usize = 2 << 30;
 
-/// After how many milliseconds a worker looks whether all sessions were accepted by others.
+/// The number of milliseconds after which a worker checks whether others have accepted all sessions.
 const SESSIONS_PAUSE: u64 = 20;
 
-/// The earlier of two times, where there are any.
+/// Returns the earlier of two optional times.
 fn earlier(one: Option<Duration>, other: Option<Duration>) -> Option<Duration> {
     match (one, other) {
         (Some(one), Some(other)) => Some(one.min(other)),
@@ -48,41 +48,41 @@ fn earlier(one: Option<Duration>, other: Option<Duration>) -> Option<Duration> {
     }
 }
 
-/// The token of an open connection.
+/// Returns the token of an open connection.
 fn open_token(key: usize) -> usize {
     key << 1
 }
 
-/// The token of a connection that leaves.
+/// Returns the token of a connection whose session has ended.
 fn leaving_token(key: usize) -> usize {
     (key << 1) | 1
 }
 
-/// A worker's connections, and which of them are ready.
+/// A worker's connections, and their readiness.
 #[derive(Drop)]
 pub(crate) struct EventLoop {
     readiness: Readiness,
     open: ConnectionSet<Socket>,
     leaving: Leaving,
-    /// The keys of connections of which more has come than was answered, and whether their clients have ended.
+    /// The keys of connections that hold unanswered bytes, and whether their clients have closed their side.
     again: VecDeque<(usize, bool)>,
     at: Moment,
-    /// When to look for connections that were silent for too long.
+    /// When to check for connections that were silent for too long.
     next_check: Duration,
-    /// How many places are taken for its connections.
+    /// The number of places that its connections take.
     places: usize,
-    /// How long a connection may be silent; none is for ever.
-    patience: Option<Duration>,
-    /// A client was given up because too much waited.
+    /// How long a connection may be silent; `None` for no limit.
+    idle_limit: Option<Duration>,
+    /// A connection was dropped because too many bytes waited.
     has_given_up: bool,
 }
 
 impl EventLoop {
-    /// Has no connection yet, and learns of those that come.
+    /// Creates an event loop without connections that watches the listener.
     ///
     /// # Errors
     ///
-    /// The system has no descriptor or no memory for it.
+    /// The system has no file descriptor or no memory left.
     pub(crate) fn new<R: Clock + Net<Stream = TcpStream, Listener = TcpListener>>(
         rt: &R,
         alloc: Global,
@@ -108,7 +108,7 @@ impl EventLoop {
             },
             next_check: Duration::ZERO,
             places: 0,
-            patience: patience(idle),
+            idle_limit: idle_limit(idle),
             has_given_up: false,
         })
     }
@@ -125,20 +125,20 @@ impl EventLoop {
 }
 
 impl EventLoop {
-    /// Has a connection that stays open served again when there is something to do: at once if it holds more than was
-    /// answered, when its client takes more if a response waits, or if more may have come that will not be reported. Returns
-    /// whether that could be done.
-    fn remind(&mut self, key: usize, progress: Progress, has_ended: bool) -> bool
+    /// Schedules a connection that stays open: at once if it holds unanswered bytes; when its client takes more if a
+    /// response waits; or by watching it again if bytes may have come that aren't reported. Returns whether that
+    /// succeeded.
+    fn schedule(&mut self, key: usize, progress: ConnectionProgress, has_ended: bool) -> bool
         ensures open { self.new.open ≡ self.old.open }
     {
-        if let Progress::HoldsMore = progress {
+        if let ConnectionProgress::HoldsMore = progress {
             return self.again.push_back((key, has_ended)).is_ok();
         }
         let Some(open) = self.open.get(key) else {
             return true;
         };
         let socket = open.connection.connection();
-        if let Progress::Writing = progress {
+        if let ConnectionProgress::Writing = progress {
             return self
                 .readiness
                 .watch_writes(socket.raw_fd(), open_token(key))
@@ -153,8 +153,8 @@ impl EventLoop {
         true
     }
 
-    /// Returns whether too much waits for the clients of this worker, of which so many bytes are one client's.
-    fn waits_too_much(&self, own: usize) -> bool {
+    /// Returns whether too many bytes wait for the clients of this worker, `own` of them for one client.
+    fn has_too_much_waiting(&self, own: usize) -> bool {
         let all = self
             .open
             .waiting_bytes()
@@ -162,68 +162,68 @@ impl EventLoop {
         all > MAX_WAITING_BYTES && all > own
     }
 
-    /// Returns whether a connection is to be given up, since its response waits beside too much.
-    fn is_to_go(&mut self, key: usize, progress: Progress) -> bool
+    /// Returns whether to drop a connection because its response waits and too many bytes wait in all.
+    fn must_drop(&mut self, key: usize, progress: ConnectionProgress) -> bool
         ensures open { self.new.open ≡ self.old.open }
     {
         let own = match (progress, self.open.get(key)) {
-            (Progress::Writing, Some(open)) => open.connection.waiting_bytes(),
+            (ConnectionProgress::Writing, Some(open)) => open.connection.waiting_bytes(),
             _ => return false,
         };
-        let is_to_go = self.waits_too_much(own);
-        self.has_given_up |= is_to_go;
-        is_to_go
+        let must_drop = self.has_too_much_waiting(own);
+        self.has_given_up |= must_drop;
+        must_drop
     }
 
-    /// Keeps a connection that stays open, if it can be served again.
-    fn keep(&mut self, key: usize, progress: Progress, has_ended: bool)
+    /// Keeps a connection open, if it can be scheduled.
+    fn keep(&mut self, key: usize, progress: ConnectionProgress, has_ended: bool)
         ensures rest { IsRest self.old.open self.new.open }
     {
-        let stays = !self.is_to_go(key, progress) && self.remind(key, progress, has_ended);
+        let stays = !self.must_drop(key, progress) && self.schedule(key, progress, has_ended);
         if !stays {
             drop(self.open.remove(key));
         }
     }
 
-    /// Lets a connection go whose session has ended. What waits of its last response is written first.
+    /// Closes a connection whose session has ended, after the waiting part of its last response was written.
     fn leave(&mut self, outbox: Outbox<Socket>)
         ensures open { self.new.open ≡ self.old.open }
     {
         let own = outbox.waiting_bytes();
-        if own > 0 && self.waits_too_much(own) {
+        if own > 0 && self.has_too_much_waiting(own) {
             self.has_given_up = true;
             return;
         }
         if let Some(key) = self.leaving.add(outbox) {
-            self.go_on_leaving(key);
+            self.advance_leaving(key);
         }
         self.next_check = self.next_check.min(self.after_pause());
     }
 
-    /// Returns when the next look for connections that were silent for too long is due at the earliest.
+    /// Returns the earliest time of the next check for connections that were silent for too long.
     fn after_pause(&self) -> Duration {
         self.at
             .now
             .saturating_add(Duration::from_secs(CHECK_SECONDS))
     }
 
-    /// Lets a connection go that has left the set. Its client reads the last response before the connection closes, unless
-    /// that has failed.
-    fn let_go(&mut self, progress: Progress, outbox: Outbox<Socket>)
+    /// Closes a connection that was removed from the set. Its client can read the last response before, unless the
+    /// connection has failed.
+    fn close_connection(&mut self, progress: ConnectionProgress, outbox: Outbox<Socket>)
         ensures open { self.new.open ≡ self.old.open }
     {
         match progress {
-            Progress::Closing => self.leave(outbox),
-            Progress::Ended if outbox.has_waiting() => self.leave(outbox),
+            ConnectionProgress::Closing => self.leave(outbox),
+            ConnectionProgress::Ended if outbox.has_waiting() => self.leave(outbox),
             _ => drop(outbox),
         }
     }
 
-    /// Goes on with a connection that leaves, and has it reported again when there is more to do.
-    fn go_on_leaving(&mut self, key: usize)
+    /// Continues a connection whose session has ended, and watches it if there is more to do.
+    fn advance_leaving(&mut self, key: usize)
         ensures open { self.new.open ≡ self.old.open }
     {
-        let step = self.leaving.go_on(key, self.at.now, self.patience);
+        let step = self.leaving.advance(key, self.at.now, self.idle_limit);
         let Some(socket) = self.leaving.get(key) else {
             return;
         };
@@ -238,7 +238,7 @@ impl EventLoop {
         };
     }
 
-    /// Takes a turn with a connection.
+    /// Gives a connection a turn.
     fn serve<N: StoreName, G: Gate, R: Wait + Eprint>(
         &mut self,
         rt: &R,
@@ -253,12 +253,12 @@ impl EventLoop {
     {
         match self.open.answer_next(rt, alloc, key, self.at, store) {
             Turn::Open(progress) => self.keep(key, progress, has_ended),
-            Turn::Left(progress, outbox) => self.let_go(progress, outbox),
+            Turn::Left(progress, outbox) => self.close_connection(progress, outbox),
             Turn::Absent => {}
         }
     }
 
-    /// Serves a connection that was reported.
+    /// Serves a reported connection.
     fn serve_one<N: StoreName, G: Gate, R: Wait + Eprint>(
         &mut self,
         rt: &R,
@@ -272,13 +272,13 @@ impl EventLoop {
     {
         let key = report.token >> 1;
         if report.token & 1 == 1 {
-            self.go_on_leaving(key);
+            self.advance_leaving(key);
         } else {
             self.serve(rt, alloc, key, report.has_ended, store);
         }
     }
 
-    /// Serves what the last wait reported, one request of each connection. Returns whether the listener was reported.
+    /// Serves the connections that the last wait reported, one request each. Returns whether the listener was reported.
     fn serve_reported<N: StoreName, G: Gate, R: Wait + Eprint>(
         &mut self,
         rt: &R,
@@ -300,7 +300,7 @@ impl EventLoop {
         arrived
     }
 
-    /// Serves the first of the connections of which more has come, unless it was served in this round.
+    /// Serves the first of the connections that hold unanswered bytes, unless it was served in this round.
     fn serve_first_again<N: StoreName, G: Gate, R: Wait + Eprint>(
         &mut self,
         rt: &R,
@@ -323,7 +323,7 @@ impl EventLoop {
         }
     }
 
-    /// Serves all that are ready, one request of each connection. Returns whether the listener was reported.
+    /// Serves all connections that are ready, one request each. Returns whether the listener was reported.
     fn serve_ready<N: StoreName, G: Gate, R: Wait + Eprint>(
         &mut self,
         rt: &R,
@@ -342,7 +342,7 @@ impl EventLoop {
         arrived
     }
 
-    /// Opens a connection that came, from what is vouched for now.
+    /// Opens an accepted connection, after learning the receipt that is vouched for now.
     fn open<N: StoreName, G: Gate, R: Wait + Eprint>(
         &mut self,
         rt: &R,
@@ -385,28 +385,29 @@ impl EventLoop {
         }
         self.leaving.drop_late(now);
         self.next_check = self.after_pause();
-        if let Some(patience) = self.patience {
-            self.open.drop_silent(now.saturating_sub(patience));
-            self.put_off_check(patience);
+        if let Some(idle_limit) = self.idle_limit {
+            self.open.drop_silent(now.saturating_sub(idle_limit));
+            self.put_off_check(idle_limit);
         }
     }
 
-    /// Puts the next look off until a connection may have been silent for too long.
-    fn put_off_check(&mut self, patience: Duration)
+    /// Postpones the next check until a connection may have been silent for too long.
+    fn put_off_check(&mut self, idle_limit: Duration)
         ensures open { self.new.open ≡ self.old.open }
     {
         if let (true, Some(oldest)) = (self.leaving.is_empty(), self.open.oldest()) {
-            self.next_check = self.next_check.max(oldest.saturating_add(patience));
+            self.next_check = self.next_check.max(oldest.saturating_add(idle_limit));
         }
     }
 
-    /// Returns when something is to be done even if nothing comes.
+    /// Returns the time of the next action that no event triggers.
     fn due<N: StoreName, G: Gate>(
         &self,
         server: &Server<'_, N, G>,
         arrivals: &Arrivals,
     ) -> Option<Duration> {
-        let checks = !self.leaving.is_empty() || (self.patience.is_some() && !self.open.is_empty());
+        let checks = !self.leaving.is_empty()
+            || (self.idle_limit.is_some() && !self.open.is_empty());
         let check = if checks { Some(self.next_check) } else { None };
         let last = if server.sessions.are_limited() {
             Some(
@@ -438,7 +439,7 @@ impl EventLoop {
         };
     }
 
-    /// Says how many connections there are, and gives the places of those that have gone back.
+    /// Publishes the number of connections, and gives back the places of those that were closed.
     fn report<N: StoreName, G: Gate>(
         &mut self,
         server: &Server<'_, N, G>,
@@ -455,7 +456,7 @@ impl EventLoop {
         server.loads.set(worker, accepts.then_some(self.load()));
     }
 
-    /// Accepts the next connection, if one waits and may be accepted.
+    /// Accepts the next connection, if one is waiting and may be accepted.
     fn accept<N: StoreName, G: Gate, R: Wait + Clock + Eprint>(
         &mut self,
         rt: &R,
@@ -473,7 +474,7 @@ impl EventLoop {
         }
     }
 
-    /// Serves all that are ready, accepts a connection, and drops those that were silent for too long.
+    /// Serves all connections that are ready, accepts one, and drops those that were silent for too long.
     fn serve_round<N: StoreName, G: Gate, R: Wait + Clock + Eprint>(
         &mut self,
         rt: &R,
@@ -490,7 +491,7 @@ impl EventLoop {
             arrivals.arrived();
         }
         if self.has_given_up {
-            server.notices.say_given_up(rt);
+            server.notices.print_given_up(rt);
         }
         self.accept(rt, server, worker, arrivals, store);
         self.drop_silent();

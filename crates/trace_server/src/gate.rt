@@ -1,10 +1,10 @@
-//! What hears of each call that a worker makes of the store.
+//! An observer of the calls that workers make to the store.
 
 use std::sync::Wait;
 
-/// Hears of each call that a worker makes of the store, for tests that want two calls at one time.
+/// Observes each call that a worker makes to the store, for tests that need two calls at the same time.
 ///
-/// Workers count from 0, and a worker's own calls from 1. A count that has come to its end stays there.
+/// Workers are numbered from 0, and each worker's calls from 1. The last number repeats.
 pub trait Gate {
     /// The worker is about to make the call.
     fn before<R: Wait>(&self, rt: &R, worker: u32, call: u64);

@@ -1,4 +1,4 @@
-//! A store of whose calls a gate hears.
+//! A worker's store, whose calls a gate observes.
 
 ghost use Rattle.std.specs.Prelude.{◌≡◌};
 ghost use mathlib.Core.List.{IsPrefix};
@@ -14,20 +14,20 @@ use std::sync::Wait;
 use store_backend::Backend;
 use trace_model::{Answer, Query, Refusal};
 
-/// How many batches a worker hands in between two times that its heap grows.
+/// The number of batches that a worker submits between two growths of its heap.
 const GROWN_FOR: u64 = 16;
 
-/// How much the heap grows then, in bytes: what so many usual batches take, and less than a block for which `malloc`
-/// asks the system by itself.
+/// The size of a growth in bytes: what that number of usual batches takes, and less than a block that `malloc` requests
+/// directly from the system.
 const GROWTH: usize = 120_000;
 
-/// Has the calling thread's heap grow, where it has no such room: a block is taken and given back. A thread's heap else
-/// grows by a page or two at a time, with a system call for each batch. Where there is no memory nothing happens.
+/// Lets the calling thread's heap grow, if it has no such room, by allocating and freeing a block. Otherwise the heap
+/// grows by a page or two at a time, with a system call for each batch. Without memory, nothing happens.
 fn grow_heap(alloc: Global) {
     drop(Vec::<u8>::with_capacity(alloc, GROWTH));
 }
 
-/// A worker's store, of whose calls the gate hears. Contracts see the store alone.
+/// A worker's store, whose calls the gate observes. Contracts see only the store.
 #[derive(Drop)]
 pub(crate) struct Gated<'a, N: StoreName, G, R> {
     rt: &'a R,
@@ -47,7 +47,7 @@ impl<'a, N: StoreName, G, R> Model for Gated<'a, N, G, R> {
 }
 
 impl<'a, N: StoreName, G, R> Gated<'a, N, G, R> {
-    /// The store of the worker with this number.
+    /// Wraps the store of the worker with this number.
     pub(crate) fn new(
         rt: &'a R,
         gate: &'a G,
@@ -67,7 +67,7 @@ impl<'a, N: StoreName, G, R> Gated<'a, N, G, R> {
         }
     }
 
-    /// The worker's ends of the store.
+    /// Returns the worker's seat and pass.
     pub(crate) fn into_live(self) -> Live<N>
         ensures { result ≡ self.entry }
     {
@@ -82,7 +82,7 @@ impl<'a, N: StoreName, G, R> Gated<'a, N, G, R> {
         live
     }
 
-    /// Takes in the list of a receipt, which it knows from then on.
+    /// Learns the list of a receipt, which it knows from then on.
     pub(crate) fn learn(&mut self, receipt: &Receipt<N>)
         ensures seat { self.new.seat ≡ self.old.seat }
         ensures old { IsPrefix self.old.known self.new.known }
@@ -117,7 +117,8 @@ impl<'a, N: StoreName, G: Gate, R: Wait + Eprint> Backend<R> for Gated<'a, N, G,
         let spans = batch.spans.len() as u64;
         let place = self.live.submit(rt, alloc, batch);
         self.gate.after(self.rt, self.worker, self.calls);
-        self.notices.hear_batch(self.rt, self.worker, spans, &place);
+        self.notices
+            .count_batch(self.rt, self.worker, spans, &place);
         place
     }
 
@@ -126,7 +127,7 @@ impl<'a, N: StoreName, G: Gate, R: Wait + Eprint> Backend<R> for Gated<'a, N, G,
         self.gate.before(self.rt, self.worker, self.calls);
         let answer = Backend::<R>::read(&mut self.live, alloc, query);
         self.gate.after(self.rt, self.worker, self.calls);
-        self.notices.hear_query(self.rt, self.worker, &answer);
+        self.notices.count_query(self.rt, self.worker, &answer);
         answer
     }
 }

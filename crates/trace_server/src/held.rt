@@ -1,21 +1,21 @@
-//! How many batches and spans a store holds, as far as workers were told of them.
+//! Counts the batches and spans of a store, as far as they were acknowledged to workers.
 
 use std::alloc::{AllocError, Global};
 use std::sync::atomic::{AtomicU64, Ordering};
 use trace_model::Limits;
 
-/// How many batches and spans were acknowledged, each once, however often it was sent. Nothing rests on these counts but what
-/// an operator is told. A batch that was stored and not acknowledged isn't counted.
+/// The number of batches and spans that were acknowledged, each counted once, however often it was sent. The counts are
+/// only used for the operator's notices. A batch that was stored and not acknowledged isn't counted.
 #[derive(Drop)]
 pub(crate) struct Held {
-    /// A bit for each place: a batch was acknowledged there.
+    /// A bit for each place: set if its batch was acknowledged.
     places: Vec<AtomicU64>,
     batches: AtomicU64,
     spans: AtomicU64,
 }
 
 impl Held {
-    /// Nothing was acknowledged.
+    /// Creates counts of 0.
     ///
     /// # Errors
     ///
@@ -33,7 +33,8 @@ impl Held {
         })
     }
 
-    /// Counts the batch at a place, with so many spans, unless it was counted before. Returns whether it wasn't.
+    /// Counts the batch at a place with its number of spans, unless it was counted before. Returns whether it was
+    /// counted now.
     pub(crate) fn add(&self, place: u64, spans: u64) -> bool {
         let bit = 1_u64 << (place % 64);
         let Some(word) = self.places.get((place / 64) as usize) else {
@@ -47,12 +48,12 @@ impl Held {
         true
     }
 
-    /// Returns how many batches were counted.
+    /// Returns the number of batches.
     pub(crate) fn batches(&self) -> u64 {
         self.batches.load(Ordering::SeqCst)
     }
 
-    /// Returns how many spans were counted.
+    /// Returns the number of spans.
     pub(crate) fn spans(&self) -> u64 {
         self.spans.load(Ordering::SeqCst)
     }

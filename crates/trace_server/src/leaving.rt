@@ -1,6 +1,6 @@
 //! Connections whose sessions have ended while their clients may still read or send.
 
-use crate::connection::{Dropped, PARTING_SECONDS, drop_some, part};
+use crate::connection::{DISCARD_SECONDS, Discarded, close_sending, discard_some};
 use open_connections::{Outbox, Socket};
 use slab::Slab;
 use std::alloc::Global;
@@ -10,50 +10,50 @@ use std::time::Duration;
 #[derive(Drop)]
 struct LeavingConnection {
     outbox: Outbox<Socket>,
-    /// No more is sent: the client was told so.
-    has_parted: bool,
-    /// Until when it is kept; for ever if there is no time.
+    /// The sending side is closed.
+    has_closed_sending: bool,
+    /// When it is dropped; never if `None`.
     until: Option<Duration>,
 }
 
-/// What a connection that leaves waits for.
+/// What such a connection waits for.
 #[derive(Clone, Copy, Debug, PartialEq, Eq)]
 pub(crate) enum Step {
-    /// That its client takes more of the last response.
+    /// Its client to take more of the last response.
     Writes,
-    /// That more comes of what is dropped.
+    /// More input to discard.
     Reads,
-    /// Nothing that would have to be asked for.
+    /// Nothing that has to be watched.
     Nothing,
 }
 
-/// Connections whose sessions have ended. What waits of the last response is written; then what the client still sends is
-/// dropped for a while, so that it reads that response before the connection goes.
+/// Connections whose sessions have ended. The waiting part of the last response is written. Then input is discarded for
+/// a while, so that the client can read that response before the connection is closed.
 #[derive(Drop)]
 pub(crate) struct Leaving {
     connections: Slab<LeavingConnection>,
-    /// How many bytes of responses wait.
+    /// The number of response bytes that wait to be written.
     waiting: usize,
 }
 
 impl LeavingConnection {
-    /// Writes what waits, as far as the client takes it. Returns whether the connection is of use still.
-    fn write(&mut self, now: Duration, patience: Option<Duration>) -> bool {
+    /// Writes the waiting bytes, as far as the client takes them. Returns whether the connection is still useful.
+    fn write(&mut self, now: Duration, idle_limit: Option<Duration>) -> bool {
         if self.outbox.flush().is_err() {
             return false;
         }
         if self.outbox.has_waiting() {
-            self.until = patience.map(|patience| now.saturating_add(patience));
+            self.until = idle_limit.map(|idle_limit| now.saturating_add(idle_limit));
             return true;
         }
-        self.has_parted = true;
-        self.until = Some(now.saturating_add(Duration::from_secs(PARTING_SECONDS)));
-        part(self.outbox.connection().stream()).is_ok()
+        self.has_closed_sending = true;
+        self.until = Some(now.saturating_add(Duration::from_secs(DISCARD_SECONDS)));
+        close_sending(self.outbox.connection().stream()).is_ok()
     }
 }
 
 impl Leaving {
-    /// None is leaving.
+    /// Creates an empty set.
     pub(crate) fn new(alloc: Global) -> Leaving {
         Leaving {
             connections: Slab::new(alloc),
@@ -69,17 +69,17 @@ impl Leaving {
         self.connections.len()
     }
 
-    /// Returns how many bytes of responses wait for clients that don't take them.
+    /// Returns the number of response bytes that wait for clients to take them.
     pub(crate) fn waiting_bytes(&self) -> usize {
         self.waiting
     }
 
-    /// Returns the key that the next one gets.
+    /// Adds a connection, and returns its key, or `None` if memory runs out.
     pub(crate) fn add(&mut self, outbox: Outbox<Socket>) -> Option<usize> {
         let waiting = outbox.waiting_bytes();
         let leaving = LeavingConnection {
             outbox,
-            has_parted: false,
+            has_closed_sending: false,
             until: None,
         };
         let Ok(key) = self.connections.insert(leaving) else {
@@ -104,17 +104,17 @@ impl Leaving {
         }
     }
 
-    /// Writes what waits of one's last response, as far as its client takes it.
-    fn write(&mut self, key: usize, now: Duration, patience: Option<Duration>) -> Step {
+    /// Writes the waiting part of a connection's last response, as far as its client takes it.
+    fn write(&mut self, key: usize, now: Duration, idle_limit: Option<Duration>) -> Step {
         let Some(leaving) = self.connections.get_mut(key) else {
             return Step::Nothing;
         };
         let before = leaving.outbox.waiting_bytes();
-        let is_of_use = leaving.write(now, patience);
-        let has_parted = leaving.has_parted;
+        let is_of_use = leaving.write(now, idle_limit);
+        let has_closed_sending = leaving.has_closed_sending;
         let written = before.saturating_sub(leaving.outbox.waiting_bytes());
         self.waiting = self.waiting.saturating_sub(written);
-        match (is_of_use, has_parted) {
+        match (is_of_use, has_closed_sending) {
             (false, _) => {
                 self.remove(key);
                 Step::Nothing
@@ -124,33 +124,38 @@ impl Leaving {
         }
     }
 
-    /// Drops what has come of one whose response was written.
-    fn drop_input(&mut self, key: usize) -> Step {
+    /// Discards the input of a connection whose response was written.
+    fn discard_input(&mut self, key: usize) -> Step {
         let dropped = match self.get(key) {
-            Some(socket) => drop_some(socket.stream()),
-            None => Dropped::All,
+            Some(socket) => discard_some(socket.stream()),
+            None => Discarded::All,
         };
         match dropped {
-            Dropped::All => Step::Nothing,
-            Dropped::Much => Step::Reads,
-            Dropped::Last => {
+            Discarded::All => Step::Nothing,
+            Discarded::Much => Step::Reads,
+            Discarded::Last => {
                 self.remove(key);
                 Step::Nothing
             }
         }
     }
 
-    /// Writes what waits of one's last response, or drops what has come of it. One that has failed goes, and one whose client
-    /// has ended after the response.
-    pub(crate) fn go_on(&mut self, key: usize, now: Duration, patience: Option<Duration>) -> Step {
+    /// Writes the waiting part of a connection's last response, or discards its input. Removes a connection that has
+    /// failed, or whose client has closed its side after the response.
+    pub(crate) fn advance(
+        &mut self,
+        key: usize,
+        now: Duration,
+        idle_limit: Option<Duration>,
+    ) -> Step {
         match self.connections.get(key) {
-            Some(leaving) if leaving.has_parted => self.drop_input(key),
-            Some(_) => self.write(key, now, patience),
+            Some(leaving) if leaving.has_closed_sending => self.discard_input(key),
+            Some(_) => self.write(key, now, idle_limit),
             None => Step::Nothing,
         }
     }
 
-    /// Returns whether there is one under a key whose time is up.
+    /// Returns whether the key is of a connection whose time is up.
     fn is_late(&self, key: usize, now: Duration) -> bool {
         match self.connections.get(key) {
             Some(leaving) => leaving.until.is_some_and(|until| until <= now),
@@ -158,7 +163,7 @@ impl Leaving {
         }
     }
 
-    /// Lets those go whose time is up.
+    /// Drops the connections whose time is up.
     pub(crate) fn drop_late(&mut self, now: Duration) {
         for key in 0..self.connections.capacity() {
             if self.is_late(key, now) {

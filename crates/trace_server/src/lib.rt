@@ -1,22 +1,21 @@
-//! A server on a socket: many workers read one store and hand their batches to one clerk.
+//! A server on a socket: many workers read one store and submit their batches to one clerk.
 //!
-//! [`serve_with`] takes connections until as many came as it is to serve. Each worker has a seat at the
-//! store's desk and a pass of its own, which the sessions of all its connections use ([`http_session::Session`]): it
-//! waits until some connections are readable, and answers one request of each. So each session's answers are the plain
-//! store's at points of one growing history, never before what was vouched for when it began. An error of a connection
-//! ends that connection alone.
+//! [`serve_with`] accepts connections until it has served the requested number. Each worker has a seat at the store's
+//! desk and a pass, which the sessions of all its connections use ([`http_session::Session`]). It waits until some
+//! connections are readable, and answers one request of each. So each session's answers are the plain store's at points
+//! of one growing history, never before the receipt that was vouched for when the session began. An error of a
+//! connection ends only that connection.
 //!
-//! * `config`: what it is asked to do, and the keys of its store.
-//! * `gate`: what hears of each call that a worker makes of the store.
-//! * `gated`: a store of whose calls a gate hears.
-//! * `worker`: a worker. `threads`: work among threads.
-//! * `event_loop`: a worker's connections, and the loop that waits for them and serves them.
-//! * `arrivals`: accepting connections. `loads`: how many each worker has. `sessions`: how many are accepted in all.
-//! * `connection`: what is done with a socket before and after its session. `leaving`: connections after their last response.
+//! * `config`: the configuration of a server.
+//! * `gate`: an observer of the calls to the store. `gated`: a store whose calls a gate observes.
+//! * `worker`: a worker. `threads`: work in threads.
+//! * `event_loop`: the loop that waits for a worker's connections and serves them.
+//! * `arrivals`: accepts connections. `loads`: the number of connections of each worker. `sessions`: the number in all.
+//! * `connection`: sockets before and after their sessions. `leaving`: connections after their last response.
 //! * `shared`: a store with its desk and its clerk, which all workers share.
-//! * `ending`: how every seat is taken in at the end. `reporting`: what it says of itself on its output.
-//! * `notices`: what an operator is told on standard error. `counts`, `held`: what workers count for it.
-//!   `watch`: what it is told every so many seconds.
+//! * `ending`: takes in every seat at the end. `reporting`: the lines of the output.
+//! * `notices`: lines for the operator on standard error. `counts`, `held`: what workers count for them. `watch`: the
+//!   periodic line.
 //! * `serving`: [`serve_with`].
 #![tactic(auto)]
 

@@ -1,13 +1,13 @@
-//! How many connections are open, in all and at each worker.
+//! The number of open connections, in all and of each worker.
 
 use std::alloc::{AllocError, Global};
 use std::sync::atomic::{AtomicU32, Ordering};
 
-/// What a worker counts as if it can accept no connection.
+/// The load of a worker that can't accept connections.
 const ACCEPTS_NONE: u32 = u32::MAX;
 
-/// How many connections are open, in all and at each worker. Nothing rests on these counts but which worker accepts a
-/// connection, and when.
+/// The number of open connections, in all and of each worker. The counts only decide which worker accepts a connection,
+/// and when.
 #[derive(Drop)]
 pub(crate) struct Loads {
     workers: Vec<AtomicU32>,
@@ -16,7 +16,7 @@ pub(crate) struct Loads {
 }
 
 impl Loads {
-    /// No worker has a connection.
+    /// Creates counts of 0.
     ///
     /// # Errors
     ///
@@ -33,7 +33,7 @@ impl Loads {
         })
     }
 
-    /// Takes a place for one more connection, if there is one.
+    /// Takes a place for one more connection, if one is free.
     pub(crate) fn take_place(&self) -> bool {
         if self.open.fetch_add(1, Ordering::SeqCst) < self.max_open {
             return true;
@@ -47,14 +47,14 @@ impl Loads {
         self.open.fetch_sub(1, Ordering::SeqCst);
     }
 
-    /// Says how many connections a worker has, if it may accept more.
+    /// Sets the number of connections of a worker; `None` if it can't accept more.
     pub(crate) fn set(&self, worker: u32, connections: Option<u32>) {
         if let Some(load) = self.workers.get(worker as usize) {
             load.store(connections.unwrap_or(ACCEPTS_NONE), Ordering::SeqCst);
         }
     }
 
-    /// Returns whether no worker that may accept has fewer connections.
+    /// Returns whether no worker that can accept has fewer connections.
     pub(crate) fn is_least(&self, connections: u32) -> bool {
         self.workers
             .iter()

@@ -1,4 +1,4 @@
-//! What an operator is told, on standard error. Nothing rests on it: a line that can't be written is lost.
+//! Lines for the operator, on standard error. A line that can't be written is lost.
 
 ghost use Rattle.std.specs.Prelude.{◌≤◌};
 
@@ -14,16 +14,16 @@ use std::sync::atomic::{AtomicBool, AtomicU32, AtomicU64, Ordering};
 use text_lines::RunError;
 use trace_model::{Answer, Limits, Refusal};
 
-/// How many bytes the spans of one tag take each, as measured.
+/// The measured size of a span with one tag, in bytes.
 const BYTES_WITH_ONE_TAG: u64 = 380;
 
-/// How many bytes the spans of five tags take each, as measured.
+/// The measured size of a span with five tags, in bytes.
 const BYTES_WITH_FIVE_TAGS: u64 = 680;
 
-/// After how many requests that were answered 500 this is said.
-const SAID_FAILURES: [u64; 7] = [1, 10, 100, 1_000, 10_000, 100_000, 1_000_000];
+/// The numbers of requests answered 500 at which a line is printed.
+const PRINTED_FAILURES: [u64; 7] = [1, 10, 100, 1_000, 10_000, 100_000, 1_000_000];
 
-/// Returns how much of each limit so many batches and spans are.
+/// Returns how much of each limit is used.
 fn held_texts(batches: u64, spans: u64, limits: &Limits) -> (HeldText, HeldText) {
     let batches = HeldText {
         held: batches,
@@ -38,25 +38,25 @@ fn held_texts(batches: u64, spans: u64, limits: &Limits) -> (HeldText, HeldText)
     (batches, spans)
 }
 
-/// What is said of one of the store's limits.
+/// The lines already printed about one of the store's limits.
 #[derive(Drop)]
 struct LimitNotices {
-    /// How many of each 100 were said to be used.
+    /// The highest percentage that was reported.
     level: AtomicU32,
-    said_full: AtomicBool,
+    printed_full: AtomicBool,
 }
 
 impl LimitNotices {
-    /// Nothing was said yet.
+    /// Creates the state before the first line.
     fn new() -> LimitNotices {
         LimitNotices {
             level: AtomicU32::new(0),
-            said_full: AtomicBool::new(false),
+            printed_full: AtomicBool::new(false),
         }
     }
 
-    /// Says how much of the limit is used, at each level once.
-    fn say_level<R: Eprint>(&self, rt: &R, counted: Counted, held: u64, most: u32) {
+    /// Prints how much of the limit is used, once at each level.
+    fn print_level<R: Eprint>(&self, rt: &R, counted: Counted, held: u64, most: u32) {
         let level = level_of(held, most);
         let reached = u32::from(level);
         if reached > self.level.load(Ordering::SeqCst)
@@ -73,7 +73,7 @@ impl LimitNotices {
     }
 }
 
-/// What the workers count, and what is said once, by whichever worker sees it first.
+/// The workers' counts, and the lines that the first worker to notice something prints once.
 #[derive(Drop)]
 pub(crate) struct Notices {
     limits: Limits,
@@ -81,17 +81,17 @@ pub(crate) struct Notices {
     counts: Counts,
     batches: LimitNotices,
     spans: LimitNotices,
-    said_too_large: AtomicBool,
-    /// How many requests were answered 500 for a refusal of the store.
+    printed_too_large: AtomicBool,
+    /// The number of requests answered 500 because the store refused.
     failures: AtomicU64,
-    /// The system's shortage was said, and no connection was accepted since.
-    said_shortage: AtomicBool,
-    said_all_taken: AtomicBool,
-    said_given_up: AtomicBool,
+    /// A shortage of the system was reported, and no connection was accepted since.
+    printed_shortage: AtomicBool,
+    printed_all_taken: AtomicBool,
+    printed_given_up: AtomicBool,
 }
 
 impl Notices {
-    /// Nothing was counted or said yet.
+    /// Creates counts of 0, before the first line.
     ///
     /// # Errors
     ///
@@ -103,16 +103,16 @@ impl Notices {
             counts: Counts::new(alloc, workers)?,
             batches: LimitNotices::new(),
             spans: LimitNotices::new(),
-            said_too_large: AtomicBool::new(false),
+            printed_too_large: AtomicBool::new(false),
             failures: AtomicU64::new(0),
-            said_shortage: AtomicBool::new(false),
-            said_all_taken: AtomicBool::new(false),
-            said_given_up: AtomicBool::new(false),
+            printed_shortage: AtomicBool::new(false),
+            printed_all_taken: AtomicBool::new(false),
+            printed_given_up: AtomicBool::new(false),
         })
     }
 
-    /// Counts what became of a batch of so many spans, and says what an operator has to know of it.
-    pub(crate) fn hear_batch<R: Eprint>(
+    /// Counts the outcome of a batch with this number of spans, and prints what the operator must know.
+    pub(crate) fn count_batch<R: Eprint>(
         &self,
         rt: &R,
         worker: u32,
@@ -123,18 +123,18 @@ impl Notices {
             Ok(place) => {
                 self.counts.acknowledge(worker);
                 if self.held.add(place, spans) {
-                    self.say_levels(rt);
+                    self.print_levels(rt);
                 }
             }
             Err(refusal) => {
                 self.counts.refuse(worker, refusal);
-                self.say_refusal(rt, spans, refusal);
+                self.print_refusal(rt, spans, refusal);
             }
         }
     }
 
-    /// Counts a query, and says that it was answered 500 if it was.
-    pub(crate) fn hear_query<R: Eprint>(
+    /// Counts a query, and prints a line if it was answered 500.
+    pub(crate) fn count_query<R: Eprint>(
         &self,
         rt: &R,
         worker: u32,
@@ -142,55 +142,55 @@ impl Notices {
     ) {
         self.counts.query(worker);
         if let Err(refusal) = answer {
-            self.say_failure(rt, *refusal);
+            self.print_failure(rt, *refusal);
         }
     }
 
-    /// Says how full the store is, at each level of each limit once.
-    fn say_levels<R: Eprint>(&self, rt: &R) {
+    /// Prints how full the store is, once at each level of each limit.
+    fn print_levels<R: Eprint>(&self, rt: &R) {
         let (batches, spans) = (self.held.batches(), self.held.spans());
         self.batches
-            .say_level(rt, Counted::Batches, batches, self.limits.batches);
+            .print_level(rt, Counted::Batches, batches, self.limits.batches);
         self.spans
-            .say_level(rt, Counted::Spans, spans, self.limits.spans);
+            .print_level(rt, Counted::Spans, spans, self.limits.spans);
     }
 
-    /// Says why a batch of so many spans was refused, if an operator can do something about it.
-    fn say_refusal<R: Eprint>(&self, rt: &R, spans: u64, refusal: Refusal) {
+    /// Prints why a batch with this number of spans was refused, if the operator can do something about it.
+    fn print_refusal<R: Eprint>(&self, rt: &R, spans: u64, refusal: Refusal) {
         match refusal {
             Refusal::JournalFull {
                 batches,
                 spans: held,
             } => {
                 if spans > u64::from(self.limits.spans) {
-                    self.say_too_large(rt, spans);
+                    self.print_too_large(rt, spans);
                 } else {
-                    self.say_full(rt, batches, held);
+                    self.print_full(rt, batches, held);
                 }
             }
             Refusal::Deferred | Refusal::Busy | Refusal::Closed | Refusal::Conflict { .. } => {}
-            _ => self.say_failure(rt, refusal),
+            _ => self.print_failure(rt, refusal),
         }
     }
 
-    /// Says that the store is full with so many batches and spans, unless it was said of the limit that is reached.
-    fn say_full<R: Eprint>(&self, rt: &R, batches: u64, spans: u64) {
+    /// Prints that the store is full, unless it did for the limit that is reached.
+    fn print_full<R: Eprint>(&self, rt: &R, batches: u64, spans: u64) {
         let limits = self.limits;
         let (notices, counted) = if batches >= u64::from(limits.batches) {
             (&self.batches, Counted::Batches)
         } else {
             (&self.spans, Counted::Spans)
         };
-        if !notices.said_full.swap(true, Ordering::SeqCst) {
+        if !notices.printed_full.swap(true, Ordering::SeqCst) {
             let (batches, spans) = held_texts(batches, spans, &limits);
             let advice = counted.advice();
             let _lost = eprintln!(rt; "full: {batches} and {spans}{advice}");
         }
     }
 
-    /// Says that a batch has more spans than the store may hold, unless it was said of another one.
-    fn say_too_large<R: Eprint>(&self, rt: &R, spans: u64) {
-        if !self.said_too_large.swap(true, Ordering::SeqCst) {
+    /// Prints that a batch has more spans than the store may hold, unless it did for another batch.
+    fn print_too_large<R: Eprint>(&self, rt: &R, spans: u64) {
+        if !self.printed_too_large.swap(true, Ordering::SeqCst) {
             let line = TooLargeLine {
                 spans,
                 most: self.limits.spans,
@@ -199,60 +199,60 @@ impl Notices {
         }
     }
 
-    /// Counts a request that was answered 500, and says so of the first one, the tenth, the hundredth and so on.
-    fn say_failure<R: Eprint>(&self, rt: &R, refusal: Refusal) {
+    /// Counts a request that was answered 500, and prints a line for the first, the tenth, the hundredth, and so on.
+    fn print_failure<R: Eprint>(&self, rt: &R, refusal: Refusal) {
         let failures = self
             .failures
             .fetch_add(1, Ordering::SeqCst)
             .saturating_add(1);
-        if SAID_FAILURES.contains(&failures) {
+        if PRINTED_FAILURES.contains(&failures) {
             let line = FailureLine { refusal, failures };
             let _lost = eprintln!(rt; "{line}");
         }
     }
 
-    /// Says what is held, and what was counted.
-    pub(crate) fn say_counts<R: Eprint>(&self, rt: &R) {
+    /// Prints what the store holds, and the counts.
+    pub(crate) fn print_counts<R: Eprint>(&self, rt: &R) {
         let (batches, spans) = held_texts(self.held.batches(), self.held.spans(), &self.limits);
         let counts = &self.counts;
         let _lost = eprintln!(rt; "{batches} and {spans} held, {counts}");
     }
 
-    /// Says that as many connections are open as may be, unless it was said before.
-    pub(crate) fn say_all_taken<R: Eprint>(&self, rt: &R) {
-        if !self.said_all_taken.swap(true, Ordering::SeqCst) {
+    /// Prints that all connections are in use, once.
+    pub(crate) fn print_all_taken<R: Eprint>(&self, rt: &R) {
+        if !self.printed_all_taken.swap(true, Ordering::SeqCst) {
             let _lost = eprintln!(rt;
                 "as many connections are open as --connections lets be: the next ones wait until one closes"
             );
         }
     }
 
-    /// Says that a client was given up which didn't read its response, unless it was said before.
-    pub(crate) fn say_given_up<R: Eprint>(&self, rt: &R) {
-        if !self.said_given_up.swap(true, Ordering::SeqCst) {
+    /// Prints that a connection was dropped whose client didn't read its response, once.
+    pub(crate) fn print_given_up<R: Eprint>(&self, rt: &R) {
+        if !self.printed_given_up.swap(true, Ordering::SeqCst) {
             let _lost = eprintln!(rt;
                 "too much waits for clients that don't read: connections of more of them are closed"
             );
         }
     }
 
-    /// Says why no connection is accepted for now, unless it was said since one was accepted.
-    pub(crate) fn say_shortage<R: Eprint>(&self, rt: &R, error: &io::Error) {
-        if !self.said_shortage.swap(true, Ordering::SeqCst) {
+    /// Prints why no connection is accepted for now, once until one is accepted.
+    pub(crate) fn print_shortage<R: Eprint>(&self, rt: &R, error: &io::Error) {
+        if !self.printed_shortage.swap(true, Ordering::SeqCst) {
             let _lost = eprintln!(rt; "no connection can be accepted for now: {error}");
         }
     }
 
-    /// A connection was accepted: the next shortage is said anew.
+    /// Records that a connection was accepted: the next shortage is reported again.
     pub(crate) fn end_shortage(&self) {
-        if self.said_shortage.load(Ordering::SeqCst) {
-            self.said_shortage.store(false, Ordering::SeqCst);
+        if self.printed_shortage.load(Ordering::SeqCst) {
+            self.printed_shortage.store(false, Ordering::SeqCst);
         }
     }
 }
 
-/// Says what it means that other machines reach the host, if they do.
-pub(crate) fn say_reachable<R: Eprint>(rt: &R, host: Host) {
+/// Prints a warning if other machines can reach the host.
+pub(crate) fn print_reachable<R: Eprint>(rt: &R, host: Host) {
     if !host.is_loopback() {
         let address = host.in_url();
         let _lost = eprintln!(rt;
@@ -261,15 +261,15 @@ pub(crate) fn say_reachable<R: Eprint>(rt: &R, host: Host) {
     }
 }
 
-/// How many megabytes so many spans take.
+/// Returns the megabytes that this number of spans takes.
 fn megabytes(spans: u32, bytes: u64) -> u64
     requires { bytes ≤ 1000 }
 {
     (u64::from(spans) * bytes).div_ceil(1_000_000)
 }
 
-/// Says how much the store holds at most, and what memory that may take.
-pub(crate) fn say_limits<R: Eprint>(rt: &R, limits: &Limits) {
+/// Prints the limits of the store, and the memory that they may take.
+pub(crate) fn print_limits<R: Eprint>(rt: &R, limits: &Limits) {
     let Limits {
         batches,
         spans,
@@ -291,8 +291,8 @@ pub(crate) fn say_limits<R: Eprint>(rt: &R, limits: &Limits) {
     );
 }
 
-/// Says that the system lets fewer files be open than there may be connections, if it does.
-pub(crate) fn say_few_files<R: Eprint>(rt: &R, connections: u32) {
+/// Prints a warning if the system allows fewer open files than there may be connections.
+pub(crate) fn print_few_files<R: Eprint>(rt: &R, connections: u32) {
     let mut limit = rlimit {
         rlim_cur: 0,
         rlim_max: 0,
@@ -305,18 +305,18 @@ pub(crate) fn say_few_files<R: Eprint>(rt: &R, connections: u32) {
     }
 }
 
-/// Says why a worker accepts no more connections.
-pub(crate) fn say_accepts_no_more<R: Eprint>(rt: &R, worker: u32, error: &io::Error) {
+/// Prints why a worker accepts no more connections.
+pub(crate) fn print_accepts_no_more<R: Eprint>(rt: &R, worker: u32, error: &io::Error) {
     let _lost = eprintln!(rt; "worker {worker} accepts no more connections: {error}");
 }
 
-/// Says with which status the server ends, and why.
+/// Prints the status with which the server ends, and why.
 pub(crate) fn explain_end<R: Eprint>(rt: &R, status: u8, why: &str) {
     let _lost = eprintln!(rt; "ends with status {status}: {why}");
 }
 
-/// Says that the server ends because a line of its output couldn't be written.
-pub(crate) fn say_unwritten<R: Eprint>(rt: &R, error: RunError) {
+/// Prints that the server ends because a line of its output couldn't be written.
+pub(crate) fn print_unwritten<R: Eprint>(rt: &R, error: RunError) {
     let why = match error {
         RunError::Device => "the output failed",
         RunError::Memory => "out of memory",

@@ -1,21 +1,21 @@
-//! What a server says of itself.
+//! The lines of a server's output.
 
 ghost use Rattle.std.specs.Prelude.{◌≡◌, false, min, string_bytes, sum_by, IfOk};
 ghost use Rattle.std.specs.List.{list_any};
-ghost use Rattle.text_lines.specs.RunErrors.{Says};
+ghost use Rattle.text_lines.specs.RunErrors.{WritesText};
 ghost use Rattle.trace_server.specs.Serving.{listening_line, served_line, books_line, last_lines, Ends, StopsIn};
 
 use crate::ending::Totals;
-use crate::notices::{explain_end, say_unwritten};
+use crate::notices::{explain_end, print_unwritten};
 use crate::worker::WorkerOutcome;
 use live_store::Live;
 use read_side::StoreName;
 use serve_options::Host;
 use session_devices::Output;
 use std::alloc::{AllocError, Global};
-use text_lines::{RunError, say};
+use text_lines::{RunError, write_text};
 
-/// The line that says where the server listens.
+/// Returns the line with the address on which the server listens.
 fn listening_line(alloc: Global, host: Host, port: u16) -> Result<String, AllocError>
     ensures { IfOk result (λ line. string_bytes line ≡ listening_line host port) }
 {
@@ -23,14 +23,14 @@ fn listening_line(alloc: Global, host: Host, port: u16) -> Result<String, AllocE
     format!(in alloc; "listening {address}:{port}\n")
 }
 
-/// The line that says how many connections were taken.
+/// Returns the line with the number of connections accepted.
 fn served_line(alloc: Global, served: u64) -> Result<String, AllocError>
     ensures { IfOk result (λ line. string_bytes line ≡ served_line served) }
 {
     format!(in alloc; "served {served}\n")
 }
 
-/// The line that says what became of the batches.
+/// Returns the line with the totals of the batches.
 fn books_line(alloc: Global, totals: Totals) -> Result<String, AllocError>
     ensures { IfOk result (λ line. string_bytes line ≡
         books_line totals.acknowledged totals.refused totals.left) }
@@ -43,43 +43,43 @@ fn books_line(alloc: Global, totals: Totals) -> Result<String, AllocError>
     format!(in alloc; "books {acknowledged} {refused} {left}\n")
 }
 
-/// Says where the server listens.
-pub(crate) fn say_listening<W: Output>(
+/// Writes the address on which the server listens.
+pub(crate) fn write_listening<W: Output>(
     alloc: Global,
     output: &mut W,
     host: Host,
     port: u16,
 ) -> Result<(), RunError>
     requires { W.has_failed output.old ≡ false }
-    ensures { Says (W.contents output.old) (W.contents output.new) (W.has_failed output.new)
+    ensures { WritesText (W.contents output.old) (W.contents output.new) (W.has_failed output.new)
         (listening_line host port) result }
 {
     let line = listening_line(alloc, host, port)?;
-    say(alloc, output, line.as_bytes())
+    write_text(alloc, output, line.as_bytes())
 }
 
-/// Says how many connections were taken.
-fn say_served<W: Output>(alloc: Global, output: &mut W, served: u64) -> Result<(), RunError>
+/// Writes the number of connections accepted.
+fn write_served<W: Output>(alloc: Global, output: &mut W, served: u64) -> Result<(), RunError>
     requires { W.has_failed output.old ≡ false }
-    ensures { Says (W.contents output.old) (W.contents output.new) (W.has_failed output.new)
+    ensures { WritesText (W.contents output.old) (W.contents output.new) (W.has_failed output.new)
         (served_line served) result }
 {
     let line = served_line(alloc, served)?;
-    say(alloc, output, line.as_bytes())
+    write_text(alloc, output, line.as_bytes())
 }
 
-/// Says what became of the batches.
-fn say_books<W: Output>(alloc: Global, output: &mut W, totals: Totals) -> Result<(), RunError>
+/// Writes the totals of the batches.
+fn write_books<W: Output>(alloc: Global, output: &mut W, totals: Totals) -> Result<(), RunError>
     requires { W.has_failed output.old ≡ false }
-    ensures { Says (W.contents output.old) (W.contents output.new) (W.has_failed output.new)
+    ensures { WritesText (W.contents output.old) (W.contents output.new) (W.has_failed output.new)
         (books_line totals.acknowledged totals.refused totals.left) result }
 {
     let line = books_line(alloc, totals)?;
-    say(alloc, output, line.as_bytes())
+    write_text(alloc, output, line.as_bytes())
 }
 
-/// What all workers did together. A count that has come to its end stays there.
-pub(crate) fn together<N: StoreName>(workers: &[(WorkerOutcome, Live<N>)]) -> WorkerOutcome
+/// Returns the sum of the workers' outcomes. A count that overflows stays at its maximum.
+pub(crate) fn total_outcome<N: StoreName>(workers: &[(WorkerOutcome, Live<N>)]) -> WorkerOutcome
     ensures served { result.served ≡ min (sum_by (λ w. w.0.served) workers.now)
         18446744073709551615 }
     ensures failed { result.failed ≡ list_any (λ w. w.0.failed) workers.now }
@@ -95,25 +95,25 @@ pub(crate) fn together<N: StoreName>(workers: &[(WorkerOutcome, Live<N>)]) -> Wo
     all
 }
 
-/// Says how many connections were taken, and then what became of the batches.
-fn say_end<W: Output>(
+/// Writes the number of connections accepted, and then the totals of the batches.
+fn write_end<W: Output>(
     alloc: Global,
     output: &mut W,
     served: u64,
     totals: Totals,
 ) -> Result<(), RunError>
     requires { W.has_failed output.old ≡ false }
-    ensures { Says (W.contents output.old) (W.contents output.new) (W.has_failed output.new)
+    ensures { WritesText (W.contents output.old) (W.contents output.new) (W.has_failed output.new)
         (last_lines served totals.acknowledged totals.refused totals.left) result }
 {
-    match say_served(alloc, output, served) {
-        Ok(()) => say_books(alloc, output, totals),
+    match write_served(alloc, output, served) {
+        Ok(()) => write_books(alloc, output, totals),
         Err(error) => Err(error),
     }
 }
 
-/// Says how many connections were taken and what became of the batches, and gives the exit status. An operator is told why that
-/// isn't 0.
+/// Writes the number of connections accepted and the totals of the batches, and returns the exit status. A status other
+/// than 0 is explained to the operator.
 pub(crate) fn report<W: Output, R: Eprint>(
     rt: &R,
     alloc: Global,
@@ -125,20 +125,20 @@ pub(crate) fn report<W: Output, R: Eprint>(
     ensures { Ends (W.contents output.old) (W.contents output.new) (W.has_failed output.new)
         (last_lines all.served totals.acknowledged totals.refused totals.left) all.failed result }
 {
-    match say_end(alloc, output, all.served, totals) {
+    match write_end(alloc, output, all.served, totals) {
         Ok(()) if all.failed => {
             explain_end(rt, 4, "a worker could accept no more connections");
             4
         }
         Ok(()) => 0,
         Err(error) => {
-            say_unwritten(rt, error);
+            print_unwritten(rt, error);
             error.status()
         }
     }
 }
 
-/// Says how many connections were taken, where memory ran out to close the books.
+/// Writes the number of connections accepted after memory ran out for closing the books, and returns the exit status.
 pub(crate) fn report_unclosed<W: Output, R: Eprint>(
     rt: &R,
     alloc: Global,
@@ -149,13 +149,13 @@ pub(crate) fn report_unclosed<W: Output, R: Eprint>(
     ensures { StopsIn (W.contents output.old) (W.contents output.new) (W.has_failed output.new)
         (served_line all.served) result }
 {
-    match say_served(alloc, output, all.served) {
+    match write_served(alloc, output, all.served) {
         Ok(()) => {
-            say_unwritten(rt, RunError::Memory);
+            print_unwritten(rt, RunError::Memory);
             RunError::Memory.status()
         }
         Err(error) => {
-            say_unwritten(rt, error);
+            print_unwritten(rt, error);
             error.status()
         }
     }

@@ -14,17 +14,17 @@ use crate::ending::close_books;
 use crate::gate::Gate;
 use crate::loads::Loads;
 use crate::notices::{
-    Notices, explain_end, say_few_files, say_limits, say_reachable, say_unwritten,
+    Notices, explain_end, print_few_files, print_limits, print_reachable, print_unwritten,
 };
-use crate::reporting::{report, report_unclosed, say_listening, together};
+use crate::reporting::{report, report_unclosed, total_outcome, write_listening};
 use crate::sessions::Sessions;
 use crate::shared::SharedStore;
-use crate::threads::{OwnWork, beside, each_done};
+use crate::threads::{OwnWork, beside, run_each};
 use crate::watch::Watch;
 use crate::worker::{Server, WorkerOutcome};
 use intake::{Books, Clerk, Desk};
 use live_store::Live;
-use read_side::{Keeper, Opened, StoreName};
+use read_side::{EmptyHistory, Keeper, StoreName};
 use session_devices::Output;
 use std::alloc::{AllocError, Global};
 use std::marker::Brand;
@@ -35,7 +35,7 @@ use std::thread::{Promise, Threads, join, spawn};
 use std::time::Clock;
 use trace_model::Limits;
 
-/// Where a server takes connections, how it is set up, and what hears of its workers' calls.
+/// A server's listener, its configuration, and the gate of its workers' calls.
 #[derive(Drop)]
 struct ServerSetup<'a, G> {
     listener: &'a TcpListener,
@@ -45,13 +45,13 @@ struct ServerSetup<'a, G> {
     notices: &'a Notices,
 }
 
-/// What the workers did, each with its ends of the store.
+/// The workers' outcomes, each with its seat and pass.
 type Outcomes<N> = Result<Vec<(WorkerOutcome, Live<N>)>, AllocError>;
 
-/// What the clerk leaves, and what the workers did.
+/// What the clerk leaves, and the workers' outcomes.
 type Left<N> = (Books<N>, Outcomes<N>);
 
-/// Has each worker serve until all sessions are over, and ends the watch then.
+/// Runs the workers until all sessions have ended, then ends the watch.
 fn work_each<
     N: StoreName + Send + Sync,
     G: Gate + Sync,
@@ -60,13 +60,13 @@ fn work_each<
     ensures { IfOk result (λ v. AllZip GoesOn (map (λ p. p.1.seat) lives.items)
         (map (λ w. w.1.seat) v.items)) }
 {
-    let outcomes = each_done(rt, server, lives);
+    let outcomes = run_each(rt, server, lives);
     server.watch.end();
     outcomes
 }
 
-/// Has each worker serve until all sessions are over, while the watch runs in a thread of its own. Where none can be made for it,
-/// nothing is said.
+/// Runs the workers until all sessions have ended, with the watch in a thread of its own. If that thread can't be
+/// created, there are no periodic lines.
 fn work_watched<
     N: StoreName + Send + Sync,
     G: Gate + Sync,
@@ -90,7 +90,7 @@ fn work_watched<
     outcomes
 }
 
-/// Has each worker serve until all sessions are over, and closes the desk then.
+/// Runs the workers until all sessions have ended, then closes the desk.
 fn work_all<
     N: StoreName + Send + Sync,
     G: Gate + Sync,
@@ -104,7 +104,7 @@ fn work_all<
     outcomes
 }
 
-/// The promise that workers that began with these ends of the store go on with their seats.
+/// The promise that workers that began with these seats and passes return with these seats.
 #[derive(Drop)]
 struct KeepSeats<N: StoreName>(Snapshot<Vec<(u32, Live<N>)>>);
 
@@ -117,7 +117,7 @@ impl<N: StoreName> Promise<Outcomes<N>> for KeepSeats<N> {
         AllZip GoesOn (map (λ p. p.1.seat) began.0.value.items) (map (λ w. w.1.seat) v.items)) };
 }
 
-/// The clerk of an empty store, and the slot in which its keeper is.
+/// The clerk of an empty store, and the slot that holds its keeper.
 #[derive(Drop)]
 struct ClerkWork<'d, 's, N: StoreName> {
     desk: &'d Desk<N>,
@@ -136,8 +136,8 @@ impl<'d, 's, N: StoreName, R: Wait> OwnWork<R, Books<N>> for ClerkWork<'d, 's, N
     ghost gives = { λ w books. KeepsBooks N.limits w.clerk.desk books.inbox.desk books.inbox.taken
         books.accounts books.keeper books.acknowledged books.refused books.left.items };
 
-    /// Has the clerk serve until the desk is closed. It takes the keeper out of the slot. Where there are no workers, the
-    /// desk is closed first.
+    /// Runs the clerk until the desk is closed. It takes the keeper out of the slot. Without workers, the desk is
+    /// closed first.
     fn run(self, rt: &R, has_other: bool) -> Books<N> {
         let ClerkWork { desk, clerk, slot } = self;
         if !has_other {
@@ -150,8 +150,8 @@ impl<'d, 's, N: StoreName, R: Wait> OwnWork<R, Books<N>> for ClerkWork<'d, 's, N
     }
 }
 
-/// Has the clerk serve in this thread, and the workers in threads of their own, until all sessions are over. Where no
-/// thread can be made for them, the desk is closed and nobody is served.
+/// Runs the clerk in this thread, and the workers in their own threads, until all sessions have ended. If no thread can
+/// be created for them, the desk is closed and no connection is served.
 fn serve_sessions<
     N: StoreName + Send + Sync,
     G: Gate + Sync,
@@ -210,7 +210,7 @@ fn serve_sessions<
     }
 }
 
-/// Has the store served, closes its books and the store, reports, and gives the exit status.
+/// Serves the store, closes its books and the store, writes the report, and returns the exit status.
 fn serve_store<
     N: StoreName + Send + Sync,
     G: Gate + Sync,
@@ -233,14 +233,14 @@ fn serve_store<
         explain_end(rt, 5, "no thread or no memory for the workers");
         return 5;
     };
-    let all = together(workers.as_slice());
+    let all = total_outcome(workers.as_slice());
     match close_books(rt, books, workers) {
         Ok(totals) => report(rt, alloc, output, all, totals),
         Err(_) => report_unclosed(rt, alloc, output, all),
     }
 }
 
-/// Whether a thread can be made at all.
+/// Returns whether a thread can be created.
 fn can_start<R: Threads>(rt: &R) -> bool {
     match spawn(rt, || -> () {}) {
         Ok(thread) => {
@@ -251,7 +251,7 @@ fn can_start<R: Threads>(rt: &R) -> bool {
     }
 }
 
-/// Serves a store that it opens under a name, which is spent.
+/// Opens a store under a name, which is consumed, and serves it.
 fn serve_named<
     N: StoreName + Send + Sync,
     G: Gate + Sync,
@@ -260,7 +260,7 @@ fn serve_named<
 >(
     rt: &R,
     alloc: Global,
-    name: Opened,
+    name: EmptyHistory,
     limits: Limits,
     setup: &ServerSetup<'_, G>,
     output: &mut W,
@@ -282,31 +282,29 @@ fn serve_named<
         return 5;
     };
     let options = &setup.config.options;
-    if let Err(error) = say_listening(alloc, output, options.host, address.port()) {
+    if let Err(error) = write_listening(alloc, output, options.host, address.port()) {
         shared.close(rt);
-        say_unwritten(rt, error);
+        print_unwritten(rt, error);
         return error.status();
     }
-    say_reachable(rt, options.host);
-    say_limits(rt, &options.limits);
-    say_few_files(rt, options.connections);
+    print_reachable(rt, options.host);
+    print_limits(rt, &options.limits);
+    print_few_files(rt, options.connections);
     serve_store(rt, alloc, shared, setup, output)
 }
 
-/// Serves the connections of a socket that listens on the options' host, over an empty store,
-/// and gives the exit status: 0 where as many connections as were asked for have ended, 4 where a worker
-/// could accept no more or the output failed, and 5 where memory or threads ran out, or the system gave no address of
-/// the socket.
+/// Serves the connections of a socket that listens on the options' host, over an empty store, and returns the exit
+/// status: 0 after the requested number of connections, 4 if a worker couldn't accept any more or the output failed,
+/// and 5 if memory or threads ran out, or the system didn't return the socket's address.
 ///
-/// The output gets a line that says on which host and port it listens, once connections are accepted, and at the end
-/// one that says how many came and one that says what became of the batches that were handed in: how many
-/// were acknowledged, refused by the store, and left unanswered. A worker serves many connections, a request of each in
-/// turn; an error of a connection ends it alone. Every call of the store stands between two calls of the gate. The listener
-/// doesn't block from then on.
+/// It writes a line with the host and port once connections are accepted. At the end it writes a line with the number
+/// of connections, and one with the number of batches that were acknowledged, refused by the store, and left
+/// unanswered. A worker serves many connections, one request of each in turn. An error of a connection ends only that
+/// connection. Every call to the store is between two calls of the gate. The listener is non-blocking from then on.
 ///
-/// An operator is told on standard error that other machines reach the host, how much the store holds at most, how full it
-/// is, that requests were answered 500, why no connection is accepted, and why the server ends with 4 or 5. Nothing of that is
-/// in the output.
+/// Standard error gets lines for the operator: that other machines can reach the host, the limits of the store, how
+/// full it is, that requests were answered 500, why no connection is accepted, and why the server ends with 4 or 5.
+/// None of these are in the output.
 pub fn serve_with<
     G: Gate + Sync,
     W: Output,
@@ -328,7 +326,7 @@ pub fn serve_with<
         explain_end(rt, 5, "no thread can be made");
         return 5;
     }
-    let (name, limits) = (Opened::new(), config.options.limits);
+    let (name, limits) = (EmptyHistory::new(), config.options.limits);
     let (workers, connections) = (config.options.workers, config.options.connections);
     let Ok(loads) = Loads::new(alloc, workers, connections) else {
         explain_end(rt, 5, "out of memory");

@@ -1,19 +1,19 @@
-//! How many connections are accepted in all.
+//! The number of connections that are accepted in all.
 
 use std::sync::atomic::{AtomicU64, Ordering};
 
-/// How many connections there are to accept, and how many were. Nothing rests on it but when the workers end.
+/// The number of connections to accept, and the number accepted. They only decide when the workers end.
 #[derive(Drop)]
 pub(crate) struct Sessions {
-    /// How many there are to serve; 0 is without end.
+    /// The number to serve; 0 for no limit.
     limit: u32,
-    /// How many were accepted, or are about to be.
+    /// The number that were accepted, or are about to be.
     claimed: AtomicU64,
     accepted: AtomicU64,
 }
 
 impl Sessions {
-    /// None was accepted yet.
+    /// Creates the counts before the first connection.
     pub(crate) fn new(limit: u32) -> Sessions {
         Sessions {
             limit,
@@ -22,7 +22,7 @@ impl Sessions {
         }
     }
 
-    /// Claims a session for a connection that is about to be accepted, so that no more are accepted than there are to serve.
+    /// Claims a session before a connection is accepted, so that no more are accepted than the limit.
     pub(crate) fn claim(&self) -> bool {
         if self.limit == 0 {
             return true;
@@ -34,14 +34,14 @@ impl Sessions {
         false
     }
 
-    /// Gives a claim back for which no connection came.
+    /// Gives back a claim for which no connection came.
     pub(crate) fn give_back(&self) {
         if self.limit > 0 {
             self.claimed.fetch_sub(1, Ordering::SeqCst);
         }
     }
 
-    /// Counts a connection that was accepted by a claim.
+    /// Counts a connection that was accepted with a claim.
     pub(crate) fn count_accepted(&self) {
         if self.limit > 0 {
             self.accepted.fetch_add(1, Ordering::SeqCst);

@@ -9,13 +9,12 @@ ghost use Rattle.trace_server.specs.WorkerSeats.{AreNew};
 use crate::config::ServerConfig;
 use intake::{Clerk, Desk, desk};
 use live_store::Live;
-use read_side::{Keeper, Opened, StoreName, open};
+use read_side::{EmptyHistory, Keeper, StoreName, open};
 use std::alloc::{AllocError, Global};
 use std::sync::Wait;
 use trace_model::{Limits, Refusal};
 
-/// A store, its desk and its clerk, and the workers' ends of both. It isn't `Drop`, since the keeper
-/// isn't.
+/// A store, its desk and its clerk, and the workers' seats and passes. It isn't `Drop`, because the keeper isn't.
 pub(crate) struct SharedStore<N: StoreName> {
     pub(crate) keeper: Keeper<N>,
     pub(crate) desk: Desk<N>,
@@ -24,7 +23,7 @@ pub(crate) struct SharedStore<N: StoreName> {
     pub(crate) lives: Vec<(u32, Live<N>)>,
 }
 
-/// A seat and a pass for each worker.
+/// Returns a seat and a pass for each worker.
 fn pairs<N: StoreName>(
     alloc: Global,
     seats: Vec<intake::Seat<N>>,
@@ -44,7 +43,7 @@ fn pairs<N: StoreName>(
     Ok(lives)
 }
 
-/// A desk at the store, with its clerk, and the workers' ends.
+/// Opens a desk of the store, with its clerk and the workers' seats and passes.
 type DeskEnds<N> = (Desk<N>, Clerk<N>, Vec<(u32, Live<N>)>);
 
 fn open_desk<N: StoreName>(
@@ -73,7 +72,7 @@ fn open_desk<N: StoreName>(
 }
 
 impl<N: StoreName> SharedStore<N> {
-    /// Opens an empty store under a name, which is spent.
+    /// Opens an empty store under a name, which is consumed.
     ///
     /// # Errors
     ///
@@ -81,7 +80,7 @@ impl<N: StoreName> SharedStore<N> {
     pub(crate) fn open<R: Wait>(
         rt: &R,
         alloc: Global,
-        name: Opened,
+        name: EmptyHistory,
         limits: Limits,
         config: &ServerConfig,
     ) -> Result<SharedStore<N>, Refusal>
@@ -109,7 +108,7 @@ impl<N: StoreName> SharedStore<N> {
         }
     }
 
-    /// Closes the store, which nobody has used.
+    /// Closes a store that was not used.
     pub(crate) fn close<R: Wait>(self, rt: &R) {
         let SharedStore {
             keeper,

@@ -1,4 +1,4 @@
-//! Work that is split among threads.
+//! Work in several threads.
 
 ghost use Rattle.std.specs.List.{AllZip};
 ghost use Rattle.std.specs.Prelude.{IfOk, IfSome};
@@ -7,17 +7,17 @@ use std::alloc::AllocError;
 use std::sync::Wait;
 use std::thread::{Promise, Threads, map_vec, scope, scope_env};
 
-/// What a thread does with its argument. It may wait where the handle `R` may.
+/// What a thread does with its argument. It may block if the handle `R` may.
 pub(crate) trait Task<R, P, X> {
-    /// What it may give for an argument.
+    /// Relates an argument and its result.
     ghost gives: { P → X → Type 0 };
 
     fn done(&self, rt: &R, argument: P) -> X
         ensures { gives argument result };
 }
 
-/// Has each argument done in a thread of its own, where one can be made, and gives what each gave, in order.
-pub(crate) fn each_done<P: Send + Drop, X: Send + Drop, R: Threads + Sync, T: Task<R, P, X> + Sync>(
+/// Runs the task for each argument in a thread of its own, if one can be created, and returns the results in order.
+pub(crate) fn run_each<P: Send + Drop, X: Send + Drop, R: Threads + Sync, T: Task<R, P, X> + Sync>(
     rt: &R,
     task: &T,
     arguments: Vec<P>,
@@ -27,22 +27,22 @@ pub(crate) fn each_done<P: Send + Drop, X: Send + Drop, R: Threads + Sync, T: Ta
     map_vec(rt, arguments, &|argument| task.done(rt, argument))
 }
 
-/// Work that is done beside another thread. It may wait where the handle `R` may.
+/// Work beside another thread. It may block if the handle `R` may.
 pub(crate) trait OwnWork<R, Y> {
-    /// It may be done.
+    /// The work may be done.
     ghost ready: { Self → Type 0 };
 
-    /// What it may give.
+    /// Relates the work and its result.
     ghost gives: { Self → Y → Type 0 };
 
-    /// Does the work. `has_other` says whether the other thread could be made.
+    /// Does the work. `has_other` says whether the other thread was created.
     fn run(self, rt: &R, has_other: bool) -> Y
         requires { ready self }
         ensures { gives self result };
 }
 
-/// Runs `theirs` in a thread of its own while `ours` is done in this one, and returns what both gave. If that thread can't
-/// be made, `theirs` isn't run.
+/// Runs `theirs` in a thread of its own and `ours` in this one, and returns both results. If that thread can't be
+/// created, `theirs` isn't run.
 pub(crate) fn beside<
     X: Send + Drop,
     Y,

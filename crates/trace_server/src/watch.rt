@@ -1,4 +1,4 @@
-//! What an operator is told every so many seconds.
+//! The periodic line for the operator.
 
 use crate::notices::Notices;
 use std::sync::Wait;
@@ -6,20 +6,20 @@ use std::sync::atomic::{AtomicBool, Ordering};
 use std::thread::sleep;
 use std::time::{Clock, Duration};
 
-/// After how many milliseconds the watch looks whether the workers have ended.
+/// The number of milliseconds between two checks whether the workers have ended.
 const MAX_PAUSE: u64 = 100;
 
-/// Says what was counted, every so many seconds and until the workers have ended. It waits in a thread of its own, so a standard
-/// error that nobody reads holds no worker up.
+/// Prints the counts periodically until the workers have ended. It runs in a thread of its own, so a standard error
+/// that nobody reads blocks no worker.
 #[derive(Drop)]
 pub(crate) struct Watch {
-    /// How many seconds lie between two lines; 0 is for ever.
+    /// The number of seconds between two lines; 0 for no lines.
     seconds: u32,
     over: AtomicBool,
 }
 
 impl Watch {
-    /// The workers have not ended.
+    /// Creates a watch whose workers have not ended.
     pub(crate) fn new(seconds: u32) -> Watch {
         Watch {
             seconds,
@@ -27,23 +27,23 @@ impl Watch {
         }
     }
 
-    /// Returns whether it says nothing.
+    /// Returns whether it prints nothing.
     pub(crate) fn is_off(&self) -> bool {
         self.seconds == 0
     }
 
-    /// Learns that the workers have ended.
+    /// Records that the workers have ended.
     pub(crate) fn end(&self) {
         self.over.store(true, Ordering::SeqCst);
     }
 
-    /// Returns how long to wait from now on for a time that is due.
+    /// Returns how long to wait, at most until `due`.
     fn pause(now: Duration, due: Duration) -> Duration {
         due.saturating_sub(now)
             .min(Duration::from_millis(MAX_PAUSE))
     }
 
-    /// Says what was counted each time that it is due, until the workers have ended.
+    /// Prints the counts whenever a line is due, until the workers have ended.
     pub(crate) fn run<R: Wait + Clock + Eprint>(&self, rt: &R, notices: &Notices) {
         let period = Duration::from_secs(u64::from(self.seconds));
         let mut now = rt.monotonic().unwrap_or(Duration::ZERO);
@@ -55,7 +55,7 @@ impl Watch {
             sleep(rt, Watch::pause(now, due));
             now = rt.monotonic().unwrap_or(now);
             if now >= due {
-                notices.say_counts(rt);
+                notices.print_counts(rt);
                 due = now.saturating_add(period);
             }
         }

@@ -7,7 +7,7 @@ use crate::event_loop::EventLoop;
 use crate::gate::Gate;
 use crate::gated::Gated;
 use crate::loads::Loads;
-use crate::notices::{Notices, say_accepts_no_more};
+use crate::notices::{Notices, print_accepts_no_more};
 use crate::sessions::Sessions;
 use crate::threads::Task;
 use crate::watch::Watch;
@@ -19,7 +19,7 @@ use std::net::{Net, TcpListener, TcpStream};
 use std::sync::Wait;
 use std::time::Clock;
 
-/// What all workers share.
+/// The state that all workers share.
 #[derive(Drop)]
 pub(crate) struct Server<'a, N: StoreName, G> {
     pub(crate) alloc: Global,
@@ -33,18 +33,18 @@ pub(crate) struct Server<'a, N: StoreName, G> {
     pub(crate) idle: u32,
 }
 
-/// What a worker did.
+/// The outcome of a worker.
 #[derive(Clone, Copy, Debug)]
 pub(crate) struct WorkerOutcome {
-    /// How many connections it accepted.
+    /// The number of connections that it accepted.
     pub(crate) served: u64,
-    /// It could accept no more.
+    /// It couldn't accept any more.
     pub(crate) failed: bool,
 }
 
 impl<'a, N: StoreName, G: Gate> Server<'a, N, G> {
-    /// Serves connections until all sessions were accepted or none can be accepted, and those that are open have ended, as the
-    /// worker with this number and by these ends of the store, and gives the ends back.
+    /// Runs a worker: serves connections until all sessions were accepted or no more can be, and the open ones have
+    /// ended. Returns its seat and pass.
     fn work<R: Wait + Clock + Eprint + Net<Stream = TcpStream, Listener = TcpListener>>(
         &self,
         rt: &R,
@@ -56,7 +56,7 @@ impl<'a, N: StoreName, G: Gate> Server<'a, N, G> {
         let mut event_loop = match EventLoop::new(rt, self.alloc, self.listener, self.idle) {
             Ok(event_loop) => event_loop,
             Err(error) => {
-                say_accepts_no_more(rt, worker, &error);
+                print_accepts_no_more(rt, worker, &error);
                 let outcome = WorkerOutcome {
                     served: 0,
                     failed: true,

@@ -1,10 +1,10 @@
-//! Tests of what the web asks and is answered: worked rows of `query_http` and `query_json`, whose
-//! expected texts come from Jaeger's query interface. What `pipe` shows of them stands in `cases/`.
+//! Tests of queries and their answers over HTTP: examples for `query_http` and `query_json`, whose
+//! expected texts come from Jaeger's query interface. What `pipe` prints for them is in `cases/`.
 //!
-//! * `targets`: the query that a target asks, or what is wrong with it.
+//! * `targets`: the query of a target, or its fault.
 //! * `responses`: the bytes of responses.
-//! * `parts`: answers of more than 1 MB, given out in parts.
-//! * `answers`: the JSON of answers as text and as a tree, and of what no target asks.
+//! * `parts`: answers of more than 1 MB, in parts.
+//! * `answers`: the JSON of answers as text and as a tree, also of answers that no target asks for.
 #![tactic(auto)]
 
 #[cfg(test)]

@@ -1,7 +1,7 @@
 pub mod Steps
-pub mod Filled
-pub mod HeadsAgain
-pub mod StringsAgain
-pub mod FieldsAgain
-pub mod ItemsAgain
-pub mod FramesAgain
+pub mod FilledBytes
+pub mod HeadSteps
+pub mod StringSteps
+pub mod FieldSteps
+pub mod ListSteps
+pub mod SkipSteps

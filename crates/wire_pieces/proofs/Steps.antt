@@ -1,4 +1,4 @@
--- States one after the other, and states inside of larger ones.
+-- Sequences of states, and states inside larger ones.
 use Rattle.std.proofs.Common.{◌≡◌, ℕ, List, [], ◌++◌, Option, Some, None, Result, Ok, true, false, ap, ◌∙◌}
 use Rattle.std.specs.Option.{is_some}
 use Rattle.thrift_binary.specs.declared.fault.WireError.{WireError}
@@ -64,7 +64,7 @@ module _ {X : Type 0} where
   comes-refused a b p q (Wire e) f g = comes-refuses f g
   comes-refused a b p q Memory f g = tt
 
-  -- a fault inside of a larger reading
+  -- a fault inside a larger reading
   pub refused-inside : {Y : Type 0} (then : X → Result Y WireError) (a : List ℕ → Result X WireError) (p : List ℕ) (e : PieceError) → Refused a p e → Refused (λ w. a w >>= then) p e
   refused-inside then a p (Wire e) g = refuses-inside then g
   refused-inside then a p Memory g = tt

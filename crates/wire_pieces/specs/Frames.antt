@@ -1,5 +1,5 @@
--- A value that is read past, of which some bytes have come: what is being read, and the containers
--- around it, one inside of the other.
+-- A skipped value of which some bytes have arrived: the part that is being read, and the containers
+-- around it, one inside the other.
 use Rattle.std.specs.Prelude.{ℕ, zero, suc, ◌+◌, ◌-◌, ◌*◌, ◌<◌, List, [], ◌∷◌, length, Result, Ok, Err}
 use Rattle.thrift_binary.specs.Reading.{◌>>=◌}
 use Rattle.thrift_binary.specs.Fields.{Take}
@@ -14,11 +14,11 @@ use Rattle.wire_pieces.specs.Numbers.{size_from}
 use Rattle.wire_pieces.specs.Heads.{fields_head, list_head, map_head}
 use Rattle.wire_pieces.specs.declared.skip.Frame.{Frame}
 use Rattle.wire_pieces.specs.declared.skip.Frame.TheVariants.{Fields, Turns}
-use Rattle.wire_pieces.specs.declared.skip.Now.{Now}
-use Rattle.wire_pieces.specs.declared.skip.Now.TheVariants as now
+use Rattle.wire_pieces.specs.declared.skip.Current.{Current}
+use Rattle.wire_pieces.specs.declared.skip.Current.TheVariants as now
 use Rattle.wire_pieces.specs.declared.skip.Skipping.{Skipping}
 
--- n values, of two types in turn
+-- n values, of two alternating types
 unfoldable pub turns : (ℕ → Skip) → ℕ → ℕ → ℕ → Skip
 turns value a b zero w = Ok (tt, w)
 turns value a b (suc n) w = value a w >>= λ x. turns value b a n x.1
@@ -27,14 +27,14 @@ turns value a b (suc n) w = value a w >>= λ x. turns value b a n x.1
 abbrev pub passes : ℕ → Take (Unit {0}) WireError
 passes levels s c i = value_at levels c
 
--- the values of a list or the pairs of a map, inside of one level more
+-- the values of a list or the pairs of a map, one level deeper
 abbrev pub items_of : ℕ → ℕ × ℕ → Skip
 items_of levels h w = times h.1 (value_at (levels - 1) h.0) w
 
 abbrev pub pairs_of : ℕ → (ℕ × ℕ) × ℕ → Skip
 pairs_of levels h w = times h.1 (both (value_at (levels - 1) h.0.0) (value_at (levels - 1) h.0.1)) w
 
--- what is left of a container whose values have so many levels
+-- the rest of a container whose values have n levels
 abbrev pub frame_at : ℕ → Frame → Skip
 frame_at levels (Fields h) w = fields_head (λ e. e) (passes levels) tt h w
 frame_at levels (Turns t) w = turns (value_at levels) t.this t.next t.left w
@@ -44,8 +44,8 @@ abbrev pub frames_at : ℕ → List Frame → Skip
 frames_at levels [] w = Ok (tt, w)
 frames_at levels (f ∷ fs) w = frames_at (levels - 1) fs w >>= λ x. frame_at levels f x.1
 
--- what is being read inside the innermost container
-abbrev pub now_at : ℕ → Now → Skip
+-- the part of the innermost container that is being read
+abbrev pub now_at : ℕ → Current → Skip
 now_at levels now.Nothing w = Ok (tt, w)
 now_at levels (now.Past p) w = past p.left w
 now_at levels (now.Size p) w = size_from p w >>= λ n. past n.0 n.1
@@ -56,15 +56,15 @@ now_at levels (now.Map p) w = map_head p w >>= λ h. pairs_of levels h.0 h.1
 unfoldable pub stack_at : Frame → List Frame → Skip
 stack_at top below w = frame_at (64 - length below) top w >>= λ x. frames_at 64 below x.1
 
-unfoldable pub state_at : Now → Frame → List Frame → Skip
+unfoldable pub state_at : Current → Frame → List Frame → Skip
 state_at now top below w = now_at (64 - length below) now w >>= λ x. stack_at top below x.1
 
--- what is read past of the bytes that are still to come
+-- what is skipped of the bytes that are still to come
 abbrev pub skipping : Skipping → Skip
 skipping s w = state_at s.now s.top s.below.items w
 
--- how much can be done before a byte is needed
-abbrev pub rank : Now → Frame → ℕ
+-- the number of steps before a byte is needed
+abbrev pub rank : Current → Frame → ℕ
 rank now.Nothing (Fields h) = 0
 rank now.Nothing (Turns t) = 3
 rank (now.Past p) f = 1
@@ -82,7 +82,7 @@ weight s piece = 5 * length piece + height s
 abbrev pub begun : ℕ → Frame → List Frame → Skip
 begun c top below w = value_at (64 - length below) c w >>= λ x. stack_at top below x.1
 
--- what a step came to
+-- the result of a step
 abbrev pub Progresses : Skip → Skip → List ℕ → List ℕ → Result Progress PieceError → Type 0
 Progresses old new piece left (Ok progress.On) = Comes old new piece left
 Progresses old new piece left (Ok progress.Short) = NeedsMore Truncated old new piece left

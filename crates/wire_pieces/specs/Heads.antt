@@ -1,4 +1,4 @@
--- Heads of which some bytes have come, and the fields of a struct.
+-- Partially received heads, and the fields of a struct.
 use Rattle.std.specs.Prelude.{◌≡◌, true, Some, None, Result, ℕ, ℤ, List, Option, Ok, Err, ◌&&◌, ◌||◌, ◌==◌, if◌then◌else◌}
 use Rattle.wire_pieces.specs.declared.fault.PieceError.{PieceError}
 use Rattle.thrift_binary.specs.declared.fault.WireError.{WireError}
@@ -84,10 +84,10 @@ map_head h w = map_step_from h.step w
 
 -- ---- fields
 
--- the fields of a struct from a head on, of which some bytes have come
+-- the fields of a struct from a partially received head on
 abbrev pub fields_head : {S E : Type 0} → (WireError → E) → Take S E → S → FieldHead → Reader S E
 fields_head wire take s h w = lift wire (head_from h w) >>= λ x. behind_field (fields_at wire take) take s x.0 x.1
 
--- the fields of a struct from a value on, of which some bytes have come
+-- the fields of a struct from a partially received value on
 abbrev pub fields_value : {S E : Type 0} → (WireError → E) → Take S E → Reader S E → Reader S E
 fields_value wire take now w = now w >>= λ x. fields_at wire take x.0 x.1

@@ -1,4 +1,4 @@
--- A string or binary of which some bytes have come.
+-- A partially received string or binary.
 use Rattle.std.specs.Prelude.{ℕ, List, [], ◌++◌, Ok}
 use Rattle.thrift_binary.specs.Reading.{Read, ◌>>=◌, bytes_at}
 use Rattle.wire_pieces.specs.Numbers.{size_from}
@@ -6,7 +6,7 @@ use Rattle.wire_pieces.specs.declared.strings.StringStep.{StringStep}
 use Rattle.wire_pieces.specs.declared.strings.StringStep.TheVariants.{Size, Body}
 use Rattle.wire_pieces.specs.declared.strings.StringPart.{StringPart}
 
--- n bytes behind those that have come
+-- n bytes after those that have arrived
 unfoldable pub bytes_end : List ℕ → ℕ → List ℕ → Read (List ℕ)
 bytes_end got n w = bytes_at n w >>= λ t. Ok (got ++ t.0, t.1)
 

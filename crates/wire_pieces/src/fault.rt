@@ -9,7 +9,7 @@ use thrift_binary::WireError;
 pub enum PieceError {
     /// The first fault of the bytes, which isn't [`WireError::Truncated`].
     Wire(WireError),
-    /// There was no memory for what has come.
+    /// Memory for the bytes so far ran out.
     Memory,
 }
 

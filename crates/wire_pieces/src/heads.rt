@@ -6,15 +6,15 @@ ghost use Rattle.wire_pieces.specs.Numbers.{i16_from};
 ghost use Rattle.wire_pieces.specs.Heads.{IsTyped, id_from, head_from, typed_size_from, list_head};
 
 use crate::fault::PieceError;
-use crate::gathered::Gathered;
 use crate::numbers::Size;
+use crate::partial_bytes::PartialBytes;
 use byteorder::{BigEndian, ByteOrder};
 use thrift_binary::types::is_code;
 use thrift_binary::{Cursor, WireError};
 
-/// Continues over a signed number of 16 bits.
+/// Continues a signed number of 16 bits with a piece.
 #[inline]
-fn more_i16(bytes: &mut Gathered<2>, piece: &mut Cursor<'_>) -> Option<i16>
+fn more_i16(bytes: &mut PartialBytes<2>, piece: &mut Cursor<'_>) -> Option<i16>
     ensures reads { Reaches Truncated (λ x. x) (i16_from bytes.old) (i16_from bytes.new)
         piece.old piece.new result }
     ensures taken { Takes piece.old piece.new result }
@@ -23,11 +23,11 @@ fn more_i16(bytes: &mut Gathered<2>, piece: &mut Cursor<'_>) -> Option<i16>
     Some(BigEndian::read_i16(&whole))
 }
 
-/// The id behind a field's type.
+/// The id after a field's type.
 #[derive(Drop)]
 pub(crate) struct TypedId {
     code: u8,
-    id: Gathered<2>,
+    id: PartialBytes<2>,
 }
 
 impl TypedId {
@@ -54,14 +54,14 @@ pub(crate) enum HeadStep {
     Id(TypedId),
 }
 
-/// The type and the id of a field; `None` where it is the stop byte.
+/// The head of a field: its type and its id, or `None` for the stop byte.
 #[derive(Drop)]
 pub struct FieldHead {
     step: HeadStep,
 }
 
 impl FieldHead {
-    /// Before the first byte.
+    /// Returns the state before the first byte.
     #[inline]
     pub fn new() -> Self
         ensures fresh { (w : List ℕ) → head_from result w ≡ field_at w }
@@ -71,7 +71,7 @@ impl FieldHead {
         }
     }
 
-    /// Whether no byte of it has come. Where one has, it is a field's, and no stop byte can follow.
+    /// Whether no byte of the head has arrived. Otherwise the head is a field's, and not the stop byte.
     #[inline]
     pub fn is_first(&self) -> bool
         ensures first { result ≡ true → (w : List ℕ) → head_from self.now w ≡ field_at w }
@@ -81,7 +81,7 @@ impl FieldHead {
         matches!(self.step, HeadStep::First)
     }
 
-    /// Continues over a piece.
+    /// Continues with a piece. Returns the head once it is complete.
     #[tactic(auto, unfolding(thrift_binary::specs::Reading::field_at))]
     #[inline]
     pub fn more(&mut self, piece: &mut Cursor<'_>) -> Result<Option<Option<(u8, i16)>>, PieceError>
@@ -100,7 +100,7 @@ impl FieldHead {
                 }
                 let mut part = TypedId {
                     code,
-                    id: Gathered::new(),
+                    id: PartialBytes::new(),
                 };
                 let head = part.more(piece)?;
                 self.step = HeadStep::Id(part);
@@ -111,7 +111,7 @@ impl FieldHead {
     }
 }
 
-/// The size behind the type of a list's elements.
+/// The size after the type of a list's elements.
 #[derive(Drop)]
 pub(crate) struct TypedSize {
     code: u8,
@@ -141,14 +141,14 @@ pub(crate) enum ListStep {
     Sized(TypedSize),
 }
 
-/// The type and the number of the elements of a list or set.
+/// The head of a list or set: the type and the number of its elements.
 #[derive(Drop)]
 pub struct ListHead {
     step: ListStep,
 }
 
 impl ListHead {
-    /// Before the first byte.
+    /// Returns the state before the first byte.
     #[inline]
     pub fn new() -> Self
         ensures fresh { (w : List ℕ) → list_head result w ≡ list_at w }
@@ -158,7 +158,7 @@ impl ListHead {
         }
     }
 
-    /// Continues over a piece.
+    /// Continues with a piece. Returns the head once it is complete.
     #[tactic(auto, unfolding(thrift_binary::specs::Reading::list_at))]
     #[inline]
     pub fn more(&mut self, piece: &mut Cursor<'_>) -> Result<Option<(u8, u32)>, PieceError>

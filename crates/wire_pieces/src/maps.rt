@@ -8,7 +8,7 @@ use crate::numbers::Size;
 use thrift_binary::types::is_code;
 use thrift_binary::{Cursor, WireError};
 
-/// The size behind the types of a map's keys and values.
+/// The size after the types of a map's keys and values.
 #[derive(Drop)]
 pub(crate) struct PairSize {
     key: u8,
@@ -39,7 +39,7 @@ pub(crate) enum PairStep {
     Sized(PairSize),
 }
 
-/// What is behind the type of a map's keys.
+/// The rest of a map's head after the type of its keys.
 #[derive(Drop)]
 pub(crate) struct PairHead {
     key: u8,
@@ -77,14 +77,14 @@ pub(crate) enum MapStep {
     Keyed(PairHead),
 }
 
-/// The key type, the value type and the number of the pairs of a map.
+/// The head of a map: the key type, the value type and the number of its pairs.
 #[derive(Drop)]
 pub struct MapHead {
     step: MapStep,
 }
 
 impl MapHead {
-    /// Before the first byte.
+    /// Returns the state before the first byte.
     pub fn new() -> Self
         ensures fresh { (w : List ℕ) → map_head result w ≡ map_at w }
     {
@@ -93,7 +93,7 @@ impl MapHead {
         }
     }
 
-    /// Continues over a piece.
+    /// Continues with a piece. Returns the head once it is complete.
     #[tactic(auto, unfolding(thrift_binary::specs::Reading::map_at))]
     pub fn more(&mut self, piece: &mut Cursor<'_>) -> Result<Option<(u8, u8, u32)>, PieceError>
         ensures reads { Continues (λ x. ((x.0, x.1), x.2)) (map_head self.old) (map_head self.new)

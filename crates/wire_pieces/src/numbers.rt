@@ -3,7 +3,7 @@ ghost use Rattle.thrift_binary.specs.Reading.{bool_at, size_at};
 ghost use Rattle.wire_pieces.specs.Pieces.{Continues, OkTakes};
 
 use crate::fault::PieceError;
-use crate::gathered::Gathered;
+use crate::partial_bytes::PartialBytes;
 use byteorder::{BigEndian, ByteOrder};
 use thrift_binary::{Cursor, WireError};
 
@@ -12,13 +12,13 @@ use thrift_binary::{Cursor, WireError};
 pub struct Bool {}
 
 impl Bool {
-    /// Before its byte.
+    /// Returns the state before the byte.
     #[inline]
     pub fn new() -> Self {
         Bool {}
     }
 
-    /// Continues over a piece.
+    /// Continues with a piece. Returns the value once it is complete.
     #[tactic(auto, unfolding(thrift_binary::specs::Reading::bool_at))]
     #[inline]
     pub fn more(&mut self, piece: &mut Cursor<'_>) -> Result<Option<bool>, PieceError>
@@ -37,23 +37,23 @@ impl Bool {
 /// A length or a size: a number of 32 bits that isn't negative.
 #[derive(Drop)]
 pub struct Size {
-    bytes: Gathered<4>,
+    bytes: PartialBytes<4>,
 }
 
 impl Size {
     ghost use Rattle.wire_pieces.specs.Numbers.{size_from};
 
-    /// Before the first byte.
+    /// Returns the state before the first byte.
     #[inline]
     pub fn new() -> Self
         ensures fresh { (w : List ℕ) → size_from result w ≡ size_at w }
     {
         Size {
-            bytes: Gathered::new(),
+            bytes: PartialBytes::new(),
         }
     }
 
-    /// Continues over a piece.
+    /// Continues with a piece. Returns the value once it is complete.
     #[inline]
     pub fn more(&mut self, piece: &mut Cursor<'_>) -> Result<Option<u32>, PieceError>
         ensures reads { Continues (λ x. x) (size_from self.old) (size_from self.new)
@@ -71,7 +71,7 @@ impl Size {
     }
 }
 
-/// The size that four bytes spell: nothing where they aren't four, or where no length is so large.
+/// Returns the size that four bytes spell, or nothing if they aren't four or spell a negative number.
 #[inline]
 pub fn size_of(bytes: &[u8]) -> Option<u32>
     ensures reads { (n : ℕ) → result ≡ Some n → (w : List ℕ) →

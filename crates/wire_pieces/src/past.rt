@@ -5,32 +5,32 @@ ghost use Rattle.wire_pieces.specs.Pieces.{Reaches, Takes};
 
 use thrift_binary::Cursor;
 
-/// Bytes that are read past, one at least.
+/// A number of bytes to skip, at least one.
 #[derive(Drop)]
-pub(crate) struct Past {
+pub(crate) struct SkippedBytes {
     left: usize,
     ghost some: { 0 < left },
 }
 
-impl Past {
+impl SkippedBytes {
     pub(crate) fn new(left: usize) -> Self
         requires { 0 < left }
         ensures { result.left ≡ left }
     {
-        Past { left }
+        SkippedBytes { left }
     }
 
-    /// Continues over a piece.
+    /// Continues with a piece. Returns `()` once all have been skipped.
     pub(crate) fn more(&mut self, piece: &mut Cursor<'_>) -> Option<()>
         ensures reads { Reaches Truncated (λ x. x) (past self.old.left) (past self.new.left)
             piece.old piece.new result }
         ensures taken { Takes piece.old piece.new result }
     {
-        let beginning = piece.up_to(self.left);
-        if beginning.len() == self.left {
+        let prefix = piece.at_most(self.left);
+        if prefix.len() == self.left {
             return Some(());
         }
-        self.left -= beginning.len();
+        self.left -= prefix.len();
         None
     }
 }

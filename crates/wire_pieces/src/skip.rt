@@ -4,7 +4,7 @@ ghost use Rattle.thrift_binary.specs.declared.fault.WireError.TheVariants.{BadTy
 ghost use Rattle.thrift_binary.specs.Skipping.{width, is_container, skip_at, leaf, past};
 ghost use Rattle.wire_pieces.specs.declared.fault.PieceError.TheVariants.{Wire, Memory};
 ghost use Rattle.wire_pieces.specs.declared.skip.Frame.{Frame};
-ghost use Rattle.wire_pieces.specs.declared.skip.Now.TheVariants.{Nothing};
+ghost use Rattle.wire_pieces.specs.declared.skip.Current.TheVariants.{Nothing};
 ghost use Rattle.wire_pieces.specs.Pieces.{Continues, Steps};
 ghost use Rattle.wire_pieces.specs.Frames.{frame_at, now_at, skipping, begun, rank, height, weight, Progresses, IsOn, Lightens};
 
@@ -12,42 +12,42 @@ use crate::fault::PieceError;
 use crate::heads::{FieldHead, ListHead};
 use crate::maps::MapHead;
 use crate::numbers::Size;
-use crate::past::Past;
+use crate::past::SkippedBytes;
 use std::alloc::Global;
 use std::mem;
 use thrift_binary::{Cursor, WireError, types};
 
-/// The levels of containers that a skipped value may have.
-const LEVELS: usize = 64;
+/// The greatest number of levels of containers in a skipped value.
+const MAX_LEVELS: usize = 64;
 
-/// Values of two types in turn, and how many are left.
+/// Values of two alternating types, and the number that remain.
 #[derive(Drop)]
-pub(crate) struct TurnsLeft {
+pub(crate) struct AlternatingValues {
     this: u8,
     next: u8,
     left: u64,
 }
 
-impl TurnsLeft {
+impl AlternatingValues {
     fn of(this: u8, next: u8, left: u64) -> Self
         ensures this { result.this ≡ this }
         ensures next { result.next ≡ next }
         ensures left { result.left ≡ left }
     {
-        TurnsLeft { this, next, left }
+        AlternatingValues { this, next, left }
     }
 
     fn none() -> Self
         ensures { result.left ≡ 0 }
     {
-        TurnsLeft {
+        AlternatingValues {
             this: 0,
             next: 0,
             left: 0,
         }
     }
 
-    /// The type of the next value.
+    /// Takes the type of the next value.
     fn take(&mut self) -> Option<u8>
         ensures { MatchOption result ((self.old.left ≡ 0) × (self.new ≡ self.old))
             (λ c. (self.old.left ≡ self.new.left + 1) × (c ≡ self.old.this)
@@ -64,35 +64,35 @@ impl TurnsLeft {
     }
 }
 
-/// What is left of a container: fields from a head on, or the values of a list or a map.
+/// The rest of a container: fields from a head on, or the values of a list or a map.
 #[derive(Drop)]
 pub(crate) enum Frame {
     Fields(FieldHead),
-    Turns(TurnsLeft),
+    Turns(AlternatingValues),
 }
 
-/// What is being read inside the innermost container.
+/// The part of the innermost container that is being read.
 #[derive(Drop)]
-pub(crate) enum Now {
+pub(crate) enum Current {
     Nothing,
-    Past(Past),
+    Past(SkippedBytes),
     Size(Size),
     List(ListHead),
     Map(MapHead),
 }
 
-/// What a step came to.
+/// The result of a step.
 pub(crate) enum Progress {
     On,
     Short,
     Whole,
 }
 
-/// A value of any type that is read past, with at most 64 levels of containers. A bool may be any byte here, and a
-/// string any bytes. It keeps a few bytes for each container that has begun and isn't at its end.
+/// A value of any type that is skipped, with at most 64 levels of containers. A bool may be any byte here, and a
+/// string any bytes. It stores a few bytes for each container that it is in.
 #[derive(Drop)]
 pub struct Skipping {
-    now: Now,
+    now: Current,
     top: Frame,
     below: Vec<Frame>,
 }
@@ -115,44 +115,44 @@ fn is_container(code: u8) -> bool
     types::STRUCT <= code && code <= types::LIST
 }
 
-/// Bytes to be read past, or nothing where there are none.
-fn past_of(size: u32) -> Now
+/// Skips a number of bytes, which may be 0.
+fn skip_bytes(size: u32) -> Current
     ensures reads { (levels : ℕ) (w : List ℕ) → now_at levels result w ≡ past size w }
     ensures rank { (f : Frame) → rank result f ≤ 3 }
 {
     if size == 0 {
-        return Now::Nothing;
+        return Current::Nothing;
     }
-    Now::Past(Past::new(size as usize))
+    Current::Past(SkippedBytes::new(size as usize))
 }
 
-/// A value that is no container.
+/// Begins a value that is no container.
 #[tactic(auto, unfolding(thrift_binary::specs::Skipping::text))]
-fn leaf(code: u8) -> Result<Now, PieceError>
+fn leaf(code: u8) -> Result<Current, PieceError>
     ensures reads { MatchResult result (λ now. (levels : ℕ) (w : List ℕ) →
         now_at levels now w ≡ leaf code w)
         (λ e. (e ≡ Wire BadType) × ((w : List ℕ) → leaf code w ≡ Err BadType)) }
     ensures rank { IfOk result (λ now. (f : Frame) → rank now f ≡ 1) }
 {
     if code == types::STRING {
-        return Ok(Now::Size(Size::new()));
+        return Ok(Current::Size(Size::new()));
     }
     let width = width(code);
     if width == 0 {
         return Err(PieceError::Wire(WireError::BadType));
     }
-    Ok(Now::Past(Past::new(width)))
+    Ok(Current::Past(SkippedBytes::new(width)))
 }
 
 impl Skipping {
-    /// Before the first byte of a value of the type.
+    /// Returns the state before the first byte of a value of the type.
     pub fn new(alloc: Global, code: u8) -> Self
         requires table { is_code code ≡ true }
         ensures fresh { (w : List ℕ) → skipping result w ≡ skip_at code w }
     {
         Skipping {
-            now: Now::Nothing,
-            top: Frame::Turns(TurnsLeft {
+            now: Current::Nothing,
+            top: Frame::Turns(AlternatingValues {
                 this: code,
                 next: code,
                 left: 1,
@@ -161,7 +161,7 @@ impl Skipping {
         }
     }
 
-    /// A container inside of the innermost one.
+    /// Enters a container inside the innermost one.
     fn push(&mut self, inner: Frame) -> Result<(), PieceError>
         ensures now { self.new.now ≡ self.old.now }
         ensures top { self.new.top ≡ inner }
@@ -174,7 +174,7 @@ impl Skipping {
         Ok(())
     }
 
-    /// The innermost container is at its end.
+    /// Leaves the innermost container.
     fn pop(&mut self) -> Progress
         requires now { self.old.now ≡ Nothing }
         requires done { (levels : ℕ) (w : List ℕ) → frame_at levels self.old.top w ≡ Ok (tt, w) }
@@ -192,7 +192,7 @@ impl Skipping {
         }
     }
 
-    /// Before the first byte of a container.
+    /// Begins a container.
     fn enter(&mut self, code: u8) -> Result<(), PieceError>
         requires now { self.old.now ≡ Nothing }
         requires container { is_container code ≡ true }
@@ -200,18 +200,18 @@ impl Skipping {
             [] [] result }
         ensures height { OnOk result (height self.new ≤ 2 * length self.old.below.items + 2) }
     {
-        if self.below.len() >= LEVELS {
+        if self.below.len() >= MAX_LEVELS {
             return Err(PieceError::Wire(WireError::TooDeep));
         }
         match code {
             types::STRUCT => self.push(Frame::Fields(FieldHead::new()))?,
-            types::MAP => self.now = Now::Map(MapHead::new()),
-            _ => self.now = Now::List(ListHead::new()),
+            types::MAP => self.now = Current::Map(MapHead::new()),
+            _ => self.now = Current::List(ListHead::new()),
         }
         Ok(())
     }
 
-    /// Before the first byte of a value inside of the innermost container.
+    /// Begins a value inside the innermost container.
     fn begin(&mut self, code: u8) -> Result<(), PieceError>
         requires now { self.old.now ≡ Nothing }
         ensures steps { Steps (begun code self.old.top self.old.below.items) (skipping self.new)
@@ -226,7 +226,7 @@ impl Skipping {
     }
 
     /// Continues between two values of the innermost container.
-    fn outside(&mut self, piece: &mut Cursor<'_>) -> Result<Progress, PieceError>
+    fn between_values(&mut self, piece: &mut Cursor<'_>) -> Result<Progress, PieceError>
         requires now { self.old.now ≡ Nothing }
         ensures progress { Progresses (skipping self.old) (skipping self.new)
             piece.old piece.new result }
@@ -237,7 +237,7 @@ impl Skipping {
             Frame::Fields(head) => match head.more(piece)? {
                 None => Ok(Progress::Short),
                 Some(None) => {
-                    self.top = Frame::Turns(TurnsLeft::none());
+                    self.top = Frame::Turns(AlternatingValues::none());
                     Ok(Progress::On)
                 }
                 Some(Some((code, _))) => {
@@ -256,7 +256,7 @@ impl Skipping {
         }
     }
 
-    /// Continues inside of a value.
+    /// Continues inside a value.
     fn step(&mut self, piece: &mut Cursor<'_>) -> Result<Progress, PieceError>
         ensures progress { Progresses (skipping self.old) (skipping self.new)
             piece.old piece.new result }
@@ -264,38 +264,38 @@ impl Skipping {
         ensures no_longer { OnOk result (length piece.new ≤ length piece.old) }
     {
         match &mut self.now {
-            Now::Nothing => return self.outside(piece),
-            Now::Past(part) => {
+            Current::Nothing => return self.between_values(piece),
+            Current::Past(part) => {
                 if part.more(piece).is_none() {
                     return Ok(Progress::Short);
                 }
-                self.now = Now::Nothing;
+                self.now = Current::Nothing;
             }
-            Now::Size(part) => {
+            Current::Size(part) => {
                 let Some(size) = part.more(piece)? else {
                     return Ok(Progress::Short);
                 };
-                self.now = past_of(size);
+                self.now = skip_bytes(size);
             }
-            Now::List(part) => {
+            Current::List(part) => {
                 let Some((code, size)) = part.more(piece)? else {
                     return Ok(Progress::Short);
                 };
-                self.now = Now::Nothing;
-                self.push(Frame::Turns(TurnsLeft::of(code, code, u64::from(size))))?;
+                self.now = Current::Nothing;
+                self.push(Frame::Turns(AlternatingValues::of(code, code, u64::from(size))))?;
             }
-            Now::Map(part) => {
+            Current::Map(part) => {
                 let Some((key, value, size)) = part.more(piece)? else {
                     return Ok(Progress::Short);
                 };
-                self.now = Now::Nothing;
-                self.push(Frame::Turns(TurnsLeft::of(key, value, 2 * u64::from(size))))?;
+                self.now = Current::Nothing;
+                self.push(Frame::Turns(AlternatingValues::of(key, value, 2 * u64::from(size))))?;
             }
         }
         Ok(Progress::On)
     }
 
-    /// Continues over a piece.
+    /// Continues with a piece. Returns `()` once the value has been skipped.
     pub fn more(&mut self, piece: &mut Cursor<'_>) -> Result<Option<()>, PieceError>
         ensures reads { Continues (λ x. x) (skipping self.old) (skipping self.new)
             piece.old piece.new result }

@@ -9,7 +9,7 @@ use std::alloc::Global;
 use std::mem;
 use thrift_binary::Cursor;
 
-/// The bytes behind a length, of which some have come.
+/// The bytes after a length, of which some have arrived.
 #[derive(Drop)]
 pub(crate) struct Body {
     left: usize,
@@ -34,9 +34,9 @@ impl Body {
             (bytes_end self.new.got.items self.new.left) piece.old piece.new result }
         ensures no_longer { OnOk result (length piece.new ≤ length piece.old) }
     {
-        let beginning = piece.up_to(self.left);
-        self.got.extend_from_slice(beginning)?;
-        self.left -= beginning.len();
+        let prefix = piece.at_most(self.left);
+        self.got.extend_from_slice(prefix)?;
+        self.left -= prefix.len();
         if self.left > 0 {
             return Ok(None);
         }
@@ -50,14 +50,14 @@ pub(crate) enum StringStep {
     Body(Body),
 }
 
-/// The bytes of a string or binary. It grows by the bytes that have come, whatever its length says.
+/// The bytes of a string or binary. It grows only with the bytes that have arrived, whatever its length claims.
 #[derive(Drop)]
 pub struct StringPart {
     step: StringStep,
 }
 
 impl StringPart {
-    /// Before the first byte.
+    /// Returns the state before the first byte.
     #[inline]
     pub fn new() -> Self
         ensures fresh { (w : List ℕ) → string_from result w ≡ string_at w }
@@ -67,7 +67,7 @@ impl StringPart {
         }
     }
 
-    /// Continues over a piece.
+    /// Continues with a piece. Returns the bytes once all have arrived.
     #[inline]
     pub fn more(
         &mut self,
@@ -83,8 +83,8 @@ impl StringPart {
                 let Some(size) = part.more(piece)? else {
                     return Ok(None);
                 };
-                if let Some(beginning) = piece.beginning(size as usize) {
-                    let bytes = Vec::from_slice(alloc, beginning)?;
+                if let Some(prefix) = piece.prefix(size as usize) {
+                    let bytes = Vec::from_slice(alloc, prefix)?;
                     return Ok(Some(bytes));
                 }
                 let mut body = Body::new(alloc, size as usize);

@@ -11,7 +11,7 @@ returns g c =
 pub returns-in_err-faulty : goal.returns-in_err-faulty
 returns-in_err-faulty g c =
     let p = err_from_is_err_and c.from_residual.result c.from_residual.ensures.1 in
-    rw (p.1, p.2) (stops_early _ _ _ _ (g.W.Output.contents c.answer_lines.new.output) _ _ c.args.limits c.args.trace _ c.answer_lines.new.taker false c.requires.nothing _ c.in_err-faulty.ensures.some)
+    rw (p.1, p.2) (stops_early _ _ _ _ (g.W.Output.contents c.answer_lines.new.output) _ _ c.args.limits c.args.trace _ c.answer_lines.new.handler false c.requires.nothing _ c.in_err-faulty.ensures.some)
 
 pub returns-in_err-found : goal.returns-in_err-found
 returns-in_err-found g c =

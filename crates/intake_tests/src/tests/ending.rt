@@ -1,5 +1,5 @@
-//! Closing the books: four seats submit while a fifth thread closes the desk, once each of them has a job in, or
-//! the clerk leaves while jobs wait. Nothing is lost.
+//! Closing the books: four seats submit while a fifth thread closes the desk, after each of them has a job in,
+//! or the clerk leaves while jobs wait. Nothing is lost.
 
 ghost use Rattle.std.specs.Prelude.{◌≡◌, true, map, All, IfSome};
 ghost use Rattle.std.specs.Arc.{arc_value};
@@ -9,7 +9,7 @@ ghost use Rattle.intake_tests.specs.Seats.{AllMayHandIn, Stays};
 
 use crate::tests::fixture::{Fixture, batch, opened};
 use intake::{Books, Clerk, Desk, Seat, Ticket, Turn};
-use read_side::{Keeper, Opened, StoreName};
+use read_side::{EmptyHistory, Keeper, StoreName};
 use std::alloc::Global;
 use std::marker::Brand;
 use std::process::Abort;
@@ -20,24 +20,24 @@ use std::test::*;
 use std::thread::{Threads, join_mut, yield_now};
 use trace_model::{Limits, Refusal};
 
-/// How often a seat tries to hand a batch in, from the first one that is in on.
-const MOST: u64 = 200;
+/// How often a seat tries to submit a batch, from its first success on.
+const MAX_TRIES: u64 = 200;
 
-/// How many jobs the queue has room for.
+/// The number of jobs that the queue has room for.
 const ROOM: usize = 8;
 
-/// How often one who waits, for room or for the seats, lets others go on.
+/// How often a thread that waits, for room or for the seats, lets others run.
 const PATIENCE: u64 = 10_000_000;
 
-/// A seat, and a ticket for each job that it handed in, the first one for number 1.
+/// A seat, and a ticket for each job that it submitted, the first one for number 1.
 #[derive(Drop)]
 struct Handed<N: StoreName> {
     seat: Seat<N>,
     tickets: Vec<Ticket<N>>,
 }
 
-/// Tries so many times to hand a batch in, without waiting for an answer, the first time until there is room for it;
-/// fewer where the desk is closed before. The first one that is in is counted.
+/// Tries at most `most` times to submit a batch, without waiting for an answer; the first time until there is room
+/// for it; fewer times if the desk is closed before. The first success is counted.
 fn hand_in<N: StoreName, R: Wait>(
     rt: &R,
     alloc: Global,
@@ -105,8 +105,8 @@ fn two_hand_in<N: StoreName + Send + Sync, R: Threads + Wait + Sync>(
 {
     join_mut(
         rt,
-        &mut || hand_in(rt, alloc, a, MOST, begun),
-        &mut || hand_in(rt, alloc, b, MOST, begun),
+        &mut || hand_in(rt, alloc, a, MAX_TRIES, begun),
+        &mut || hand_in(rt, alloc, b, MAX_TRIES, begun),
     );
 }
 
@@ -128,7 +128,7 @@ fn next_seat<N: StoreName>(clerk: &Clerk<N>, seats: &mut Vec<Seat<N>>) -> Option
     seats.pop()
 }
 
-/// The seat, which has handed in nothing yet.
+/// The seat, which has submitted nothing yet.
 fn unused_seat<N: StoreName>(alloc: Global, seat: Seat<N>) -> Handed<N>
     ensures { result.seat ≡ seat }
 {
@@ -175,13 +175,13 @@ fn four_hand_in<N: StoreName + Send + Sync, R: Threads + Wait + Sync>(
     );
 }
 
-/// The seats, and the desk, which is closed so many turns after all of them have begun.
+/// The seats, and the desk, which is closed this number of turns after all of them have begun.
 #[derive(Drop)]
 struct Floor<N: StoreName> {
     four: Four<N>,
     desk: Desk<N>,
     turns: u64,
-    /// How many seats have a job in.
+    /// The number of seats that have a job in.
     begun: AtomicU64,
 }
 
@@ -192,7 +192,7 @@ struct OpenDesk<N: StoreName> {
     floor: Floor<N>,
 }
 
-/// The seats hand in, while one more thread closes the desk.
+/// The seats submit, while one more thread closes the desk.
 fn all_hand_in<N: StoreName + Send + Sync, R: Threads + Wait + Sync>(
     rt: &R,
     alloc: Global,
@@ -217,7 +217,7 @@ fn all_hand_in<N: StoreName + Send + Sync, R: Threads + Wait + Sync>(
     );
 }
 
-/// The clerk and its keeper, and what the clerk left once it has served.
+/// The clerk and its keeper, and what the clerk left after it has served.
 struct Office<N: StoreName> {
     clerk: Option<Clerk<N>>,
     keeper: Option<Keeper<N>>,
@@ -245,7 +245,7 @@ fn keep<N: StoreName, R: Wait>(rt: &R, office: &mut Office<N>)
     }
 }
 
-/// The clerk serves, the seats hand in, and the desk is closed.
+/// The clerk serves, the seats submit, and the desk is closed.
 fn all_day<N: StoreName + Send + Sync, R: Threads + Wait + Sync>(
     rt: &R,
     alloc: Global,
@@ -268,7 +268,7 @@ fn all_day<N: StoreName + Send + Sync, R: Threads + Wait + Sync>(
     );
 }
 
-/// Takes a seat in, once more where memory ran out.
+/// Takes a seat in, and tries once more if memory ran out.
 fn take_in<N: StoreName, R: Wait>(rt: &R, books: &mut Books<N>, seat: &mut Seat<N>)
     requires desk { books.old.inbox.desk ≡ seat.old.desk }
     requires books { Balances books.old.inbox.taken books.old.accounts
@@ -293,14 +293,14 @@ fn is_left<N: StoreName>(books: &Books<N>, seat: u16, number: u64) -> bool {
         .any(|job| job.seat == seat && job.number == number)
 }
 
-/// How many tickets were answered by the store, and how.
+/// The number of tickets that were answered by the store, and how.
 #[derive(Clone, Copy)]
 struct Answers {
     acknowledged: u64,
     refused: u64,
 }
 
-/// Whether the ticket says that the desk was closed just where its job is left. Another answer is counted.
+/// Whether the ticket says that the desk was closed exactly if its job is left. Another answer is counted.
 fn is_answered<N: StoreName, R: Wait>(
     rt: &R,
     books: &Books<N>,
@@ -318,8 +318,7 @@ fn is_answered<N: StoreName, R: Wait>(
     !is_left
 }
 
-/// Whether each ticket is answered by the books, and a further batch is turned away. The store's answers are
-/// counted.
+/// Whether each ticket is answered by the books, and a further batch is refused. The store's answers are counted.
 fn is_whole<N: StoreName, R: Wait>(
     rt: &R,
     alloc: Global,
@@ -338,11 +337,11 @@ fn is_whole<N: StoreName, R: Wait>(
     let Ok(late) = batch(alloc, 1) else {
         return true;
     };
-    seat.handed() == number && matches!(seat.submit(rt, alloc, late), Err((Refusal::Closed, _)))
+    seat.submitted() == number && matches!(seat.submit(rt, alloc, late), Err((Refusal::Closed, _)))
 }
 
-/// Takes all seats in, and says how many jobs are left. None where some job that was handed in isn't in the
-/// books once, with its own answer, or the counts of jobs, accounts and entries don't agree.
+/// Takes all seats in, and returns the number of jobs that are left. Returns None if some submitted job isn't in
+/// the books once, with its own answer, or the counts of jobs, accounts and entries don't agree.
 fn left_over<N: StoreName, R: Wait>(
     rt: &R,
     alloc: Global,
@@ -390,8 +389,8 @@ fn left_over<N: StoreName, R: Wait>(
     }
 }
 
-/// Two seats hand in five jobs, of which the clerk serves one; the desk is closed, and the clerk leaves: four
-/// are left. Where memory ran out it may be fewer jobs.
+/// Two seats submit five jobs, of which the clerk serves one; the desk is closed, and the clerk leaves: four are
+/// left. If memory ran out it may be fewer jobs.
 fn leaves<N: StoreName, R: Wait>(rt: &R, alloc: Global, opened: OpenDesk<N>) -> bool
     requires seats { AllMayHandIn opened.clerk.desk opened.floor.four.a.seat
         opened.floor.four.b.seat opened.floor.four.c.seat opened.floor.four.d.seat }
@@ -416,15 +415,15 @@ fn leaves<N: StoreName, R: Wait>(rt: &R, alloc: Global, opened: OpenDesk<N>) -> 
     left_over(rt, alloc, books, four) == Some(handed.saturating_sub(served as u64))
 }
 
-/// Whether each seat has handed something in.
+/// Whether each seat has submitted something.
 fn have_begun<N: StoreName>(four: &Four<N>) -> bool {
     [&four.a, &four.b, &four.c, &four.d]
         .iter()
         .all(|one| !one.tickets.is_empty())
 }
 
-/// The clerk serves while the seats hand in and the desk is closed: whether each seat had a job in, and nothing is
-/// lost.
+/// The clerk serves while the seats submit and the desk is closed. Returns whether each seat had a job in, and
+/// nothing is lost.
 fn races<N: StoreName + Send + Sync, R: Threads + Wait + Sync>(
     rt: &R,
     alloc: Global,
@@ -462,14 +461,15 @@ fn races<N: StoreName + Send + Sync, R: Threads + Wait + Sync>(
 /// How a desk ends.
 #[derive(Clone, Copy)]
 enum Ending {
-    /// It is closed so many turns after each of four seats has a job in, while they hand in and the clerk serves.
+    /// It is closed this number of turns after each of four seats has a job in, while they submit and the clerk
+    /// serves.
     Race(u64),
     /// The clerk leaves while jobs wait.
     Leaves,
 }
 
 impl Ending {
-    /// So many turns after each seat has a job in the desk is closed.
+    /// The number of turns, after each seat has a job in, until the desk is closed.
     fn turns(self) -> u64 {
         match self {
             Ending::Race(turns) => turns,
@@ -478,11 +478,11 @@ impl Ending {
     }
 }
 
-/// Opens a store with a desk of four seats, and ends it so.
+/// Opens a store with a desk of four seats, and ends it this way.
 fn round<N: StoreName + Send + Sync, R: Threads + Wait + Abort + RandomSource + Sync>(
     rt: &R,
     alloc: Global,
-    name: Opened,
+    name: EmptyHistory,
     limits: Limits,
     ending: Ending,
 ) -> Result<bool, Fail>
@@ -523,7 +523,7 @@ fn plays<R: Threads + Wait + Abort + RandomSource + Sync>(
     ending: Ending,
 ) -> Result<bool, Fail> {
     let limits = Limits::new(40, 1000, 0, 0).expect(rt, "limits");
-    round::<Brand, _>(rt, alloc, Opened::new(), limits, ending)
+    round::<Brand, _>(rt, alloc, EmptyHistory::new(), limits, ending)
 }
 
 #[test]

@@ -6,7 +6,7 @@ ghost use Rattle.intake.specs.Seats.{IsNewSeat};
 use crate::tests::rows::Row;
 use intake::{Clerk, Desk, Seat, desk};
 use jaeger_model::Batch;
-use read_side::{Keeper, Opened, Pass, StoreName, open};
+use read_side::{EmptyHistory, Keeper, Pass, StoreName, open};
 use std::alloc::{AllocError, Global};
 use std::hash::RandomState;
 use std::mem::drop;
@@ -27,7 +27,7 @@ pub struct Fixture<N: StoreName> {
 }
 
 impl<N: StoreName> Fixture<N> {
-    /// Closes the store, and gives up all that is over it.
+    /// Closes the store, and drops all that belongs to it.
     pub(crate) fn close<R: Wait>(self, rt: &R) {
         let Fixture {
             keeper,
@@ -50,11 +50,11 @@ pub fn batch(alloc: Global, id: u64) -> Result<Batch, AllocError> {
     trace_samples::batch(alloc, "a", spans.into_vec())
 }
 
-/// Opens a store with so many readers, and its desk. Where there is no memory for the desk it closes the store.
+/// Opens a store with `readers` readers, and its desk. If there is no memory for the desk it closes the store.
 pub(crate) fn opened<N: StoreName, R: Wait + RandomSource>(
     rt: &R,
     alloc: Global,
-    name: Opened,
+    name: EmptyHistory,
     limits: Limits,
     readers: usize,
     capacity: usize,
@@ -87,7 +87,7 @@ pub(crate) fn opened<N: StoreName, R: Wait + RandomSource>(
 pub fn played<N: StoreName + Send + Sync, R: Threads + Wait + RandomSource + Sync>(
     rt: &R,
     alloc: Global,
-    name: Opened,
+    name: EmptyHistory,
     limits: Limits,
     capacity: usize,
     row: Row,

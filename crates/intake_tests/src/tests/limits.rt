@@ -1,4 +1,4 @@
-//! A trace limit that a seat hands in.
+//! A trace limit that a seat submits.
 
 use crate::tests::fixture::Fixture;
 use crate::tests::rows::hands_in;
@@ -36,7 +36,7 @@ fn is_found<N: StoreName>(pass: &mut Pass<N>, low: u64) -> bool {
     found
 }
 
-/// The limit stands at place 3, and a pass that learns of it finds trace 2 and not trace 1.
+/// Whether the limit is at place 3, and a pass that learns of it finds trace 2 and not trace 1.
 fn is_in_force<N: StoreName, R: Wait>(
     rt: &R,
     pass: &mut Pass<N>,
@@ -58,8 +58,8 @@ fn is_learnt<N: StoreName, R: Wait>(
     Ok(place)
 }
 
-/// A seat hands in a span each of traces 1 and 2, and a limit of one trace. Once the desk is closed, a
-/// limit is refused.
+/// A seat submits a span each of traces 1 and 2, and a limit of one trace. After the desk is closed, a limit is
+/// refused.
 pub(crate) fn a_limit_is_in_force<N: StoreName + Send + Sync, R: Wait>(
     rt: &R,
     alloc: Global,
@@ -70,7 +70,7 @@ pub(crate) fn a_limit_is_in_force<N: StoreName + Send + Sync, R: Wait>(
     said
 }
 
-/// The limit is served behind two batches and is in force, and one that comes once the desk is closed is refused.
+/// The limit is served after two batches and is in force, and one that comes after the desk is closed is refused.
 fn is_served_and_in_force<N: StoreName + Send + Sync, R: Wait>(
     rt: &R,
     alloc: Global,
@@ -78,7 +78,7 @@ fn is_served_and_in_force<N: StoreName + Send + Sync, R: Wait>(
 ) -> bool {
     match (fixture.seats.last_mut(), fixture.passes.last_mut()) {
         (Some(seat), Some(pass)) => {
-            let limit = limit_behind_two(rt, alloc, seat);
+            let limit = limit_after_two(rt, alloc, seat);
             let served = serves_three(rt, &mut fixture.clerk, &mut fixture.keeper);
             let in_force = is_in_force(rt, pass, limit);
             fixture.desk.close(rt);
@@ -88,8 +88,8 @@ fn is_served_and_in_force<N: StoreName + Send + Sync, R: Wait>(
     }
 }
 
-/// Hands in a span each of traces 1 and 2, and a limit of one trace.
-fn limit_behind_two<N: StoreName, R: Wait>(
+/// Submits a span each of traces 1 and 2, and a limit of one trace.
+fn limit_after_two<N: StoreName, R: Wait>(
     rt: &R,
     alloc: Global,
     seat: &mut Seat<N>,

@@ -1,4 +1,4 @@
-//! A batch that a seat hands in once more.
+//! A batch that a seat submits once more.
 
 use crate::tests::fixture::{Fixture, batch};
 use intake::{Books, Clerk, Denial, Seat, Ticket, Turn};
@@ -8,18 +8,18 @@ use std::mem::drop;
 use std::sync::Wait;
 use trace_model::Refusal;
 
-/// What a seat hands in, and what its ticket returns.
+/// What a seat submits, and what its ticket returns.
 #[derive(Drop)]
 struct Job {
     /// The id of the batch's span.
     id: u64,
-    /// The batch's number.
+    /// The batch's `seqNo`.
     number: Option<i64>,
     /// The place and the receipt's front, or the refusal.
     wanted: Result<(u64, u64), Refusal>,
 }
 
-/// The jobs over a store with room for three batches. The numbers 0 and -1 count.
+/// The jobs over a store with room for three batches. The `seqNo`s 0 and -1 count.
 const JOBS: [Job; 7] = [
     Job {
         id: 1,
@@ -61,7 +61,8 @@ const JOBS: [Job; 7] = [
     },
 ];
 
-/// The place and the receipt's front; or the refusal, if it comes with a list of the three entries that the store has room for.
+/// The place and the receipt's front; or the refusal, if it comes with a list of the three entries that the store
+/// has room for.
 fn told<N: StoreName, R: Wait>(rt: &R, ticket: Ticket<N>) -> Result<(u64, u64), Refusal> {
     match ticket.answer(rt) {
         Ok(ack) => {
@@ -84,7 +85,7 @@ fn told<N: StoreName, R: Wait>(rt: &R, ticket: Ticket<N>) -> Result<(u64, u64), 
     }
 }
 
-/// Hands the batch in and has it served.
+/// Submits the batch and has it served.
 fn answered<N: StoreName, R: Wait>(
     rt: &R,
     alloc: Global,
@@ -107,15 +108,15 @@ fn answered<N: StoreName, R: Wait>(
     if served { said } else { Err(Refusal::Stranger) }
 }
 
-/// There is an account of each job, and as many of them as are wanted to be were acknowledged.
+/// Whether there is an account of each job, and as many of them as wanted were acknowledged.
 fn are_booked<N: StoreName>(books: &Books<N>) -> bool {
     let acknowledged = JOBS.iter().filter(|job| job.wanted.is_ok()).count();
     books.accounts.count() == JOBS.len() as u64
         && books.accounts.acknowledged() == acknowledged as u64
 }
 
-/// A batch that was sent before is acknowledged at its old place, where the store is full too, and counts as
-/// acknowledged. Another one with its number is refused, and adds nothing.
+/// A batch that was sent before is acknowledged at its old place, also if the store is full, and counts as
+/// acknowledged. Another one with its `seqNo` is refused, and adds nothing.
 pub(crate) fn a_resent_job_is_acknowledged<N: StoreName + Send + Sync, R: Wait>(
     rt: &R,
     alloc: Global,
@@ -143,7 +144,7 @@ pub(crate) fn a_resent_job_is_acknowledged<N: StoreName + Send + Sync, R: Wait>(
     as_wanted && booked
 }
 
-/// Whether each of the jobs is answered as it wants, and the seat handed in as many.
+/// Whether each of the jobs is answered as it wants, and the seat submitted as many.
 fn all_answered<N: StoreName, R: Wait>(
     rt: &R,
     alloc: Global,
@@ -156,5 +157,5 @@ fn all_answered<N: StoreName, R: Wait>(
         let answer = answered(rt, alloc, seat, clerk, keeper, job);
         as_wanted = as_wanted && answer == job.wanted;
     }
-    as_wanted && seat.handed() == 7
+    as_wanted && seat.submitted() == 7
 }

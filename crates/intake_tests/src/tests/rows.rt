@@ -7,7 +7,7 @@ use crate::tests::limits::a_limit_is_in_force;
 use crate::tests::resent::a_resent_job_is_acknowledged;
 use intake::{Books, Clerk, Desk, Seat, Ticket, Turn};
 use jaeger_model::Batch;
-use read_side::{Keeper, Opened, Pass, Receipt, StoreName};
+use read_side::{EmptyHistory, Keeper, Pass, Receipt, StoreName};
 use std::alloc::Global;
 use std::marker::Brand;
 use std::mem::drop;
@@ -30,7 +30,7 @@ pub enum Row {
 }
 
 impl Row {
-    /// Plays the row, and ends the store. The answer says whether all was as wanted.
+    /// Plays the row, and ends the store. Returns whether all was as wanted.
     pub fn play<N: StoreName + Send + Sync, R: Threads + Wait + Sync>(
         self,
         rt: &R,
@@ -49,7 +49,8 @@ impl Row {
     }
 }
 
-/// Plays a row over a store with room for so many batches and 100,000 spans, and a queue with room for so many jobs.
+/// Plays a row over a store with room for this number of batches and 100,000 spans, and a queue with room for this
+/// number of jobs.
 fn plays<R: Threads + Wait + RandomSource + Sync>(
     rt: &R,
     alloc: Global,
@@ -60,10 +61,10 @@ fn plays<R: Threads + Wait + RandomSource + Sync>(
     requires { (1 ≤ capacity) × (capacity ≤ 4096) }
 {
     let limits = Limits::new(batches, 100_000, 0, 0).ok_or("limits")?;
-    played::<Brand, _>(rt, alloc, Opened::new(), limits, capacity, row)
+    played::<Brand, _>(rt, alloc, EmptyHistory::new(), limits, capacity, row)
 }
 
-/// The same where the store has room for three batches, and the queue for one job.
+/// Like [`plays`], over a store with room for three batches, and a queue for one job.
 fn plays_small<R: Threads + Wait + RandomSource + Sync>(
     rt: &R,
     alloc: Global,
@@ -109,10 +110,10 @@ fn a_batch_handed_in_again(rt: HostRuntime) -> Result<(), Fail> {
     Ok(())
 }
 
-/// What comes of a batch that is handed in, if there is memory for it.
+/// The answer to a batch that is submitted, if there is memory for it.
 pub(crate) type Answer<N> = Option<Result<Ticket<N>, (Refusal, Batch)>>;
 
-/// Hands in a batch with this id. None where memory ran out before.
+/// Submits a batch with this id. Returns None if memory ran out before.
 pub(crate) fn hands_in<N: StoreName, R: Wait>(
     rt: &R,
     alloc: Global,
@@ -137,7 +138,7 @@ fn is_batch(alloc: Global, back: &Batch, id: u64) -> bool {
     }
 }
 
-/// The batch with this id came back, with this refusal.
+/// Whether the batch with the id came back, with this refusal.
 fn came_back<N: StoreName>(alloc: Global, answer: Answer<N>, why: Refusal, id: u64) -> bool {
     let said = match &answer {
         Some(Err((refusal, back))) => *refusal == why && is_batch(alloc, back, id),
@@ -179,7 +180,7 @@ fn returned<N: StoreName, R: Wait>(rt: &R, answer: Answer<N>) -> Result<u64, Ref
     }
 }
 
-/// What the store tells of the batches 1 to 4.
+/// The store's answers to the batches 1 to 4.
 const FOUR: [(u64, Result<u64, Refusal>); 4] = [
     (1, Ok(1)),
     (2, Ok(2)),
@@ -193,7 +194,7 @@ const FOUR: [(u64, Result<u64, Refusal>); 4] = [
     ),
 ];
 
-/// Hands in four batches, one after the other, each after the answer to the one before.
+/// Submits four batches, one after the other, each after the answer to the one before.
 fn four_answered<N: StoreName, R: Wait>(rt: &R, alloc: Global, seat: &mut Seat<N>) -> bool {
     for (id, wanted) in &FOUR {
         if returned(rt, hands_in(rt, alloc, seat, *id)) != *wanted {
@@ -240,12 +241,12 @@ fn four_between<N: StoreName + Send + Sync, R: Threads + Wait + Sync>(
     answered && last == (Turn::Served { seat: 3, number: 4 })
 }
 
-/// Whether the pass settles on the receipt, and stands there.
+/// Whether the pass settles on the receipt, and then knows its list.
 fn is_settled<N: StoreName>(pass: &mut Pass<N>, receipt: &Receipt<N>) -> bool {
     pass.settle(receipt).is_ok() && pass.front() == receipt.front()
 }
 
-/// How many of the passes settle on what the desk vouches for, where that is so many entries.
+/// Returns the number of passes that settle on what the desk vouches for, if that is this number of entries.
 fn settled<N: StoreName, R: Wait>(
     rt: &R,
     desk: &Desk<N>,
@@ -263,7 +264,7 @@ fn settled<N: StoreName, R: Wait>(
     Ok(settled)
 }
 
-/// How many entries the books' keeper has.
+/// Returns the number of entries of the books' keeper.
 pub(crate) fn kept<N: StoreName>(books: &mut Books<N>) -> u64 {
     let receipt = books.keeper.receipt();
     let front = receipt.front();
@@ -307,7 +308,7 @@ fn seat_and_clerk<N: StoreName + Send + Sync, R: Threads + Wait + Sync>(
 }
 
 /// The queue has a job: a second one comes back, from the same seat and from another, and uses no number. The first
-/// is served, and the clerk is idle then.
+/// is served, and then the clerk is idle.
 fn is_full<N: StoreName, R: Wait>(
     rt: &R,
     alloc: Global,
@@ -321,7 +322,7 @@ fn is_full<N: StoreName, R: Wait>(
     same && others && turned && idle
 }
 
-/// Once the desk is closed a batch comes back, and the job is still served.
+/// After the desk is closed a batch comes back, and the job is still served.
 fn is_closed<N: StoreName, R: Wait>(
     rt: &R,
     alloc: Global,
@@ -349,7 +350,7 @@ fn full_then_closed_at<N: StoreName, R: Wait>(
     desk.close(rt);
     let closed = is_closed(rt, alloc, other, (clerk, keeper));
     let places = (returned(rt, first), returned(rt, second));
-    full && closed && places == (Ok(1), Ok(2)) && seat.handed() == 2
+    full && closed && places == (Ok(1), Ok(2)) && seat.submitted() == 2
 }
 
 /// The queue is full, and then the desk is closed.
@@ -368,7 +369,7 @@ fn full_then_closed<N: StoreName, R: Wait>(rt: &R, alloc: Global, mut fixture: F
     said
 }
 
-/// The clerk goes while a job waits.
+/// The clerk is dropped while a job waits.
 fn clerk_gone<N: StoreName, R: Wait>(
     rt: &R,
     alloc: Global,
@@ -403,7 +404,7 @@ fn clerk_gone<N: StoreName, R: Wait>(
     said == Err(wanted)
 }
 
-/// 1 where the queue took the batch, 100 where the seat was refused because the queue was full.
+/// 1 if the queue took the batch, 100 if the seat was refused because the queue was full.
 fn taken_or_full<N: StoreName, R: Wait>(rt: &R, alloc: Global, seat: &mut Seat<N>) -> u64 {
     let answer = hands_in(rt, alloc, seat, 1);
     let said = match &answer {

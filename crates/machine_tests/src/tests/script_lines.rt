@@ -5,9 +5,9 @@ use std::process::Abort;
 use std::test::*;
 use step_lines::{StepFault, outcome_text, read_step};
 use trace_model::Refusal;
-use trace_samples::again;
+use trace_samples::retry;
 
-/// Lines that `play` hands on in another form: it passes over an empty one, and drops a carriage return at the end.
+/// Lines that `play` passes on in another form: it skips an empty one, and drops a carriage return at the end.
 #[test]
 fn lines_as_they_stand(rt: HostRuntime) -> Result<(), Fail> {
     let alloc = rt.alloc();
@@ -27,7 +27,7 @@ fn lines_as_they_stand(rt: HostRuntime) -> Result<(), Fail> {
 }
 
 fn is_reported(rt: &impl Abort, alloc: Global, outcome: Outcome, want: &str) -> Result<(), Fail> {
-    let got = again(AllocError, || outcome_text(alloc, &outcome))?;
+    let got = retry(AllocError, || outcome_text(alloc, &outcome))?;
     assert!(rt; got.as_str() == want, "{want} and not {got}");
     Ok(())
 }

@@ -1,4 +1,4 @@
-//! However the bytes of a batch are cut, each piece is answered by the bytes so far, and the end by the whole bytes.
+//! However the bytes of a batch are cut, the result of a piece depends on the bytes so far, and that of the end on all.
 
 use crate::tests::samples::CASES;
 use batch_codec::{DecodeError, decode, encode};
@@ -11,7 +11,7 @@ use thrift_binary::WireError;
 use trace_samples::spellings::{ALL, APACHE};
 use trace_samples::{batch, kept, span};
 
-/// What is answered of the pieces is what decoding the joined bytes answers.
+/// Whether the result of the pieces is that of decoding the joined bytes.
 fn is_same(got: Result<Batch, DecodeError>, whole: &Result<Batch, DecodeError>) -> bool {
     let same = match (&got, whole) {
         (Ok(got), Ok(whole)) => got.is_same(whole),
@@ -22,7 +22,8 @@ fn is_same(got: Result<Batch, DecodeError>, whole: &Result<Batch, DecodeError>) 
     same
 }
 
-/// What a call has to answer by which these bytes have come: their first fault, unless they may be too few.
+/// Returns the expected result of a call after which these bytes have arrived: their first fault, unless it is too
+/// few bytes.
 fn said_of(alloc: Global, bytes: &[u8]) -> Result<(), DecodeError> {
     match decode(alloc, bytes).map(drop) {
         Err(DecodeError::Wire(WireError::Truncated)) => Ok(()),
@@ -30,7 +31,7 @@ fn said_of(alloc: Global, bytes: &[u8]) -> Result<(), DecodeError> {
     }
 }
 
-/// The same of each beginning, by how many bytes it has.
+/// Returns the expected result of each prefix, by its length.
 fn said_of_each(alloc: Global, bytes: &[u8]) -> Result<Vec<Result<(), DecodeError>>, AllocError> {
     let mut said = Vec::new(alloc);
     for place in 0..bytes.len() {
@@ -43,7 +44,7 @@ fn said_of_each(alloc: Global, bytes: &[u8]) -> Result<Vec<Result<(), DecodeErro
     Ok(said)
 }
 
-/// Feeds a piece that ends at the place, and compares the answer.
+/// Feeds a piece that ends at the place, and compares the result.
 fn is_fed(
     alloc: Global,
     feeder: &mut Feeder,
@@ -58,7 +59,7 @@ fn is_fed(
     }
 }
 
-/// Bytes, what is said of each beginning of them, and what decoding them answers.
+/// Bytes, the expected result of each prefix of them, and the result of decoding them.
 #[derive(Clone, Copy)]
 struct Case<'a> {
     bytes: &'a [u8],
@@ -66,8 +67,8 @@ struct Case<'a> {
     whole: &'a Result<Batch, DecodeError>,
 }
 
-/// Three pieces, the first with the bytes before one place and the last with those behind another: each call
-/// answers what it has to, and the end what decoding answers.
+/// Feeds three pieces, the first with the bytes before one place and the last with those after another. Each call
+/// returns the expected result, and the end that of decoding.
 fn is_same_cut_at(alloc: Global, case: &Case<'_>, place: usize, other: usize) -> bool {
     let Some((front, last)) = case.bytes.split_at_checked(other) else {
         return false;
@@ -83,7 +84,7 @@ fn is_same_cut_at(alloc: Global, case: &Case<'_>, place: usize, other: usize) ->
     fed && same
 }
 
-/// Each byte alone.
+/// Feeds each byte alone.
 fn is_same_by_bytes(alloc: Global, case: &Case<'_>) -> bool {
     let mut feeder = Feeder::new(alloc);
     let mut fed = true;
@@ -95,10 +96,10 @@ fn is_same_by_bytes(alloc: Global, case: &Case<'_>) -> bool {
     fed && same
 }
 
-/// Bytes up to so many are cut at any two places, and longer ones at one.
+/// Bytes up to this length are cut at any two places, and longer ones at one.
 const SHORT: usize = 64;
 
-/// Cut at each such pair of places, before the first byte and behind the last one too, and each byte alone.
+/// Cuts at each such pair of places, also before the first byte and after the last one, and feeds each byte alone.
 fn is_same_however_cut(alloc: Global, case: &Case<'_>) -> bool {
     let count = case.bytes.len();
     for other in 0..count.saturating_add(1) {
@@ -112,7 +113,7 @@ fn is_same_however_cut(alloc: Global, case: &Case<'_>) -> bool {
     is_same_by_bytes(alloc, case)
 }
 
-/// How many lines of bytes there are before one that is answered otherwise in pieces.
+/// Returns the number of lines of bytes before one with another result in pieces.
 fn same_lines(alloc: Global, lines: &str) -> Result<u64, Fail> {
     let mut count = 0u64;
     for line in lines.lines() {
@@ -124,7 +125,7 @@ fn same_lines(alloc: Global, lines: &str) -> Result<u64, Fail> {
     Ok(count)
 }
 
-/// Whether the line is bytes that are answered in pieces as they are whole.
+/// Whether the bytes of the line have the same result in pieces as in one.
 fn is_same_line(alloc: Global, line: &str) -> Result<bool, AllocError> {
     match hex::decode(alloc, line) {
         Ok(bytes) => are_same_bytes(alloc, &bytes),
@@ -132,7 +133,7 @@ fn is_same_line(alloc: Global, line: &str) -> Result<bool, AllocError> {
     }
 }
 
-/// Whether these bytes are.
+/// Whether these bytes have the same result in pieces as in one.
 fn are_same_bytes(alloc: Global, bytes: &[u8]) -> Result<bool, AllocError> {
     let said = said_of_each(alloc, bytes)?;
     let whole = decode(alloc, bytes);
@@ -161,7 +162,7 @@ fn any_cut_of_each_sample(rt: HostRuntime) -> Result<(), Fail> {
     Ok(())
 }
 
-/// The bytes of a batch of so many spans.
+/// Returns the bytes of a batch of this number of spans.
 fn bytes_of(alloc: Global, count: u64) -> Result<Vec<u8>, Fail> {
     let batch = batch_of(alloc, count)?;
     let bytes = encode(alloc, &batch);
@@ -169,7 +170,7 @@ fn bytes_of(alloc: Global, count: u64) -> Result<Vec<u8>, Fail> {
     Ok(bytes?)
 }
 
-/// Adds so many spans.
+/// Adds this number of spans.
 fn add_spans(alloc: Global, spans: &mut Vec<Span>, count: u64) -> Result<(), AllocError> {
     for number in 0..count {
         spans.push(span(alloc, number, 7)?)?;
@@ -177,14 +178,14 @@ fn add_spans(alloc: Global, spans: &mut Vec<Span>, count: u64) -> Result<(), All
     Ok(())
 }
 
-/// A batch of so many spans.
+/// Returns a batch of this number of spans.
 fn batch_of(alloc: Global, count: u64) -> Result<Batch, AllocError> {
     let mut spans = Vec::new(alloc);
     let added = add_spans(alloc, &mut spans, count);
     batch(alloc, "orders", kept(spans, added)?)
 }
 
-/// Adds the bytes in pieces of 1, 4, 13 and so on bytes, and from 1 again where they would be large.
+/// Adds the bytes in pieces of 1, 4, 13 and so on bytes, and starts from 1 again once they would be large.
 fn add_odd_pieces(
     alloc: Global,
     pieces: &mut Vec<Vec<u8>>,
@@ -204,14 +205,14 @@ fn add_odd_pieces(
     Ok(())
 }
 
-/// These pieces.
+/// Returns these pieces.
 fn odd_pieces(alloc: Global, bytes: &[u8]) -> Result<Vec<Vec<u8>>, AllocError> {
     let mut pieces = Vec::new(alloc);
     let added = add_odd_pieces(alloc, &mut pieces, bytes);
     kept(pieces, added)
 }
 
-/// Whether these bytes are answered in those pieces as they are whole.
+/// Whether these bytes have the same result in those pieces as in one.
 fn is_same_in_odd_pieces(alloc: Global, bytes: &[u8]) -> Result<bool, AllocError> {
     let pieces = odd_pieces(alloc, bytes)?;
     let whole = decode(alloc, bytes);

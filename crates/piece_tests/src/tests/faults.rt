@@ -1,4 +1,4 @@
-//! Where the faults of pieces stand: in the piece that holds their last byte, and from then on.
+//! A fault is reported for the piece that has its last byte, and from then on.
 
 use batch_codec::{DecodeError, Part, decode};
 use batch_feeder::Feeder;
@@ -9,13 +9,13 @@ use std::test::*;
 use thrift_binary::{WireError, types};
 use trace_samples::exchanges::BATCH;
 use trace_samples::spellings::ALL;
-use trace_samples::{again, first_otherwise};
+use trace_samples::{first_mismatch, retry};
 
 /// A batch without spans.
 const WHOLE: &[u8] =
     b"\x0c\x00\x01\x0b\x00\x01\x00\x00\x00\x01\x61\x00\x0f\x00\x02\x0c\x00\x00\x00\x00\x00";
 
-/// What is answered of the first piece, of the second, of an empty one behind them, and at the end.
+/// The results of the first piece, the second, an empty one after them, and the end.
 fn answers(alloc: Global, first: &[u8], second: &[u8]) -> [Result<(), DecodeError>; 4] {
     let mut feeder = Feeder::new(alloc);
     let one = feeder.feed(alloc, first);
@@ -34,12 +34,12 @@ fn a_refusal_stays(rt: HostRuntime) {
     assert!(rt; answers(alloc, &[0], WHOLE) == [missing; 4]);
 }
 
-/// The fault that decoding answers, asked once more where memory ran out.
+/// Returns the fault of decoding, tried a second time if memory ran out.
 fn fault_of(alloc: Global, bytes: &[u8]) -> Option<DecodeError> {
-    again(DecodeError::Memory, || decode(alloc, bytes)).err()
+    retry(DecodeError::Memory, || decode(alloc, bytes)).err()
 }
 
-/// What is answered of the bytes in one piece, asked once more where memory ran out.
+/// Returns the result of the bytes in one piece, tried a second time if memory ran out.
 fn answers_of(alloc: Global, bytes: &[u8]) -> [Result<(), DecodeError>; 4] {
     let said = answers(alloc, bytes, &[]);
     if said[3] == Err(DecodeError::Memory) {
@@ -48,14 +48,14 @@ fn answers_of(alloc: Global, bytes: &[u8]) -> [Result<(), DecodeError>; 4] {
     said
 }
 
-/// The bytes are fed, which is not refused, and are too few; decoding says so too.
+/// Whether feeding the bytes succeeds, and the end reports too few bytes, as decoding does.
 fn is_short(alloc: Global, bytes: &[u8]) -> bool {
     let truncated = DecodeError::Wire(WireError::Truncated);
     answers_of(alloc, bytes) == [Ok(()), Ok(()), Ok(()), Err(truncated)]
         && fault_of(alloc, bytes) == Some(truncated)
 }
 
-/// How many beginnings of the bytes, from the empty one on, are fed and too few, before one that isn't.
+/// Returns the number of prefixes of the bytes, from the empty one on, that are too few bytes, before one that isn't.
 fn short_beginnings(alloc: Global, bytes: &[u8]) -> usize {
     for size in 0..bytes.len() {
         let Some((front, _)) = bytes.split_at_checked(size) else {
@@ -78,7 +78,7 @@ fn each_beginning_is_truncated(rt: HostRuntime) -> Result<(), Fail> {
     Ok(())
 }
 
-/// Bytes that end with a size of 2,147,483,647 and nothing behind it: of a text, of lists and of a binary that are
+/// Bytes that end with a size of 2,147,483,647 and nothing after it: of a text, of lists and of a binary that are
 /// read, and of a string, a list, a set and maps that are skipped.
 const CLAIMS: [&[u8]; 9] = [
     b"\x0c\x00\x01\x0b\x00\x01\x7f\xff\xff\xff",
@@ -92,8 +92,8 @@ const CLAIMS: [&[u8]; 9] = [
     b"\x0d\x00\x09\x0f\x0c\x7f\xff\xff\xff\x08\x7f\xff\xff\xff",
 ];
 
-/// However little memory there is: the check of allocations sees that all of it takes four, one for each list, set
-/// or map that is skipped, and refuses each.
+/// Little memory is enough: the check of allocations sees that all of it takes four allocations, one for each list,
+/// set or map that is skipped, and fails each.
 #[test]
 fn sizes_beyond_the_bytes(rt: HostRuntime) {
     let alloc = rt.alloc();
@@ -103,7 +103,7 @@ fn sizes_beyond_the_bytes(rt: HostRuntime) {
     );
 }
 
-/// The bytes before the last four.
+/// Returns the bytes before the last four.
 fn before_the_size(bytes: &[u8]) -> &[u8] {
     match bytes.split_at_checked(bytes.len().saturating_sub(4)) {
         Some((front, _)) => front,
@@ -122,7 +122,7 @@ fn bytes_before_a_size(rt: HostRuntime) {
     );
 }
 
-/// The bytes with a size below 0 in the place of theirs are too few before its last byte, and refused with it.
+/// Whether the bytes with a size below 0 in place of theirs are too few before its last byte, and refused with it.
 fn is_refused_below_0(alloc: Global, claim: &[u8]) -> Result<bool, AllocError> {
     let fault = DecodeError::Wire(WireError::BadLength);
     let mut bytes = Vec::new(alloc);
@@ -134,19 +134,19 @@ fn is_refused_below_0(alloc: Global, claim: &[u8]) -> Result<bool, AllocError> {
     Ok(short && fed && fault_of(alloc, &bytes) == Some(fault))
 }
 
-/// The first of them that isn't; None where each is.
+/// Returns the first of them that isn't, or `None`.
 fn first_not_refused(alloc: Global) -> Result<Option<usize>, AllocError> {
-    first_otherwise(&CLAIMS, |claim| is_refused_below_0(alloc, *claim))
+    first_mismatch(&CLAIMS, |claim| is_refused_below_0(alloc, *claim))
 }
 
-/// A size that is refused is so by the piece that has its last byte, and by decoding.
+/// A size is refused with the piece that has its last byte, and by decoding.
 #[test]
 fn sizes_below_0(rt: HostRuntime) -> Result<(), Fail> {
     assert_eq!(rt; first_not_refused(rt.alloc())?, None);
     Ok(())
 }
 
-/// The type of the container at a level: structs, maps, sets and lists in turn.
+/// Returns the type of the container at a level: structs, maps, sets and lists in turn.
 fn code_at(level: usize) -> u8 {
     match level % 4 {
         0 => types::STRUCT,
@@ -156,7 +156,7 @@ fn code_at(level: usize) -> u8 {
     }
 }
 
-/// What stands in a container of the type before the one that it holds.
+/// Returns the bytes in a container of the type before the one inside it.
 fn begin(bytes: &mut Vec<u8>, code: u8, within: u8) -> Result<(), AllocError> {
     match code {
         types::STRUCT => bytes.extend_from_slice(&[within, 0, 1]),
@@ -165,7 +165,7 @@ fn begin(bytes: &mut Vec<u8>, code: u8, within: u8) -> Result<(), AllocError> {
     }
 }
 
-/// A container of the type that holds none.
+/// Returns an empty container of the type.
 fn hold_none(bytes: &mut Vec<u8>, code: u8) -> Result<(), AllocError> {
     match code {
         types::STRUCT => bytes.extend_from_slice(&[0]),
@@ -174,8 +174,7 @@ fn hold_none(bytes: &mut Vec<u8>, code: u8) -> Result<(), AllocError> {
     }
 }
 
-/// A batch behind a field that nobody knows: containers in one another from the one of this level on, one more than
-/// so many.
+/// Returns a batch after an unknown field: nested containers from the one of this level on, one more than this number.
 fn nested(alloc: Global, first: usize, below: usize) -> Result<Vec<u8>, AllocError> {
     let mut bytes = Vec::new(alloc);
     bytes.extend_from_slice(&[code_at(first), 0, 9])?;
@@ -193,7 +192,7 @@ fn nested(alloc: Global, first: usize, below: usize) -> Result<Vec<u8>, AllocErr
     Ok(bytes)
 }
 
-/// What is answered at the end where each byte comes alone.
+/// Returns the result of the end if each byte arrives alone.
 fn ended_by_bytes(alloc: Global, bytes: &[u8]) -> Option<DecodeError> {
     let mut feeder = Feeder::new(alloc);
     for byte in bytes {
@@ -202,14 +201,14 @@ fn ended_by_bytes(alloc: Global, bytes: &[u8]) -> Option<DecodeError> {
     feeder.finish().err()
 }
 
-/// Decoding answers this, and a Feeder at its end, however the bytes come.
+/// Whether decoding returns this, and a `Feeder` at its end, however the bytes arrive.
 fn all_answer(alloc: Global, bytes: &[u8], fault: Option<DecodeError>) -> bool {
     let by_bytes = ended_by_bytes(alloc, bytes);
     let whole = answers(alloc, bytes, &[])[3].err();
     fault_of(alloc, bytes) == fault && whole == fault && by_bytes == fault
 }
 
-/// 1 and 64 levels from this one on are read past, and 65 are too deep.
+/// Whether 1 and 64 levels from this one on are skipped, and 65 are too deep.
 fn are_levels(alloc: Global, first: usize) -> Result<bool, AllocError> {
     let too_deep = Some(DecodeError::Wire(WireError::TooDeep));
     Ok(
@@ -219,7 +218,7 @@ fn are_levels(alloc: Global, first: usize) -> Result<bool, AllocError> {
     )
 }
 
-/// 64 levels are read past, and one more is too deep, whichever container it is.
+/// 64 levels are skipped, and one more is too deep, whichever container it is.
 #[test]
 fn levels_of_skipped_values(rt: HostRuntime) -> Result<(), Fail> {
     for first in 0..4 {
@@ -228,12 +227,12 @@ fn levels_of_skipped_values(rt: HostRuntime) -> Result<(), Fail> {
     Ok(())
 }
 
-/// What came of a batch in pieces.
+/// The outcome of a batch in pieces.
 #[derive(Clone, Copy, PartialEq, Eq)]
 enum Taken {
     /// It is the batch.
     Same,
-    /// Memory ran out in a piece or at the end, and each call behind it said so.
+    /// Memory ran out in a piece or at the end, and each call after it reported it.
     NoMemory,
     Other,
 }
@@ -252,8 +251,8 @@ fn came_of(alloc: Global, bytes: &[u8], whole: &Batch) -> Taken {
     taken
 }
 
-/// Whether there was memory for each of the pieces. None where something else was refused, or something was taken
-/// behind a refusal.
+/// Whether there was memory for each of the pieces. `None` if there was another error, or a call succeeded after
+/// one.
 fn fed_in_pieces(alloc: Global, feeder: &mut Feeder, bytes: &[u8]) -> Option<bool> {
     let mut has_memory = true;
     for piece in bytes.chunks(11) {
@@ -267,7 +266,7 @@ fn fed_in_pieces(alloc: Global, feeder: &mut Feeder, bytes: &[u8]) -> Option<boo
     Some(has_memory)
 }
 
-/// What came of a batch in pieces, once more where memory ran out.
+/// Returns the outcome of a batch in pieces, tried a second time if memory ran out.
 fn came_at_last(alloc: Global, bytes: &[u8]) -> Result<Taken, DecodeError> {
     let whole = decode(alloc, bytes)?;
     let mut said = came_of(alloc, bytes, &whole);
@@ -278,8 +277,8 @@ fn came_at_last(alloc: Global, bytes: &[u8]) -> Result<Taken, DecodeError> {
     Ok(said)
 }
 
-/// Where memory runs out once, whatever comes behind is refused for that, and a Feeder behind it takes the batch: the
-/// check of allocations refuses each in turn.
+/// If memory runs out once, every later call reports it, and a new `Feeder` takes the batch. The check of allocations
+/// fails each allocation in turn.
 #[test]
 fn memory_for_pieces(rt: HostRuntime) -> Result<(), Fail> {
     let alloc = rt.alloc();

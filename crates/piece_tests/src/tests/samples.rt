@@ -1,6 +1,6 @@
-//! Bytes of batches: each case that decoding tells apart.
+//! Bytes of batches: each case that decoding distinguishes.
 
-/// Good and bad ones, one a line. The third line has no bytes.
+/// Valid and invalid ones, one per line. The third line has no bytes.
 pub(crate) const CASES: &str = "\
 0c00010b00010000000161000f00020c0000000000
 0c00010b00010000000161000f00020c00000000

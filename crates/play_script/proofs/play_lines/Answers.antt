@@ -9,4 +9,4 @@ returns-in-Ok g c = λ limits stands.
 
 pub returns-in-Err : goal.returns-in-Err
 returns-in-Err g c = λ limits stands.
-    inr (stops _ _ _ _ _ _ limits _ c.answer_lines.new.taker stands c.in-Err.error c.in-Err.ensures.some c.status.result c.status.ensures)
+    inr (stops _ _ _ _ _ _ limits _ c.answer_lines.new.handler stands c.in-Err.error c.in-Err.ensures.some c.status.result c.status.ensures)

@@ -19,7 +19,7 @@ impl Read for Breaking<'_> {
     }
 }
 
-/// A writer with room for so many bytes.
+/// A writer with limited room.
 #[derive(Drop)]
 struct Full {
     taken: usize,
@@ -39,8 +39,8 @@ impl Write for Full {
     }
 }
 
-/// Runs the words over the input with a reader that fails at each of its calls, and with a writer of each
-/// room below the output's size: each run ends with 4 after a beginning of the output.
+/// Runs the words over the input with a reader that fails at each of its calls, and with a writer of each room below
+/// the output's size. Each run ends with 4 after a prefix of the output.
 fn check_failures<H: Host + Net<Stream = TcpStream, Listener = TcpListener>>(
     rt: &H,
     alloc: Global,

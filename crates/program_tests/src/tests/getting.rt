@@ -2,7 +2,7 @@
 use crate::tests::runs::{HEAD, LONGER, NONE, NUMBERED, OPEN, SPAN, TAIL, check};
 use std::test::Fail;
 
-/// Words behind `get`, the pieces of the input, the status, the lines of the output.
+/// The words after `get`, the pieces of the input, the status, and the lines of the output.
 type Row = (
     &'static [&'static str],
     &'static [&'static str],

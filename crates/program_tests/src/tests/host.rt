@@ -1,11 +1,11 @@
-//! The machine that a run of the program asks for.
+//! The machine that a run of the program needs.
 use std::process::Abort;
 use std::random::RandomSource;
 use std::sync::Wait;
 use std::thread::Threads;
 use std::time::Clock;
 
-/// What the program asks of its machine, but for its sockets.
+/// What the program needs from its machine, except sockets.
 pub(crate) trait Host: Abort + Threads + Wait + Clock + Eprint + RandomSource + Sync {}
 
 impl<H: Abort + Threads + Wait + Clock + Eprint + RandomSource + Sync> Host for H {}

@@ -7,7 +7,7 @@ use std::alloc::Global;
 use std::net::{Net, TcpListener, TcpStream};
 use std::test::Fail;
 
-/// What is sent.
+/// A request.
 #[derive(Clone, Copy)]
 enum Request {
     /// The method and the target.
@@ -16,27 +16,27 @@ enum Request {
     Batch(&'static str, &'static [&'static str]),
 }
 
-/// What is answered.
+/// A response.
 #[derive(Clone, Copy)]
 enum Response {
     Accepted,
     /// The length of the body, the pieces of the data, and their total.
     Found(&'static str, &'static [&'static str], &'static str),
-    /// The status and its reason, the length of the body with what else stands in the head, and the message.
+    /// The status and its reason, the length of the body with the other fields of the head, and the message.
     Refused(&'static str, &'static str, &'static str, &'static str),
 }
 
 use Request::{Bare, Batch};
 use Response::{Accepted, Found, Refused};
 
-/// Words behind `pipe`, what is sent, and what is answered.
+/// The words after `pipe`, the requests, and the responses.
 type Row = (
     &'static [&'static str],
     &'static [Request],
     &'static [Response],
 );
 
-/// The fields of a batch of so many bytes.
+/// The fields of a batch of 104 bytes.
 const OF_104: &str = "Content-Type: application/x-thrift\r\nContent-Length: 104\r\n";
 
 const OF_115: &str = "Content-Type: application/x-thrift\r\nContent-Length: 115\r\n";
@@ -47,7 +47,8 @@ const TRACE: Request = Bare("GET /api/traces/1");
 
 const NONE_LISTED: Response = Found("56", &["[]"], "0");
 
-/// The pieces of a trace of one span: between them stand its duration, its id, its tags, and twice its trace's id.
+/// The pieces of a trace of one span, between which its duration, its id, its tags, and twice its trace's id are
+/// inserted.
 const P1: &str =
     "{\"processes\":{\"p1\":{\"serviceName\":\"a\",\"tags\":[]}},\"spans\":[{\"duration\":";
 
@@ -62,7 +63,7 @@ const P5: &str = "\",\"warnings\":null}],\"traceID\":\"000000000000000";
 
 const P6: &str = "\",\"warnings\":null}";
 
-/// A double's bits, as they are shown.
+/// The bits of a double, as the JSON shows them.
 const NAN: &str = "{\"key\":\"d\",\"type\":\"float64\",\"value\":\"7ff8000000000001\"}";
 
 const ROWS: [Row; 12] = [
@@ -291,58 +292,58 @@ const ROWS: [Row; 12] = [
     ),
 ];
 
-/// Says the pieces behind what was said.
-fn say(said: &mut Vec<u8>, pieces: &[&str]) -> Result<(), Fail> {
+/// Appends the pieces.
+fn append(out: &mut Vec<u8>, pieces: &[&str]) -> Result<(), Fail> {
     for piece in pieces {
-        said.extend_from_slice(piece.as_bytes())?;
+        out.extend_from_slice(piece.as_bytes())?;
     }
     Ok(())
 }
 
-/// Says the bytes of the pieces of hexadecimal text behind what was said.
-fn spell(alloc: Global, said: &mut Vec<u8>, pieces: &[&str]) -> Result<(), Fail> {
+/// Appends the bytes of the pieces of hexadecimal text.
+fn append_hex(alloc: Global, out: &mut Vec<u8>, pieces: &[&str]) -> Result<(), Fail> {
     for piece in pieces {
         let bytes = hex::decode(alloc, *piece)?;
-        said.extend_from_slice(bytes.as_slice())?;
+        out.extend_from_slice(bytes.as_slice())?;
     }
     Ok(())
 }
 
-/// The bytes of the requests.
+/// Returns the bytes of the requests.
 fn sent(alloc: Global, requests: &[Request]) -> Result<Vec<u8>, Fail> {
     let mut bytes = Vec::new(alloc);
     for request in requests {
         match *request {
-            Bare(asked) => say(&mut bytes, &[asked, " HTTP/1.1\r\n\r\n"])?,
+            Bare(asked) => append(&mut bytes, &[asked, " HTTP/1.1\r\n\r\n"])?,
             Batch(fields, pieces) => {
-                say(
+                append(
                     &mut bytes,
                     &["POST /api/traces HTTP/1.1\r\n", fields, "\r\n"],
                 )?;
-                spell(alloc, &mut bytes, pieces)?;
+                append_hex(alloc, &mut bytes, pieces)?;
             }
         }
     }
     Ok(bytes)
 }
 
-/// The bytes of the responses.
+/// Returns the bytes of the responses.
 fn answered(alloc: Global, responses: &[Response]) -> Result<Vec<u8>, Fail> {
     let json = "\r\nContent-Type: application/json\r\nContent-Length: ";
     let mut bytes = Vec::new(alloc);
     for response in responses {
         match *response {
-            Accepted => say(
+            Accepted => append(
                 &mut bytes,
                 &["HTTP/1.1 202 Accepted\r\nContent-Length: 0\r\n\r\n"],
             )?,
             Found(length, pieces, total) => {
-                say(
+                append(
                     &mut bytes,
                     &["HTTP/1.1 200 OK", json, length, "\r\n\r\n{\"data\":"],
                 )?;
-                say(&mut bytes, pieces)?;
-                say(
+                append(&mut bytes, pieces)?;
+                append(
                     &mut bytes,
                     &[
                         ",\"errors\":null,\"limit\":0,\"offset\":0,\"total\":",
@@ -352,8 +353,8 @@ fn answered(alloc: Global, responses: &[Response]) -> Result<Vec<u8>, Fail> {
                 )?;
             }
             Refused(code, reason, length, message) => {
-                say(&mut bytes, &["HTTP/1.1 ", code, " ", reason, json, length])?;
-                say(
+                append(&mut bytes, &["HTTP/1.1 ", code, " ", reason, json, length])?;
+                append(
                     &mut bytes,
                     &[
                         "\r\n\r\n{\"data\":null,\"errors\":[{\"code\":",
@@ -361,7 +362,7 @@ fn answered(alloc: Global, responses: &[Response]) -> Result<Vec<u8>, Fail> {
                         ",\"msg\":\"",
                     ],
                 )?;
-                say(
+                append(
                     &mut bytes,
                     &[message, "\"}],\"limit\":0,\"offset\":0,\"total\":0}"],
                 )?;
@@ -371,7 +372,7 @@ fn answered(alloc: Global, responses: &[Response]) -> Result<Vec<u8>, Fail> {
     Ok(bytes)
 }
 
-/// What a session writes, read so many bytes at a time, where it ends with the status 0.
+/// Returns the output of a session that reads a number of bytes at a time, if it ends with the status 0.
 fn written<H: Host + Net<Stream = TcpStream, Listener = TcpListener>>(
     rt: &H,
     alloc: Global,
@@ -390,7 +391,7 @@ fn written<H: Host + Net<Stream = TcpStream, Listener = TcpListener>>(
     Ok(Some(output))
 }
 
-/// Whether the requests are answered so.
+/// Returns whether the requests get these responses.
 fn is_answered<H: Host + Net<Stream = TcpStream, Listener = TcpListener>>(
     rt: &H,
     alloc: Global,

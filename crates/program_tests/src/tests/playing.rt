@@ -7,7 +7,7 @@ const WORDS: [&str; 2] = ["jaeger_one", "play"];
 /// The answer of no services at no entries.
 const NOTHING: &str = "read 0 {\"data\":[],\"errors\":null,\"limit\":0,\"offset\":0,\"total\":0}\n";
 
-/// That of service `a` at one entry.
+/// The answer of service `a` at one entry.
 const LISTED: &str =
     "read 1 {\"data\":[\"a\"],\"errors\":null,\"limit\":0,\"offset\":0,\"total\":1}\n";
 
@@ -33,11 +33,11 @@ fn a_reader_inside_does_not_see_the_publish(rt: HostRuntime) -> Result<(), Fail>
     )
 }
 
-/// A batch of one span of trace 2, which is like the first one else.
+/// A batch of one span of trace 2, otherwise like the first one.
 const OF_TRACE_2: &str =
     "0c00010b00010000000161000f00020c000000010a000100000000000000020a000200000000000000000a000300000000000000020a000400000000000000000b0005000000026f70080007000000010a000800000000000003e80a000900000000000000320000";
 
-/// What a reader is told of a trace that is not shown, behind the front.
+/// The answer for a trace that isn't shown, after the front.
 const NOT_FOUND: &str =
     "{\"data\":null,\"errors\":[{\"code\":404,\"msg\":\"trace not found\"}],\"limit\":0,\"offset\":0,\"total\":0}\n";
 
@@ -91,7 +91,7 @@ fn a_limit_is_counted(rt: HostRuntime) -> Result<(), Fail> {
     )
 }
 
-/// A batch that was sent before is answered by its place, whichever seat hands it in; with another span it is refused.
+/// A batch that was sent before is answered with its place, whichever seat submits it. With another span it is refused.
 #[test]
 fn resent_batches(rt: HostRuntime) -> Result<(), Fail> {
     check(

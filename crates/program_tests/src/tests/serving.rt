@@ -1,4 +1,4 @@
-//! `serve` where it can't.
+//! `serve` on an address that can't be used.
 use crate::tests::runs::check;
 use std::fmt::Write;
 use std::net::{Ipv4Addr, SocketAddr, SocketAddrV4, TcpListener};

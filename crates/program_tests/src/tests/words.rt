@@ -1,11 +1,11 @@
-//! Words that can't be used, or that ask for help, and what is said to them: by `clap`'s rules, whose texts these are.
+//! Words that can't be used, or that ask for help, and the replies to them, which are the texts of `clap`.
 use crate::tests::runs::check;
 use std::test::Fail;
 
-/// What stands behind each fault of the words.
+/// The text after each fault of the words.
 const MORE: &str = "\n\nFor more information, try '--help'.\n";
 
-/// The hosts that there are, behind the fault of another one.
+/// The possible hosts, after the fault of another one.
 const HOSTS: &str = "\n  [possible values: 127.0.0.1, 0.0.0.0, ::1, ::]";
 
 /// The options of each subcommand, as help lists them.
@@ -18,7 +18,7 @@ Options:
   -h, --help          Print help
 ";
 
-/// Words behind the program's name, and the pieces of what is said to them.
+/// The words after the program's name, and the pieces of the reply.
 type Row = (&'static [&'static str], &'static [&'static str]);
 
 const ROWS: [Row; 42] = [

@@ -11,13 +11,13 @@ impl WriteJson for SpanId {
     ghost tree = { λ id. string (span_text id) };
 
     fn write(&self, out: &mut Page) {
-        out.put("\"");
+        out.push_str("\"");
         out.digits_of_number(self.0);
-        out.put("\"");
+        out.push_str("\"");
     }
 }
 
-/// The digits of the high half of an id, where it isn't 0.
+/// Writes the digits of the high half of an id, if it isn't 0.
 fn write_high(out: &mut Page, high: u64)
     ensures { Puts out.old out.new (if high == 0 then [] else low_digits 16 high) }
 {
@@ -31,9 +31,9 @@ impl WriteJson for TraceId {
     ghost tree = { id_tree };
 
     fn write(&self, out: &mut Page) {
-        out.put("\"");
+        out.push_str("\"");
         write_high(out, self.high);
         out.digits_of_number(self.low);
-        out.put("\"");
+        out.push_str("\"");
     }
 }

@@ -12,20 +12,20 @@ use super::plain::is_plain;
 use std::alloc::{AllocError, Global};
 use std::str;
 
-/// A text that is written piece by piece. Where there is no room for a piece the page is full, and what is put
-/// on it from then on is lost, and only counted: that it was full is said once, by [`Page::finish`].
+/// A text that is written piece by piece. If there is no room for a piece, the page is full from then on: it only
+/// counts the bytes that are written to it. [`Page::finish`] reports that it was full.
 #[derive(Drop)]
 pub(crate) struct Page {
     bytes: Vec<u8>,
     full: bool,
-    /// The number of bytes that were put on it while it was full.
+    /// The number of bytes that were written to it while it was full.
     lost: usize,
 }
 
 impl Page {
     ghost use Rattle.query_json.specs.Page.{Adds, Puts};
 
-    /// It writes behind what the bytes are, and takes memory only where their room is used up.
+    /// Returns a page that appends to these bytes. It allocates only once their capacity is used up.
     pub(crate) fn new(bytes: Vec<u8>) -> Page
         ensures bytes { result.bytes ≡ bytes }
         ensures full { result.full ≡ false }
@@ -37,7 +37,7 @@ impl Page {
         }
     }
 
-    /// A page that is full, so that bytes are only counted on it. Takes no memory.
+    /// Returns a full page, which only counts bytes. It doesn't allocate.
     pub(crate) fn without_room(alloc: Global) -> Page
         ensures full { result.full ≡ true }
         ensures lost { result.lost ≡ 0 }
@@ -49,18 +49,20 @@ impl Page {
         }
     }
 
-    /// The number of bytes that were put on it while it was full. More than can be counted count as out of memory.
+    /// Returns the number of bytes that were written to it while it was full. A number that doesn't fit is reported as
+    /// out of memory.
     pub(crate) fn lost(&self) -> Result<usize, AllocError>
         ensures lost { IfOk result (λ n. n ≡ self.now.lost) }
         ensures bound { IfOk result (λ n. n + 1 < 2 ^ 64) }
     {
         if self.lost == usize::MAX {
+            // Impossible: no piece has 2^64 bytes.
             return Err(AllocError);
         }
         Ok(self.lost)
     }
 
-    /// The text, unless the page got full.
+    /// Returns the text, unless the page is full.
     pub(crate) fn finish(self) -> Result<Vec<u8>, AllocError>
         ensures ok { IfOk result (λ v. (self.full ≡ false) × (v ≡ self.bytes)) }
         ensures full { OnErr result (self.full ≡ true) }
@@ -71,21 +73,21 @@ impl Page {
         Ok(self.bytes)
     }
 
-    /// How many bytes stand on it.
+    /// Returns the number of bytes on it.
     pub(crate) fn len(&self) -> usize
         ensures { result ≡ length self.now.bytes.items }
     {
         self.bytes.len()
     }
 
-    /// The bytes that stand on it.
+    /// Returns the bytes on it.
     pub(crate) fn as_slice(&self) -> &[u8]
         ensures { result.now ≡ self.now.bytes.items }
     {
         self.bytes.as_slice()
     }
 
-    /// Takes away what stands on it; its room stays.
+    /// Clears it, and keeps its capacity.
     pub(crate) fn clear(&mut self)
         ensures items { self.new.bytes.items ≡ [] }
         ensures capacity { vec_capacity self.new.bytes ≡ vec_capacity self.old.bytes }
@@ -94,7 +96,7 @@ impl Page {
         self.bytes.clear();
     }
 
-    /// Whether it found no room for a piece.
+    /// Whether it is full.
     pub(crate) fn is_full(&self) -> bool
         ensures { result ≡ self.now.full }
     {
@@ -111,14 +113,14 @@ impl Page {
         }
     }
 
-    /// The text as it is.
-    pub(crate) fn put(&mut self, text: &str)
+    /// Writes a text without escapes.
+    pub(crate) fn push_str(&mut self, text: &str)
         ensures { Puts self.old self.new text.now }
     {
         self.add(text.as_bytes());
     }
 
-    /// The text as a JSON string.
+    /// Writes a text as a JSON string.
     pub(crate) fn string(&mut self, text: &str)
         ensures { Puts self.old self.new (quoted text.now) }
     {
@@ -127,7 +129,7 @@ impl Page {
         self.add(b"\"");
     }
 
-    /// The text inside a JSON string, without the quotes around it.
+    /// Writes a text inside a JSON string, without the quotes around it.
     pub(crate) fn in_string(&mut self, text: &str)
         ensures { Puts self.old self.new (escape text.now) }
     {
@@ -144,7 +146,7 @@ impl Page {
         }
     }
 
-    /// The same, run by run and escape by escape.
+    /// Writes a text inside a JSON string, as runs of plain bytes and escapes.
     fn with_escapes(&mut self, text: &[u8])
         ensures { Adds self.old self.new (escape text.now) }
     {
@@ -161,45 +163,45 @@ impl Page {
         }
     }
 
-    /// A number as it is.
+    /// Writes a number.
     pub(crate) fn integer(&mut self, number: i64)
         ensures { Puts self.old self.new (signed_decimal number) }
     {
         let mut buffer = itoa::Buffer::new();
-        self.put(buffer.format(number));
+        self.push_str(buffer.format(number));
     }
 
-    /// A number that stands somewhere, as it is.
+    /// Writes a number, given by reference.
     pub(crate) fn integer_at(&mut self, number: &i64)
         ensures { Puts self.old self.new (signed_decimal number.now) }
     {
         self.integer(*number);
     }
 
-    /// A number as it is.
+    /// Writes a number.
     pub(crate) fn delta(&mut self, number: &i128)
         ensures { Puts self.old self.new (signed_decimal number.now) }
     {
         let mut buffer = itoa::Buffer::new();
-        self.put(buffer.format(*number));
+        self.push_str(buffer.format(*number));
     }
 
-    /// A number as it is.
+    /// Writes a number.
     pub(crate) fn count(&mut self, number: u64)
         ensures { Puts self.old self.new (decimal number) }
     {
         let mut buffer = itoa::Buffer::new();
-        self.put(buffer.format(number));
+        self.push_str(buffer.format(number));
     }
 
-    /// `true` or `false`.
+    /// Writes `true` or `false`.
     pub(crate) fn flag(&mut self, flag: bool)
         ensures { Puts self.old self.new (flag_text flag) }
     {
-        self.put(if flag { "true" } else { "false" });
+        self.push_str(if flag { "true" } else { "false" });
     }
 
-    /// The hexadecimal digits of bytes.
+    /// Writes the hexadecimal digits of bytes.
     pub(crate) fn digits(&mut self, bytes: &[u8])
         ensures { Puts self.old self.new (hex_text bytes.now) }
     {
@@ -208,14 +210,14 @@ impl Page {
         }
     }
 
-    /// The sixteen hexadecimal digits of eight bytes.
+    /// Writes the sixteen hexadecimal digits of eight bytes.
     pub(crate) fn digits_of_eight(&mut self, bytes: &[u8; 8])
         ensures { Puts self.old self.new (hex_text bytes.now) }
     {
         self.add(&digits_of_eight(bytes));
     }
 
-    /// The sixteen hexadecimal digits of a number.
+    /// Writes the sixteen hexadecimal digits of a number.
     pub(crate) fn digits_of_number(&mut self, number: u64)
         ensures { Puts self.old self.new (low_digits 16 number) }
     {
@@ -223,7 +225,7 @@ impl Page {
     }
 }
 
-/// The first byte from `at` on that doesn't stand for itself in a string, or the length.
+/// Returns the index of the first byte from `at` on that needs an escape in a string, or the length.
 fn plain_end(text: &[u8], at: usize) -> usize
     requires { at ≤ length text.now }
     ensures value { result ≡ at + prefix_len is_plain (drop at text.now) }
@@ -236,7 +238,7 @@ fn plain_end(text: &[u8], at: usize) -> usize
     end
 }
 
-/// What stands in a string for a byte, and how long it is.
+/// Returns the escape of a byte in a string, and the escape's length.
 fn escape_of(byte: u8) -> ([u8; 6], usize)
     ensures value { take result.1 result.0 ≡ escape_byte byte }
     ensures bound { result.1 ≤ 6 }
@@ -252,7 +254,7 @@ fn escape_of(byte: u8) -> ([u8; 6], usize)
     ([byte, 0, 0, 0, 0, 0], 1)
 }
 
-/// The letter of a byte's short escape, or 0 where it has none.
+/// Returns the letter of a byte's short escape, or 0 if it has none.
 fn escape_letter(byte: u8) -> u8
     ensures { result ≡ escape_letter byte }
 {
@@ -267,7 +269,7 @@ fn escape_letter(byte: u8) -> u8
     }
 }
 
-/// The sixteen hexadecimal digits of eight bytes.
+/// Returns the sixteen hexadecimal digits of eight bytes.
 fn digits_of_eight(bytes: &[u8; 8]) -> [u8; 16]
     ensures digits { result ≡ hex_text bytes.now }
     ensures ascii { IsAscii result }
@@ -279,7 +281,7 @@ fn digits_of_eight(bytes: &[u8; 8]) -> [u8; 16]
     digits
 }
 
-/// The two hexadecimal digits of a byte.
+/// Returns the two hexadecimal digits of a byte.
 fn digits_of_byte(byte: u8) -> [u8; 2]
     ensures digits { result ≡ hex_text (byte ∷ []) }
     ensures ascii { IsAscii result }

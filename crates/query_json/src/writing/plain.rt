@@ -1,4 +1,4 @@
-//! Whether a text stands for itself in a JSON string, looked at sixteen bytes at a time.
+//! Whether a text needs no escape in a JSON string, tested sixteen bytes at a time.
 ghost use Rattle.std.specs.Prelude.{◌≡◌, ◌+◌, ◌≤◌, length};
 ghost use Rattle.std.specs.Bool.{OnTrue};
 ghost use Rattle.json.specs.Print.{escape};
@@ -19,7 +19,7 @@ fn are_plain_at<const N: usize>(text: &[u8], at: usize) -> bool
         == 0
 }
 
-/// Whether no byte needs an escape, one by one.
+/// Whether no byte needs an escape, tested one by one.
 fn are_plain_few(text: &[u8]) -> bool
     ensures { OnTrue result (PlainBetween text.now 0 (length text.now)) }
 {
@@ -31,7 +31,7 @@ fn are_plain_few(text: &[u8]) -> bool
     true
 }
 
-/// Whether no byte needs an escape, where there are at least sixteen. The last sixteen may overlap those before them.
+/// Whether none of at least sixteen bytes needs an escape. The last sixteen may overlap those before them.
 fn are_plain_many(text: &[u8]) -> bool
     requires { 16 ≤ length text.now }
     ensures { OnTrue result (PlainBetween text.now 0 (length text.now)) }
@@ -46,7 +46,7 @@ fn are_plain_many(text: &[u8]) -> bool
     are_plain_at::<16>(text, text.len() - 16)
 }
 
-/// Whether no byte needs an escape, where there are fewer than sixteen.
+/// Whether none of fewer than sixteen bytes needs an escape.
 fn are_plain(text: &[u8]) -> bool
     requires { length text.now ≤ 16 }
     ensures { OnTrue result (PlainBetween text.now 0 (length text.now)) }
@@ -58,7 +58,7 @@ fn are_plain(text: &[u8]) -> bool
     }
 }
 
-/// Whether the text stands for itself in a JSON string.
+/// Whether the text needs no escape in a JSON string.
 pub(super) fn is_plain(text: &[u8]) -> bool
     ensures { OnTrue result (escape text.now ≡ text.now) }
 {

@@ -20,15 +20,15 @@ impl WriteJson for Process {
     ghost tree = { process_tree };
 
     fn write(&self, out: &mut Page) {
-        out.put(r#"{"serviceName":"#);
+        out.push_str(r#"{"serviceName":"#);
         out.string(self.service.as_str());
-        out.put(r#","tags":"#);
+        out.push_str(r#","tags":"#);
         write_list(out, self.tags.as_slice());
-        out.put("}");
+        out.push_str("}");
     }
 }
 
-/// A process of a trace with its number, counted from 1, by which it is named. It is that of the span at the index.
+/// A process of a trace: the index of a span that has it, and its number, counted from 1, which its name contains.
 #[derive(Clone, Copy)]
 pub(crate) struct NamedProcess {
     number: u64,
@@ -36,7 +36,7 @@ pub(crate) struct NamedProcess {
 }
 
 impl NamedProcess {
-    /// The process of the first span.
+    /// Returns the process of the first span.
     pub(super) fn first() -> NamedProcess
         ensures { result ≡ first_named }
     {
@@ -54,7 +54,7 @@ pub(super) fn is_first_alone(processes: &[NamedProcess]) -> bool
     }
 }
 
-/// The processes by their names.
+/// Maps the processes' names to them.
 fn by_name<'n>(
     alloc: Global,
     names: &'n [String],
@@ -75,7 +75,7 @@ fn by_name<'n>(
     Ok(named)
 }
 
-/// The processes in the order of the map.
+/// Returns the processes in the order of the map.
 fn in_its_order(
     alloc: Global,
     named: &BTreeMap<&str, NamedProcess>,
@@ -89,7 +89,7 @@ fn in_its_order(
     Ok(order)
 }
 
-/// The processes in the order of their names' bytes.
+/// Returns the processes in the order of their names' bytes.
 pub(super) fn in_order(
     alloc: Global,
     processes: &[FirstSpan],
@@ -103,26 +103,26 @@ pub(super) fn in_order(
     Ok(order)
 }
 
-/// The name of the process with this number, as a JSON string.
+/// Writes the name of the process with this number, as a JSON string.
 pub(super) fn write_name(out: &mut Page, number: u64)
     ensures { Puts out.old out.new (compact_text (string (112 ∷ decimal number))) }
 {
-    out.put("\"p");
+    out.push_str("\"p");
     out.count(number);
-    out.put("\"");
+    out.push_str("\"");
 }
 
-/// The process of one of the spans, under its name.
+/// Writes the process of one of the spans, after its name.
 fn write_named(out: &mut Page, spans: &LentSpans, named: NamedProcess)
     requires { named.span < length spans.now }
     ensures { Puts out.old out.new (named_text spans.now named) }
 {
     write_name(out, named.number);
-    out.put(":");
+    out.push_str(":");
     spans.at(named.span).process().write(out);
 }
 
-/// The process at the index, which one of the spans has, under its name.
+/// Writes the process at the index, which one of the spans has, after its name.
 pub(super) fn write_process(
     out: &mut Page,
     spans: &LentSpans,

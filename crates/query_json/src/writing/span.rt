@@ -1,4 +1,4 @@
-//! A span of an answer, written where its entry keeps it.
+//! Writes a span of an answer, borrowed from its entry.
 ghost use Rattle.std.specs.Prelude.{◌≡◌, ◌+◌, List, decimal, map};
 ghost use Rattle.serde_json.specs.Data.{string};
 ghost use Rattle.serde_json.specs.Written.{compact_text};
@@ -19,11 +19,11 @@ impl<'a> WriteJson for LentLog<'a> {
     ghost tree = { λ l. log_tree (lent_log l) };
 
     fn write(&self, out: &mut Page) {
-        out.put(r#"{"fields":"#);
+        out.push_str(r#"{"fields":"#);
         write_list(out, self.fields);
-        out.put(r#","timestamp":"#);
+        out.push_str(r#","timestamp":"#);
         out.integer_at(&self.at);
-        out.put("}");
+        out.push_str("}");
     }
 }
 
@@ -39,7 +39,7 @@ impl<'a> WriteItems for LentLogs<'a> {
     }
 }
 
-/// The references of a span, as they are shown.
+/// The references of a span, to be written.
 #[derive(Clone, Copy)]
 struct References<'s, 'a>(&'s LentSpan<'a>);
 
@@ -55,79 +55,79 @@ impl<'s, 'a> WriteItems for References<'s, 'a> {
     }
 }
 
-/// What is said of a span's clock.
+/// Writes the warning about a span's clock.
 fn write_warning(out: &mut Page, warning: &Warning)
     ensures { Puts out.old out.new (compact_text (string (warning_text warning.now))) }
 {
     match warning {
         Warning::Adjusted(delta) => {
-            out.put("\"clock skew adjusted by ");
+            out.push_str("\"clock skew adjusted by ");
             out.delta(delta);
-            out.put(" us\"");
+            out.push_str(" us\"");
         }
         Warning::PastLimit { delta, max_skew } => {
-            out.put("\"clock skew of ");
+            out.push_str("\"clock skew of ");
             out.delta(delta);
-            out.put(" us not applied: the limit is ");
+            out.push_str(" us not applied: the limit is ");
             out.count(*max_skew);
-            out.put(" us\"");
+            out.push_str(" us\"");
         }
         Warning::PastTimes(delta) => {
-            out.put("\"clock skew of ");
+            out.push_str("\"clock skew of ");
             out.delta(delta);
-            out.put(" us not applied: a time would not fit\"");
+            out.push_str(" us not applied: a time would not fit\"");
         }
     }
 }
 
-/// A list of the one warning, or null where there is none.
+/// Writes a list of the one warning, or null if there is none.
 fn write_warnings(out: &mut Page, warning: &Option<Warning>)
     ensures { Puts out.old out.new (compact_text (warnings_tree (warning_texts warning.now))) }
 {
     match warning {
         Some(warning) => {
-            out.put("[");
+            out.push_str("[");
             write_warning(out, warning);
-            out.put("]");
+            out.push_str("]");
         }
-        None => out.put("null"),
+        None => out.push_str("null"),
     }
 }
 
-/// The flags' 32 bits, read as unsigned.
+/// Returns the flags' 32 bits as an unsigned number.
 fn write_flags(out: &mut Page, flags: &i32)
     ensures { Puts out.old out.new (decimal (flags_number flags.now)) }
 {
     out.count(u64::from(flags_number(*flags)));
 }
 
-/// A span whose process has this number, counted from 1.
+/// Writes a span whose process has this number, counted from 1.
 pub(super) fn write_span(out: &mut Page, number: u64, lent: &LentSpan)
     ensures { (ps : List ProcessValue) → number ≡ process_place ps lent.now + 1 →
         Puts out.old out.new (compact_text (span_tree ps lent.now)) }
 {
     let span = lent.span();
-    out.put(r#"{"duration":"#);
+    out.push_str(r#"{"duration":"#);
     out.integer_at(&span.duration);
-    out.put(r#","flags":"#);
+    out.push_str(r#","flags":"#);
     write_flags(out, &span.flags);
-    out.put(r#","logs":"#);
+    out.push_str(r#","logs":"#);
     write_list(out, lent.logs());
-    out.put(r#","operationName":"#);
+    out.push_str(r#","operationName":"#);
     out.string(span.operation.as_str());
-    out.put(r#","processID":"#);
+    out.push_str(r#","processID":"#);
     write_name(out, number);
-    out.put(r#","references":"#);
+    out.push_str(r#","references":"#);
     write_list(out, References(lent));
-    out.put(r#","spanID":"#);
+    out.push_str(r#","spanID":"#);
     span.id.write(out);
-    out.put(r#","startTime":"#);
+    out.push_str(r#","startTime":"#);
     out.integer(lent.start());
-    out.put(r#","tags":"#);
+    out.push_str(r#","tags":"#);
     write_list(out, span.tags.as_slice());
-    out.put(r#","traceID":"#);
+    out.push_str(r#","traceID":"#);
     span.trace.write(out);
-    out.put(r#","warnings":"#);
+    out.push_str(r#","warnings":"#);
     write_warnings(out, &lent.warning());
-    out.put("}");
+    out.push_str("}");
 }

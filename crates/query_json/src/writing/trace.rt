@@ -14,7 +14,7 @@ ghost use Rattle.query_json.specs.Writing.{process_place};
 
 use super::processes::{NamedProcess, in_order, is_first_alone, write_process};
 use super::span::write_span;
-use super::{Page, WriteJson, put_separator};
+use super::{Page, WriteJson, write_separator};
 use crate::naming::lent_places;
 use crate::tree::Tree;
 use std::alloc::{AllocError, Global};
@@ -22,39 +22,40 @@ use std::snapshot::Snapshot;
 use trace_adjust::{LentSpans, lend};
 use trace_model::{AnsweredTrace, KeptTrace, ShownTrace, TraceForm};
 
-/// The id of a trace, that of its first span.
+/// Returns the id of a trace, that of its first span.
 fn write_id(out: &mut Page, spans: &LentSpans)
     ensures { Puts out.old out.new (compact_text (string (trace_id_text spans.now))) }
 {
     if spans.len() == 0 {
-        out.put("\"\"");
+        out.push_str("\"\"");
         return;
     }
     spans.at(0).span().trace.write(out);
 }
 
-/// What stands behind the spans.
-fn put_close(out: &mut Page, spans: &LentSpans)
+/// Writes the text after the spans.
+fn write_close(out: &mut Page, spans: &LentSpans)
     ensures { Puts out.old out.new (close_text spans.now) }
 {
-    out.put(r#"],"traceID":"#);
+    out.push_str(r#"],"traceID":"#);
     write_id(out, spans);
-    out.put(r#","warnings":"#);
-    out.put("null");
-    out.put("}");
+    out.push_str(r#","warnings":"#);
+    out.push_str("null");
+    out.push_str("}");
 }
 
-/// That many processes and spans can be counted. More than there can be in memory count as out of memory.
-fn few(processes: usize, spans: usize) -> Result<(), AllocError>
+/// Checks that the processes and spans can be counted. A number that doesn't fit is reported as out of memory.
+fn check_count(processes: usize, spans: usize) -> Result<(), AllocError>
     ensures { OnOk result (processes + spans < 2 ^ 62) }
 {
     match processes.checked_add(spans) {
         Some(count) if count < 1 << 62 => Ok(()),
+        // Impossible: no memory holds 2^62 of them.
         _ => Err(AllocError),
     }
 }
 
-/// The place of each span's process among the processes, and these in the order of their names.
+/// Returns the place of each span's process among the processes, and the processes in the order of their names.
 fn named_processes(
     alloc: Global,
     spans: &LentSpans,
@@ -71,25 +72,25 @@ fn named_processes(
     Ok((places, named))
 }
 
-/// How many processes stand before that of the span at the index.
+/// Returns the number of processes before that of the span at the index.
 fn place_at(places: &[u32], index: usize) -> u32
     ensures { result ≡ get_or places.now index 0 }
 {
     places.get(index).copied().unwrap_or(0)
 }
 
-/// What the text of a trace is written from: its spans, with what is known of their processes.
+/// The data from which the text of a trace is written: its spans and their processes.
 #[derive(Clone, Copy)]
 struct NumberedSpans<'a> {
     spans: &'a LentSpans,
-    /// For each span how many processes stand before its own; 0 for the spans after the last place.
+    /// For each span the number of processes before its own; 0 for the spans after the last place.
     places: &'a [u32],
     /// In the order of their names.
     processes: &'a [NamedProcess],
 }
 
 impl<'a> NumberedSpans<'a> {
-    /// The number of pieces: the processes and spans, and what stands before, between and behind them.
+    /// Returns the number of pieces: one for each process and each span, and those before, between and after them.
     fn piece_count(&self) -> usize
         requires { IsNumbered self.now.spans.now self.now.places.now self.now.processes.now }
         ensures count { result ≡ length (pieces_of self.now.processes.now self.now.spans.now) }
@@ -98,8 +99,8 @@ impl<'a> NumberedSpans<'a> {
         self.processes.len() + self.spans.len() + 3
     }
 
-    /// Puts a piece.
-    fn put_piece(&self, out: &mut Page, piece: usize)
+    /// Writes a piece.
+    fn write_piece(&self, out: &mut Page, piece: usize)
         requires numbered { IsNumbered self.now.spans.now self.now.places.now
             self.now.processes.now }
         requires piece { piece < length (pieces_of self.now.processes.now self.now.spans.now) }
@@ -107,40 +108,40 @@ impl<'a> NumberedSpans<'a> {
             (get_or (pieces_of self.now.processes.now self.now.spans.now) piece []) }
     {
         if piece == 0 {
-            out.put(r#"{"processes":{"#);
+            out.push_str(r#"{"processes":{"#);
             return;
         }
         let index = piece - 1;
         if index >= self.processes.len() {
-            self.put_behind(out, index - self.processes.len());
+            self.write_after_processes(out, index - self.processes.len());
             return;
         }
-        put_separator(out, index);
+        write_separator(out, index);
         write_process(out, self.spans, self.processes, index);
     }
 
-    /// Puts a piece of those behind the processes.
-    fn put_behind(&self, out: &mut Page, piece: usize)
+    /// Writes one of the pieces after the processes.
+    fn write_after_processes(&self, out: &mut Page, piece: usize)
         requires numbered { IsNumbered self.now.spans.now self.now.places.now
             self.now.processes.now }
         requires piece { piece < length (span_pieces self.now.spans.now) }
         ensures { Puts out.old out.new (get_or (span_pieces self.now.spans.now) piece []) }
     {
         if piece == 0 {
-            out.put(r#"},"spans":["#);
+            out.push_str(r#"},"spans":["#);
             return;
         }
         let index = piece - 1;
         if index >= self.spans.len() {
-            put_close(out, self.spans);
+            write_close(out, self.spans);
             return;
         }
-        put_separator(out, index);
-        self.put_span(out, index);
+        write_separator(out, index);
+        self.write_span_at(out, index);
     }
 
-    /// Puts the span at the index, with the name of its process.
-    fn put_span(&self, out: &mut Page, index: usize)
+    /// Writes the span at the index, with the name of its process.
+    fn write_span_at(&self, out: &mut Page, index: usize)
         requires numbered { IsNumbered self.now.spans.now self.now.places.now
             self.now.processes.now }
         requires within { index < length self.now.spans.now }
@@ -152,17 +153,17 @@ impl<'a> NumberedSpans<'a> {
     }
 }
 
-/// A trace whose spans are lent by their entries, with what is to be known of its processes before it is written.
+/// A trace whose spans are borrowed from their entries, with its processes, which must be known before it is written.
 #[derive(Drop)]
 pub(crate) struct LentTrace {
     spans: LentSpans,
-    /// For each span how many processes stand before its own.
+    /// For each span the number of processes before its own.
     places: Vec<u32>,
     processes: Vec<NamedProcess>,
 }
 
 impl LentTrace {
-    /// The number of its pieces.
+    /// Returns the number of its pieces.
     fn piece_count(&self) -> usize
         requires { IsNumbered self.now.spans self.now.places.items self.now.processes.items }
         ensures count { result ≡ length (pieces_of self.now.processes.items self.now.spans) }
@@ -176,8 +177,8 @@ impl LentTrace {
         numbered.piece_count()
     }
 
-    /// Puts a piece.
-    fn put_piece(&self, out: &mut Page, piece: usize)
+    /// Writes a piece.
+    fn write_piece(&self, out: &mut Page, piece: usize)
         requires numbered { IsNumbered self.now.spans self.now.places.items
             self.now.processes.items }
         requires piece { piece < length (pieces_of self.now.processes.items self.now.spans) }
@@ -189,11 +190,11 @@ impl LentTrace {
             places: &self.places,
             processes: &self.processes,
         };
-        numbered.put_piece(out, piece);
+        numbered.write_piece(out, piece);
     }
 }
 
-/// The number of pieces of a trace whose spans have one process.
+/// Returns the number of pieces of a trace whose spans have one process.
 fn piece_count_of_one(spans: &LentSpans) -> usize
     requires { IsNumbered spans.now [] (first_named ∷ []) }
     ensures count { result ≡ length (pieces_of (first_named ∷ []) spans.now) }
@@ -208,8 +209,8 @@ fn piece_count_of_one(spans: &LentSpans) -> usize
     numbered.piece_count()
 }
 
-/// Puts a piece of a trace whose spans have one process.
-fn put_piece_of_one(out: &mut Page, spans: &LentSpans, piece: usize)
+/// Writes a piece of a trace whose spans have one process.
+fn write_piece_of_one(out: &mut Page, spans: &LentSpans, piece: usize)
     requires numbered { IsNumbered spans.now [] (first_named ∷ []) }
     requires piece { piece < length (pieces_of (first_named ∷ []) spans.now) }
     ensures { Puts out.old out.new (get_or (pieces_of (first_named ∷ []) spans.now) piece []) }
@@ -220,10 +221,10 @@ fn put_piece_of_one(out: &mut Page, spans: &LentSpans, piece: usize)
         places: &[],
         processes: &processes,
     };
-    numbered.put_piece(out, piece);
+    numbered.write_piece(out, piece);
 }
 
-/// A trace whose spans are made: the text of its tree. The spans are there for contracts alone.
+/// A trace with spans of its own, as the text of its tree. Only contracts read the spans.
 #[derive(Drop)]
 pub(crate) struct MadeTrace {
     spans: Snapshot<ShownTrace>,
@@ -244,11 +245,11 @@ impl MadeTrace {
     }
 }
 
-/// A trace of an answer, written in pieces. One whose spans are made is one piece.
+/// A trace of an answer, written in pieces. One with spans of its own is one piece.
 #[derive(Drop)]
 pub(crate) enum TraceItem {
-    /// Its spans are lent, and have one process. Nothing else is to be known of them, since many answers are of such
-    /// traces, small ones.
+    /// Its spans are borrowed, and have one process. Nothing else is stored for it: many answers consist of such traces,
+    /// small ones.
     One(LentSpans),
     Lent(Box<LentTrace>),
     Made(MadeTrace),
@@ -261,7 +262,7 @@ fn are_zero(places: &[u32]) -> bool
     places.iter().all(|place| *place == 0)
 }
 
-/// A trace whose spans their entries keep.
+/// Prepares a trace whose spans are borrowed from their entries.
 fn lent_item(alloc: Global, kept: KeptTrace) -> Result<TraceItem, AllocError>
     requires { KeptShares kept }
     ensures spans { IfOk result (λ t. item_spans t ≡ kept_value kept) }
@@ -269,7 +270,7 @@ fn lent_item(alloc: Global, kept: KeptTrace) -> Result<TraceItem, AllocError>
 {
     let (spans, entries) = lend(alloc, kept)?;
     let (places, processes) = named_processes(alloc, &spans, &entries)?;
-    few(processes.len(), spans.len())?;
+    check_count(processes.len(), spans.len())?;
     if is_first_alone(&processes) && are_zero(&places) {
         return Ok(TraceItem::One(spans));
     }
@@ -282,7 +283,7 @@ fn lent_item(alloc: Global, kept: KeptTrace) -> Result<TraceItem, AllocError>
 }
 
 impl TraceItem {
-    /// Takes all the memory that writing it needs.
+    /// Allocates all that writing it needs.
     pub(crate) fn new(alloc: Global, trace: AnsweredTrace) -> Result<TraceItem, AllocError>
         ensures spans { IfOk result (λ t. item_spans t ≡ trace) }
         ensures writable { IfOk result IsWritable }
@@ -293,7 +294,7 @@ impl TraceItem {
         }
     }
 
-    /// The number of its pieces.
+    /// Returns the number of its pieces.
     pub(crate) fn piece_count(&self) -> usize
         requires { IsWritable self.now }
         ensures count { result ≡ length (trace_pieces self.now) }
@@ -306,16 +307,16 @@ impl TraceItem {
         }
     }
 
-    /// Puts a piece.
-    pub(crate) fn put_piece(&self, out: &mut Page, piece: usize)
+    /// Writes a piece.
+    pub(crate) fn write_piece(&self, out: &mut Page, piece: usize)
         requires writable { IsWritable self.now }
         requires piece { piece < length (trace_pieces self.now) }
         ensures { Puts out.old out.new (get_or (trace_pieces self.now) piece []) }
     {
         match self {
-            TraceItem::One(spans) => put_piece_of_one(out, spans, piece),
-            TraceItem::Lent(lent) => lent.put_piece(out, piece),
-            TraceItem::Made(made) => out.put(made.text.as_str()),
+            TraceItem::One(spans) => write_piece_of_one(out, spans, piece),
+            TraceItem::Lent(lent) => lent.write_piece(out, piece),
+            TraceItem::Made(made) => out.push_str(made.text.as_str()),
         }
     }
 }

@@ -8,35 +8,35 @@ use crate::values::kind_name;
 use jaeger_model::{SpanRef, Tag, TagValue, ValueRef};
 use trace_model::{Link, Operation};
 
-/// A tag behind its key: the quote after it, the type and the value.
+/// Writes a tag after its key: the quote after the key, the type and the value.
 fn write_typed(out: &mut Page, value: &TagValue)
     ensures { Puts out.old out.new (behind_key value.now) }
 {
     match value.get() {
         ValueRef::Text(text) => {
-            out.put(r#"","type":"string","value":""#);
+            out.push_str(r#"","type":"string","value":""#);
             out.in_string(text);
-            out.put("\"}");
+            out.push_str("\"}");
         }
         ValueRef::Double(bytes) => {
-            out.put(r#"","type":"float64","value":""#);
+            out.push_str(r#"","type":"float64","value":""#);
             out.digits_of_eight(bytes);
-            out.put("\"}");
+            out.push_str("\"}");
         }
         ValueRef::Bool(flag) => {
-            out.put(r#"","type":"bool","value":"#);
+            out.push_str(r#"","type":"bool","value":"#);
             out.flag(flag);
-            out.put("}");
+            out.push_str("}");
         }
         ValueRef::Long(number) => {
-            out.put(r#"","type":"int64","value":"#);
+            out.push_str(r#"","type":"int64","value":"#);
             out.integer(number);
-            out.put("}");
+            out.push_str("}");
         }
         ValueRef::Bytes(bytes) => {
-            out.put(r#"","type":"binary","value":""#);
+            out.push_str(r#"","type":"binary","value":""#);
             out.digits(bytes);
-            out.put("\"}");
+            out.push_str("\"}");
         }
     }
 }
@@ -45,7 +45,7 @@ impl WriteJson for Tag {
     ghost tree = { tag_tree };
 
     fn write(&self, out: &mut Page) {
-        out.put(r#"{"key":""#);
+        out.push_str(r#"{"key":""#);
         out.in_string(self.key.as_str());
         write_typed(out, &self.value);
     }
@@ -55,13 +55,13 @@ impl WriteJson for SpanRef {
     ghost tree = { reference_tree };
 
     fn write(&self, out: &mut Page) {
-        out.put(r#"{"refType":"#);
+        out.push_str(r#"{"refType":"#);
         out.string(kind_name(self.kind));
-        out.put(r#","spanID":"#);
+        out.push_str(r#","spanID":"#);
         self.id.write(out);
-        out.put(r#","traceID":"#);
+        out.push_str(r#","traceID":"#);
         self.trace.write(out);
-        out.put("}");
+        out.push_str("}");
     }
 }
 
@@ -69,11 +69,11 @@ impl WriteJson for Operation {
     ghost tree = { operation_tree };
 
     fn write(&self, out: &mut Page) {
-        out.put(r#"{"name":"#);
+        out.push_str(r#"{"name":"#);
         out.string(self.name.as_str());
-        out.put(r#","spanKind":"#);
+        out.push_str(r#","spanKind":"#);
         out.string(self.kind.as_str());
-        out.put("}");
+        out.push_str("}");
     }
 }
 
@@ -81,12 +81,12 @@ impl WriteJson for Link {
     ghost tree = { link_tree };
 
     fn write(&self, out: &mut Page) {
-        out.put(r#"{"callCount":"#);
+        out.push_str(r#"{"callCount":"#);
         out.count(self.calls);
-        out.put(r#","child":"#);
+        out.push_str(r#","child":"#);
         out.string(self.child.as_str());
-        out.put(r#","parent":"#);
+        out.push_str(r#","parent":"#);
         out.string(self.parent.as_str());
-        out.put("}");
+        out.push_str("}");
     }
 }

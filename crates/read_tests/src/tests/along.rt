@@ -9,15 +9,16 @@ use std::sync::{Arc, Wait};
 use std::test::*;
 use std::thread::{Threads, join, map_vec};
 use trace_model::{Answer, Entry, Find, Limits, Link, Query, Work};
-use trace_samples::{batch, handed_in, kept, list_of, service_find, span, text_tag};
+use trace_samples::{batch, kept, list_of, service_find, span, submitted, text_tag};
 
-/// How many entries are admitted.
+/// The number of entries that are admitted.
 const ENTRIES: u64 = 200;
 
-/// How many questions each pass asks meanwhile.
+/// The number of queries of each pass meanwhile.
 const QUESTIONS: u64 = 150;
 
-/// A batch of one of three services with a span of one of 40 traces, whose starts don't rise, and one of three tags.
+/// A batch of one of three services with a span of one of 40 traces, whose starts don't rise, and one of three
+/// tags.
 fn batch_along(alloc: Global, number: u64) -> Result<Batch, Fail> {
     let mut one = span(alloc, 1 + number % 40, number)?;
     one.start = i64::try_from(number.wrapping_mul(7919) % 1009).unwrap_or(0);
@@ -33,7 +34,7 @@ fn add_entries(alloc: Global, entries: &mut Vec<Arc<Entry>>) -> Result<(), Fail>
     for before in 0..ENTRIES {
         let number = before + 1;
         let work = Work::Batch(batch_along(alloc, number)?);
-        entries.push(handed_in(alloc, 0, number, work)?)?;
+        entries.push(submitted(alloc, 0, number, work)?)?;
     }
     Ok(())
 }
@@ -59,7 +60,7 @@ fn search_along(alloc: Global, number: u64) -> Result<Find, AllocError> {
     Ok(find)
 }
 
-/// The question with this number.
+/// The query with this number.
 fn question_along(alloc: Global, number: u64) -> Result<Query, AllocError> {
     match number % 6 {
         0 => Ok(Query::Services),
@@ -74,10 +75,10 @@ fn question_along(alloc: Global, number: u64) -> Result<Query, AllocError> {
     }
 }
 
-/// A pass, and what it read: the number of each question with the answer.
+/// A pass, and what it read: the number of each query with the answer.
 type Asked<N> = (Pass<N>, Vec<(u64, Reading)>);
 
-/// Asks all questions. A question without an answer is left out.
+/// Makes all queries. A query without an answer is left out.
 fn ask_all<N: StoreName>(alloc: Global, mut pass: Pass<N>) -> Asked<N> {
     let mut readings = Vec::new(alloc);
     for number in 0..QUESTIONS {
@@ -94,7 +95,7 @@ fn ask_all<N: StoreName>(alloc: Global, mut pass: Pass<N>) -> Asked<N> {
     (pass, readings)
 }
 
-/// How many entries were taken, and what the passes read meanwhile.
+/// Returns the number of entries that were accepted, and what the passes read meanwhile.
 fn beside<N: StoreName + Send + Sync, R: Threads + Wait + Sync>(
     rt: &R,
     alloc: Global,
@@ -111,7 +112,7 @@ fn beside<N: StoreName + Send + Sync, R: Threads + Wait + Sync>(
     )
 }
 
-/// An answer as text. Links are named by texts, since an entry may hold the name.
+/// An answer as text. Links are given by texts, since the name may be in an entry.
 fn shown(alloc: Global, answer: &Answer) -> Result<String, Fail> {
     let Answer::Links(links) = answer else {
         return Ok(format!(in alloc; "{answer:?}")?);
@@ -129,7 +130,7 @@ fn shown(alloc: Global, answer: &Answer) -> Result<String, Fail> {
     Ok(text)
 }
 
-/// Whether an answer is the plain store's of the first entries, as many as its front says.
+/// Whether an answer is the plain store's for the first entries, as many as its front says.
 fn is_of_its_front(
     alloc: Global,
     entries: &[Arc<Entry>],
@@ -145,7 +146,7 @@ fn is_of_its_front(
     Ok(shown(alloc, &plain)?.as_str() == shown(alloc, &reading.answer)?.as_str())
 }
 
-/// Whether a pass answered all questions, each as the plain store of its front does.
+/// Whether a pass answered all queries, each as the plain store of its front does.
 fn are_of_their_fronts<N: StoreName>(
     alloc: Global,
     entries: &[Arc<Entry>],
@@ -167,7 +168,8 @@ fn answers_of_their_fronts(rt: HostRuntime) -> Result<(), Fail> {
     Ok(())
 }
 
-/// The row of `answers_of_their_fronts`: 200 entries are admitted while three threads ask, and each answer is that of its front.
+/// The row of `answers_of_their_fronts`: 200 entries are admitted while three threads read, and each answer is that
+/// of its front.
 pub fn asked_along<N: StoreName + Send + Sync, R: Threads + Wait + Sync>(
     rt: &R,
     alloc: Global,

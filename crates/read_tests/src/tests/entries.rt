@@ -3,7 +3,7 @@ use std::alloc::Global;
 use std::sync::Arc;
 use std::test::*;
 use trace_model::{Entry, Work};
-use trace_samples::{batch, handed_in, kept, list_of, span};
+use trace_samples::{batch, kept, list_of, span, submitted};
 
 /// A batch of service `a` with one span of this trace.
 pub fn batch_of(alloc: Global, trace: u64) -> Result<Batch, Fail> {
@@ -11,16 +11,16 @@ pub fn batch_of(alloc: Global, trace: u64) -> Result<Batch, Fail> {
     Ok(batch(alloc, "a", spans.into_vec())?)
 }
 
-/// The same with this number of the sender's own.
+/// A batch of service `a` with one span of this trace, and this `seqNo`.
 pub fn numbered_batch(alloc: Global, sent: u64, trace: u64) -> Result<Batch, Fail> {
     let mut batch = batch_of(alloc, trace)?;
     batch.seq_no = i64::try_from(sent).ok();
     Ok(batch)
 }
 
-/// What seat 0 handed in under the number.
+/// The entry that seat 0 submitted with the number.
 fn entry(alloc: Global, number: u64, work: Work) -> Result<Arc<Entry>, Fail> {
-    Ok(handed_in(alloc, 0, number, work)?)
+    Ok(submitted(alloc, 0, number, work)?)
 }
 
 /// The entry of seat 0 with this number, which holds a span of the trace of that number.
@@ -28,8 +28,7 @@ pub fn entry_of(alloc: Global, number: u64) -> Result<Arc<Entry>, Fail> {
     entry(alloc, number, Work::Batch(batch_of(alloc, number)?))
 }
 
-/// The entry of seat 0 with this number, whose batch has this number of the sender's own and a span of this
-/// trace.
+/// The entry of seat 0 with this number, whose batch has this `seqNo` and a span of this trace.
 pub fn sent_entry(alloc: Global, number: u64, sent: u64, trace: u64) -> Result<Arc<Entry>, Fail> {
     entry(
         alloc,
@@ -38,8 +37,8 @@ pub fn sent_entry(alloc: Global, number: u64, sent: u64, trace: u64) -> Result<A
     )
 }
 
-/// The limit that is handed in under the number, where it is one of those under which a limit is: 2 under
-/// each fourth number, but none under each twelfth.
+/// The limit that is submitted with the number, if there is one: 2 for each fourth number, but none for each
+/// twelfth.
 pub fn limit_under(number: u64) -> Option<u32> {
     if number % 12 == 0 {
         Some(0)
@@ -50,9 +49,8 @@ pub fn limit_under(number: u64) -> Option<u32> {
     }
 }
 
-/// The batch that is handed in under the number, where no limit is. Under 5 and 19 it is the one of two numbers
-/// before, sent again; under 6 and 13 it has the sender's number of three before, and another span. Some have
-/// no number of the sender's own.
+/// The batch that is submitted with the number, if there is no limit. With 5 and 19 it is the batch of two numbers
+/// before, resent; with 6 and 13 it has the `seqNo` of three before, and another span. Some have no `seqNo`.
 pub fn batch_under(alloc: Global, number: u64) -> Result<Batch, Fail> {
     match number % 7 {
         5 => {
@@ -65,7 +63,7 @@ pub fn batch_under(alloc: Global, number: u64) -> Result<Batch, Fail> {
     }
 }
 
-/// What is handed in under the number.
+/// The work that is submitted with the number.
 fn work_under(alloc: Global, number: u64) -> Result<Work, Fail> {
     match limit_under(number) {
         Some(limit) => Ok(Work::TraceLimit(limit)),
@@ -81,7 +79,7 @@ fn add_works(alloc: Global, entries: &mut Vec<Arc<Entry>>, last: u64) -> Result<
     Ok(())
 }
 
-/// The entries of seat 0 with the numbers from 1 to this one, limits and batches that are sent again among them.
+/// The entries of seat 0 with the numbers from 1 to this one, with limits and resent batches among them.
 pub fn works_to(alloc: Global, last: u64) -> Result<Vec<Arc<Entry>>, Fail> {
     let mut entries = Vec::new(alloc);
     let added = add_works(alloc, &mut entries, last);

@@ -8,7 +8,7 @@ use crate::tests::machine::followed;
 use crate::tests::rows::{all_or_nothing, moved_on, settled};
 use crate::tests::sent_again::{first_is_held, rows_are_answered, sent_twice};
 use crate::tests::threads::read_beside;
-use read_side::{Keeper, Opened, Pass, StoreName, open};
+use read_side::{EmptyHistory, Keeper, Pass, StoreName, open};
 use std::alloc::Global;
 use std::hash::RandomState;
 use std::marker::Brand;
@@ -45,7 +45,7 @@ pub struct Fixture<'a, N: StoreName> {
 }
 
 impl Row {
-    /// Plays the row. The answer says whether all was as wanted.
+    /// Plays the row. Returns whether all was as wanted.
     fn play<N: StoreName + Send + Sync, R: Threads + Wait + Sync>(
         self,
         rt: &R,
@@ -75,12 +75,12 @@ impl Row {
     }
 }
 
-/// What came of a row.
+/// The result of a row.
 #[derive(Clone, Copy)]
 pub struct Outcome {
     /// Whether all was as wanted.
     pub as_wanted: bool,
-    /// Why a pass that is left is refused once the store is closed.
+    /// Why a pass that is left is refused after the store is closed.
     pub gone: Option<Refusal>,
 }
 
@@ -92,11 +92,11 @@ fn refused<N: StoreName>(passes: &mut Vec<Pass<N>>) -> Option<Refusal> {
     }
 }
 
-/// Opens a store for so many readers, plays the row with it and closes it.
+/// Opens a store for `readers` readers, plays the row with it and closes it.
 fn played<N: StoreName + Send + Sync, R: Threads + Wait + RandomSource + Sync>(
     rt: &R,
     alloc: Global,
-    name: Opened,
+    name: EmptyHistory,
     limits: Limits,
     readers: usize,
     row: Row,
@@ -120,7 +120,7 @@ fn played<N: StoreName + Send + Sync, R: Threads + Wait + RandomSource + Sync>(
     Ok(Outcome { as_wanted, gone })
 }
 
-/// Plays the row with a store for so many batches and so many readers.
+/// Plays the row with a store for this number of batches and of readers.
 pub fn plays<R: Threads + Wait + RandomSource + Sync>(
     rt: &R,
     alloc: Global,
@@ -131,5 +131,5 @@ pub fn plays<R: Threads + Wait + RandomSource + Sync>(
     requires { (1 ≤ readers) × (readers ≤ 64) }
 {
     let limits = Limits::new(batches, 1000, 0, 0).ok_or("limits")?;
-    played::<Brand, _>(rt, alloc, Opened::new(), limits, readers, row)
+    played::<Brand, _>(rt, alloc, EmptyHistory::new(), limits, readers, row)
 }

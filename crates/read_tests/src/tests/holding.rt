@@ -20,7 +20,7 @@ pub(crate) fn front_read(reading: Result<Reading, Refusal>) -> Result<u64, Refus
     Ok(front)
 }
 
-/// Holds, asks twice and comes out again. It needs no handle, so it can't wait.
+/// Holds, reads twice and leaves. It needs no handle, so it can't wait.
 fn held_fronts<N: StoreName>(pass: &mut Pass<N>) -> Result<Fronts, Refusal> {
     let held = pass.hold()?;
     let front = held.front();
@@ -30,7 +30,7 @@ fn held_fronts<N: StoreName>(pass: &mut Pass<N>) -> Result<Fronts, Refusal> {
     Ok((front, first?, second?))
 }
 
-/// Admits the entries, and says how many were taken.
+/// Admits the entries, and returns the number that was accepted.
 pub fn count_admitted<N: StoreName, R: Wait>(
     rt: &R,
     keeper: &mut Keeper<N>,
@@ -75,7 +75,7 @@ pub fn held_beside<N: StoreName + Send + Sync, R: Threads + Wait + Sync>(
     Ok(taken == 2 && settles && fronts.is_ok_and(|fronts| is_one(&fronts)))
 }
 
-/// How many entries were taken, and what is held meanwhile.
+/// Returns the number of entries that were accepted, and what is held meanwhile.
 fn beside<N: StoreName + Send + Sync, R: Threads + Wait + Sync>(
     rt: &R,
     keeper: &mut Keeper<N>,
@@ -95,7 +95,8 @@ fn held_through_a_publish(rt: HostRuntime) -> Result<(), Fail> {
     Ok(())
 }
 
-/// The row of `held_through_a_publish`: two readings of one hold, around an entry that is admitted meanwhile, and one behind it.
+/// The row of `held_through_a_publish`: two readings of one hold, before and after an entry is admitted, and one
+/// after the hold.
 pub fn held_before<N: StoreName, R: Wait>(
     rt: &R,
     alloc: Global,
@@ -163,7 +164,8 @@ fn two_more<N: StoreName, R: Wait>(
     Ok(second.is_ok() && third.is_ok())
 }
 
-/// The front of a reading, the old receipt's, the pass's once it has learnt it, and the next reading's.
+/// Returns the front of a reading, that of the old receipt, that of the pass after it has learnt it, and that of
+/// the next reading.
 fn learn_late<N: StoreName>(
     pass: &mut Pass<N>,
     old: &Receipt<N>,

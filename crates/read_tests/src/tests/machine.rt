@@ -15,7 +15,7 @@ use trace_samples::kept;
 /// What is seen of a store, one line of text after another.
 type Lines = Vec<String>;
 
-/// How many entries are handed in.
+/// The number of entries that are submitted.
 const LAST: u64 = 20;
 
 fn question(before: u64) -> Query {
@@ -30,7 +30,7 @@ fn question(before: u64) -> Query {
     }
 }
 
-/// The step by which a seat hands in what stands under the number.
+/// The step by which a seat submits the work with the number.
 fn hand_in(alloc: Global, number: u64) -> Result<Step, Fail> {
     let seat = 0;
     match limit_under(number) {
@@ -42,7 +42,7 @@ fn hand_in(alloc: Global, number: u64) -> Result<Step, Fail> {
     }
 }
 
-/// The steps by which a reader enters, asks and leaves.
+/// The steps by which a reader enters, reads and leaves.
 fn visit(steps: &mut Vec<Step>, reader: u32, before: u64) -> Result<(), Fail> {
     steps.push(Step::Enter { reader })?;
     ask(steps, reader, before)?;
@@ -50,15 +50,15 @@ fn visit(steps: &mut Vec<Step>, reader: u32, before: u64) -> Result<(), Fail> {
     Ok(())
 }
 
-/// The step by which it asks.
+/// The step by which it reads.
 fn ask(steps: &mut Vec<Step>, reader: u32, before: u64) -> Result<(), Fail> {
     let query = question(before);
     steps.push(Step::Read { reader, query })?;
     Ok(())
 }
 
-/// Adds the steps by which a machine is handed one more entry. Reader 6 is inside before it is taken, while it is
-/// pending and until it is published; reader 5 comes while it is pending and behind that; reader 7 learns of the
+/// Adds the steps by which a machine gets one more entry. Reader 6 is inside before it is taken, while it is
+/// pending and until it is published; reader 5 comes while it is pending and after that; reader 7 learns of the
 /// publish and comes then.
 fn add_steps(alloc: Global, steps: &mut Vec<Step>, before: u64) -> Result<(), Fail> {
     let number = before.saturating_add(1);
@@ -76,7 +76,7 @@ fn add_steps(alloc: Global, steps: &mut Vec<Step>, before: u64) -> Result<(), Fa
     visit(steps, 7, before)
 }
 
-/// Adds those of so many entries.
+/// Adds the steps of entries up to `last`.
 fn add_all_steps(alloc: Global, steps: &mut Vec<Step>, last: u64) -> Result<(), Fail> {
     for before in 0..last {
         add_steps(alloc, steps, before)?;
@@ -84,7 +84,7 @@ fn add_all_steps(alloc: Global, steps: &mut Vec<Step>, last: u64) -> Result<(), 
     Ok(())
 }
 
-/// What is seen of a machine that is handed so many entries.
+/// What is seen of a machine that gets entries up to `last`.
 fn machine_lines(
     alloc: Global,
     keys: RandomState,
@@ -101,12 +101,12 @@ fn answered(alloc: Global, front: u64, answer: &Answer) -> Result<String, Fail> 
     Ok(format!(in alloc; "{front}: {answer:?}")?)
 }
 
-/// How what was handed in was judged: its place, or why it was refused.
+/// The judgement of what was submitted: its place, or why it was refused.
 fn judged_line(alloc: Global, judged: Result<u64, Refusal>) -> Result<String, Fail> {
     Ok(format!(in alloc; "judged {judged:?}")?)
 }
 
-/// How many entries a reader knows that has learnt.
+/// The number of entries that a reader knows that has learnt.
 fn learnt(alloc: Global, front: u64) -> Result<String, Fail> {
     Ok(format!(in alloc; "learnt {front}")?)
 }
@@ -136,7 +136,7 @@ fn add_line(
     Ok(())
 }
 
-/// Adds the same of all of these outcomes.
+/// Adds the lines of all of these outcomes.
 fn add_lines(alloc: Global, lines: &mut Lines, outcomes: &[Outcome]) -> Result<(), Fail> {
     let mut judged = None;
     for outcome in outcomes {
@@ -153,7 +153,7 @@ fn lines_of(alloc: Global, outcomes: Vec<Outcome>) -> Result<Lines, Fail> {
     kept(lines, added)
 }
 
-/// What is seen around one entry more: two readings before it, how it was judged, and two behind it.
+/// What is seen around one more entry: two readings before it, how it was judged, and two after it.
 #[derive(Drop)]
 struct Around {
     first: Result<Reading, Refusal>,
@@ -163,8 +163,8 @@ struct Around {
     fourth: Result<Reading, Refusal>,
 }
 
-/// Hands two copies one more entry while the second pass stays inside. What is pending on the machine is not handed
-/// in here yet.
+/// Adds one more entry to two copies while the second pass stays inside. What is pending on the machine is not
+/// admitted here yet.
 fn round<N: StoreName, R: Wait>(
     rt: &R,
     keeper: &mut Keeper<N>,
@@ -179,7 +179,7 @@ fn round<N: StoreName, R: Wait>(
     around
 }
 
-/// The same with this question.
+/// Like [`round`], with this query.
 fn round_asked<N: StoreName, R: Wait>(
     rt: &R,
     keeper: &mut Keeper<N>,
@@ -204,7 +204,7 @@ fn round_asked<N: StoreName, R: Wait>(
     })
 }
 
-/// Says what a reading shows.
+/// Writes what a reading shows.
 fn say(alloc: Global, lines: &mut Lines, reading: &Result<Reading, Refusal>) -> Result<(), Fail> {
     match reading {
         Ok(reading) => {
@@ -215,7 +215,7 @@ fn say(alloc: Global, lines: &mut Lines, reading: &Result<Reading, Refusal>) -> 
     }
 }
 
-/// Says what was seen around an entry.
+/// Writes what was seen around an entry.
 fn say_round(alloc: Global, lines: &mut Lines, around: &Around) -> Result<(), Fail> {
     say(alloc, lines, &around.first)?;
     say(alloc, lines, &around.second)?;
@@ -224,7 +224,7 @@ fn say_round(alloc: Global, lines: &mut Lines, around: &Around) -> Result<(), Fa
     say(alloc, lines, &around.fourth)
 }
 
-/// Hands two copies one more entry. The three passes ask as the machine's readers do.
+/// Adds one more entry to two copies. The three passes read as the machine's readers do.
 fn hand_on<N: StoreName, R: Wait>(
     rt: &R,
     alloc: Global,
@@ -252,7 +252,7 @@ fn hand_on<N: StoreName, R: Wait>(
     said
 }
 
-/// What a pass reads when it is asked what the machine's readers are.
+/// What a pass reads for the query of the machine's readers.
 fn asked<N: StoreName>(pass: &mut Pass<N>, before: u64) -> Result<Reading, Refusal> {
     let query = question(before);
     let reading = pass.read(&query);
@@ -260,7 +260,7 @@ fn asked<N: StoreName>(pass: &mut Pass<N>, before: u64) -> Result<Reading, Refus
     reading
 }
 
-/// What is seen of two copies that are handed these entries.
+/// What is seen of two copies that get these entries.
 fn copies_lines<N: StoreName, R: Wait>(
     rt: &R,
     alloc: Global,
@@ -277,12 +277,12 @@ fn copies_lines<N: StoreName, R: Wait>(
     Ok(lines)
 }
 
-/// How many lines are seen of each entry, and the place of the one that says how it was judged.
+/// The number of lines that are seen of each entry, and the place of the one that says how it was judged.
 const PER_ENTRY: usize = 7;
 
 const JUDGING: usize = 2;
 
-/// Whether what was handed in under the number was judged so.
+/// Whether the work with the number was judged so.
 fn has_judged_line(
     alloc: Global,
     lines: &[String],
@@ -306,8 +306,8 @@ fn copies_follow_the_machine(rt: HostRuntime) -> Result<(), Fail> {
     Ok(())
 }
 
-/// Whether these lines say how the fifth, the sixth and the nineteenth entry were judged, which are sent again, and
-/// as much of each entry.
+/// Whether these lines say how the fifth, the sixth and the nineteenth entry were judged, which are resent, and as
+/// much of each entry.
 fn are_judging(alloc: Global, lines: &[String]) -> Result<bool, Fail> {
     let conflict = Refusal::Conflict { place: 3 };
     Ok(

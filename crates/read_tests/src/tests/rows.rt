@@ -27,7 +27,7 @@ fn add_receipts<N: StoreName, R: Wait>(
     Ok(())
 }
 
-/// Admits the entries in order, and gives the receipts.
+/// Admits the entries in order, and returns the receipts.
 pub fn admit_all<N: StoreName, R: Wait>(
     rt: &R,
     alloc: Global,
@@ -40,12 +40,13 @@ pub fn admit_all<N: StoreName, R: Wait>(
 }
 
 #[test]
-fn settling_behind_and_again(rt: HostRuntime) -> Result<(), Fail> {
+fn settling_on_earlier_and_later(rt: HostRuntime) -> Result<(), Fail> {
     assert!(rt; plays(&rt, rt.alloc(), 10, 1, Row::Settled)?.as_wanted);
     Ok(())
 }
 
-/// The row of `settling_behind_and_again`: a pass settles on the receipts of three entries, and on that of a fourth.
+/// The row of `settling_on_earlier_and_later`: a pass settles on the receipts of three entries, and on that of a
+/// fourth.
 pub fn settled<N: StoreName, R: Wait>(
     rt: &R,
     alloc: Global,
@@ -53,14 +54,14 @@ pub fn settled<N: StoreName, R: Wait>(
     passes: &mut Vec<Pass<N>>,
 ) -> Result<bool, Fail> {
     let receipts = admit_all(rt, alloc, keeper, entries_to(alloc, 3)?)?;
-    let behind = settle_behind(passes, &receipts);
+    let behind = settle_on_earlier(passes, &receipts);
     drop(receipts);
     let last = settle_on(rt, keeper, passes, entry_of(alloc, 4)?);
     Ok(behind == Err(Refusal::Behind { front: 3 }) && last == Ok(()))
 }
 
-/// Whether a pass settles on the second receipt that knows of the third.
-fn settle_behind<N: StoreName>(passes: &mut Vec<Pass<N>>, receipts: &[Receipt<N>]) -> Seen<()> {
+/// Whether a pass that knows of the third receipt settles on the second one.
+fn settle_on_earlier<N: StoreName>(passes: &mut Vec<Pass<N>>, receipts: &[Receipt<N>]) -> Seen<()> {
     match (passes.first_mut(), receipts) {
         (Some(pass), [_, second, third]) => {
             pass.learn(third);
@@ -94,8 +95,8 @@ fn reading_learning_and_moving_on(rt: HostRuntime) -> Result<(), Fail> {
     Ok(())
 }
 
-/// The front of the first pass, whether it settled, the front of the second and whether trace 1 was in
-/// its answer, and the front of the first pass once a fourth entry was admitted of which it learnt nothing.
+/// The front of the first pass, whether it settled, the front of the second and whether trace 1 was in its answer,
+/// and the front of the first pass after a fourth entry was admitted of which it learnt nothing.
 pub fn moved_on<N: StoreName, R: Wait>(
     rt: &R,
     alloc: Global,
@@ -150,7 +151,7 @@ fn admit_all_or_nothing(rt: HostRuntime) -> Result<(), Fail> {
 }
 
 /// Each entry is published, or memory ran out and it is neither published nor pending: it is published when it is
-/// handed in again, at the place that it would have had. It is never pending: the check of allocations refuses each
+/// submitted again, at the place that it would have had. It is never pending: the check of allocations refuses each
 /// in turn.
 pub fn all_or_nothing<N: StoreName, R: Wait>(
     rt: &R,
@@ -170,7 +171,7 @@ pub fn all_or_nothing<N: StoreName, R: Wait>(
     Ok(all && is_last)
 }
 
-/// An entry, and the same once more.
+/// An entry, twice.
 fn twice(alloc: Global, number: u64) -> Result<(Arc<Entry>, Arc<Entry>), Fail> {
     let entry = entry_of(alloc, number)?;
     beside(entry, entry_of(alloc, number))
@@ -188,7 +189,7 @@ pub fn answer_to<N: StoreName, R: Wait>(
     answer
 }
 
-/// How many entries the keeper vouches for.
+/// The number of entries that the keeper vouches for.
 fn front_of<N: StoreName>(keeper: &mut Keeper<N>) -> u64 {
     let receipt = keeper.receipt();
     let front = receipt.front();
@@ -196,8 +197,8 @@ fn front_of<N: StoreName>(keeper: &mut Keeper<N>) -> u64 {
     front
 }
 
-/// The answer to an entry behind so many, which is handed in again where memory ran out and as many are published
-/// as before. Were it pending, it would be stale then.
+/// The answer to an entry after `front` others, which is submitted again if memory ran out and no more are
+/// published than before. If it were pending, it would be stale then.
 fn answer_at_last<N: StoreName, R: Wait>(
     rt: &R,
     keeper: &mut Keeper<N>,

@@ -8,11 +8,10 @@ use std::sync::Wait;
 use std::test::*;
 use trace_model::Refusal;
 
-/// How many entries the receipt vouches for and its place, 0 where it has none; or why there is no receipt.
+/// The number of entries that the receipt vouches for and its place, 0 if it has none; or why there is no receipt.
 pub type AdmitAnswer = Result<(u64, u64), Refusal>;
 
-/// The number of an entry of seat 0, its batch's number of the sender's own, the trace of the batch's span, and
-/// what is answered to it.
+/// The number of an entry of seat 0, its batch's `seqNo`, the trace of the batch's span, and the answer.
 type Sent = (u64, u64, u64, AdmitAnswer);
 
 /// In a store for four batches, one after another.
@@ -39,7 +38,7 @@ const ROWS: [Sent; 12] = [
     ),
 ];
 
-/// What this receipt answers, or what is answered without one.
+/// The answer with this receipt, or without one.
 pub fn answer_of<N: StoreName>(admitted: &Result<Receipt<N>, Refusal>) -> AdmitAnswer {
     match admitted {
         Ok(receipt) => Ok((receipt.front(), receipt.place().unwrap_or(0))),
@@ -53,7 +52,7 @@ fn batches_sent_again(rt: HostRuntime) -> Result<(), Fail> {
     Ok(())
 }
 
-/// The row of `batches_sent_again`: whether each of [`ROWS`] is answered as it says, behind the ones before.
+/// The row of `batches_sent_again`: whether each of [`ROWS`] is answered as it says, after the ones before.
 pub fn rows_are_answered<N: StoreName, R: Wait>(
     rt: &R,
     alloc: Global,
@@ -78,7 +77,7 @@ fn the_first_of_three_sent_again(rt: HostRuntime) -> Result<(), Fail> {
     Ok(())
 }
 
-/// The receipt is for the entry that stands there, which has another number.
+/// Whether the receipt is for the earlier entry, which has another number.
 pub fn first_is_held<N: StoreName, R: Wait>(
     rt: &R,
     alloc: Global,
@@ -99,9 +98,8 @@ fn the_one_batch_sent_again(rt: HostRuntime) -> Result<(), Fail> {
     Ok(())
 }
 
-/// In a store for one batch, a batch that was published is found when it is sent again, at its place, and the
-/// receipt is for the first entry. Where memory ran out for that one, it is not pending, and the second one is
-/// added.
+/// In a store for one batch, a batch that was published is found when it is resent, at its place, and the receipt
+/// is for the first entry. If memory ran out for that one, it is not pending, and the second one is added.
 pub fn sent_twice<N: StoreName, R: Wait>(
     rt: &R,
     alloc: Global,

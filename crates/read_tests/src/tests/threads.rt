@@ -9,7 +9,8 @@ use std::test::*;
 use std::thread::{Threads, join, map_vec};
 use trace_model::{Entry, Query};
 
-/// Reads a hundred times. It needs no handle, so it can't wait. False where a front fell or a read was refused.
+/// Reads a hundred times. It needs no handle, so it can't wait. Returns false if a front fell or a read was
+/// refused.
 fn read_often<N: StoreName>(mut pass: Pass<N>) -> (Pass<N>, bool) {
     let mut front = 0;
     let mut rises = true;
@@ -50,7 +51,7 @@ fn three_passes(rt: HostRuntime) -> Result<(), Fail> {
 /// A pass that has read, and whether its fronts rose.
 type Readers<N> = Result<Vec<(Pass<N>, bool)>, AllocError>;
 
-/// How many entries were taken, and the passes that read meanwhile.
+/// Returns the number of entries that were accepted, and the passes that read meanwhile.
 fn beside<N: StoreName + Send + Sync, R: Threads + Wait + Sync>(
     rt: &R,
     keeper: &mut Keeper<N>,

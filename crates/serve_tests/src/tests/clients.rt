@@ -1,4 +1,4 @@
-//! A server in a thread of its own, and what clients do meanwhile.
+//! Runs a server in a thread of its own beside its clients.
 
 use crate::tests::guests::Guests;
 use serve_options::{Host, ServeOptions};
@@ -19,7 +19,7 @@ use std::time::Clock;
 use trace_model::Limits;
 use trace_server::{Gate, ServerConfig, serve_with};
 
-/// So many workers and sessions, over a store with room for so many batches.
+/// Returns the configuration of a server with this number of workers, sessions and batches.
 pub fn config<R: Abort + RandomSource>(
     rt: &R,
     workers: u16,
@@ -45,24 +45,24 @@ pub fn config<R: Abort + RandomSource>(
     }
 }
 
-/// What came of a server and its clients.
+/// The result of a server and its clients.
 #[derive(Drop)]
 pub struct Outcome {
     pub status: u8,
-    /// What the server wrote.
+    /// The server's output.
     pub output: MemoryOutput,
-    /// Whether the clients met what they wanted, and the first line was the right one.
+    /// The clients got the expected answers, and the first line was right.
     pub pleased: bool,
 }
 
 impl Outcome {
-    /// Whether all was well, and these were the server's last lines.
+    /// Returns whether all was well, and these were the server's last lines.
     pub fn is_well(&self, last_lines: &[u8]) -> bool {
         self.status == 0 && self.pleased && self.output.as_slice().ends_with(last_lines)
     }
 }
 
-/// Serves until all sessions are over, and gives the status and what was written.
+/// Serves until all sessions have ended, and returns the status and the output.
 fn serve<
     G: Gate + Sync,
     R: Threads + Wait + Clock + Eprint + Net<Stream = TcpStream, Listener = TcpListener> + Sync,
@@ -78,7 +78,7 @@ fn serve<
     (status, output)
 }
 
-/// Whether the server's first line names the port that it listens on.
+/// Returns whether the server's first line names the port on which it listens.
 fn names_port(alloc: Global, output: &MemoryOutput, port: u16) -> bool {
     let mut line = Vec::new(alloc);
     writeln!(line, "listening 127.0.0.1:{port}").is_ok()
@@ -112,7 +112,7 @@ pub fn visited<
     })
 }
 
-/// Sends the bytes and reads so many of the answer as `wanted` has; true where they are these.
+/// Sends the bytes, and reads as many as `wanted` has. Returns whether they are equal.
 pub fn ask<S: Read + Write>(
     alloc: Global,
     stream: &mut S,
@@ -120,17 +120,17 @@ pub fn ask<S: Read + Write>(
     wanted: &[u8],
 ) -> io::Result<bool> {
     stream.write_all(sent)?;
-    hears(alloc, stream, wanted)
+    reads(alloc, stream, wanted)
 }
 
-/// Reads so many bytes as `wanted` has; true where they are these.
-pub fn hears<S: Read>(alloc: Global, stream: &mut S, wanted: &[u8]) -> io::Result<bool> {
+/// Reads as many bytes as `wanted` has. Returns whether they are equal.
+pub fn reads<S: Read>(alloc: Global, stream: &mut S, wanted: &[u8]) -> io::Result<bool> {
     let mut heard = Vec::new(alloc);
     stream.take(wanted.len() as u64).read_to_end(&mut heard)?;
     Ok(heard.as_slice() == wanted)
 }
 
-/// Says that no more comes, and reads to the end; true where that was `wanted`.
+/// Closes the sending side, and reads to the end. Returns whether that was `wanted`.
 pub fn parts<S: OpenStream + Read>(
     alloc: Global,
     stream: &mut S,

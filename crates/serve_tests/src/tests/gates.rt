@@ -5,10 +5,10 @@ use std::sync::atomic::{AtomicBool, AtomicU64, Ordering};
 use std::thread::yield_now;
 use trace_server::Gate;
 
-/// How often the first call lets others go on.
+/// How often the first call yields to others.
 const TURNS: u32 = 1_000_000;
 
-/// Holds the first call until some other was answered.
+/// Blocks the first call until another one was answered.
 #[derive(Drop)]
 pub struct FirstWaits {
     calls: AtomicU64,
@@ -17,7 +17,7 @@ pub struct FirstWaits {
 }
 
 impl FirstWaits {
-    /// Before the first call.
+    /// Creates a gate before the first call.
     pub fn new() -> FirstWaits {
         FirstWaits {
             calls: AtomicU64::new(0),
@@ -26,7 +26,7 @@ impl FirstWaits {
         }
     }
 
-    /// Whether the first call saw another one answered.
+    /// Returns whether the first call saw another one answered.
     pub fn saw_another(&self) -> bool {
         self.answered.load(Ordering::SeqCst) && !self.in_vain.load(Ordering::SeqCst)
     }

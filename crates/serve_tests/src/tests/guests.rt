@@ -1,6 +1,6 @@
-//! What clients do of a server.
+//! The clients of a server.
 
-use crate::tests::clients::{ask, hears, parts};
+use crate::tests::clients::{ask, parts, reads};
 use crate::tests::requests::{FULL, HUGE, joined};
 use std::alloc::Global;
 use std::io;
@@ -16,40 +16,41 @@ use trace_samples::exchanges::{
 /// Which clients come.
 #[derive(Clone, Copy)]
 pub enum Guests {
-    /// One hands a batch in and finds it.
+    /// One client submits a batch and finds it.
     One,
-    /// One hands a batch in, and when it has gone another does.
+    /// One client submits a batch, and after it has disconnected another one does.
     TwoSessions,
-    /// One hands two batches in, and there is room for one.
+    /// One client submits two batches, and there is room for one.
     OneTooMany,
-    /// One hands the same numbered batch in twice.
+    /// One client submits the same numbered batch twice.
     Repeats,
-    /// Two hand the same numbered batch in at the same time.
+    /// Two clients submit the same numbered batch at the same time.
     RepeatAtOnce,
-    /// One hands a numbered batch in, another one with its number, and the first again.
+    /// One client submits a numbered batch, another batch with its number, and the first one again.
     Conflicts,
-    /// What one connection hands in the other finds, which had looked and found nothing before.
+    /// A connection that found nothing before finds what another one submits.
     TwoConnections,
-    /// Two ask at the same time.
+    /// Two clients query at the same time.
     TwoAtOnce,
-    /// Eight hand batches in and look, all at the same time.
+    /// Eight clients submit batches and query, all at the same time.
     Eight,
-    /// One stalls in a head and another goes away in a body, beside one that is served.
+    /// One client stalls inside a head and another one disconnects inside a body, beside one that is served.
     BadNeighbours,
-    /// Two hundred connections stay open, and each asks in its turn.
+    /// Two hundred connections stay open, and each queries in turn.
     TwoHundred,
-    /// One sends on behind a response that closes the connection, and reads the response, whole and alone.
+    /// One client keeps sending after a response that closes the connection, and reads that response, complete and
+    /// alone.
     SendsOn,
 }
 
-/// What is sent, a head and the body behind it, and what has to be answered.
+/// A head, the body after it, and the expected response.
 type Exchange = (&'static [u8], &'static [u8], &'static [u8]);
 
 /// No body follows.
 const NOTHING: &[u8] = b"";
 
-/// A batch is handed in.
-const HANDS_IN: [Exchange; 1] = [(POST, BATCH, ACCEPTED)];
+/// A batch is submitted.
+const SUBMITS: [Exchange; 1] = [(POST, BATCH, ACCEPTED)];
 
 /// A second batch has no room.
 const ONE_TOO_MANY: [Exchange; 2] = [(POST, BATCH, ACCEPTED), (POST, BATCH, FULL)];
@@ -76,17 +77,17 @@ const CONFLICTS: [Exchange; 5] = [
     (TRACE, NOTHING, ONE_SPAN),
 ];
 
-/// Nothing is there.
-const LOOKS: [Exchange; 1] = [(SERVICES, NOTHING, NO_SERVICES)];
+/// The store is empty.
+const QUERIES_NOTHING: [Exchange; 1] = [(SERVICES, NOTHING, NO_SERVICES)];
 
-/// A batch is handed in, and its service is there.
-const HANDS_IN_AND_LOOKS: [Exchange; 2] = [
+/// A batch is submitted, and its service is listed.
+const SUBMITS_AND_QUERIES: [Exchange; 2] = [
     (POST, BATCH, ACCEPTED),
     (SERVICES, NOTHING, ONE_SERVICE),
 ];
 
 impl Guests {
-    /// True where all was as wanted.
+    /// Returns whether every response was as expected.
     pub fn visit<R: Threads + Net<Stream = TcpStream, Listener = TcpListener> + Sync>(
         self,
         rt: &R,
@@ -96,14 +97,14 @@ impl Guests {
         match self {
             Guests::One => one(rt, alloc, address),
             Guests::TwoSessions => Ok(
-                asks(rt, alloc, address, &HANDS_IN)? && asks(rt, alloc, address, &HANDS_IN)?,
+                asks(rt, alloc, address, &SUBMITS)? && asks(rt, alloc, address, &SUBMITS)?,
             ),
             Guests::OneTooMany => asks(rt, alloc, address, &ONE_TOO_MANY),
             Guests::Repeats => asks(rt, alloc, address, &REPEATS),
             Guests::RepeatAtOnce => two_at_once(rt, alloc, address, &NUMBERED_IS_FOUND),
             Guests::Conflicts => asks(rt, alloc, address, &CONFLICTS),
             Guests::TwoConnections => two_connections(rt, alloc, address),
-            Guests::TwoAtOnce => two_at_once(rt, alloc, address, &LOOKS),
+            Guests::TwoAtOnce => two_at_once(rt, alloc, address, &QUERIES_NOTHING),
             Guests::Eight => eight(rt, alloc, address),
             Guests::BadNeighbours => bad_neighbours(rt, alloc, address),
             Guests::TwoHundred => two_hundred(rt, alloc, address),
@@ -112,7 +113,7 @@ impl Guests {
     }
 }
 
-/// One asks each of these, over a stream: true where each was answered as wanted.
+/// Sends each of these over a stream. Returns whether every response was as expected.
 fn ask_all<S: Read + Write>(
     alloc: Global,
     stream: &mut S,
@@ -127,7 +128,7 @@ fn ask_all<S: Read + Write>(
     Ok(true)
 }
 
-/// The same over a connection of its own.
+/// Like `ask_all`, over a connection of its own.
 fn asks<R: Net<Stream = TcpStream, Listener = TcpListener>>(
     rt: &R,
     alloc: Global,
@@ -144,10 +145,10 @@ fn one<R: Net<Stream = TcpStream, Listener = TcpListener>>(
     address: SocketAddr,
 ) -> io::Result<bool> {
     let mut stream = TcpStream::connect(rt, address)?;
-    Ok(ask_all(alloc, &mut stream, &HANDS_IN_AND_LOOKS)? && parts(alloc, &mut stream, b"")?)
+    Ok(ask_all(alloc, &mut stream, &SUBMITS_AND_QUERIES)? && parts(alloc, &mut stream, b"")?)
 }
 
-/// Two ask each of these at the same time, each over a connection of its own.
+/// Two clients send each of these at the same time, each over a connection of its own.
 fn two_at_once<R: Threads + Net<Stream = TcpStream, Listener = TcpListener> + Sync>(
     rt: &R,
     alloc: Global,
@@ -170,8 +171,8 @@ fn two_connections<R: Net<Stream = TcpStream, Listener = TcpListener>>(
     let mut one = TcpStream::connect(rt, address)?;
     let mut other = TcpStream::connect(rt, address)?;
     Ok(
-        ask_all(alloc, &mut other, &LOOKS)?
-            && ask_all(alloc, &mut one, &HANDS_IN)?
+        ask_all(alloc, &mut other, &QUERIES_NOTHING)?
+            && ask_all(alloc, &mut one, &SUBMITS)?
             && ask(alloc, &mut other, SERVICES, ONE_SERVICE)?,
     )
 }
@@ -183,7 +184,7 @@ fn hands_in_and_looks<R: Net<Stream = TcpStream, Listener = TcpListener>>(
 ) -> io::Result<bool> {
     let mut stream = TcpStream::connect(rt, address)?;
     for _ in 0..5 {
-        if !ask_all(alloc, &mut stream, &HANDS_IN_AND_LOOKS)? {
+        if !ask_all(alloc, &mut stream, &SUBMITS_AND_QUERIES)? {
             return Ok(false);
         }
     }
@@ -231,7 +232,7 @@ fn two_hundred<R: Net<Stream = TcpStream, Listener = TcpListener>>(
         streams.push(TcpStream::connect(rt, address)?)?;
     }
     for stream in &mut streams {
-        if !ask_all(alloc, stream, &HANDS_IN_AND_LOOKS)? {
+        if !ask_all(alloc, stream, &SUBMITS_AND_QUERIES)? {
             return Ok(false);
         }
     }
@@ -254,7 +255,7 @@ fn sends_on<R: Net<Stream = TcpStream, Listener = TcpListener>>(
     for _ in 0..200 {
         stream.write_all(&piece)?;
     }
-    let reported = hears(alloc, &mut stream, TOO_LARGE)?;
+    let reported = reads(alloc, &mut stream, TOO_LARGE)?;
     let mut rest = Vec::new(alloc);
     stream.read_to_end(&mut rest)?;
     Ok(reported && rest.is_empty())

@@ -1,4 +1,4 @@
-//! The lines that an operator is told of a store.
+//! The lines about a store that are printed for the operator.
 
 use notice_lines::{Counted, FailureLine, FullnessLine, HeldText, TooLargeLine, level_of};
 use std::test::*;

@@ -1,4 +1,4 @@
-//! Sessions over a shared store give the bytes that they give over a store that one owner has.
+//! Sessions over a shared store write the same bytes as over a store with one owner.
 
 ghost use Rattle.std.specs.Prelude.{◌≡◌};
 
@@ -8,7 +8,7 @@ use http_session::session;
 use intake::{Books, Clerk, Desk, desk};
 use live_store::Live;
 use pipe_session::pipe;
-use read_side::{Keeper, Opened, StoreName, open};
+use read_side::{EmptyHistory, Keeper, StoreName, open};
 use session_devices::{MemoryInput, MemoryOutput};
 use span_store::SpanStore;
 use std::alloc::{AllocError, Global};
@@ -22,7 +22,7 @@ use std::thread::{Threads, join};
 use trace_model::Limits;
 use trace_samples::exchanges::{BATCH, NUMBERED, POST, POST_NUMBERED, RENUMBERED, SERVICES, TRACE};
 
-/// What a session over a store that one owner has writes.
+/// Returns the output of a session over a store with one owner.
 fn direct_bytes(
     alloc: Global,
     keys: RandomState,
@@ -36,7 +36,7 @@ fn direct_bytes(
     Ok(output)
 }
 
-/// Has the clerk serve until the desk is closed, and gives the keeper back.
+/// Runs the clerk until the desk is closed, and puts the keeper back.
 fn keep<N: StoreName, R: Wait>(rt: &R, clerk: Clerk<N>, slot: &mut Option<Keeper<N>>) {
     if let Some(keeper) = slot.take() {
         let Books {
@@ -53,7 +53,7 @@ fn keep<N: StoreName, R: Wait>(rt: &R, clerk: Clerk<N>, slot: &mut Option<Keeper
     }
 }
 
-/// What a session over a seat and a pass writes, beside a clerk.
+/// Returns the output of a session over a seat and a pass, beside a clerk.
 fn session_bytes<N: StoreName, R: Wait>(
     rt: &R,
     alloc: Global,
@@ -70,12 +70,12 @@ fn session_bytes<N: StoreName, R: Wait>(
     output
 }
 
-/// A session over a store that is opened for it.
+/// Returns the output of a session over a new shared store.
 fn live_bytes<N: StoreName + Send + Sync, R: Threads + Wait + Abort + Sync>(
     rt: &R,
     alloc: Global,
     keys: RandomState,
-    name: Opened,
+    name: EmptyHistory,
     limits: Limits,
     sent: &[u8],
 ) -> Result<MemoryOutput, Fail>
@@ -108,7 +108,7 @@ fn live_bytes<N: StoreName + Send + Sync, R: Threads + Wait + Abort + Sync>(
     }
 }
 
-/// Whether both sessions write the same, and something.
+/// Returns whether both sessions write the same nonempty output.
 fn is_same<R: Threads + Wait + Abort + RandomSource + Sync>(
     rt: &R,
     alloc: Global,
@@ -117,7 +117,14 @@ fn is_same<R: Threads + Wait + Abort + RandomSource + Sync>(
 ) -> Result<bool, Fail> {
     let sent = joined(alloc, requests)?;
     let keys = RandomState::new(rt)?;
-    let live = live_bytes::<Brand, _>(rt, alloc, keys, Opened::new(), limits, sent.as_slice())?;
+    let live = live_bytes::<Brand, _>(
+        rt,
+        alloc,
+        keys,
+        EmptyHistory::new(),
+        limits,
+        sent.as_slice(),
+    )?;
     let direct = direct_bytes(alloc, keys, limits, sent.as_slice())?;
     Ok(!live.as_slice().is_empty() && live.as_slice() == direct.as_slice())
 }

@@ -1,6 +1,6 @@
 use crate::tests::pipes::{Seen, joined, played};
-use crate::tests::requests::{LookOutcome, has_end, look};
-use http_requests::{Breach, ReadError};
+use crate::tests::requests::{ReadOutcome, has_end, look};
+use http_requests::{BadRequest, ReadError};
 use http_session::{Ended, SessionError, SessionErrorKind};
 use session_devices::MemoryOutput;
 use std::alloc::Global;
@@ -17,8 +17,7 @@ const POST: &[u8] =
 const TRUNCATED: &[u8] =
     b"HTTP/1.1 400 Bad Request\r\nContent-Type: application/json\r\nContent-Length: 103\r\n\r\n{\"data\":null,\"errors\":[{\"code\":400,\"msg\":\"batch refused: 1 Truncated\"}],\"limit\":0,\"offset\":0,\"total\":0}";
 
-/// Whether a request with these bytes behind its head is one with this body and this rest, read so many
-/// bytes at a time.
+/// Returns whether a request with these bytes after its head has this body and this rest, read `step` bytes at a time.
 fn has_body(
     alloc: Global,
     bytes: &[u8],
@@ -33,10 +32,10 @@ fn has_body(
     Ok(said)
 }
 
-/// Whether it is a request with that head, this body and this rest.
-fn is_taken(front: &Result<LookOutcome, ReadError>, body: &[u8], rest: &[u8]) -> bool {
+/// Returns whether it is a request with that head, this body and this rest.
+fn is_taken(front: &Result<ReadOutcome, ReadError>, body: &[u8], rest: &[u8]) -> bool {
     match front {
-        Ok(LookOutcome::One(taken)) => {
+        Ok(ReadOutcome::One(taken)) => {
             taken.head.as_slice() == HEAD
                 && taken.body.as_slice() == body
                 && rest.starts_with(taken.behind.as_slice())
@@ -45,19 +44,19 @@ fn is_taken(front: &Result<LookOutcome, ReadError>, body: &[u8], rest: &[u8]) ->
     }
 }
 
-/// Whether there is no such request, for this reason.
+/// Returns whether the request is malformed for this reason.
 fn has_none(
     alloc: Global,
     head: &[u8],
     bytes: &[u8],
     step: usize,
-    breach: Breach,
+    bad_request: BadRequest,
 ) -> Result<bool, Fail> {
     let whole = joined(alloc, &[head, bytes])?;
-    Ok(has_end(alloc, whole.as_slice(), step, Some(breach)))
+    Ok(has_end(alloc, whole.as_slice(), step, Some(bad_request)))
 }
 
-/// What stands behind the head, the body, and the rest.
+/// The bytes after the head, the body in them, and the rest.
 const BODIES: [(&[u8], &[u8], &[u8]); 6] = [
     (b"0\r\n\r\n", b"", b""),
     (b"3\r\nabc\r\n0\r\n\r\n", b"abc", b""),
@@ -90,37 +89,40 @@ fn bodies_in_chunks(rt: HostRuntime) -> Result<(), Fail> {
     Ok(())
 }
 
-/// What stands behind the head, and the reason.
-const BREACHES: [(&[u8], Breach); 21] = [
-    (b"", Breach::Body),
-    (b"g\r\n", Breach::Body),
-    (b"\r\n", Breach::Body),
-    (b";x\r\n\r\n", Breach::Body),
-    (b"-1\r\n", Breach::Body),
-    (b" 1\r\nx\r\n0\r\n\r\n", Breach::Body),
-    (b"1\nx\r\n0\r\n\r\n", Breach::Body),
-    (b"1;a\nb\r\nx\r\n0\r\n\r\n", Breach::Body),
-    (b"3\r\nab", Breach::Body),
-    (b"3\r\nabc", Breach::Body),
-    (b"3\r\nabc\r", Breach::Body),
-    (b"3\r\nabcd\r\n0\r\n\r\n", Breach::Body),
-    (b"3\r\nabc\n0\r\n\r\n", Breach::Body),
-    (b"3\r\nabc\r\n", Breach::Body),
-    (b"0\r\n", Breach::Body),
-    (b"0\r\nA: b\r\n", Breach::Body),
-    (b"0\r\nA b\r\n\r\n", Breach::Body),
-    (b"400001\r\n", Breach::TooLarge),
-    (b"1\r\nx\r\n400000\r\n", Breach::TooLarge),
-    (b"ffffffffffffffff\r\n", Breach::TooLarge),
-    (b"10000000000000000\r\n", Breach::Body),
+/// The bytes after the head, and the reason why they are malformed.
+const MALFORMED_BODIES: [(&[u8], BadRequest); 21] = [
+    (b"", BadRequest::Body),
+    (b"g\r\n", BadRequest::Body),
+    (b"\r\n", BadRequest::Body),
+    (b";x\r\n\r\n", BadRequest::Body),
+    (b"-1\r\n", BadRequest::Body),
+    (b" 1\r\nx\r\n0\r\n\r\n", BadRequest::Body),
+    (b"1\nx\r\n0\r\n\r\n", BadRequest::Body),
+    (b"1;a\nb\r\nx\r\n0\r\n\r\n", BadRequest::Body),
+    (b"3\r\nab", BadRequest::Body),
+    (b"3\r\nabc", BadRequest::Body),
+    (b"3\r\nabc\r", BadRequest::Body),
+    (b"3\r\nabcd\r\n0\r\n\r\n", BadRequest::Body),
+    (b"3\r\nabc\n0\r\n\r\n", BadRequest::Body),
+    (b"3\r\nabc\r\n", BadRequest::Body),
+    (b"0\r\n", BadRequest::Body),
+    (b"0\r\nA: b\r\n", BadRequest::Body),
+    (b"0\r\nA b\r\n\r\n", BadRequest::Body),
+    (b"400001\r\n", BadRequest::TooLarge),
+    (b"1\r\nx\r\n400000\r\n", BadRequest::TooLarge),
+    (b"ffffffffffffffff\r\n", BadRequest::TooLarge),
+    (b"10000000000000000\r\n", BadRequest::Body),
 ];
 
 #[test]
-fn each_breach_of_chunks(rt: HostRuntime) -> Result<(), Fail> {
+fn each_bad_request_of_chunks(rt: HostRuntime) -> Result<(), Fail> {
     let alloc = rt.alloc();
-    for (bytes, breach) in &BREACHES {
+    for (bytes, bad_request) in &MALFORMED_BODIES {
         for step in [1, 10_000] {
-            assert!(rt; has_none(alloc, HEAD, bytes, step, *breach)?, "{bytes:?}");
+            assert!(rt;
+                has_none(alloc, HEAD, bytes, step, *bad_request)?,
+                "{bytes:?}"
+            );
         }
     }
     Ok(())
@@ -131,7 +133,7 @@ fn sums_do_not_pass_a_word(rt: HostRuntime) -> Result<(), Fail> {
     let alloc = rt.alloc();
     let bytes = b"2\r\nab\r\nfffffffffffffffe\r\ncd\r\n0\r\n\r\n";
     for step in [1, 10_000] {
-        assert!(rt; has_none(alloc, HEAD, bytes, step, Breach::TooLarge)?);
+        assert!(rt; has_none(alloc, HEAD, bytes, step, BadRequest::TooLarge)?);
     }
     Ok(())
 }
@@ -177,19 +179,19 @@ const HEADS: [(&[u8], bool); 9] = [
 fn heads_of_chunked_bodies(rt: HostRuntime) -> Result<(), Fail> {
     let alloc = rt.alloc();
     for (head, is_read) in &HEADS {
-        let none = has_none(alloc, head, b"0\r\n\r\n", 10_000, Breach::Body)?;
+        let none = has_none(alloc, head, b"0\r\n\r\n", 10_000, BadRequest::Body)?;
         assert!(rt; none != *is_read, "{head:?}");
     }
     Ok(())
 }
 
-/// A size line of a chunk of one byte, of so many bytes with its end, and the rest of a body.
+/// Returns the size line of a chunk of one byte, of this length with its end, and the rest of a body.
 fn long_line(alloc: Global, length: usize) -> Result<Vec<u8>, Fail> {
     let filler = b"e".repeat(alloc, length.saturating_sub(4))?;
     joined(alloc, &[b"1;", filler.as_slice(), b"\r\nx\r\n0\r\n\r\n"])
 }
 
-/// A body of no bytes with a trailer of so many fields, the first of so many bytes.
+/// Returns an empty body with a trailer of this number of fields, the first of this length.
 fn long_trailer(alloc: Global, fields: usize, first: usize) -> Result<Vec<u8>, Fail> {
     let filler = b"e".repeat(alloc, first.saturating_sub(4))?;
     let others = b"a:b\r\n".repeat(alloc, fields.saturating_sub(1))?;
@@ -205,15 +207,16 @@ fn long_trailer(alloc: Global, fields: usize, first: usize) -> Result<Vec<u8>, F
     )
 }
 
-/// Whether a size line of so many bytes is read, and whether it is refused.
+/// Returns whether a size line of this length is accepted, and whether it is refused.
 fn line_seen(alloc: Global, length: usize, step: usize) -> Result<(bool, bool), Fail> {
     let line = long_line(alloc, length)?;
     let read = has_body(alloc, line.as_slice(), step, b"x", b"")?;
-    let refused = has_none(alloc, HEAD, line.as_slice(), step, Breach::Body)?;
+    let refused = has_none(alloc, HEAD, line.as_slice(), step, BadRequest::Body)?;
     Ok((read, refused))
 }
 
-/// Whether a trailer of so many fields, the first of so many bytes, is read, and whether it is refused.
+/// Returns whether a trailer of this number of fields, the first of this length, is accepted, and whether it is
+/// refused.
 fn trailer_seen(
     alloc: Global,
     (fields, first): (usize, usize),
@@ -221,7 +224,7 @@ fn trailer_seen(
 ) -> Result<(bool, bool), Fail> {
     let trailer = long_trailer(alloc, fields, first)?;
     let read = has_body(alloc, trailer.as_slice(), step, b"", b"")?;
-    let refused = has_none(alloc, HEAD, trailer.as_slice(), step, Breach::Body)?;
+    let refused = has_none(alloc, HEAD, trailer.as_slice(), step, BadRequest::Body)?;
     Ok((read, refused))
 }
 
@@ -239,8 +242,8 @@ fn lines_and_trailers_at_their_limits(rt: HostRuntime) -> Result<(), Fail> {
     Ok(())
 }
 
-/// The largest piece of a body of 100,000 bytes in one chunk that is put into a sink, where so many bytes are
-/// read at a time.
+/// Returns the largest piece that is pushed into a sink of a body of 100,000 bytes in one chunk, read `step` bytes at a
+/// time.
 fn largest_piece(alloc: Global, step: usize) -> Result<usize, Fail> {
     let body = b"0123456789".repeat(alloc, 10_000)?;
     let whole = joined(
@@ -249,7 +252,7 @@ fn largest_piece(alloc: Global, step: usize) -> Result<usize, Fail> {
     )?;
     let front = look(alloc, whole.as_slice(), step);
     let largest = match &front {
-        Ok(LookOutcome::One(taken)) => taken.largest_piece,
+        Ok(ReadOutcome::One(taken)) => taken.largest_piece,
         _ => 0,
     };
     drop(front);
@@ -264,7 +267,7 @@ fn a_body_is_put_as_it_comes(rt: HostRuntime) -> Result<(), Fail> {
     Ok(())
 }
 
-/// Whether a session ended so and wrote this.
+/// Returns whether a session ended so and wrote this.
 fn is_written(
     ended: Result<Ended, SessionError>,
     output: &MemoryOutput,
@@ -273,9 +276,8 @@ fn is_written(
     ended == Ok(wanted.0) && output.as_slice() == wanted.1
 }
 
-/// A session over a store that was empty, and what it wrote: whether it ended with so many responses, so, and
-/// wrote these.
-fn says(
+/// Returns whether a session over an empty store ends so and writes these responses.
+fn is_answered_so(
     alloc: Global,
     keys: RandomState,
     parts: &[&[u8]],
@@ -289,7 +291,7 @@ fn says(
     Ok(is_written(played.ended, &played.output, (ended, wanted.as_slice())))
 }
 
-/// So many responses, and the session goes on to the end of its input.
+/// The end of a session that writes this number of responses and reaches the end of its input.
 const fn open(answered: u64) -> Ended {
     Ended {
         answered,
@@ -297,17 +299,17 @@ const fn open(answered: u64) -> Ended {
     }
 }
 
-/// One response, behind which the session ends.
+/// The end of a session that one response closes.
 const CLOSED: Ended = Ended {
     answered: 1,
     clean: false,
 };
 
-/// What is answered to a batch, and then to a look at the services.
+/// The responses to a batch, and then to a query for the services.
 const ANSWERS: &[&[u8]] = &[ACCEPTED, ONE_SERVICE];
 
-/// Whether a batch in two chunks is answered, and then a look at the services.
-fn says_two_chunks(alloc: Global, keys: RandomState, step: usize) -> Result<bool, Fail> {
+/// Returns whether a batch in two chunks is answered, and then a query for the services.
+fn answers_two_chunks(alloc: Global, keys: RandomState, step: usize) -> Result<bool, Fail> {
     let (front, back) = BATCH.split_at(96);
     let parts: &[&[u8]] = &[
         POST,
@@ -318,7 +320,7 @@ fn says_two_chunks(alloc: Global, keys: RandomState, step: usize) -> Result<bool
         b"\r\n0\r\n\r\n",
         SERVICES,
     ];
-    says(alloc, keys, parts, step, open(2), ANSWERS)
+    is_answered_so(alloc, keys, parts, step, open(2), ANSWERS)
 }
 
 const NO_CHUNKS: &[&[u8]] = &[POST, b"0\r\n\r\n", SERVICES];
@@ -330,9 +332,9 @@ fn three_posts_in_chunks(rt: HostRuntime) -> Result<(), Fail> {
     let alloc = rt.alloc();
     let keys = RandomState::new(&rt)?;
     for step in [1, 10_000] {
-        assert!(rt; says_two_chunks(alloc, keys, step)?);
+        assert!(rt; answers_two_chunks(alloc, keys, step)?);
         assert!(rt;
-            says(
+            is_answered_so(
                 alloc,
                 keys,
                 NO_CHUNKS,
@@ -341,12 +343,13 @@ fn three_posts_in_chunks(rt: HostRuntime) -> Result<(), Fail> {
                 &[TRUNCATED, NO_SERVICES]
             )?
         );
-        assert!(rt; says(alloc, keys, TOO_LARGE_CHUNK, step, CLOSED, &[TOO_LARGE])?);
+        assert!(rt; is_answered_so(alloc, keys, TOO_LARGE_CHUNK, step, CLOSED, &[TOO_LARGE])?);
     }
     Ok(())
 }
 
-/// A batch that is handed in, each byte a chunk, with an extension and a trailer, and then a look at the services.
+/// Returns the request of a batch with one byte per chunk, an extension and a trailer, and then a query for the
+/// services.
 fn batch_in_chunks(alloc: Global) -> Result<Vec<u8>, Fail> {
     let mut bytes = joined(alloc, &[POST])?;
     for byte in BATCH {
@@ -359,8 +362,8 @@ fn batch_in_chunks(alloc: Global) -> Result<Vec<u8>, Fail> {
     Ok(bytes)
 }
 
-/// Whether that is answered as a whole body, and one entry is kept, where so many bytes are read and written at a
-/// time.
+/// Returns whether that is answered like a body with a Content-Length, and one entry is kept, with `step` bytes read
+/// and written at a time.
 fn is_whole(alloc: Global, keys: RandomState, step: usize) -> Result<bool, Fail> {
     let bytes = batch_in_chunks(alloc)?;
     let wanted = joined(alloc, ANSWERS)?;
@@ -378,7 +381,8 @@ fn chunks_are_answered_as_a_whole_body(rt: HostRuntime) -> Result<(), Fail> {
     Ok(())
 }
 
-/// Whether the session ended because it could not read, within no response, and wrote a beginning of the answers.
+/// Returns whether the session ended because it could not read, not inside a response, and wrote a prefix of the
+/// answers.
 fn is_cut_off(played: &Seen, answers: &[u8]) -> bool {
     match played.ended {
         Err(error) => {
@@ -390,7 +394,7 @@ fn is_cut_off(played: &Seen, answers: &[u8]) -> bool {
     }
 }
 
-/// Whether a session with that batch ends so, where the input fails at this call.
+/// Returns whether a session with that batch ends so if the input fails at this call.
 fn fails_inside(alloc: Global, keys: RandomState, fails_at: u64) -> Result<bool, Fail> {
     let bytes = batch_in_chunks(alloc)?;
     let answers = joined(alloc, ANSWERS)?;
@@ -413,15 +417,15 @@ fn a_reader_that_fails_inside_chunks(rt: HostRuntime) -> Result<(), Fail> {
     Ok(())
 }
 
-/// A request with a body of 4,194,304 bytes in one chunk, these bytes behind the data, and another request.
+/// Returns a request with a body of 4,194,304 bytes in one chunk, these bytes after the data, and another request.
 fn largest_and(alloc: Global, behind: &[u8]) -> Result<Vec<u8>, Fail> {
     let body = b"abcdefgh".repeat(alloc, 524_288)?;
     let head = b"GET /api/services HTTP/1.1\r\nTransfer-Encoding: chunked\r\n\r\n400000\r\n";
     joined(alloc, &[head, body.as_slice(), behind, SERVICES])
 }
 
-/// Whether such a session ends so, and writes these.
-fn says_of_largest(
+/// Returns whether such a session ends so, and writes these.
+fn answers_largest(
     alloc: Global,
     keys: RandomState,
     behind: &[u8],
@@ -429,20 +433,20 @@ fn says_of_largest(
     responses: &[&[u8]],
 ) -> Result<bool, Fail> {
     let bytes = largest_and(alloc, behind)?;
-    says(alloc, keys, &[bytes.as_slice()], 10_000, ended, responses)
+    is_answered_so(alloc, keys, &[bytes.as_slice()], 10_000, ended, responses)
 }
 
 #[test]
 fn the_largest_body_in_chunks(rt: HostRuntime) -> Result<(), Fail> {
     let keys = RandomState::new(&rt)?;
     let both: &[&[u8]] = &[NO_SERVICES, NO_SERVICES];
-    assert!(rt; says_of_largest(rt.alloc(), keys, b"\r\n0\r\n\r\n", open(2), both)?);
+    assert!(rt; answers_largest(rt.alloc(), keys, b"\r\n0\r\n\r\n", open(2), both)?);
     Ok(())
 }
 
 #[test]
 fn one_byte_more_than_the_largest_body(rt: HostRuntime) -> Result<(), Fail> {
     let keys = RandomState::new(&rt)?;
-    assert!(rt; says_of_largest(rt.alloc(), keys, b"\r\n1\r\n", CLOSED, &[TOO_LARGE])?);
+    assert!(rt; answers_largest(rt.alloc(), keys, b"\r\n1\r\n", CLOSED, &[TOO_LARGE])?);
     Ok(())
 }

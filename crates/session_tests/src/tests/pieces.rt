@@ -8,7 +8,7 @@ use trace_samples::exchanges::{
     ACCEPTED, BATCH, NO_SERVICES, ONE_SERVICE, ONE_SPAN, POST, SERVICES, TRACE,
 };
 
-/// A session that sends a batch and one that asks take turns over one store. Each has its requests received at once.
+/// A session that submits a batch and one that queries take turns over one store. Each receives its requests at once.
 #[test]
 fn two_sessions_take_turns(rt: HostRuntime) -> Result<(), Fail> {
     let alloc = rt.alloc();

@@ -25,10 +25,10 @@ const NO_MEMORY: &[u8] =
 /// The parts of three requests: the batch, the services, its trace.
 const REQUESTS: [&[&[u8]]; 3] = [&[POST, BATCH], &[SERVICES], &[TRACE]];
 
-/// What is answered to them.
+/// The responses to them.
 const ROW: [&[u8]; 3] = [ACCEPTED, ONE_SERVICE, ONE_SPAN];
 
-/// What may be answered to them where memory runs out once.
+/// The possible responses to them if memory runs out once.
 const ROWS_SHORT_OF_MEMORY: [[&[u8]; 3]; 4] = [
     ROW,
     [NO_MEMORY, NO_SERVICES, NO_TRACE],
@@ -46,25 +46,25 @@ const SENT_AGAIN: &[&[u8]] = &[
     RENUMBERED,
 ];
 
-/// What is answered to them.
+/// The responses to them.
 const TWO_ACCEPTED: &[&[u8]] = &[ACCEPTED, ACCEPTED, CONFLICT];
 
-/// The parts behind each other.
+/// Concatenates the parts.
 pub(crate) fn joined(alloc: Global, parts: &[&[u8]]) -> Result<Vec<u8>, Fail> {
     Ok(parts.concat(alloc)?)
 }
 
-/// The bytes of the three requests.
+/// Returns the bytes of the three requests.
 fn three_requests(alloc: Global) -> Result<Vec<u8>, Fail> {
     Ok(REQUESTS.concat(alloc)?.concat(alloc)?)
 }
 
-/// The first responses of a row.
+/// Returns the first responses of a row.
 fn first_of(alloc: Global, row: [&[u8]; 3], count: u64) -> Result<Vec<u8>, Fail> {
     joined(alloc, &row[..row.len().min(count as usize)])
 }
 
-/// How many of the three requests are whole in so many bytes.
+/// Returns how many of the three requests are complete in this number of bytes.
 fn whole_requests(bytes: usize) -> u64 {
     let mut end = 0usize;
     let mut count = 0u64;
@@ -79,7 +79,8 @@ fn whole_requests(bytes: usize) -> u64 {
     count
 }
 
-/// How many of the three responses are whole in so many bytes, and how many bytes of the next one are among them.
+/// Returns how many of the three responses are complete in this number of bytes, and how many bytes of the next one
+/// follow.
 fn whole_responses(bytes: usize) -> (u64, u64) {
     let mut left = bytes;
     let mut count = 0u64;
@@ -93,27 +94,27 @@ fn whole_responses(bytes: usize) -> (u64, u64) {
     (count, left as u64)
 }
 
-/// A store with room for ten batches.
+/// Opens a store for ten batches.
 pub(crate) fn empty_store(alloc: Global, keys: RandomState) -> Result<Direct, Fail> {
     let limits = Limits::new(10, 100, 0, 0).ok_or("limits")?;
     Ok(Direct::new(SpanStore::open(alloc, keys, limits)?))
 }
 
-/// A session over a store that was empty.
+/// The result of a session over an empty store.
 #[derive(Drop)]
 pub(crate) struct Seen {
     /// How it ended.
     pub(crate) ended: Result<Ended, SessionError>,
-    /// What was written.
+    /// Its output.
     pub(crate) output: MemoryOutput,
-    /// How many entries the store has then.
+    /// The number of entries in the store at the end.
     pub(crate) entries: usize,
-    /// Whether it has the batch at place 1, and nothing else.
+    /// The store has the batch at place 1, and nothing else.
     pub(crate) has_the_batch: bool,
 }
 
-/// Plays a session over a store. The input gives so many bytes a call and fails at that call; the output takes so
-/// many bytes a call, and fails behind as many as its room.
+/// Plays a session over a store. The input returns a number of bytes per call and fails at a certain call. The output
+/// takes a number of bytes per call, and fails once its room is used.
 fn played_over(
     alloc: Global,
     store: &mut Direct,
@@ -127,7 +128,7 @@ fn played_over(
     (ended, output)
 }
 
-/// The same over a store that is opened for it and that was empty.
+/// Like `played_over`, over a new, empty store.
 pub(crate) fn played(
     alloc: Global,
     keys: RandomState,
@@ -150,7 +151,7 @@ pub(crate) fn played(
     })
 }
 
-/// Whether the entries are the batch that was sent, and nothing else.
+/// Returns whether the entries are the batch that was sent, and nothing else.
 fn has_the_batch(alloc: Global, entries: &[Arc<Entry>]) -> Result<bool, Fail> {
     let sent = decode(alloc, BATCH)?;
     let said = match entries {
@@ -161,13 +162,14 @@ fn has_the_batch(alloc: Global, entries: &[Arc<Entry>]) -> Result<bool, Fail> {
     Ok(said)
 }
 
-/// The three requests were answered, and the input ended behind them.
+/// The three requests were answered, and the input ended after them.
 const ALL_ANSWERED: Ended = Ended {
     answered: 3,
     clean: true,
 };
 
-/// Whether a session with the three requests answers them, where so many bytes are read and written at a time.
+/// Returns whether a session with the three requests answers them, with these numbers of bytes read and written at a
+/// time.
 fn is_answered(alloc: Global, keys: RandomState, given: usize, taken: usize) -> Result<bool, Fail> {
     let bytes = three_requests(alloc)?;
     let wanted = first_of(alloc, ROW, 3)?;
@@ -184,7 +186,7 @@ fn one_byte_a_call(rt: HostRuntime) -> Result<(), Fail> {
     Ok(())
 }
 
-/// Whether a session with a batch that is sent again answers it, and keeps one entry.
+/// Returns whether a session with a batch that is sent again answers it, and keeps one entry.
 fn is_kept_once(alloc: Global, keys: RandomState, step: usize) -> Result<bool, Fail> {
     let bytes = joined(alloc, SENT_AGAIN)?;
     let wanted = joined(alloc, TWO_ACCEPTED)?;
@@ -205,7 +207,7 @@ fn one_entry_of_a_batch_sent_again(rt: HostRuntime) -> Result<(), Fail> {
     Ok(())
 }
 
-/// Whether what was read before is answered where the input fails behind so many calls.
+/// Returns whether what was read is answered if the input fails at a certain call.
 fn is_read_before(
     alloc: Global,
     keys: RandomState,
@@ -225,7 +227,7 @@ fn is_read_before(
     Ok(played.ended == Err(stopped) && played.output.as_slice() == wanted.as_slice())
 }
 
-/// The first of its calls at which the input fails and what was read before isn't answered.
+/// Returns the first call at which a failing input leaves what was read before unanswered.
 fn first_unanswered(alloc: Global, keys: RandomState, step: usize) -> Result<Option<usize>, Fail> {
     let bytes = three_requests(alloc)?;
     let calls = bytes.len().div_ceil(step.max(1)).saturating_add(1);
@@ -237,7 +239,7 @@ fn first_unanswered(alloc: Global, keys: RandomState, step: usize) -> Result<Opt
     Ok(None)
 }
 
-/// At each of its calls, the one that would show the end among them: what was read before is answered.
+/// The input fails at each of its calls, also at the one that would find the end. What was read before is answered.
 #[test]
 fn a_reader_that_fails_at_each_call(rt: HostRuntime) -> Result<(), Fail> {
     let keys = RandomState::new(&rt)?;
@@ -247,7 +249,7 @@ fn a_reader_that_fails_at_each_call(rt: HostRuntime) -> Result<(), Fail> {
     Ok(())
 }
 
-/// How a session stopped that had no room for a response.
+/// Returns how a session stopped that had no room for a response.
 fn unwritten((answered, written): (u64, u64)) -> SessionError {
     SessionError {
         answered,
@@ -256,7 +258,7 @@ fn unwritten((answered, written): (u64, u64)) -> SessionError {
     }
 }
 
-/// Whether a session with room for so many bytes wrote these and stopped so, and the store has the batch.
+/// Returns whether a session with this room wrote these bytes and stopped so, and the store has the batch.
 fn is_written_up_to(
     alloc: Global,
     keys: RandomState,
@@ -265,12 +267,12 @@ fn is_written_up_to(
 ) -> Result<bool, Fail> {
     let stopped = unwritten(whole_responses(room));
     let played = played(alloc, keys, bytes, (10_000, 0), (room, 5))?;
-    let is_beginning = played.output.as_slice().len() == room
+    let is_prefix = played.output.as_slice().len() == room
         && wanted.starts_with(played.output.as_slice());
-    Ok(played.ended == Err(stopped) && is_beginning && played.has_the_batch)
+    Ok(played.ended == Err(stopped) && is_prefix && played.has_the_batch)
 }
 
-/// The first room for which that isn't so.
+/// Returns the first room for which that isn't so.
 fn first_unwritten(alloc: Global, keys: RandomState) -> Result<Option<usize>, Fail> {
     let bytes = three_requests(alloc)?;
     let wanted = first_of(alloc, ROW, 3)?;
@@ -283,7 +285,7 @@ fn first_unwritten(alloc: Global, keys: RandomState) -> Result<Option<usize>, Fa
     Ok(None)
 }
 
-/// Behind each byte, and what stands then: the first batch is the one that was sent.
+/// The output fails after each byte, and the store keeps the batch that was sent.
 #[test]
 fn a_writer_that_fails_after_each_byte(rt: HostRuntime) -> Result<(), Fail> {
     let keys = RandomState::new(&rt)?;
@@ -291,7 +293,7 @@ fn a_writer_that_fails_after_each_byte(rt: HostRuntime) -> Result<(), Fail> {
     Ok(())
 }
 
-/// Whether a session with room for so many bytes stopped behind so many responses and bytes, and the store has the
+/// Returns whether a session with this room stopped after these numbers of responses and bytes, and the store has the
 /// batch.
 fn is_stopped(
     alloc: Global,
@@ -304,7 +306,7 @@ fn is_stopped(
     Ok(played.ended == Err(unwritten(written)) && played.has_the_batch)
 }
 
-/// A response of 44 bytes that is cut, and one behind it.
+/// A response of 44 bytes that is cut, and one after it.
 #[test]
 fn a_writer_that_takes_20_or_54_bytes(rt: HostRuntime) -> Result<(), Fail> {
     let keys = RandomState::new(&rt)?;
@@ -313,7 +315,7 @@ fn a_writer_that_takes_20_or_54_bytes(rt: HostRuntime) -> Result<(), Fail> {
     Ok(())
 }
 
-/// How many responses a session wrote whole, and how many bytes of the next one, where it ended as one may in
+/// Returns how many responses a session wrote completely, and how many bytes of the next one, if it ended as one may in
 /// which memory ran out once.
 fn written_in(played: &Seen) -> Option<(u64, u64)> {
     let cause = if played.output.failed() {
@@ -328,15 +330,15 @@ fn written_in(played: &Seen) -> Option<(u64, u64)> {
     }
 }
 
-/// Whether these bytes are the whole responses and so many bytes of the next one.
+/// Returns whether these bytes are the complete responses and this number of bytes of the next one.
 fn is_between(bytes: &[u8], whole: &[u8], next: &[u8], written: u64) -> bool {
     next.starts_with(bytes)
         && bytes.starts_with(whole)
         && bytes.len().saturating_sub(whole.len()) as u64 == written
 }
 
-/// Whether a session in which memory ran out once may have ended so with these responses: all three, or the first
-/// ones, whole but where the output itself found no memory.
+/// Returns whether a session in which memory ran out once may have ended so with these responses: all three, or the
+/// first ones, complete unless the output itself ran out of memory.
 fn may_write(alloc: Global, row: [&[u8]; 3], played: &Seen) -> Result<bool, Fail> {
     let Some((answered, written)) = written_in(played) else {
         return Ok(false);
@@ -350,7 +352,7 @@ fn may_write(alloc: Global, row: [&[u8]; 3], played: &Seen) -> Result<bool, Fail
     )
 }
 
-/// Whether the session may have ended so with one of the rows.
+/// Returns whether the session may have ended so with one of the rows.
 fn may_write_any(alloc: Global, played: &Seen) -> Result<bool, Fail> {
     let mut is_written = false;
     for row in ROWS_SHORT_OF_MEMORY {
@@ -359,7 +361,7 @@ fn may_write_any(alloc: Global, played: &Seen) -> Result<bool, Fail> {
     Ok(is_written)
 }
 
-/// Whether a session with the three requests answered them, or may have ended as it did.
+/// Returns whether a session with the three requests answered them, and whether it may have ended as it did.
 fn is_written(alloc: Global, keys: RandomState) -> Result<(bool, bool), Fail> {
     let bytes = three_requests(alloc)?;
     let wanted = first_of(alloc, ROW, 3)?;
@@ -368,9 +370,8 @@ fn is_written(alloc: Global, keys: RandomState) -> Result<(bool, bool), Fail> {
     Ok((all, all || may_write_any(alloc, &played)?))
 }
 
-/// Where memory runs out once, a 500 stands in a response's place, and nothing of a batch is kept that was answered
-/// so, or the session ends behind whole responses; another session then has all three. The check of allocations
-/// refuses each in turn.
+/// If memory runs out once, a response is a 500 and a batch answered so isn't kept, or the session ends after complete
+/// responses. Another session then gets all three. The check of allocations refuses each allocation in turn.
 #[test]
 fn memory_for_a_session(rt: HostRuntime) -> Result<(), Fail> {
     let keys = RandomState::new(&rt)?;
@@ -382,7 +383,7 @@ fn memory_for_a_session(rt: HostRuntime) -> Result<(), Fail> {
     Ok(())
 }
 
-/// Whether a session with the three requests answers them, 50 bytes at a time.
+/// Returns whether a session with the three requests answers them, 50 bytes at a time.
 fn is_answered_in_50s(alloc: Global, keys: RandomState) -> Result<bool, Fail> {
     is_answered(alloc, keys, 50, 50)
 }

@@ -1,10 +1,10 @@
-use http_requests::{Breach, Next, ReadBuffer, ReadError, Sink, next_head, read_body};
+use http_requests::{BadRequest, Next, ReadBuffer, ReadError, Sink, next_head, read_body};
 use session_devices::MemoryInput;
 use std::alloc::Global;
 use std::mem::drop;
 use std::test::*;
 
-/// A body, put together again.
+/// A sink that collects a body.
 #[derive(Drop)]
 struct Joined {
     bytes: Vec<u8>,
@@ -27,37 +27,37 @@ impl Sink for Joined {
     ghost takes_joined = { λ s t u front back one two. tt };
 }
 
-/// A request at the beginning of some bytes.
+/// A request at the start of some bytes.
 #[derive(Drop)]
 pub(crate) struct Taken {
     pub(crate) head: Vec<u8>,
     pub(crate) body: Vec<u8>,
-    /// The bytes that were received behind it.
+    /// The bytes received after it.
     pub(crate) behind: Vec<u8>,
     pub(crate) largest_piece: usize,
 }
 
-/// What a look at some bytes finds.
+/// The result of reading a request.
 #[derive(Drop)]
-pub(crate) enum LookOutcome {
+pub(crate) enum ReadOutcome {
     One(Taken),
     Clean,
-    Broken(Breach),
+    Malformed(BadRequest),
 }
 
-/// What a look at these bytes finds, read so many at a time.
-pub(crate) fn look(alloc: Global, bytes: &[u8], step: usize) -> Result<LookOutcome, ReadError> {
+/// Reads a request from these bytes, `step` at a time.
+pub(crate) fn look(alloc: Global, bytes: &[u8], step: usize) -> Result<ReadOutcome, ReadError> {
     look_in(alloc, MemoryInput::new(bytes, step, 0))
 }
 
-/// What a look at the bytes of an input finds.
-fn look_in(alloc: Global, source: MemoryInput<'_>) -> Result<LookOutcome, ReadError> {
+/// Reads a request from an input.
+fn look_in(alloc: Global, source: MemoryInput<'_>) -> Result<ReadOutcome, ReadError> {
     let mut input = source;
     let mut received = ReadBuffer::new(alloc);
     let (length, size) = match next_head(&mut input, &mut received)? {
         Next::One(_, length, size) => (length, size),
-        Next::Clean => return Ok(LookOutcome::Clean),
-        Next::Broken => return Ok(LookOutcome::Broken(Breach::Head)),
+        Next::Clean => return Ok(ReadOutcome::Clean),
+        Next::Malformed => return Ok(ReadOutcome::Malformed(BadRequest::Head)),
     };
     let head = received.as_slice()[..length].to_vec(alloc)?;
     received.take(length);
@@ -66,13 +66,13 @@ fn look_in(alloc: Global, source: MemoryInput<'_>) -> Result<LookOutcome, ReadEr
         largest_piece: 0,
         lacks_memory: false,
     };
-    if let Err(breach) = read_body(&mut input, &mut received, &mut sink, size)? {
-        return Ok(LookOutcome::Broken(breach));
+    if let Err(bad_request) = read_body(&mut input, &mut received, &mut sink, size)? {
+        return Ok(ReadOutcome::Malformed(bad_request));
     }
     if sink.lacks_memory {
         return Err(ReadError::Memory);
     }
-    Ok(LookOutcome::One(Taken {
+    Ok(ReadOutcome::One(Taken {
         head,
         largest_piece: sink.largest_piece,
         body: sink.bytes,
@@ -80,32 +80,37 @@ fn look_in(alloc: Global, source: MemoryInput<'_>) -> Result<LookOutcome, ReadEr
     }))
 }
 
-/// Whether it is a request, or none for this reason.
-fn is_ended(front: &Result<LookOutcome, ReadError>, breach: Option<Breach>) -> bool {
-    match (front, breach) {
-        (Ok(LookOutcome::One(_)), None) => true,
-        (Ok(LookOutcome::Broken(seen)), Some(breach)) => *seen == breach,
+/// Returns whether it is a request, or malformed for this reason.
+fn is_ended(front: &Result<ReadOutcome, ReadError>, bad_request: Option<BadRequest>) -> bool {
+    match (front, bad_request) {
+        (Ok(ReadOutcome::One(_)), None) => true,
+        (Ok(ReadOutcome::Malformed(seen)), Some(bad_request)) => *seen == bad_request,
         _ => false,
     }
 }
 
-/// Whether a look at these bytes, read so many at a time, finds a request, or none for this reason.
-pub(crate) fn has_end(alloc: Global, bytes: &[u8], step: usize, breach: Option<Breach>) -> bool {
+/// Returns whether these bytes, read `step` at a time, are a request, or malformed for this reason.
+pub(crate) fn has_end(
+    alloc: Global,
+    bytes: &[u8],
+    step: usize,
+    bad_request: Option<BadRequest>,
+) -> bool {
     let front = look(alloc, bytes, step);
-    let said = is_ended(&front, breach);
+    let said = is_ended(&front, bad_request);
     drop(front);
     said
 }
 
-/// Whether a look at no bytes finds that nothing comes.
+/// Returns whether no bytes are a clean end.
 fn is_clean(alloc: Global) -> bool {
     let front = look(alloc, b"", 1);
-    let said = matches!(&front, Ok(LookOutcome::Clean));
+    let said = matches!(&front, Ok(ReadOutcome::Clean));
     drop(front);
     said
 }
 
-const ENDS: [(&[u8], Option<Breach>); 18] = [
+const ENDS: [(&[u8], Option<BadRequest>); 18] = [
     (b"GET / HTTP/1.1\nContent-Length: 3\n\nabc", None),
     (
         b"\r\n\r\nGET / HTTP/1.0\r\nconnection: x, Close\r\n\r\n",
@@ -113,78 +118,78 @@ const ENDS: [(&[u8], Option<Breach>); 18] = [
     ),
     (
         b"GET / HTTP/1.1\r\nContent-Length: 3\r\n\r\nab",
-        Some(Breach::Body),
+        Some(BadRequest::Body),
     ),
     (
         b"GET / HTTP/1.1\r\nContent-Length: 3\r\ncontent-length: 3\r\n\r\nabc",
-        Some(Breach::Body),
+        Some(BadRequest::Body),
     ),
     (
         b"GET / HTTP/1.1\r\nContent-Length: +3\r\n\r\nabc",
-        Some(Breach::Body),
+        Some(BadRequest::Body),
     ),
     (
         b"GET / HTTP/1.1\r\nContent-Length: 4194305\r\n\r\n",
-        Some(Breach::TooLarge),
+        Some(BadRequest::TooLarge),
     ),
-    (b"GET / HTTP/1.1\r\nContent-Len", Some(Breach::Head)),
-    (b"\r\n", Some(Breach::Head)),
+    (b"GET / HTTP/1.1\r\nContent-Len", Some(BadRequest::Head)),
+    (b"\r\n", Some(BadRequest::Head)),
     (
         b"GET / HTTP/1.1\r\nContent-Length:\r\n\r\n",
-        Some(Breach::Body),
+        Some(BadRequest::Body),
     ),
     (
         b"GET / HTTP/1.1\r\nContent-Length: +0\r\n\r\n",
-        Some(Breach::Body),
+        Some(BadRequest::Body),
     ),
     (
         b"GET / HTTP/1.1\r\nContent-Length: 0, 0\r\n\r\n",
-        Some(Breach::Body),
+        Some(BadRequest::Body),
     ),
     (
         b"GET / HTTP/1.1\r\nContent-Length: 00000000000000000000\r\n\r\n",
-        Some(Breach::Body),
+        Some(BadRequest::Body),
     ),
-    (b"GET / HTTP/1.2\r\n\r\n", Some(Breach::Head)),
-    (b"GET / HTTP/2.0\r\n\r\n", Some(Breach::Head)),
-    (b"GET / HTTP/1.1\r\na: \x01\r\n\r\n", Some(Breach::Head)),
-    (b"GET / HTTP/1.1\r\n: b\r\n\r\n", Some(Breach::Head)),
-    (b"GET / HTTP/1.1\r\nA : b\r\n\r\n", Some(Breach::Head)),
-    (b"GET  / HTTP/1.1\r\n\r\n", Some(Breach::Head)),
+    (b"GET / HTTP/1.2\r\n\r\n", Some(BadRequest::Head)),
+    (b"GET / HTTP/2.0\r\n\r\n", Some(BadRequest::Head)),
+    (b"GET / HTTP/1.1\r\na: \x01\r\n\r\n", Some(BadRequest::Head)),
+    (b"GET / HTTP/1.1\r\n: b\r\n\r\n", Some(BadRequest::Head)),
+    (b"GET / HTTP/1.1\r\nA : b\r\n\r\n", Some(BadRequest::Head)),
+    (b"GET  / HTTP/1.1\r\n\r\n", Some(BadRequest::Head)),
 ];
 
 #[test]
 fn each_end(rt: HostRuntime) {
-    for (bytes, breach) in &ENDS {
+    for (bytes, bad_request) in &ENDS {
         for step in [1, 10_000] {
-            assert!(rt; has_end(rt.alloc(), bytes, step, *breach), "{bytes:?}");
+            assert!(rt; has_end(rt.alloc(), bytes, step, *bad_request), "{bytes:?}");
         }
     }
     assert!(rt; is_clean(rt.alloc()));
 }
 
-/// Whether a look at these bytes finds a request, or none for this reason, where the input gives them one at a
-/// time and fails when it is asked for more.
-fn is_decided(alloc: Global, bytes: &[u8], breach: Option<Breach>) -> bool {
+/// Returns whether these bytes are a request, or malformed for this reason, without a read for more: the input returns
+/// them one at a time and fails when it is asked for more.
+fn is_decided(alloc: Global, bytes: &[u8], bad_request: Option<BadRequest>) -> bool {
     let front = look_in(alloc, MemoryInput::new(bytes, 1, bytes.len() as u64 + 1));
-    let said = is_ended(&front, breach);
+    let said = is_ended(&front, bad_request);
     drop(front);
     said
 }
 
-const NOT_TOO_MANY: [(&[u8], Option<Breach>); 11] = [
+const NOT_TOO_MANY: [(&[u8], Option<BadRequest>); 11] = [
     (b"GET / HTTP/1.1\r\n\r\n", None),
     (b"GET / HTTP/1.1\nContent-Length: 0\n\n", None),
     (b"POST / HTTP/1.1\r\nContent-Length: 3\r\n\r\nabc", None),
-    (b"GET / HTTP/2\r\n", Some(Breach::Head)),
-    (b"GET / HTTP/1.1\r\na b\r\n", Some(Breach::Head)),
+    (b"GET / HTTP/2\r\n", Some(BadRequest::Head)),
+    (b"GET / HTTP/1.1\r\na b\r\n", Some(BadRequest::Head)),
     (
         b"POST / HTTP/1.1\r\nContent-Length: 4194305\r\n\r\n",
-        Some(Breach::TooLarge),
+        Some(BadRequest::TooLarge),
     ),
     (
         b"POST / HTTP/1.1\r\nContent-Length: +3\r\n\r\n",
-        Some(Breach::Body),
+        Some(BadRequest::Body),
     ),
     (
         b"POST / HTTP/1.1\r\nTransfer-Encoding: chunked\r\n\r\n3\r\nabc\r\n0\r\n\r\n",
@@ -192,21 +197,21 @@ const NOT_TOO_MANY: [(&[u8], Option<Breach>); 11] = [
     ),
     (
         b"POST / HTTP/1.1\r\nTransfer-Encoding: chunked\r\n\r\ng",
-        Some(Breach::Body),
+        Some(BadRequest::Body),
     ),
     (
         b"POST / HTTP/1.1\r\nTransfer-Encoding: chunked\r\n\r\n3\r\nabcd",
-        Some(Breach::Body),
+        Some(BadRequest::Body),
     ),
     (
         b"POST / HTTP/1.1\r\nTransfer-Encoding: chunked\r\n\r\n400001\r\n",
-        Some(Breach::TooLarge),
+        Some(BadRequest::TooLarge),
     ),
 ];
 
 #[test]
 fn no_read_too_many(rt: HostRuntime) {
-    for (bytes, breach) in &NOT_TOO_MANY {
-        assert!(rt; is_decided(rt.alloc(), bytes, *breach), "{bytes:?}");
+    for (bytes, bad_request) in &NOT_TOO_MANY {
+        assert!(rt; is_decided(rt.alloc(), bytes, *bad_request), "{bytes:?}");
     }
 }

@@ -1,6 +1,6 @@
 use crate::tests::large::two_requests;
 use crate::tests::pipes::{empty_store, joined};
-use open_connections::{ConnectionSet, Moment, Outbox, Progress, TryConnection, Turn};
+use open_connections::{ConnectionProgress, ConnectionSet, Moment, Outbox, TryConnection, Turn};
 use session_devices::{Failed, Input};
 use std::alloc::Global;
 use std::hash::RandomState;
@@ -8,8 +8,8 @@ use std::test::*;
 use std::time::Duration;
 use store_backend::Backend;
 
-/// A client that sends all at once. It takes a few bytes at a time, and none each second time; after its last bytes the
-/// connection fails.
+/// A client that sends everything at once. It takes a few bytes at a time, and none every second time. After its last
+/// bytes the connection fails.
 #[derive(Drop)]
 struct SlowClient<'a> {
     bytes: &'a [u8],
@@ -66,15 +66,15 @@ impl<'a> TryConnection for SlowClient<'a> {
     }
 }
 
-/// What became of a connection: what its client took, how it ended, and how often its response waited.
+/// The result of a connection: what its client took, how it ended, and how often its response waited.
 #[derive(Drop)]
 struct Served<'a> {
     outbox: Outbox<SlowClient<'a>>,
-    progress: Progress,
+    progress: ConnectionProgress,
     waits: u32,
 }
 
-/// Takes turns with one connection until it leaves the set.
+/// Gives one connection turns until it leaves the set.
 fn serve_alone<'a, B: Backend<()>>(
     alloc: Global,
     client: SlowClient<'a>,
@@ -89,7 +89,7 @@ fn serve_alone<'a, B: Backend<()>>(
             round,
         };
         match connections.answer_next(&(), alloc, key, at, store) {
-            Turn::Open(Progress::Writing) => waits = waits.saturating_add(1),
+            Turn::Open(ConnectionProgress::Writing) => waits = waits.saturating_add(1),
             Turn::Open(_) => {}
             Turn::Left(progress, outbox) => {
                 return Ok(Served {
@@ -104,7 +104,7 @@ fn serve_alone<'a, B: Backend<()>>(
     Err(Fail::from("a connection that is there, and ends"))
 }
 
-/// A client that takes so many bytes at a time, and so many in all.
+/// Creates a client that takes `step` bytes at a time, and `room` in all.
 fn slow_client(alloc: Global, bytes: &[u8], step: usize, room: usize) -> SlowClient<'_> {
     SlowClient {
         bytes,
@@ -115,7 +115,7 @@ fn slow_client(alloc: Global, bytes: &[u8], step: usize, room: usize) -> SlowCli
     }
 }
 
-/// Whether all that waits is written in so many writes.
+/// Returns whether everything that waits is written in a limited number of writes.
 fn is_flushed(outbox: &mut Outbox<SlowClient<'_>>) -> bool {
     for _round in 0..1_000_000u32 {
         if outbox.flush().is_err() {
@@ -128,7 +128,7 @@ fn is_flushed(outbox: &mut Outbox<SlowClient<'_>>) -> bool {
     false
 }
 
-/// The responses are the same however few bytes the client takes at a time, and wait for it.
+/// The responses are the same however few bytes the client takes at a time. They wait for it.
 #[test]
 fn a_few_bytes_at_a_time(rt: HostRuntime) -> Result<(), Fail> {
     let alloc = rt.alloc();
@@ -138,7 +138,7 @@ fn a_few_bytes_at_a_time(rt: HostRuntime) -> Result<(), Fail> {
         let client = slow_client(alloc, &bytes, step, usize::MAX);
         let mut served = serve_alone(alloc, client, &mut store)?;
         assert!(rt; served.waits > 0, "{step}");
-        assert_eq!(rt; served.progress, Progress::Ended);
+        assert_eq!(rt; served.progress, ConnectionProgress::Ended);
         assert!(rt; is_flushed(&mut served.outbox), "{step}");
         let taken = served.outbox.connection().taken.as_slice();
         assert!(rt; taken == wanted.as_slice(), "{step}");
@@ -156,7 +156,7 @@ fn a_failure_while_a_response_waits(rt: HostRuntime) -> Result<(), Fail> {
         let mut store = empty_store(alloc, RandomState::new(&rt)?)?;
         let client = slow_client(alloc, &twice, 1_000, room);
         let served = serve_alone(alloc, client, &mut store)?;
-        assert_eq!(rt; served.progress, Progress::Undelivered, "{room}");
+        assert_eq!(rt; served.progress, ConnectionProgress::Undelivered, "{room}");
         let taken = served.outbox.connection().taken.as_slice();
         assert_eq!(rt; taken.len(), room);
         assert!(rt; wanted.as_slice().starts_with(taken), "{room}");

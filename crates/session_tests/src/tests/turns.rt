@@ -8,11 +8,11 @@ use std::hash::RandomState;
 use std::test::*;
 use trace_samples::exchanges::{ACCEPTED, BATCH, ONE_SERVICE, POST, SERVICES};
 
-/// A sender that sends the next part only once so many bytes in all were written to it, and fails where it is read
+/// A sender that sends the next part only once a number of bytes in all were written to it, and fails if it is read
 /// before.
 #[derive(Drop)]
 struct Sender<'a> {
-    /// How many bytes are to be written before a part is sent, and the part.
+    /// The number of bytes that must be written before a part is sent, and the part.
     parts: &'a [(usize, &'a [u8])],
     sent: usize,
     written: &'a Cell<usize>,
@@ -46,7 +46,7 @@ impl<'a> Input for Sender<'a> {
     }
 }
 
-/// What is written to that sender: it counts the bytes.
+/// The output to that sender. It counts the bytes.
 #[derive(Drop)]
 struct Counter<'a> {
     written: &'a Cell<usize>,

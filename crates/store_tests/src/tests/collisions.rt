@@ -12,16 +12,16 @@ use std::test::*;
 use trace_model::{Entry, Limits, Query};
 use trace_samples::{kept, list_of, span};
 
-/// What there is room for.
+/// The room of the tables.
 const ROOM: u32 = 40;
 
-/// The places of a table that is full.
+/// The number of places of a full table.
 const FULL: u64 = 81;
 
-/// The places of a table with eight rows. Those that it has with fewer divide them.
+/// The number of places of a table with eight rows. The numbers for fewer rows divide it.
 const EIGHT: u64 = 20;
 
-/// The walk to the id begins at the first of so many places.
+/// Whether the walk to the id begins at the first of this number of places.
 fn is_first(keys: &RandomState, id: TraceId, places: u64) -> bool {
     let mut state = keys.build_hasher();
     state.write_u64(id.high);
@@ -29,7 +29,7 @@ fn is_first(keys: &RandomState, id: TraceId, places: u64) -> bool {
     state.finish().checked_rem(places) == Some(0)
 }
 
-/// So many ids with one walk over the places, as one would choose them who knows the key.
+/// Finds ids with one walk over the places, as a client would choose them who knows the key.
 fn colliding_ids(
     alloc: Global,
     keys: &RandomState,
@@ -46,8 +46,8 @@ fn colliding_ids(
     Ok(ids)
 }
 
-/// The walk to a service of this name begins at the first place, and so does that to an operation of this name and without
-/// a kind, where it is one of the first service.
+/// Whether the walk to a service of this name begins at the first place, and so does the walk to an operation of
+/// this name and without a kind, if it is one of the first service.
 fn is_first_name(keys: &RandomState, name: &str) -> bool {
     let mut state = keys.build_hasher();
     0u32.hash(&mut state);
@@ -56,7 +56,7 @@ fn is_first_name(keys: &RandomState, name: &str) -> bool {
     state.finish() % EIGHT == 0
 }
 
-/// So many numbers that are names of services, or of operations of the first service, to which one walk leads.
+/// Finds numbers that are names of services, or of operations of the first service, with one walk.
 fn colliding_names(
     alloc: Global,
     keys: &RandomState,
@@ -76,12 +76,12 @@ fn colliding_names(
 fn enter_all(table: &mut IdTable, ids: &[TraceId]) {
     for id in ids {
         if table.has_room() {
-            table.enter_near(0, *id);
+            table.enter_with_guess(0, *id);
         }
     }
 }
 
-/// How many of the ids stand in the row of their place among them.
+/// Returns the number of ids that are in the row of their place among them.
 fn found_in_order(table: &IdTable, ids: &[TraceId]) -> usize {
     let mut found = 0;
     for (row, id) in ids.iter().enumerate() {
@@ -94,7 +94,7 @@ fn found_in_order(table: &IdTable, ids: &[TraceId]) -> usize {
     found
 }
 
-/// How many of the ids with one walk a table finds again, and where it finds one more.
+/// Returns the number of ids with one walk that a table finds, and where it finds one more.
 fn found_again(alloc: Global, keys: RandomState) -> Result<(usize, Option<u32>), AllocError> {
     let mut ids = colliding_ids(alloc, &keys, FULL, 41)?;
     let other = ids.pop().unwrap_or(TraceId { high: 0, low: 0 });
@@ -110,7 +110,7 @@ fn colliding_ids_have_rows_of_their_own(rt: HostRuntime) -> Result<(), Fail> {
     Ok(())
 }
 
-/// A service and an operation of it, which have numbers for names.
+/// A service and an operation of it, whose names are numbers.
 #[derive(Clone, Copy)]
 struct Named {
     service: u64,
@@ -145,7 +145,7 @@ fn add_entries(
     Ok(())
 }
 
-/// These entries.
+/// Makes these entries.
 fn entries_of(
     alloc: Global,
     ids: &[TraceId],
@@ -156,13 +156,13 @@ fn entries_of(
     kept(entries, added)
 }
 
-/// What is answered of the service's operations is the same.
+/// Whether the answer for the service's operations is the same.
 fn same_operations(alloc: Global, store: &SpanStore, name: u64) -> Result<bool, AllocError> {
     let service = Text::from_string(name.to_string(alloc)?);
     same_answer(alloc, store, Query::OperationNames { service })
 }
 
-/// Each of the traces and of the services is answered as in the plain store.
+/// Whether each of the traces and of the services is answered as in the plain store.
 fn same_each(
     alloc: Global,
     store: &SpanStore,
@@ -180,7 +180,7 @@ fn same_each(
     Ok(same)
 }
 
-/// A store of an entry for each of them, which shows three traces.
+/// Makes a store of an entry for each of them, which shows three traces.
 fn store_of(
     alloc: Global,
     keys: RandomState,
@@ -194,7 +194,7 @@ fn store_of(
     store
 }
 
-/// Such a store has taken in all of them, and answers as the plain store.
+/// Whether such a store has applied all of them, and answers as the plain store.
 fn same_of(
     alloc: Global,
     keys: RandomState,

@@ -4,14 +4,14 @@ use jaeger_model::{Span, TraceId};
 use std::alloc::{AllocError, Global};
 use std::sync::Arc;
 use trace_model::{Entry, Work};
-use trace_samples::{batch, handed_in};
+use trace_samples::{batch, submitted};
 
 /// The trace with this low half of an id, and 0 above it.
 pub(crate) fn id(low: u64) -> TraceId {
     TraceId { high: 0, low }
 }
 
-/// What the seat handed in under the number: these spans of the service, sent under this `seqNo`.
+/// Makes the entry of the seat with the number: these spans of the service, with this `seqNo`.
 pub(crate) fn sent_entry(
     alloc: Global,
     (seat, number): (u16, u64),
@@ -21,10 +21,10 @@ pub(crate) fn sent_entry(
 ) -> Result<Arc<Entry>, AllocError> {
     let mut batch = batch(alloc, service, spans)?;
     batch.seq_no = seq_no;
-    handed_in(alloc, seat, number, Work::Batch(batch))
+    submitted(alloc, seat, number, Work::Batch(batch))
 }
 
-/// What the seat handed in under the number: these spans of the service, without a `seqNo`.
+/// Makes the entry of the seat with the number: these spans of the service, without a `seqNo`.
 pub(crate) fn entry(
     alloc: Global,
     seat: u16,
@@ -35,7 +35,7 @@ pub(crate) fn entry(
     sent_entry(alloc, (seat, number), None, service, spans)
 }
 
-/// The limit of traces that seat 0 handed in under the number.
+/// Makes the entry of a trace limit that seat 0 submitted with the number.
 pub(crate) fn limit(alloc: Global, number: u64, traces: u32) -> Result<Arc<Entry>, AllocError> {
-    handed_in(alloc, 0, number, Work::TraceLimit(traces))
+    submitted(alloc, 0, number, Work::TraceLimit(traces))
 }

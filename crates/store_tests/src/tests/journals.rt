@@ -7,9 +7,9 @@ use std::mem::drop;
 use std::sync::Arc;
 use std::test::*;
 use trace_model::{Admission, Entry, Limits, Refusal};
-use trace_samples::{first_otherwise, kept, span};
+use trace_samples::{first_mismatch, kept, span};
 
-/// Adds so many spans.
+/// Adds `count` spans.
 fn add_spans(alloc: Global, spans: &mut Vec<Span>, count: u64) -> Result<(), AllocError> {
     for id in 0..count {
         spans.push(span(alloc, 1, id)?)?;
@@ -17,7 +17,7 @@ fn add_spans(alloc: Global, spans: &mut Vec<Span>, count: u64) -> Result<(), All
     Ok(())
 }
 
-/// An entry with so many spans, sent under this `seqNo`.
+/// Makes an entry with `count` spans and this `seqNo`.
 fn sent(
     alloc: Global,
     name: (u16, u64),
@@ -29,15 +29,15 @@ fn sent(
     sent_entry(alloc, name, seq_no, "a", kept(spans, added)?)
 }
 
-/// An entry with so many spans.
+/// Makes an entry with `count` spans.
 fn entry_of(alloc: Global, seat: u16, number: u64, count: u64) -> Result<Arc<Entry>, AllocError> {
     sent(alloc, (seat, number), None, count)
 }
 
-/// A seat and a number, a `seqNo` and how many spans, and the journal's answer.
+/// A seat and a number, a `seqNo` and a number of spans, and the journal's answer.
 type Row = ((u16, u64), Option<i64>, u64, Result<u64, Refusal>);
 
-/// Whether the journal answers as the row says. A refusal must leave it as it was.
+/// Whether the journal answers as the row says. A refusal must leave it unchanged.
 fn is_answered(alloc: Global, journal: &mut Journal, row: &Row) -> Result<bool, AllocError> {
     let (name, seq_no, spans, want) = *row;
     let before = (journal.len(), journal.span_count());
@@ -83,7 +83,7 @@ const IN_ORDER: [Row; 9] = [
     ),
 ];
 
-/// The number of the entry at the place, 0 where there is none.
+/// Returns the number of the entry at the place, 0 if there is none.
 fn number_at(journal: &Journal, place: u64) -> u64 {
     journal.entry(place).map_or(0, |entry| entry.number)
 }
@@ -98,13 +98,13 @@ fn numbers_at(journal: &Journal) -> [u64; 4] {
     ]
 }
 
-/// The first row that isn't answered as it says, the numbers at the places 0, 1, 4 and 5, how many entries there are and
-/// how many spans may be.
+/// Returns the first row that isn't answered as it says, the numbers at the places 0, 1, 4 and 5, the number of
+/// entries and the limit of spans.
 fn in_order(
     alloc: Global,
     journal: &mut Journal,
 ) -> Result<(Option<usize>, [u64; 4], usize, u32), AllocError> {
-    let first = first_otherwise(&IN_ORDER, |row| is_answered(alloc, journal, row))?;
+    let first = first_mismatch(&IN_ORDER, |row| is_answered(alloc, journal, row))?;
     Ok((
         first,
         numbers_at(journal),
@@ -113,7 +113,7 @@ fn in_order(
     ))
 }
 
-/// The same in a journal that is opened for them.
+/// Like [`in_order`], in a journal that is opened for the rows.
 fn opened_in_order(
     alloc: Global,
     keys: RandomState,
@@ -163,11 +163,11 @@ const REPEATS: [Row; 11] = [
     ),
 ];
 
-/// The first row that isn't answered as it says, and how many entries there are behind them.
+/// Returns the first row that isn't answered as it says, and the number of entries after all of them.
 fn repeated(alloc: Global, keys: RandomState) -> Result<(Option<usize>, u64), Fail> {
     let limits = Limits::new(3, 9, 0, 0).ok_or("limits")?;
     let mut journal = Journal::new(alloc, keys, limits)?;
-    let first = first_otherwise(&REPEATS, |row| is_answered(alloc, &mut journal, row));
+    let first = first_mismatch(&REPEATS, |row| is_answered(alloc, &mut journal, row));
     let len = journal.len();
     drop(journal);
     Ok((first?, len))
@@ -181,8 +181,8 @@ fn answers_repeats(rt: HostRuntime) -> Result<(), Fail> {
     Ok(())
 }
 
-/// The first entry of a journal: the number and the seat of a copy, what is judged of it, and whether the journal
-/// was empty before and isn't behind it.
+/// Returns, for the first entry of a journal, the number and the seat of a copy, the judgement, and whether the
+/// journal was empty before and isn't afterwards.
 fn first(
     alloc: Global,
     journal: &mut Journal,
@@ -204,7 +204,7 @@ fn first(
     Ok((number, seat, judged, was_empty && !journal.is_empty()))
 }
 
-/// What is judged of a second one.
+/// Returns the judgement of a second entry.
 fn second(alloc: Global, journal: &Journal) -> Result<Result<Admission, Refusal>, AllocError> {
     let second = journal.recorded(entry_of(alloc, 1, 1, 0)?);
     let judged = journal.judge(&second);
@@ -212,13 +212,13 @@ fn second(alloc: Global, journal: &Journal) -> Result<Result<Admission, Refusal>
     Ok(judged)
 }
 
-/// What is seen of the first, and judged of the second.
+/// What is seen of the first entry, and the judgement of the second.
 type Two = (
     (u64, u16, Result<Admission, Refusal>, bool),
     Result<Admission, Refusal>,
 );
 
-/// Both in a journal for one batch and one span.
+/// Both entries in a journal for one batch and one span.
 fn two(alloc: Global, keys: RandomState) -> Result<Two, Fail> {
     let limits = Limits::new(1, 1, 0, 0).ok_or("limits")?;
     let mut journal = Journal::new(alloc, keys, limits)?;

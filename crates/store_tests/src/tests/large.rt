@@ -19,7 +19,7 @@ fn numbered(alloc: Global, number: u64) -> Result<Arc<Entry>, AllocError> {
     entry(alloc, 0, number, "a", spans)
 }
 
-/// Adds so many of these entries.
+/// Adds `many` of these entries.
 fn add_entries(alloc: Global, entries: &mut Vec<Arc<Entry>>, many: u32) -> Result<(), AllocError> {
     for number in 1..u64::from(many) + 1 {
         entries.push(numbered(alloc, number)?)?;
@@ -27,14 +27,14 @@ fn add_entries(alloc: Global, entries: &mut Vec<Arc<Entry>>, many: u32) -> Resul
     Ok(())
 }
 
-/// So many of these entries.
+/// Makes `many` of these entries.
 fn entries_of(alloc: Global, many: u32) -> Result<Vec<Arc<Entry>>, AllocError> {
     let mut entries = Vec::new(alloc);
     let added = add_entries(alloc, &mut entries, many);
     kept(entries, added)
 }
 
-/// How many spans a trace of an answer has.
+/// Returns the number of spans of a trace of an answer.
 fn span_count(trace: &AnsweredTrace) -> usize {
     match trace.form() {
         TraceForm::Ready(made) => made.len(),
@@ -42,7 +42,7 @@ fn span_count(trace: &AnsweredTrace) -> usize {
     }
 }
 
-/// How many spans, names, operations, traces, ids or links were answered.
+/// Returns the number of spans, names, operations, traces, ids or links of an answer.
 fn count_in(answer: &Answer) -> usize {
     match answer {
         Answer::Trace(Some(trace)) => span_count(trace),
@@ -55,7 +55,7 @@ fn count_in(answer: &Answer) -> usize {
     }
 }
 
-/// How much a store of the entries answers.
+/// Returns the size of the answer of a store of the entries.
 fn answered(
     alloc: Global,
     keys: RandomState,
@@ -77,7 +77,7 @@ fn last_trace() -> Query {
     }
 }
 
-/// How many names are answered of the entries, and how many spans of the last trace.
+/// Returns the number of names in the answer for the entries, and the number of spans of the last trace.
 fn name_counts(
     alloc: Global,
     keys: RandomState,
@@ -90,7 +90,7 @@ fn name_counts(
     Ok([services, names, operations, last])
 }
 
-/// How many traces and ids are found among the entries.
+/// Returns the number of traces and of ids that are found among the entries.
 fn found_counts(
     alloc: Global,
     keys: RandomState,
@@ -106,16 +106,16 @@ fn found_counts(
     Ok([traces, ids])
 }
 
-/// How many of each.
+/// The number of each.
 type Counts = ([usize; 4], [usize; 2]);
 
-/// Both among the entries.
+/// Counts both among the entries.
 fn counts_among(alloc: Global, keys: RandomState, entries: &[Arc<Entry>]) -> Result<Counts, Fail> {
     let names = name_counts(alloc, keys, entries)?;
     Ok((names, found_counts(alloc, keys, entries)?))
 }
 
-/// Both among many entries.
+/// Counts both among many entries.
 fn counts(alloc: Global, keys: RandomState) -> Result<Counts, Fail> {
     let entries = entries_of(alloc, MANY)?;
     let counts = counts_among(alloc, keys, &entries);
@@ -123,7 +123,7 @@ fn counts(alloc: Global, keys: RandomState) -> Result<Counts, Fail> {
     counts
 }
 
-/// No answer gives up past a size.
+/// No answer is cut off at some size.
 #[test]
 fn store_of_many_entries(rt: HostRuntime) -> Result<(), Fail> {
     let counts = counts(rt.alloc(), RandomState::new(&rt)?)?;
@@ -131,14 +131,14 @@ fn store_of_many_entries(rt: HostRuntime) -> Result<(), Fail> {
     Ok(())
 }
 
-/// How many spans there are.
+/// Returns the number of spans.
 fn counted(spans: Vec<Placed>) -> usize {
     let count = spans.len();
     drop(spans);
     count
 }
 
-/// How many spans of the trace of this number the plain store shows, if it shows the trace.
+/// Returns the number of spans of the trace of this number in the plain store, if it shows the trace.
 fn shown_plainly(alloc: Global, limit: u32, number: u64) -> Result<Option<usize>, Fail> {
     let limits = Limits::new(3, 3, limit, 0).ok_or("limits")?;
     let entries = entries_of(alloc, 3)?;

@@ -11,7 +11,7 @@ use std::mem::drop;
 use std::sync::Arc;
 use std::test::*;
 use trace_model::{Answer, Entry, Limits, Operation, Query};
-use trace_samples::{first_otherwise, kept, list_of, placed, span, text_tag};
+use trace_samples::{first_mismatch, kept, list_of, placed, span, text_tag};
 
 /// Service, operation and kind, as they are added.
 const ADDED: [(&str, &str, &str); 5] = [
@@ -66,7 +66,7 @@ fn history_of(alloc: Global, added: &[(&str, &str, &str)]) -> Result<Vec<Arc<Ent
     kept(entries, added)
 }
 
-/// What the store of these entries answers, where one trace is shown.
+/// Returns the answer of the store of these entries, which shows one trace.
 fn answer_to(
     alloc: Global,
     keys: RandomState,
@@ -108,7 +108,7 @@ fn operations_of(
     operations_in(answer_to(alloc, keys, entries, query)?)
 }
 
-/// Whether these are the services that are named.
+/// Whether these are the listed services.
 fn has_services(
     alloc: Global,
     keys: RandomState,
@@ -118,7 +118,7 @@ fn has_services(
     Ok(is_named(&services_of(alloc, keys, entries)?, wanted))
 }
 
-/// Whether these are the operations of the service that are named.
+/// Whether these are the listed operations of the service.
 fn has_names(
     alloc: Global,
     keys: RandomState,
@@ -137,7 +137,7 @@ fn is_named(names: &[Text], wanted: &[&str]) -> bool {
         .eq(wanted.iter().copied())
 }
 
-/// What the entries of `ADDED` are named by.
+/// Whether the entries of `ADDED` are listed by their names.
 fn names_added(
     alloc: Global,
     keys: RandomState,
@@ -150,7 +150,7 @@ fn names_added(
     ])
 }
 
-/// The same of a history of them.
+/// Like [`names_added`], for a history of them.
 fn names_once(alloc: Global, keys: RandomState) -> Result<[bool; 3], Fail> {
     let entries = history_of(alloc, &ADDED)?;
     let names = names_added(alloc, keys, &entries);
@@ -167,7 +167,7 @@ fn names_once_in_order(rt: HostRuntime) -> Result<(), Fail> {
     Ok(())
 }
 
-/// Adds entries without spans, of service `a`, before and behind one of service `b`.
+/// Adds entries without spans, of service `a`, before and after one of service `b`.
 fn add_without_spans(alloc: Global, entries: &mut Vec<Arc<Entry>>) -> Result<(), AllocError> {
     entries.push(entry(alloc, 0, 1, "a", Vec::new(alloc))?)?;
     entries.push(named_entry(alloc, 2, ("b", "get", "client"))?)?;
@@ -175,7 +175,7 @@ fn add_without_spans(alloc: Global, entries: &mut Vec<Arc<Entry>>) -> Result<(),
     Ok(())
 }
 
-/// What these are named by.
+/// Whether these are listed as they should be.
 fn names_without_spans(
     alloc: Global,
     keys: RandomState,
@@ -189,7 +189,7 @@ fn names_without_spans(
     ])
 }
 
-/// The same of a history of them.
+/// Like [`names_without_spans`], for a history of them.
 fn named_without_spans(alloc: Global, keys: RandomState) -> Result<[bool; 4], Fail> {
     let mut entries = Vec::new(alloc);
     let added = add_without_spans(alloc, &mut entries);
@@ -199,7 +199,7 @@ fn named_without_spans(alloc: Global, keys: RandomState) -> Result<[bool; 4], Fa
     names
 }
 
-/// A batch without spans has a service, but no arrival has it: it is named nowhere.
+/// A batch without spans has a service, but no arrival has it, so it isn't listed.
 #[test]
 fn service_without_spans(rt: HostRuntime) -> Result<(), Fail> {
     let named = named_without_spans(rt.alloc(), RandomState::new(&rt)?)?;
@@ -207,7 +207,7 @@ fn service_without_spans(rt: HostRuntime) -> Result<(), Fail> {
     Ok(())
 }
 
-/// The kind that is asked for, and the operations of `c` with it.
+/// The requested kind, and the operations of `c` with it.
 const ASKED: [(&str, &[(&str, &str)]); 3] = [
     ("", &[("add", ""), ("get", "client"), ("get", "server")]),
     ("client", &[("get", "client")]),
@@ -233,10 +233,10 @@ fn has_operations(
     Ok(is_listed(&operations_of(alloc, keys, entries, "c", kind)?, wanted))
 }
 
-/// The first row that the store of the history of `ADDED` doesn't list as it says; None where it lists all so.
+/// Returns the first row that the store of the history of `ADDED` doesn't list as it says; None if it lists all so.
 fn first_unlisted(alloc: Global, keys: RandomState) -> Result<Option<usize>, Fail> {
     let entries = history_of(alloc, &ADDED)?;
-    let first = first_otherwise(&ASKED, |(kind, wanted)| {
+    let first = first_mismatch(&ASKED, |(kind, wanted)| {
         has_operations(alloc, keys, &entries, *kind, *wanted)
     });
     drop(entries);
@@ -305,7 +305,7 @@ fn same_services(
     Ok(services_of(alloc, keys, entries)? == plain)
 }
 
-/// The same questions to the store of the entries and to the plain store of their spans.
+/// Whether the store of the entries and the plain store of their spans answer these queries alike.
 fn same_named(
     alloc: Global,
     keys: RandomState,
@@ -323,7 +323,7 @@ fn same_named(
     Ok(same)
 }
 
-/// Adds a span of the service to what is handed in, and as it stands then.
+/// Adds a span of the service to what is submitted, and as it is then stored.
 fn add_any(
     alloc: Global,
     dice: &mut Dice,
@@ -338,7 +338,7 @@ fn add_any(
     Ok(())
 }
 
-/// Adds so many spans of the service.
+/// Adds several spans of the service.
 fn add_many(
     alloc: Global,
     dice: &mut Dice,
@@ -378,7 +378,7 @@ fn add_reported(
     Ok(())
 }
 
-/// Some entries are answered as by the plain store of their spans.
+/// Whether some entries are answered as by the plain store of their spans.
 fn agrees(alloc: Global, keys: RandomState, dice: &mut Dice) -> Result<bool, Fail> {
     let mut entries = Vec::new(alloc);
     let mut spans = Vec::new(alloc);
@@ -410,7 +410,7 @@ fn add_served(alloc: Global, entries: &mut Vec<Arc<Entry>>) -> Result<(), AllocE
     Ok(())
 }
 
-/// A history of these.
+/// Makes a history of these.
 fn served(alloc: Global) -> Result<Vec<Arc<Entry>>, AllocError> {
     let mut entries = Vec::new(alloc);
     let added = add_served(alloc, &mut entries);
@@ -444,7 +444,7 @@ fn operations_in(answer: Answer) -> Result<Vec<Operation>, Fail> {
     }
 }
 
-/// What the plain store answers of that history, to a question that is given up behind that.
+/// Returns the plain store's answer for that history, to a query that is dropped afterwards.
 fn answer_of(alloc: Global, query: Query) -> Result<Answer, Fail> {
     let limits = one_trace()?;
     let entries = served(alloc);
@@ -457,7 +457,7 @@ fn answer_of(alloc: Global, query: Query) -> Result<Answer, Fail> {
     Ok(answer?)
 }
 
-/// Whether the plain store names these, of that history.
+/// Whether the plain store lists these names of that history.
 fn has_plainly(alloc: Global, query: Query, wanted: &[&str]) -> Result<bool, Fail> {
     Ok(is_named(&names_in(answer_of(alloc, query)?)?, wanted))
 }

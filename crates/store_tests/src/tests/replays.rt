@@ -1,4 +1,4 @@
-//! Stores that take entries in at once, and what they answer.
+//! Stores of a list of entries, and their answers.
 
 use span_store::{SpanStore, replay, replayed_answer};
 use std::alloc::Global;
@@ -8,7 +8,7 @@ use std::sync::Arc;
 use std::test::Fail;
 use trace_model::{Answer, Entry, Limits, Query};
 
-/// A store of these limits that has taken in the entries.
+/// Makes a store of these limits that has applied the entries.
 pub(crate) fn replayed(
     alloc: Global,
     keys: RandomState,
@@ -21,7 +21,7 @@ pub(crate) fn replayed(
     }
 }
 
-/// What a store of these limits that takes in the entries answers to a question that is given up behind that.
+/// Returns the answer of such a store to a query that is dropped afterwards.
 pub(crate) fn store_answer(
     alloc: Global,
     keys: RandomState,

@@ -8,19 +8,19 @@ use std::sync::Arc;
 use std::test::*;
 use trace_assembly::{Assembly, Spot};
 use trace_model::{Answer, Entry, Limits, Query};
-use trace_ring::{Arrived, Gone, Ring};
+use trace_ring::{Arrived, Evicted, Ring};
 use trace_samples::{made_spans, span};
 
-/// What the arrival did, for which there must be room in a ring that keeps its limit.
+/// Returns the effect of the arrival, for which there must be room in a ring that keeps its limit.
 fn arrive(rt: &impl Abort, ring: &mut Ring, trace: TraceId) -> Arrived {
     assert!(rt; ring.has_room());
     assert!(rt; ring.limit() == 0 || ring.len() <= ring.limit() as usize);
-    ring.arrive_near(0, trace)
+    ring.arrive_with_guess(0, trace)
 }
 
-/// A trace that left, before whose first sight so many traces were seen.
-fn gone(trace: u64, row: u32) -> Gone {
-    Gone {
+/// A trace that left, with its row.
+fn gone(trace: u64, row: u32) -> Evicted {
+    Evicted {
         trace: id(trace),
         row,
     }
@@ -81,7 +81,7 @@ fn add(rt: &impl Abort, assembly: &mut Assembly, trace: TraceId, place: u64) -> 
     assert!(rt;
         assembly.ring().limit() == 0 || assembly.ring().len() <= assembly.ring().limit() as usize
     );
-    assembly.arrive_near(0, trace, spot(place))
+    assembly.arrive_with_guess(0, trace, spot(place))
 }
 
 #[test]
@@ -150,7 +150,7 @@ fn history(alloc: Global, rows: &[&[(u64, u64)]]) -> Result<Vec<Arc<Entry>>, All
     Ok(entries)
 }
 
-/// What the plain store answers under the limit of traces.
+/// Returns the plain store's answer under the limit of traces.
 fn found(alloc: Global, limit: u32, rows: &[&[(u64, u64)]], trace: u64) -> Result<Answer, Fail> {
     let limits = Limits::new(10, 10, limit, 0).ok_or("limits")?;
     let entries = history(alloc, rows)?;
@@ -159,7 +159,7 @@ fn found(alloc: Global, limit: u32, rows: &[&[(u64, u64)]], trace: u64) -> Resul
     Ok(plain_answer(alloc, &entries, limits, &query)?)
 }
 
-/// The trace is found with the spans of these ids; or not at all.
+/// Whether the trace is found with the spans of these ids, or isn't found if there are none.
 fn is_wanted(answer: &Answer, wanted: Option<&[u64]>) -> bool {
     match (answer, wanted) {
         (Answer::Trace(None), None) => true,
@@ -180,7 +180,7 @@ const ANEW: [&[(u64, u64)]; 1] = [&[(1, 1), (2, 2), (1, 3)]];
 
 const BACK: [&[(u64, u64)]; 4] = [&[(1, 1)], &[(2, 2)], &[(3, 3)], &[(1, 4)]];
 
-/// The limit of traces, what was handed in, a trace, and the ids of its spans, where it is found.
+/// The limit of traces, what was submitted, a trace, and the ids of its spans, if it is found.
 const SHOWN: [(u32, &[&[(u64, u64)]], u64, Option<&[u64]>); 8] = [
     (2, &LATE, 1, None),
     (2, &LATE, 2, Some(&[2])),

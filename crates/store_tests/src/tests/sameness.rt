@@ -1,4 +1,4 @@
-//! Whether a store answers a question as the plain store of its entries.
+//! Whether a store answers a query as the plain store of its entries.
 
 use crate::tests::shown::shown;
 use plain_store::plain_answer;
@@ -7,7 +7,7 @@ use std::alloc::{AllocError, Global};
 use std::mem::drop;
 use trace_model::Query;
 
-/// What the plain store of the store's entries answers, as text.
+/// Returns the plain store's answer for the store's entries, as text.
 fn plainly(alloc: Global, store: &SpanStore, query: &Query) -> Result<String, AllocError> {
     shown(
         alloc,
@@ -15,19 +15,19 @@ fn plainly(alloc: Global, store: &SpanStore, query: &Query) -> Result<String, Al
     )
 }
 
-/// What the store answers, as text.
+/// Returns the store's answer, as text.
 fn quickly(alloc: Global, store: &SpanStore, query: &Query) -> Result<String, AllocError> {
     shown(alloc, store.answer(query).ok().ok_or(AllocError)?)
 }
 
-/// The store answers the question as the plain store of its entries.
+/// Whether the store answers the query as the plain store of its entries.
 fn is_same(alloc: Global, store: &SpanStore, query: &Query) -> Result<bool, AllocError> {
     let quick = quickly(alloc, store, query)?;
     let plain = plainly(alloc, store, query)?;
     Ok(quick == plain)
 }
 
-/// The same of a question that is given up behind that.
+/// Like [`is_same`], for a query that is dropped afterwards.
 pub(crate) fn same_answer(
     alloc: Global,
     store: &SpanStore,

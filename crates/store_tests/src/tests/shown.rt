@@ -3,12 +3,12 @@ use std::alloc::{AllocError, Global};
 use std::mem::drop;
 use trace_model::{Answer, AnsweredTrace, Link, ShownTrace};
 
-/// The spans of a trace, without what a store says beside them.
+/// The spans of a trace, without the places of their entries.
 fn spans_text(alloc: Global, trace: &ShownTrace) -> Result<String, AllocError> {
     Ok(format!(in alloc; "{:?}", trace.as_slice())?)
 }
 
-/// The same of a trace of an answer, whether it is made already or not.
+/// The spans of a trace of an answer, copied or not.
 fn trace_text(alloc: Global, trace: AnsweredTrace) -> Result<String, AllocError> {
     let made = trace_adjust::shown(alloc, trace)?;
     let text = spans_text(alloc, &made);
@@ -16,7 +16,7 @@ fn trace_text(alloc: Global, trace: AnsweredTrace) -> Result<String, AllocError>
     text
 }
 
-/// The same of each of the traces, in their order.
+/// The spans of each of the traces, in their order.
 fn traces_text(alloc: Global, traces: Seq<AnsweredTrace>) -> Result<String, AllocError> {
     let mut text = String::new(alloc);
     for trace in traces.into_vec() {
@@ -25,7 +25,7 @@ fn traces_text(alloc: Global, traces: Seq<AnsweredTrace>) -> Result<String, Allo
     Ok(text)
 }
 
-/// The same of links, whose names may be texts of their own or lie in entries.
+/// The links, whose names may be texts of their own or in entries.
 fn links_text(alloc: Global, links: &[Link]) -> Result<String, AllocError> {
     let mut text = String::new(alloc);
     for link in links {

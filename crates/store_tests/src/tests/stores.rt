@@ -12,7 +12,7 @@ use std::mem::drop;
 use std::sync::Arc;
 use std::test::*;
 use trace_model::{Entry, Find, Limits, Query, Refusal};
-use trace_samples::{beside, first_otherwise, kept, list_of, span, text_tag};
+use trace_samples::{beside, first_mismatch, kept, list_of, span, text_tag};
 
 /// A number that looks random and is the same in every run.
 fn after(seed: u64) -> u64 {
@@ -54,7 +54,7 @@ fn set_by(alloc: Global, span: &mut Span, seed: u64) -> Result<(), AllocError> {
     Ok(())
 }
 
-/// A span of the trace, and what else it has by the seed.
+/// Makes a span of the trace, with other contents by the seed.
 fn span_by(alloc: Global, trace: u64, seed: u64) -> Result<Span, AllocError> {
     let seed = after(seed) >> 20;
     let mut span = span(alloc, trace, seed % 5)?;
@@ -62,7 +62,7 @@ fn span_by(alloc: Global, trace: u64, seed: u64) -> Result<Span, AllocError> {
     kept(span, set)
 }
 
-/// Adds a span of each of these traces, and gives the seed behind them.
+/// Adds a span of each of these traces, and returns the next seed.
 fn add_spans(
     alloc: Global,
     spans: &mut Vec<Span>,
@@ -85,7 +85,7 @@ fn entry_of(alloc: Global, number: u64, traces: &[u64]) -> Result<Arc<Entry>, Al
     entry(alloc, 0, number, service(seed >> 40), spans)
 }
 
-/// The pairs of a tag that a search asks for.
+/// The pairs of a tag that a search requests.
 fn asked_tags(alloc: Global, seed: u64) -> Result<Seq<(Text, Text)>, AllocError> {
     if seed % 5 != 0 {
         return Ok(Seq::new(alloc));
@@ -136,7 +136,7 @@ fn same_trace(alloc: Global, store: &SpanStore, trace: u64, raw: bool) -> Result
     same_answer(alloc, store, Query::Trace { id: id(trace), raw })
 }
 
-/// Four traces are answered as in the plain store, as they came and adjusted.
+/// Whether four traces are answered as in the plain store, as reported and adjusted.
 fn same_four_traces(alloc: Global, store: &SpanStore) -> Result<bool, AllocError> {
     let mut same = true;
     for trace in 0..4 {
@@ -147,7 +147,7 @@ fn same_four_traces(alloc: Global, store: &SpanStore) -> Result<bool, AllocError
     Ok(same)
 }
 
-/// The store answers every question as the plain store of its entries.
+/// Whether the store answers every query as the plain store of its entries.
 fn same_answers(alloc: Global, store: &SpanStore, seed: u64) -> Result<bool, AllocError> {
     Ok(
         same_four_traces(alloc, store)?
@@ -157,7 +157,7 @@ fn same_answers(alloc: Global, store: &SpanStore, seed: u64) -> Result<bool, All
     )
 }
 
-/// Three traces, and the seed behind them.
+/// Three traces, and the next seed.
 fn three_traces(seed: u64) -> ([u64; 3], u64) {
     let first = after(seed);
     let second = after(first);
@@ -168,7 +168,7 @@ fn three_traces(seed: u64) -> ([u64; 3], u64) {
     )
 }
 
-/// Applies an entry, which has to be taken, and asks the store everything.
+/// Applies an entry, which has to be accepted, and queries the store for everything.
 fn grow(
     alloc: Global,
     store: &mut SpanStore,
@@ -179,7 +179,7 @@ fn grow(
     Ok(place == Ok(store.len()) && same_answers(alloc, store, seed)?)
 }
 
-/// An entry by the seed, and the seed behind it.
+/// An entry by the seed, and the next seed.
 type Next = Result<(Arc<Entry>, u64), AllocError>;
 
 /// An entry with spans of three traces.
@@ -223,8 +223,7 @@ impl History {
     }
 }
 
-/// Applies the history, and says whether the store answered as the plain one behind each entry, and the seed
-/// behind the last.
+/// Applies the history. Returns whether the store answered as the plain one after each entry, and the next seed.
 fn grown(
     alloc: Global,
     store: &mut SpanStore,
@@ -241,7 +240,7 @@ fn grown(
     Ok((same, seed))
 }
 
-/// Opens a store with this limit of traces, and applies the history. It answers as the plain store, before too.
+/// Opens a store with this limit of traces, applies the history, and compares it with the plain store, also before.
 fn same_history(
     alloc: Global,
     keys: RandomState,
@@ -259,7 +258,7 @@ fn same_history(
     Ok((is_empty && before? && same, seed))
 }
 
-/// The history in stores with these limits of traces, each behind the one before.
+/// Compares the history in stores with these limits of traces, one after the other.
 fn same_histories(
     alloc: Global,
     keys: RandomState,
@@ -292,7 +291,7 @@ fn limits_as_the_plain_store(rt: HostRuntime) -> Result<(), Fail> {
     Ok(())
 }
 
-/// Applies 30 entries with spans of three traces each, of which most come again. Each is taken.
+/// Applies 30 entries with spans of three traces each, most of which come more than once. Each is accepted.
 fn takes_traces(alloc: Global, store: &mut SpanStore) -> Result<bool, AllocError> {
     let mut taken = true;
     for number in 1..31 {
@@ -302,7 +301,7 @@ fn takes_traces(alloc: Global, store: &mut SpanStore) -> Result<bool, AllocError
     Ok(taken)
 }
 
-/// Asks the store for each of these traces, and for others by searches.
+/// Queries the store for each of these traces, and for others by searches.
 fn same_traces(alloc: Global, store: &SpanStore) -> Result<bool, AllocError> {
     let mut same = true;
     for number in 1..31 {
@@ -314,7 +313,7 @@ fn same_traces(alloc: Global, store: &SpanStore) -> Result<bool, AllocError> {
     Ok(same)
 }
 
-/// Applies the entries under a limit of traces, and asks for their traces.
+/// Applies the entries under a limit of traces, and queries their traces.
 fn same_many_traces(alloc: Global, keys: RandomState, limit: u32) -> Result<bool, Fail> {
     let limits = Limits::new(30, 90, limit, 0).ok_or("limits")?;
     let mut store = SpanStore::open(alloc, keys, limits)?;
@@ -324,7 +323,7 @@ fn same_many_traces(alloc: Global, keys: RandomState, limit: u32) -> Result<bool
     Ok(taken? && same?)
 }
 
-/// Many traces, of which most come again, under a limit of traces too: their ids stand in few places.
+/// Many traces, most of which come more than once, also under a limit of traces: their ids share few places.
 #[test]
 fn many_traces_as_the_plain_store(rt: HostRuntime) -> Result<(), Fail> {
     let keys = RandomState::new(&rt)?;
@@ -353,7 +352,7 @@ fn named_entry(alloc: Global, number: u64) -> Result<Arc<Entry>, AllocError> {
     entry(alloc, 0, number, name?.as_str(), spans)
 }
 
-/// Applies 30 entries with new names. Each is taken.
+/// Applies 30 entries with new names. Each is accepted.
 fn takes_names(alloc: Global, store: &mut SpanStore) -> Result<bool, AllocError> {
     let mut taken = true;
     for number in 1..31 {
@@ -362,13 +361,13 @@ fn takes_names(alloc: Global, store: &mut SpanStore) -> Result<bool, AllocError>
     Ok(taken)
 }
 
-/// The operations of the service with this number's name are answered as in the plain store.
+/// Whether the operations of the service with this number's name are answered as in the plain store.
 fn same_names_of(alloc: Global, store: &SpanStore, number: u64) -> Result<bool, AllocError> {
     let service = name_of(alloc, number)?;
     same_answer(alloc, store, Query::OperationNames { service })
 }
 
-/// Asks the store for the services, and for the operations of each and of some more.
+/// Queries the store for the services, and for the operations of each and of some more.
 fn same_many_names(alloc: Global, store: &SpanStore) -> Result<bool, AllocError> {
     let mut same = same_answer(alloc, store, Query::Services)?;
     for number in 0..34 {
@@ -377,7 +376,7 @@ fn same_many_names(alloc: Global, store: &SpanStore) -> Result<bool, AllocError>
     Ok(same)
 }
 
-/// Applies the entries with new names, and asks for them.
+/// Applies the entries with new names, and queries them.
 fn same_filled_names(alloc: Global, keys: RandomState) -> Result<bool, Fail> {
     let limits = Limits::new(30, 30, 0, 0).ok_or("limits")?;
     let mut store = SpanStore::open(alloc, keys, limits)?;
@@ -387,7 +386,7 @@ fn same_filled_names(alloc: Global, keys: RandomState) -> Result<bool, Fail> {
     Ok(taken? && same?)
 }
 
-/// As many names as there is room for: some of them stand where the hashes of others point.
+/// As many names as there is room for: some of them are where the hashes of others point.
 #[test]
 fn many_names_as_the_plain_store(rt: HostRuntime) -> Result<(), Fail> {
     assert!(rt; same_filled_names(rt.alloc(), RandomState::new(&rt)?)?);
@@ -402,14 +401,14 @@ fn add_entries(alloc: Global, entries: &mut Vec<Arc<Entry>>) -> Result<(), Alloc
     Ok(())
 }
 
-/// These entries.
+/// Makes these entries.
 fn entries_of(alloc: Global) -> Result<Vec<Arc<Entry>>, AllocError> {
     let mut entries = Vec::new(alloc);
     let added = add_entries(alloc, &mut entries);
     kept(entries, added)
 }
 
-/// Opens a store for 50 of them, once more where memory ran out.
+/// Opens a store for 50 of them, and tries once more if memory ran out.
 fn opened(alloc: Global, keys: RandomState) -> Result<SpanStore, Fail> {
     let limits = Limits::new(50, 200, 3, 0).ok_or("limits")?;
     match SpanStore::open(alloc, keys, limits) {
@@ -418,7 +417,7 @@ fn opened(alloc: Global, keys: RandomState) -> Result<SpanStore, Fail> {
     }
 }
 
-/// Hands the entries to the store. It gives how many are taken, and why the next one isn't.
+/// Applies the entries to the store. Returns the number that is accepted, and why the next one isn't.
 fn taken(store: &mut SpanStore, entries: Vec<Arc<Entry>>) -> (u64, Option<Refusal>) {
     for entry in entries {
         if let Err(refusal) = store.apply(entry) {
@@ -428,7 +427,7 @@ fn taken(store: &mut SpanStore, entries: Vec<Arc<Entry>>) -> (u64, Option<Refusa
     (store.len(), None)
 }
 
-/// The same of all entries.
+/// Like [`taken`], for all entries.
 fn taken_of_all(
     alloc: Global,
     store: &mut SpanStore,
@@ -437,7 +436,7 @@ fn taken_of_all(
     Ok(taken(store, entries))
 }
 
-/// How many of the entries a store that is opened for 50 takes, and why it doesn't take the next one.
+/// Returns the number of entries that a store which is opened for 50 accepts, and why it refuses the next one.
 fn filled(alloc: Global, keys: RandomState) -> Result<(u64, Option<Refusal>), Fail> {
     let mut store = opened(alloc, keys)?;
     let got = taken_of_all(alloc, &mut store);
@@ -445,8 +444,9 @@ fn filled(alloc: Global, keys: RandomState) -> Result<(u64, Option<Refusal>), Fa
     Ok(got?)
 }
 
-/// 50 entries are taken, and the next one is refused since the store is full, not for memory. The check of allocations
-/// sees that a store which is filled so takes as many as one that is only opened, and refuses each.
+/// 50 entries are accepted, and the next one is refused since the store is full, not for memory. The check of
+/// allocations sees that a store which is filled this way makes as many as one that is only opened, and refuses
+/// each.
 #[test]
 fn apply_without_memory(rt: HostRuntime) -> Result<(), Fail> {
     let got = filled(rt.alloc(), RandomState::new(&rt)?)?;
@@ -455,7 +455,7 @@ fn apply_without_memory(rt: HostRuntime) -> Result<(), Fail> {
     Ok(())
 }
 
-/// How many entries there are.
+/// Returns the number of entries.
 fn count_of_all(alloc: Global) -> Result<usize, AllocError> {
     let entries = entries_of(alloc)?;
     let count = entries.len();
@@ -463,7 +463,7 @@ fn count_of_all(alloc: Global) -> Result<usize, AllocError> {
     Ok(count)
 }
 
-/// How many entries there are beside a store, and whether it is empty.
+/// Returns the number of entries of a store, and whether it is empty.
 fn beside_a_store(alloc: Global, keys: RandomState) -> Result<(usize, bool), Fail> {
     let store = opened(alloc, keys)?;
     let count = count_of_all(alloc);
@@ -483,7 +483,7 @@ const FIRST: &[u64] = &[1, 2, 3];
 
 const SECOND: &[u64] = &[1, 1];
 
-/// An entry's number and the traces of its spans, and what the store says to it.
+/// An entry's number and the traces of its spans, and the store's answer.
 type Row = (u64, &'static [u64], Result<u64, Refusal>);
 
 /// In a store for three batches and five spans.
@@ -510,18 +510,19 @@ const ROWS: [Row; 6] = [
     ),
 ];
 
-/// The store answers an entry as the row says, and then answers queries as the plain store.
+/// Whether the store answers an entry as the row says, and then answers queries as the plain store.
 fn is_as_said(alloc: Global, store: &mut SpanStore, row: &Row) -> Result<bool, AllocError> {
     let (number, traces, want) = *row;
     let got = store.apply(entry_of(alloc, number, traces)?);
     Ok(got == want && same_answers(alloc, store, number)?)
 }
 
-/// The first row that a store that is opened for them doesn't answer as it says; None where it answers all so.
+/// Returns the first row that a store which is opened for them doesn't answer as it says; None if it answers all
+/// so.
 fn first_unanswered(alloc: Global, keys: RandomState) -> Result<Option<usize>, Fail> {
     let limits = Limits::new(3, 5, 2, 0).ok_or("limits")?;
     let mut store = SpanStore::open(alloc, keys, limits)?;
-    let first = first_otherwise(&ROWS, |row| is_as_said(alloc, &mut store, row));
+    let first = first_mismatch(&ROWS, |row| is_as_said(alloc, &mut store, row));
     drop(store);
     Ok(first?)
 }
@@ -551,7 +552,7 @@ fn numbered(alloc: Global, numbers: &[u64]) -> Result<Vec<Arc<Entry>>, AllocErro
     kept(entries, added)
 }
 
-/// The first is handed in twice, and the last has no room.
+/// The first is submitted twice, and the last has no room.
 const HANDED_IN: &[u64] = &[1, 1, 2, 3];
 
 /// Those that are accepted.
@@ -562,12 +563,12 @@ fn for_two() -> Result<Limits, Fail> {
     Ok(Limits::new(3, 5, 2, 0).ok_or("limits")?)
 }
 
-/// Whether the entry is among these, whole.
+/// Whether the entry is among these, unchanged.
 fn is_among(entries: &[Arc<Entry>], held: &Entry) -> bool {
     entries.iter().any(|one| one.number == held.number && one.work.is_same(&held.work))
 }
 
-/// The numbers of those that a store holds whole, in its order.
+/// The numbers of those that a store holds unchanged, in its order.
 fn numbers_held(
     alloc: Global,
     held: &[Arc<Entry>],
@@ -582,7 +583,7 @@ fn numbers_held(
     Ok(numbers)
 }
 
-/// The numbers of those that a store of the entries accepts, in its order, where it holds them whole.
+/// The numbers of those that a store of the entries accepts, in its order, if it holds them unchanged.
 fn accepted_of(alloc: Global, keys: RandomState, entries: &[Arc<Entry>]) -> Result<Vec<u64>, Fail> {
     let store = replayed(alloc, keys, for_two()?, entries)?;
     let numbers = numbers_held(alloc, store.entries(), entries);
@@ -590,7 +591,7 @@ fn accepted_of(alloc: Global, keys: RandomState, entries: &[Arc<Entry>]) -> Resu
     Ok(numbers?)
 }
 
-/// The same of those that are handed in.
+/// The numbers of those that are submitted and accepted.
 fn accepted(alloc: Global, keys: RandomState) -> Result<Vec<u64>, Fail> {
     let entries = numbered(alloc, HANDED_IN)?;
     let numbers = accepted_of(alloc, keys, &entries);
@@ -598,7 +599,7 @@ fn accepted(alloc: Global, keys: RandomState) -> Result<Vec<u64>, Fail> {
     numbers
 }
 
-/// A store of the entries answers as the plain store.
+/// Whether a store of the entries answers as the plain store.
 fn same_replayed_of(
     alloc: Global,
     keys: RandomState,
@@ -610,7 +611,7 @@ fn same_replayed_of(
     Ok(same?)
 }
 
-/// The same of those that are handed in.
+/// Whether a store of those that are submitted does.
 fn same_replayed(alloc: Global, keys: RandomState) -> Result<bool, Fail> {
     let entries = numbered(alloc, HANDED_IN)?;
     let same = same_replayed_of(alloc, keys, &entries);
@@ -618,7 +619,7 @@ fn same_replayed(alloc: Global, keys: RandomState) -> Result<bool, Fail> {
     same
 }
 
-/// What a replay of those that are handed in answers of the services, as text.
+/// The answer of a replay of those that are submitted to a query for the services, as text.
 fn services_replayed(alloc: Global, keys: RandomState) -> Result<String, Fail> {
     let limits = for_two()?;
     let entries = numbered(alloc, HANDED_IN)?;
@@ -627,7 +628,7 @@ fn services_replayed(alloc: Global, keys: RandomState) -> Result<String, Fail> {
     Ok(shown(alloc, answer.ok().ok_or("refused")?)?)
 }
 
-/// What the plain store of the accepted ones answers of the services, as text.
+/// The plain store's answer for the accepted ones to a query for the services, as text.
 fn services_plainly(alloc: Global) -> Result<String, Fail> {
     let limits = for_two()?;
     let entries = numbered(alloc, ACCEPTED)?;
@@ -636,7 +637,7 @@ fn services_plainly(alloc: Global) -> Result<String, Fail> {
     Ok(shown(alloc, answer?)?)
 }
 
-/// Both answer the same of the services.
+/// Whether both answers are the same.
 fn same_services(alloc: Global, keys: RandomState) -> Result<bool, Fail> {
     let quick = services_replayed(alloc, keys)?;
     let plain = services_plainly(alloc)?;

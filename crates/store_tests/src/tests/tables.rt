@@ -3,7 +3,7 @@ use jaeger_model::TraceId;
 use std::hash::RandomState;
 use std::test::*;
 
-/// Ids that differ in one half alone.
+/// Ids that differ only in one half.
 fn nth(number: u32) -> TraceId {
     let number = u64::from(number);
     TraceId {
@@ -12,7 +12,7 @@ fn nth(number: u32) -> TraceId {
     }
 }
 
-/// Of so many ids in so few places, most begin their walk where another one stands, under any key.
+/// With this number of ids in few places, most walks begin where another id is, under any key.
 #[test]
 fn each_id_has_its_row(rt: HostRuntime) -> Result<(), Fail> {
     for room in [1, 2, 3, 40, 300] {
@@ -20,7 +20,7 @@ fn each_id_has_its_row(rt: HostRuntime) -> Result<(), Fail> {
         for row in 0..room {
             let id = nth(row);
             assert!(rt; table.has_room() && table.find(id).is_none());
-            assert_eq!(rt; table.enter_near(row, id), Entered::Added(row));
+            assert_eq!(rt; table.enter_with_guess(row, id), Entered::Added(row));
         }
         assert!(rt; !table.has_room());
         assert_eq!(rt; table.used(), room);
@@ -33,7 +33,7 @@ fn each_id_has_its_row(rt: HostRuntime) -> Result<(), Fail> {
     Ok(())
 }
 
-/// Each of the first ids has its row, and the one after them has none.
+/// Whether each of the first ids has its row, and the one after them has none.
 fn are_found(table: &IdTable, used: u32) -> bool {
     (0..used).all(|row| table.find(nth(row)) == Some(row)) && table.find(nth(used)).is_none()
 }
@@ -45,7 +45,7 @@ fn each_id_is_found_at_each_step_of_a_growth(rt: HostRuntime) -> Result<(), Fail
         let mut table = IdTable::with_room(rt.alloc(), RandomState::new(&rt)?, room)?;
         for row in 0..room {
             assert!(rt; table.has_room());
-            assert_eq!(rt; table.enter_near(row, nth(row)), Entered::Added(row));
+            assert_eq!(rt; table.enter_with_guess(row, nth(row)), Entered::Added(row));
             assert!(rt; are_found(&table, row + 1));
         }
     }

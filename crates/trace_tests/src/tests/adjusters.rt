@@ -14,7 +14,7 @@ const WIDEST: u64 = 18_446_744_073_709_551_615;
 /// Host, id, parent, start and duration of a span.
 pub(crate) type Row = (&'static str, u64, u64, i64, i64);
 
-/// A process on the host; without tags where the host is empty.
+/// Makes a process on the host, without tags if the host is empty.
 fn process_on(alloc: Global, host: &str) -> Result<Process, AllocError> {
     if host == "" {
         process(alloc, "")
@@ -56,7 +56,7 @@ fn placed_on(alloc: Global, host: &str, span: Span) -> Result<Placed, AllocError
     Ok(Placed { process, span })
 }
 
-/// A span with one log, at its start, and its process.
+/// Makes a span with one log, at its start, and its process.
 impl SpanRow for Row {
     fn placed(self, alloc: Global) -> Result<Placed, AllocError> {
         placed_on(alloc, self.0, logged_span(alloc, self)?)
@@ -71,7 +71,7 @@ fn warning_of(shown: &Shown) -> &str {
     }
 }
 
-/// The span and its logs start so, and it has this warning.
+/// Whether the span and its logs start then, and it has this warning.
 fn is_one(shown: &Shown, start: i64, warning: &str) -> bool {
     let span = &shown.placed.span;
     span.start == start
@@ -79,13 +79,13 @@ fn is_one(shown: &Shown, start: i64, warning: &str) -> bool {
         && warning_of(shown) == warning
 }
 
-/// There are as many spans as are wanted, and each is as wanted.
+/// Whether there are as many spans as wanted, and each is as wanted.
 fn are_all(shown: &[Shown], wanted: &[(i64, &str)]) -> bool {
     shown.len() == wanted.len()
         && shown.iter().zip(wanted).all(|(shown, (start, warning))| is_one(shown, *start, *warning))
 }
 
-/// The spans are shown as wanted under this limit.
+/// Whether the spans are shown as wanted under this limit.
 fn are_shown(
     alloc: Global,
     rows: &[Row],
@@ -180,7 +180,7 @@ pub(crate) const PAIRS: [([i64; 4], u64, i64, &str); 18] = [
     ),
 ];
 
-/// A parent and its child on another host are shown as wanted.
+/// Whether a parent and its child on another host are shown as wanted.
 fn are_shown_moved(
     alloc: Global,
     [start, long, child, short]: [i64; 4],
@@ -211,7 +211,7 @@ const ROOT: Row = ("h1", 1, 0, 1000, 101);
 
 const CHILD: Row = ("h2", 2, 1, 900, 50);
 
-/// The child, with a log so late that no time is 125 microseconds later.
+/// Makes the child, with a log so late that no time is 125 microseconds later.
 fn late_child(alloc: Global) -> Result<Placed, AllocError> {
     let (host, ..) = CHILD;
     let mut span = logged_span(alloc, CHILD)?;
@@ -238,13 +238,13 @@ fn warnings_of(alloc: Global, warning: &str) -> Result<Seq<Text>, AllocError> {
     list_of(alloc, Text::from_str(alloc, warning)?)
 }
 
-/// The span, of which something was said before.
+/// The span with an earlier warning.
 fn warned(alloc: Global, placed: Placed, warning: &str) -> Result<Shown, AllocError> {
     let (placed, warnings) = beside(placed, warnings_of(alloc, warning))?;
     Ok(Shown { placed, warnings })
 }
 
-/// Adds the spans, of each of which something was said before.
+/// Adds the spans, each with an earlier warning.
 fn add_warned(
     alloc: Global,
     shown: &mut Vec<Shown>,
@@ -257,7 +257,7 @@ fn add_warned(
     Ok(())
 }
 
-/// The root and the late child, behind a warning of each.
+/// The root and the late child, each with an earlier warning.
 fn late_warned(alloc: Global) -> Result<Vec<Shown>, AllocError> {
     let mut shown = Vec::new(alloc);
     let trace = late_trace(alloc)?;
@@ -265,14 +265,14 @@ fn late_warned(alloc: Global) -> Result<Vec<Shown>, AllocError> {
     kept(shown, added)
 }
 
-/// The same as they are shown.
+/// The root and the late child with earlier warnings, as they are shown.
 fn late_shown(alloc: Global) -> Result<Vec<Shown>, AllocError> {
     let mut shown = late_warned(alloc)?;
     let done = adjust_skew(alloc, &mut shown, &[], 200);
     kept(shown, done)
 }
 
-/// The span has these two warnings.
+/// Whether the span has these two warnings.
 fn has_warnings(shown: &Shown, wanted: [&str; 2]) -> bool {
     match shown.warnings.as_slice() {
         [first, second] => first.as_str() == wanted[0] && second.as_str() == wanted[1],
@@ -280,7 +280,8 @@ fn has_warnings(shown: &Shown, wanted: [&str; 2]) -> bool {
     }
 }
 
-/// How many warnings the first of two spans has, where the second starts, and whether that has these warnings.
+/// Returns the number of warnings of the first of two spans, the start of the second, and whether that has these
+/// warnings.
 fn seen_late(shown: &[Shown], wanted: [&str; 2]) -> Option<(usize, i64, bool)> {
     match shown {
         [root, child] => Some((
@@ -292,7 +293,7 @@ fn seen_late(shown: &[Shown], wanted: [&str; 2]) -> Option<(usize, i64, bool)> {
     }
 }
 
-/// The same of the root and the late child.
+/// Returns what is seen of the root and the late child with earlier warnings.
 fn late_seen(alloc: Global) -> Result<Option<(usize, i64, bool)>, AllocError> {
     let not_applied = "clock skew of 125 us not applied: a time would not fit";
     let shown = late_shown(alloc)?;
@@ -301,14 +302,14 @@ fn late_seen(alloc: Global) -> Result<Option<(usize, i64, bool)>, AllocError> {
     Ok(seen)
 }
 
-/// A log time that would not fit keeps the span where it is, and what was said before stays.
+/// A log time that would not fit keeps the span where it is, and earlier warnings stay.
 #[test]
 fn late_log(rt: HostRuntime) -> Result<(), Fail> {
     assert!(rt; late_seen(rt.alloc())? == Some((1, 900, true)));
     Ok(())
 }
 
-/// Adds a chain of ten thousand spans, each in front of its parent.
+/// Adds a chain of ten thousand spans, each before its parent.
 fn add_chain(alloc: Global, trace: &mut Vec<Placed>) -> Result<(), AllocError> {
     for steps in 0..9_999u64 {
         let id = 10_000 - steps;
@@ -319,7 +320,7 @@ fn add_chain(alloc: Global, trace: &mut Vec<Placed>) -> Result<(), AllocError> {
     Ok(())
 }
 
-/// How many spans of the chain are shown, and how many of them are moved.
+/// Returns the number of spans of the chain that are shown, and of those that are moved.
 fn chain_moved(alloc: Global) -> Result<(usize, usize), AllocError> {
     let mut trace = Vec::new(alloc);
     let added = add_chain(alloc, &mut trace);
@@ -329,7 +330,7 @@ fn chain_moved(alloc: Global) -> Result<(usize, usize), AllocError> {
     Ok(moved)
 }
 
-/// A chain of ten thousand spans, each in front of its parent.
+/// A chain of ten thousand spans, each before its parent.
 #[test]
 fn deep_chain(rt: HostRuntime) -> Result<(), Fail> {
     assert_eq!(rt; chain_moved(rt.alloc())?, (10_000, 9_999));
@@ -347,7 +348,7 @@ fn short_chain(alloc: Global) -> Result<Vec<Reported>, AllocError> {
     Ok(rows)
 }
 
-/// How many of these spans the plain store shows, and how many of them are moved.
+/// Returns the number of these spans that the plain store shows, and of those that are moved.
 fn moved_plainly(alloc: Global, rows: &[Reported]) -> Result<(usize, usize), Fail> {
     let query = Query::Trace {
         id: OWN,
@@ -359,7 +360,7 @@ fn moved_plainly(alloc: Global, rows: &[Reported]) -> Result<(usize, usize), Fai
     Ok(moved)
 }
 
-/// A thousand of them, as the plain store answers, which follows each span up to its root.
+/// A thousand of them, with the plain store, which follows each span up to its root.
 #[test]
 fn deep_chain_plainly(rt: HostRuntime) -> Result<(), Fail> {
     let rows = short_chain(rt.alloc())?;
@@ -367,7 +368,7 @@ fn deep_chain_plainly(rt: HostRuntime) -> Result<(), Fail> {
     Ok(())
 }
 
-/// How many spans there are, and how many of them start at 1025.
+/// Returns the number of spans, and of those that start at 1025.
 fn moved_among(shown: &[Shown]) -> (usize, usize) {
     let moved = shown.iter().filter(|s| s.placed.span.start == 1025).count();
     (shown.len(), moved)
@@ -379,7 +380,7 @@ const FAMILY: [Reported; 3] = [
     (["a", "h2"], [1, 3, 2], [905, 10]),
 ];
 
-/// Spans, the limit of the skew, whether they are asked for as they came, and what is shown.
+/// Spans, the limit of the skew, whether they are requested as reported, and what is shown.
 const SHOWN: [(&[Reported], u64, bool, &[(i64, &str)]); 4] = [
     (
         &FAMILY,
@@ -405,7 +406,7 @@ fn shown_in(answer: &Answer) -> &[Shown] {
     }
 }
 
-/// The plain store shows the spans as wanted.
+/// Whether the plain store shows the spans as wanted.
 fn is_shown_plainly(
     alloc: Global,
     rows: &[Reported],

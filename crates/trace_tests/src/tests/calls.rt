@@ -23,8 +23,8 @@ impl SpanRow for Row {
     }
 }
 
-/// How many calls between services the store answers of a history of these spans, within the end and
-/// the lookback.
+/// Returns the number of calls between services in the store's answer, of a history of these spans and within the
+/// end and the lookback.
 fn links_found(
     alloc: Global,
     keys: RandomState,
@@ -56,7 +56,7 @@ fn links_in(answer: &Answer) -> &[Link] {
     }
 }
 
-/// What the store answers of the calls of these spans, at any time.
+/// Returns the store's answer to a query for the calls of these spans, at any time.
 fn calls_of(alloc: Global, keys: RandomState, trace: Vec<Placed>) -> Result<Answer, Fail> {
     let query = Query::Links {
         end_ms: 10,
@@ -89,7 +89,7 @@ fn calls_in_order_of_names(rt: HostRuntime) -> Result<(), Fail> {
 /// The length of a name that two links share with its entry.
 const LONG: usize = 100_000;
 
-/// Two services whose names differ in their last letter alone call each other.
+/// Two services whose names differ only in their last letter call each other.
 fn long_trace(alloc: Global, a: &str, b: &str) -> Result<Vec<Placed>, AllocError> {
     let mut trace = Vec::new(alloc);
     for (service, id, parent) in [(b, 1, 3), (a, 2, 1), (b, 3, 2)] {
@@ -152,7 +152,7 @@ const CALL: [Reported; 2] = [
     (["b", "h1"], [1, 2, 1], [1000, 50]),
 ];
 
-/// Spans, the end and the lookback, and the services that call one another, once each.
+/// Spans, the end and the lookback, and the services that call each other, once each.
 const PLAIN_LINKS: [(&[Reported], i64, i64, &[(&str, &str, u64)]); 4] = [
     (&CALL, 2, 1, &[]),
     (&CALL, 2, 2, &[("a", "b", 1)]),
@@ -160,7 +160,7 @@ const PLAIN_LINKS: [(&[Reported], i64, i64, &[(&str, &str, u64)]); 4] = [
     (&CYCLE, 10, 86_400_000, &[("a", "b", 1), ("b", "a", 1)]),
 ];
 
-/// The plain store answers these calls of the spans.
+/// Whether the plain store answers with these calls of the spans.
 fn are_links_plainly(
     alloc: Global,
     rows: &[Reported],

@@ -1,4 +1,4 @@
-//! What the stores answer of a history of entries of one span each.
+//! The answers of the stores for a history of entries of one span each.
 
 use jaeger_model::{Batch, Placed, SharedProcess, Span, SpanId};
 use plain_store::plain_answer;
@@ -9,7 +9,7 @@ use std::mem::drop;
 use std::sync::Arc;
 use std::test::Fail;
 use trace_model::{Answer, Entry, Limits, Query, Work};
-use trace_samples::{beside, handed_in, host_process, kept, list_of, span};
+use trace_samples::{beside, host_process, kept, list_of, span, submitted};
 
 /// A span: its service and its host; its trace, its id and its parent's; its start and its duration.
 pub(crate) type Row = ([&'static str; 2], [u64; 3], [i64; 2]);
@@ -20,7 +20,7 @@ pub(crate) const CYCLE: [Row; 2] = [
     (["b", "h2"], [1, 3, 2], [1010, 50]),
 ];
 
-/// A span with these ids and times, as they stand in a row.
+/// Makes a span with these ids and times, in the order of a row.
 pub(crate) fn span_of(
     alloc: Global,
     [trace, id, parent]: [u64; 3],
@@ -70,7 +70,7 @@ pub(crate) fn trace_of<R: SpanRow>(alloc: Global, rows: &[R]) -> Result<Vec<Plac
 fn add_rows(alloc: Global, entries: &mut Vec<Arc<Entry>>, rows: &[Row]) -> Result<(), AllocError> {
     for (place, row) in rows.iter().enumerate() {
         let batch = batch_of(alloc, *row)?;
-        entries.push(handed_in(alloc, 0, place as u64 + 1, Work::Batch(batch))?)?;
+        entries.push(submitted(alloc, 0, place as u64 + 1, Work::Batch(batch))?)?;
     }
     Ok(())
 }
@@ -82,7 +82,7 @@ fn history(alloc: Global, rows: &[Row]) -> Result<Vec<Arc<Entry>>, AllocError> {
     kept(entries, added)
 }
 
-/// A batch of the span, with its process.
+/// Makes a batch of the span, with its process.
 fn batch_with(alloc: Global, placed: Placed) -> Result<Batch, AllocError> {
     let Placed { process, span } = placed;
     let (process, spans) = beside(process, list_of(alloc, span))?;
@@ -103,7 +103,7 @@ fn add_placed(
     for placed in spans {
         number = number.saturating_add(1);
         let batch = batch_with(alloc, placed)?;
-        entries.push(handed_in(alloc, 0, number as u64, Work::Batch(batch))?)?;
+        entries.push(submitted(alloc, 0, number as u64, Work::Batch(batch))?)?;
     }
     Ok(())
 }
@@ -115,7 +115,8 @@ pub(crate) fn history_of(alloc: Global, spans: Vec<Placed>) -> Result<Vec<Arc<En
     kept(entries, added)
 }
 
-/// What the store with these keys answers of the entries, or without any the plain store, with no limit of traces.
+/// Returns the answer of the store with these keys for the entries, or of the plain store if there are no keys,
+/// with no limit of traces.
 fn answered(
     alloc: Global,
     keys: Option<RandomState>,
@@ -133,7 +134,7 @@ fn answered(
     }
 }
 
-/// The same of entries and a question that are given up behind that.
+/// Like [`answered`], for entries and a query that are dropped afterwards.
 fn answered_once(
     alloc: Global,
     keys: Option<RandomState>,
@@ -150,7 +151,7 @@ fn answered_once(
     answer
 }
 
-/// What the store answers of a history of these spans, each in an entry with its process.
+/// Returns the store's answer for a history of these spans, each in an entry with its process.
 pub(crate) fn store_answer_to(
     alloc: Global,
     keys: RandomState,
@@ -160,7 +161,7 @@ pub(crate) fn store_answer_to(
     answered_once(alloc, Some(keys), history_of(alloc, spans), 0, query)
 }
 
-/// What the store answers of a history of these spans.
+/// Returns the store's answer for a history of these spans.
 pub(crate) fn store_answer_of(
     alloc: Global,
     keys: RandomState,
@@ -171,7 +172,7 @@ pub(crate) fn store_answer_of(
     answered_once(alloc, Some(keys), history(alloc, rows), max_skew, query)
 }
 
-/// What the plain store answers of a history of these spans.
+/// Returns the plain store's answer for a history of these spans.
 pub(crate) fn answer_of(
     alloc: Global,
     rows: &[Row],

@@ -1,4 +1,4 @@
-//! Traces that are lent by the entries of their spans, beside the same ones copied from them.
+//! Traces that are borrowed from the entries of their spans, compared with copies of them.
 
 use crate::tests::adjusters::{PAIRS, Row};
 use crate::tests::histories::{SpanRow, history_of, trace_of};
@@ -9,7 +9,7 @@ use std::sync::Arc;
 use std::test::*;
 use trace_adjust::{LentSpan, LentSpans, lend, show};
 use trace_model::{Entry, KeptSpan, KeptTrace, Limits, Shown};
-use trace_samples::{first_otherwise, kept};
+use trace_samples::{first_mismatch, kept};
 
 /// Adds the spans of each entry at these indexes.
 fn add_kept(
@@ -25,7 +25,7 @@ fn add_kept(
     Ok(())
 }
 
-/// The spans, each kept by an entry of its own, which has no span at an index above 0.
+/// The spans, each in an entry of its own, which has no span at an index above 0.
 fn kept_by_entries(
     alloc: Global,
     trace: Vec<Placed>,
@@ -37,7 +37,7 @@ fn kept_by_entries(
     kept(spans, added)
 }
 
-/// The logs have the times of those of the span, and as many fields.
+/// Whether the logs have the times of those of the span, and as many fields.
 fn are_same_logs(lent: &LentSpan, shown: &Shown) -> bool {
     let logs = lent.logs();
     let wanted = shown.placed.span.logs.as_slice();
@@ -57,7 +57,7 @@ fn are_same_references(lent: &LentSpan, shown: &Shown) -> bool {
         })
 }
 
-/// The same is said of both.
+/// Whether both have the same warnings.
 fn are_same_warnings(alloc: Global, lent: &LentSpan, shown: &Shown) -> Result<bool, AllocError> {
     match (lent.warning(), shown.warnings.as_slice()) {
         (None, []) => Ok(true),
@@ -66,7 +66,7 @@ fn are_same_warnings(alloc: Global, lent: &LentSpan, shown: &Shown) -> Result<bo
     }
 }
 
-/// The lent span is the one that is shown.
+/// Whether the borrowed span is the one that is shown.
 fn is_shown_so(alloc: Global, lent: &LentSpan, shown: &Shown) -> Result<bool, AllocError> {
     let span = &shown.placed.span;
     let same = lent.span().id == span.id
@@ -78,7 +78,7 @@ fn is_shown_so(alloc: Global, lent: &LentSpan, shown: &Shown) -> Result<bool, Al
     Ok(are_same_warnings(alloc, lent, shown)? && same)
 }
 
-/// Each lent span is the one that is shown at its place.
+/// Whether each borrowed span is the one that is shown at its place.
 fn are_shown_so(alloc: Global, lent: &LentSpans, shown: &[Shown]) -> Result<bool, AllocError> {
     let mut same = lent.len() == shown.len();
     for (index, wanted) in shown.iter().enumerate() {
@@ -87,7 +87,7 @@ fn are_shown_so(alloc: Global, lent: &LentSpans, shown: &[Shown]) -> Result<bool
     Ok(same)
 }
 
-/// The spans are lent as they are shown under this limit.
+/// Whether the spans are borrowed as they are shown under this limit.
 fn are_lent(
     alloc: Global,
     spans: Vec<KeptSpan>,
@@ -110,7 +110,8 @@ fn are_lent(
     same
 }
 
-/// A parent and its child on another host are lent as they are shown, where the limit is one that a store has.
+/// Whether a parent and its child on another host are borrowed as they are shown, if the limit is one that a store
+/// can have.
 fn are_lent_moved(
     alloc: Global,
     [start, long, child, short]: [i64; 4],
@@ -127,9 +128,10 @@ fn are_lent_moved(
     }
 }
 
-/// The first pair of which the spans with these indexes aren't lent and moved as it says; None where all are.
+/// Returns the first pair of which the spans with these indexes aren't borrowed and moved as it says; None if all
+/// are.
 fn first_unmoved(alloc: Global, indexes: &[u32]) -> Result<Option<usize>, AllocError> {
-    first_otherwise(&PAIRS, |(times, limit, _, _)| {
+    first_mismatch(&PAIRS, |(times, limit, _, _)| {
         are_lent_moved(alloc, *times, *limit, indexes)
     })
 }
@@ -167,7 +169,7 @@ fn add_references(placed: &mut Placed, parent: u64) -> Result<(), AllocError> {
     Ok(())
 }
 
-/// A root and its child, which has references, and has its parent among them or not.
+/// A root and its child, which has references, with its parent among them or not.
 fn referring(alloc: Global, parent: u64) -> Result<Vec<Placed>, AllocError> {
     let [root, child]: [Row; 2] = [("h1", 1, 0, 1000, 101), ("h2", 2, 1, 900, 50)];
     let mut trace = trace_of(alloc, &[root])?;
@@ -178,7 +180,7 @@ fn referring(alloc: Global, parent: u64) -> Result<Vec<Placed>, AllocError> {
     Ok(trace)
 }
 
-/// The reference to the parent is made or goes to the front, and where spans are lent as they came it stays.
+/// The reference to the parent is made or moved to the front; if spans are borrowed as reported, it stays.
 #[test]
 fn references_are_lent(rt: HostRuntime) -> Result<(), Fail> {
     let limits = Limits::new(1, 1, 0, 200).ok_or("limits")?;

@@ -1,5 +1,5 @@
 use crate::tests::histories::{Row, answer_of, span_of, store_answer_of, store_answer_to};
-use find_traces::{JudgedProcess, Wanted};
+use find_traces::{JudgedProcess, PreparedSearch};
 use jaeger_model::{Log, Placed, Process, Seq, SharedProcess, Tag, TagValue, Text, TraceId, Value};
 use std::alloc::{AllocError, Global};
 use std::hash::RandomState;
@@ -7,7 +7,7 @@ use std::mem::drop;
 use std::test::*;
 use trace_adjust::shown;
 use trace_model::{Answer, AnsweredTrace, Find, Query, Shown};
-use trace_samples::{beside, first_otherwise, kept, list_of, placed, process, service_find};
+use trace_samples::{beside, first_mismatch, kept, list_of, placed, process, service_find};
 
 /// A span of service `a` of this trace.
 fn begun_once(alloc: Global, trace: u64, start: i64, duration: i64) -> Result<Placed, AllocError> {
@@ -39,8 +39,12 @@ fn limited(alloc: Global, limit: u64) -> Result<Find, AllocError> {
     Ok(find)
 }
 
-/// Whether the span meets every condition of what is wanted.
-fn is_match(alloc: Global, placed: &Placed, wanted: &Wanted<'_>) -> Result<bool, AllocError> {
+/// Whether the span meets every condition of the prepared search.
+fn is_match(
+    alloc: Global,
+    placed: &Placed,
+    wanted: &PreparedSearch<'_>,
+) -> Result<bool, AllocError> {
     let judged = JudgedProcess::new(alloc, wanted, placed.process.get())?;
     let met = judged.is_match(alloc, &placed.span);
     drop(judged);
@@ -49,13 +53,13 @@ fn is_match(alloc: Global, placed: &Placed, wanted: &Wanted<'_>) -> Result<bool,
 
 /// Whether the span meets every condition of the search.
 fn is_met(alloc: Global, placed: &Placed, query: &Find) -> Result<bool, AllocError> {
-    let wanted = Wanted::new(alloc, query)?;
+    let wanted = PreparedSearch::new(alloc, query)?;
     let met = is_match(alloc, placed, &wanted);
     drop(wanted);
     met
 }
 
-/// The same of a search that is given up behind that.
+/// Like [`is_met`], for a search that is dropped afterwards.
 fn is_found(
     alloc: Global,
     placed: &Placed,
@@ -98,7 +102,7 @@ const BOUNDS: [([i64; 2], [i64; 2], [Option<i64>; 2], bool); 17] = [
     ([i64::MAX, 0], [0, 0], [None, Some(i64::MAX - 1)], false),
 ];
 
-/// Whether a trace of one span that starts then and lasts so long is found within the bounds.
+/// Whether a trace of one span with this start and duration is found within the bounds.
 fn is_within(
     alloc: Global,
     [start, duration]: [i64; 2],
@@ -120,12 +124,12 @@ fn bounds(rt: HostRuntime) -> Result<(), Fail> {
     Ok(())
 }
 
-/// A span of service `a` of the trace at a place, the first one's id being 1.
+/// A span of service `a` of the trace at a place; the first one has id 1.
 fn row_at(place: usize, id: u64, start: i64) -> Row {
     (["a", ""], [place as u64 % 1000 + 1, id, 0], [start, 50])
 }
 
-/// Traces of the starts of their two spans.
+/// Makes traces, each with the starts of its two spans.
 fn begun(alloc: Global, starts: &[[i64; 2]]) -> Result<Vec<Row>, AllocError> {
     let mut rows = Vec::new(alloc);
     for (place, [first, second]) in starts.iter().enumerate() {
@@ -148,12 +152,12 @@ const ORDERS: [(&[[i64; 2]], u64, &[u64]); 9] = [
     (&[[i64::MIN, 0], [i64::MAX, 0]], 9, &[2, 1]),
 ];
 
-/// The ids have these low halves.
+/// Whether the ids have these low halves.
 fn are_lows(ids: &[TraceId], wanted: &[u64]) -> bool {
     ids.iter().map(|id| id.low).eq(wanted.iter().copied())
 }
 
-/// The answer has the ids with these low halves, and no others.
+/// Whether the answer has the ids with these low halves, and no others.
 fn are_ids(answer: &Answer, wanted: &[u64]) -> bool {
     match answer {
         Answer::Ids(ids) => are_lows(ids.as_slice(), wanted),
@@ -161,7 +165,7 @@ fn are_ids(answer: &Answer, wanted: &[u64]) -> bool {
     }
 }
 
-/// The low half of the id of the trace of these spans.
+/// Returns the low half of the id of the trace of these spans.
 fn low_of(trace: &[Shown]) -> u64 {
     match trace.first() {
         Some(shown) => shown.placed.span.trace.low,
@@ -169,7 +173,7 @@ fn low_of(trace: &[Shown]) -> u64 {
     }
 }
 
-/// The same of a trace of an answer, whether it is made already or not.
+/// Returns the low half of the id of a trace of an answer, copied or not.
 fn low_of_trace(alloc: Global, trace: AnsweredTrace) -> Result<u64, AllocError> {
     let made = shown(alloc, trace)?;
     let low = low_of(made.as_slice());
@@ -177,7 +181,7 @@ fn low_of_trace(alloc: Global, trace: AnsweredTrace) -> Result<u64, AllocError> 
     Ok(low)
 }
 
-/// The traces have ids with these low halves.
+/// Whether the traces have ids with these low halves.
 fn are_traces(
     alloc: Global,
     traces: Vec<AnsweredTrace>,
@@ -191,7 +195,7 @@ fn are_traces(
     Ok(same)
 }
 
-/// The answer has these ids alone, or the traces with these ids, and no others.
+/// Whether the answer has only these ids, or the traces with these ids.
 fn are_found(
     alloc: Global,
     answer: Answer,
@@ -204,7 +208,7 @@ fn are_found(
     }
 }
 
-/// A search among the spans with the limit, for ids alone or for traces, finds those with these ids.
+/// Whether a search among the spans with the limit, for ids alone or for traces, finds those with these ids.
 fn finds(
     alloc: Global,
     keys: RandomState,
@@ -236,7 +240,7 @@ fn latest_first(rt: HostRuntime) -> Result<(), Fail> {
     Ok(())
 }
 
-/// The flag `true` under this key.
+/// Makes the flag `true` under this key.
 fn flag(alloc: Global, key: &str) -> Result<Seq<Tag>, AllocError> {
     let key = Text::from_str(alloc, key)?;
     let value = TagValue::new(Value::Bool(true));
@@ -282,7 +286,7 @@ fn flagged(alloc: Global) -> Result<Placed, AllocError> {
     kept(flagged, set)
 }
 
-/// The flag `true` under this key, as it is asked.
+/// The flag `true` under this key, as a search requests it.
 fn asked_flag(alloc: Global, key: &str) -> Result<(Text, Text), AllocError> {
     let key = Text::from_str(alloc, key)?;
     Ok((key, Text::from_str(alloc, "true")?))
@@ -307,7 +311,7 @@ fn flags(alloc: Global, asked: &[&str]) -> Result<Seq<(Text, Text)>, AllocError>
     Ok(Seq::from_vec(kept(pairs, added)?))
 }
 
-/// Asks the search for these flags.
+/// Makes the search request these flags.
 fn set_asked(alloc: Global, find: &mut Find, asked: &[&str]) -> Result<(), AllocError> {
     find.tags = flags(alloc, asked)?;
     Ok(())
@@ -320,7 +324,7 @@ fn by_flags(alloc: Global, asked: &[&str]) -> Result<Find, AllocError> {
     kept(find, set)
 }
 
-/// The keys that are asked, and whether a span with `s`, `l` and `p` is found by them.
+/// The requested keys, and whether a span with `s`, `l` and `p` is found by them.
 const ASKED: [(&[&str], bool); 12] = [
     (&[], true),
     (&["p"], true),
@@ -336,24 +340,24 @@ const ASKED: [(&[&str], bool); 12] = [
     (&["p", "p", "s", "x"], false),
 ];
 
-/// The first row that isn't answered as it says of a span that is given up behind that; None where all are.
+/// Returns the first row that isn't answered as it says, for a span that is dropped afterwards; None if all are.
 fn first_unanswered(alloc: Global) -> Result<Option<usize>, AllocError> {
     let flagged = flagged(alloc)?;
-    let first = first_otherwise(&ASKED, |(asked, wanted)| {
+    let first = first_mismatch(&ASKED, |(asked, wanted)| {
         Ok(is_found(alloc, &flagged, by_flags(alloc, *asked))? == *wanted)
     });
     drop(flagged);
     first
 }
 
-/// Each asked tag has to be one of the span, its log or its process, however often it is asked.
+/// Each requested tag has to be one of the span, its log or its process, however often it is requested.
 #[test]
 fn tags_matched_together(rt: HostRuntime) -> Result<(), Fail> {
     assert_eq!(rt; first_unanswered(rt.alloc())?, None);
     Ok(())
 }
 
-/// A span of this trace and its start, whose process has the tag `p` if this is so.
+/// A span of this trace and its start, whose process has the tag `p` if `is_flagged`.
 fn with_process(alloc: Global, trace: u64, is_flagged: bool) -> Result<Placed, AllocError> {
     let mut placed = begun_once(alloc, trace, 1000, 50)?;
     let set = if is_flagged {
@@ -372,20 +376,20 @@ fn add_three(alloc: Global, spans: &mut Vec<Placed>, flagged: u64) -> Result<(),
     Ok(())
 }
 
-/// These spans.
+/// The spans of [`add_three`].
 fn three_with(alloc: Global, flagged: u64) -> Result<Vec<Placed>, AllocError> {
     let mut spans = Vec::new(alloc);
     let added = add_three(alloc, &mut spans, flagged);
     kept(spans, added)
 }
 
-/// What the store answers of a history of these spans to a search for the ids of those with the tag `p`.
+/// Returns the store's answer for a history of these spans to a search for the ids of those with the tag `p`.
 fn answer_by_flag(alloc: Global, keys: RandomState, spans: Vec<Placed>) -> Result<Answer, Fail> {
     let (spans, find) = beside(spans, by_flags(alloc, &["p"]))?;
     store_answer_to(alloc, keys, spans, Query::FindIds(find))
 }
 
-/// That search finds this trace alone, where it has the tag alone.
+/// Whether that search finds only this trace, which has the tag.
 fn is_found_alone(alloc: Global, keys: RandomState, flagged: u64) -> Result<bool, Fail> {
     let answer = answer_by_flag(alloc, keys, three_with(alloc, flagged)?)?;
     let same = are_ids(&answer, &[flagged]);
@@ -393,7 +397,7 @@ fn is_found_alone(alloc: Global, keys: RandomState, flagged: u64) -> Result<bool
     Ok(same)
 }
 
-/// A process's tags count for the spans of its own entry alone, wherever it comes.
+/// A process's tags count only for the spans of its own entry, wherever they arrive.
 #[test]
 fn a_process_matches_in_its_own_entry(rt: HostRuntime) -> Result<(), Fail> {
     let keys = RandomState::new(&rt)?;
@@ -441,7 +445,7 @@ const PLAIN_ORDERS: [(&[Row], u64, &[u64]); 5] = [
     ),
 ];
 
-/// A search among the spans with the limit finds these ids, in the plain store.
+/// Whether a search among the spans with the limit finds these ids, in the plain store.
 fn finds_plainly(alloc: Global, rows: &[Row], limit: u64, wanted: &[u64]) -> Result<bool, Fail> {
     let find = limited(alloc, limit)?;
     let answer = answer_of(alloc, rows, 0, Query::FindIds(find))?;
@@ -458,7 +462,7 @@ fn latest_first_plainly(rt: HostRuntime) -> Result<(), Fail> {
     Ok(())
 }
 
-/// How many traces are found.
+/// Returns the number of traces that are found.
 fn found_in(answer: &Answer) -> usize {
     match answer {
         Answer::Traces(traces) => traces.len(),
@@ -468,7 +472,7 @@ fn found_in(answer: &Answer) -> usize {
 
 const ONE: [Row; 1] = [(["a", ""], [1, 1, 0], [1000, 50])];
 
-/// The lower and upper bounds of durations and of starts, and how many traces are found.
+/// The lower and upper bounds of durations and of starts, and the number of traces that are found.
 const PLAIN_BOUNDS: [([i64; 2], [Option<i64>; 2], usize); 4] = [
     ([50, 50], [Some(1000), Some(1000)], 1),
     ([51, 0], [None, None], 0),
@@ -476,7 +480,7 @@ const PLAIN_BOUNDS: [([i64; 2], [Option<i64>; 2], usize); 4] = [
     ([0, 0], [None, Some(999)], 0),
 ];
 
-/// How many traces the plain store finds of one span within the bounds.
+/// Returns the number of traces of one span that the plain store finds within the bounds.
 fn found_plainly(
     alloc: Global,
     durations: [i64; 2],
@@ -497,7 +501,7 @@ fn bounds_plainly(rt: HostRuntime) -> Result<(), Fail> {
     Ok(())
 }
 
-/// The same as in the plain store, in the other one.
+/// The other store answers as the plain store.
 #[test]
 fn latest_first_in_the_store(rt: HostRuntime) -> Result<(), Fail> {
     let alloc = rt.alloc();

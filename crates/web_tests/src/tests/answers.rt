@@ -4,7 +4,7 @@ use std::alloc::{AllocError, Global};
 use std::process::Abort;
 use std::test::*;
 use trace_model::{Answer, AnsweredTrace, Shown, ShownTrace};
-use trace_samples::{again, list_of, placed};
+use trace_samples::{list_of, placed, retry};
 
 /// The span of the sample batch: trace 1, span 2, operation `op`, from 1000 for 50 microseconds.
 fn span(alloc: Global) -> Result<Span, AllocError> {
@@ -20,11 +20,11 @@ fn shown(alloc: Global, service: &str, span: Span) -> Result<Shown, AllocError> 
 
 fn found(alloc: Global, span: Shown) -> Result<Answer, AllocError> {
     let spans = list_of(alloc, span)?;
-    let shown = ShownTrace::of_unknown(alloc, spans);
+    let shown = ShownTrace::without_places(alloc, spans);
     Ok(Answer::Trace(Some(AnsweredTrace::made(shown))))
 }
 
-/// The text that the parts make up.
+/// Joins the parts.
 fn text_in(alloc: Global, mut parts: AnswerParts) -> Result<Vec<u8>, AllocError> {
     let mut text = Vec::new(alloc);
     for _ in 0..1_000u16 {
@@ -34,12 +34,12 @@ fn text_in(alloc: Global, mut parts: AnswerParts) -> Result<Vec<u8>, AllocError>
     Ok(text)
 }
 
-/// The text of the answer as it is given out.
+/// Returns the text of the answer in parts, joined.
 fn text_of(alloc: Global, answer: Answer) -> Result<Vec<u8>, AllocError> {
     text_in(alloc, AnswerParts::new(alloc, answer)?)
 }
 
-/// The answer has this text, and so has its tree.
+/// Whether the answer and its tree have this text.
 fn shows(rt: &impl Abort, alloc: Global, answer: Answer, want: &str) -> Result<(), Fail> {
     let tree = tree_text(alloc, &answer)?;
     assert!(rt; tree.as_str() == want, "{tree}");
@@ -52,7 +52,7 @@ fn sample(alloc: Global) -> Result<Answer, AllocError> {
     found(alloc, shown(alloc, "a", span(alloc)?)?)
 }
 
-/// The text of the answer's tree.
+/// Returns the text of the answer's tree.
 fn tree_text(alloc: Global, answer: &Answer) -> Result<String, Fail> {
     Ok(answer_json(alloc, answer)?.to_string(alloc)?)
 }
@@ -66,14 +66,14 @@ fn sample_trace(rt: HostRuntime) -> Result<(), Fail> {
     shows(&rt, rt.alloc(), sample(rt.alloc())?, SAMPLE_TEXT)
 }
 
-/// Where memory runs out once it is said, and the same call behind that gives the tree or its text: the check of
-/// allocations refuses each in turn.
+/// If memory runs out once, the call reports it, and the same call afterwards returns the tree or its text. The check
+/// of allocations fails each allocation in turn.
 #[test]
 fn memory_for_a_tree(rt: HostRuntime) -> Result<(), Fail> {
     let alloc = rt.alloc();
     let answer = sample(alloc)?;
-    let tree = again(AllocError, || answer_json(alloc, &answer));
-    let text = again(AllocError, || text_of(alloc, sample(alloc)?));
+    let tree = retry(AllocError, || answer_json(alloc, &answer));
+    let text = retry(AllocError, || text_of(alloc, sample(alloc)?));
     let (Ok(tree), Ok(text)) = (tree, text) else {
         panic!(rt; "an answer has no tree or no text");
     };
@@ -83,7 +83,7 @@ fn memory_for_a_tree(rt: HostRuntime) -> Result<(), Fail> {
     Ok(())
 }
 
-/// The items of an answer that is no trace, and how many they are.
+/// Returns the items of an answer that is no trace, and their number.
 fn shows_items(
     rt: &impl Abort,
     alloc: Global,
@@ -124,18 +124,18 @@ fn many_spans(alloc: Global) -> Result<Answer, AllocError> {
         spans.push(shown(alloc, "a", span(alloc)?)?)?;
     }
     let spans = Seq::from_vec(spans);
-    let shown = ShownTrace::of_unknown(alloc, spans);
+    let shown = ShownTrace::without_places(alloc, spans);
     Ok(Answer::Trace(Some(AnsweredTrace::made(shown))))
 }
 
-/// How long the text of the answer is, and that of its tree.
+/// Returns the length of the answer's text, and that of its tree's.
 fn lengths(alloc: Global, answer: Answer) -> Result<(usize, usize), Fail> {
     let tree = tree_text(alloc, &answer)?;
     let text = text_of(alloc, answer)?;
     Ok((text.len(), tree.len()))
 }
 
-/// No text gives up past a size.
+/// No text fails above some size.
 #[test]
 fn large_answers(rt: HostRuntime) -> Result<(), Fail> {
     let alloc = rt.alloc();

@@ -1,4 +1,4 @@
-//! Answers of more than 1 MB, given out in parts.
+//! Answers of more than 1 MB, in parts.
 
 use jaeger_model::{Batch, Seq, SharedProcess, Text, TraceId};
 use query_json::{AnswerParts, answer_json};
@@ -8,22 +8,22 @@ use std::test::*;
 use trace_model::{
     Answer, AnsweredTrace, Entry, KeptSpan, KeptTrace, Limits, Link, Operation, ServiceName, Work,
 };
-use trace_samples::{again, handed_in, kept, process, span};
+use trace_samples::{kept, process, retry, span, submitted};
 
-/// The bytes of a long name, and how many of them make an answer of more than 2 MB.
+/// The length of a long name, and the number of them that make an answer of more than 2 MB.
 const LETTERS: usize = 4_000;
 
 const MANY: u32 = 600;
 
-/// The bytes of a name of which one makes a part.
+/// The length of a name that fills a part.
 const VERY_MANY: usize = 600_000;
 
-/// The bytes from which on the first part takes no further item, and those from which on a later one takes none.
-const FIRST_FILLED: usize = 262_144;
+/// The size at which the first part takes no further item, and that at which a later one takes none.
+const FIRST_PART_BYTES: usize = 262_144;
 
-const FILLED: usize = 16_384;
+const PART_BYTES: usize = 16_384;
 
-/// The most bytes of an item.
+/// The greatest size of an item.
 const LARGEST: usize = 9_000;
 
 fn long_name(alloc: Global, letters: usize) -> Result<Text, AllocError> {
@@ -86,7 +86,7 @@ fn entry(alloc: Global, number: u32, letters: usize) -> Result<Arc<Entry>, Alloc
         spans,
         seq_no: None,
     };
-    handed_in(alloc, 0, u64::from(number), Work::Batch(batch))
+    submitted(alloc, 0, u64::from(number), Work::Batch(batch))
 }
 
 /// Adds that many spans, each of an entry of its own, and one that its entry doesn't have.
@@ -105,7 +105,7 @@ fn add_spans(
     Ok(())
 }
 
-/// A trace of that many spans, as a store keeps it.
+/// Returns a trace of that many spans, in the form in which a store keeps it.
 fn trace(
     alloc: Global,
     limits: Limits,
@@ -136,14 +136,18 @@ fn traces(alloc: Global, limits: Limits) -> Result<Answer, AllocError> {
     Ok(Answer::Traces(Seq::from_vec(traces)))
 }
 
-/// The most bytes of the part that so many precede.
+/// Returns the greatest size of the part that this number of parts precede.
 fn most(number: usize) -> usize {
-    let filled = if number == 0 { FIRST_FILLED } else { FILLED };
+    let filled = if number == 0 {
+        FIRST_PART_BYTES
+    } else {
+        PART_BYTES
+    };
     filled + LARGEST
 }
 
-/// What is left of the text when the parts have been taken from its front; None if one of them is larger than it may
-/// be or something else. And the number of the parts.
+/// Returns the rest of the text after the parts, or `None` if one of them is too large or isn't the text's; and the
+/// number of the parts.
 fn taken_from<'t>(text: &'t [u8], mut parts: AnswerParts) -> (Option<&'t [u8]>, usize) {
     let mut left = text;
     for number in 0..1_000usize {
@@ -160,12 +164,12 @@ fn taken_from<'t>(text: &'t [u8], mut parts: AnswerParts) -> (Option<&'t [u8]>, 
     (None, 1_000)
 }
 
-/// The text of the answer's tree.
+/// Returns the text of the answer's tree.
 fn tree_text(alloc: Global, answer: &Answer) -> Result<String, AllocError> {
-    again(AllocError, || answer_json(alloc, answer))?.to_string(alloc)
+    retry(AllocError, || answer_json(alloc, answer))?.to_string(alloc)
 }
 
-/// Whether the answer is given out in parts that make up its text.
+/// Whether the answer's parts make up its text.
 fn is_parted(alloc: Global, answer: Answer) -> Result<bool, AllocError> {
     let text = tree_text(alloc, &answer)?;
     let parts = AnswerParts::new(alloc, answer)?;
@@ -217,10 +221,10 @@ fn two_spans(alloc: Global, limits: Limits) -> Result<Answer, AllocError> {
     Ok(Answer::Trace(Some(trace(alloc, limits, 2, VERY_MANY)?)))
 }
 
-/// Whether the parts of a trace of two large spans are as long as its text and, where they are taken, make it up.
+/// Whether the parts of a trace of two large spans are as long as its text and, if they are taken, make it up.
 fn are_made(alloc: Global, limits: Limits, taken: bool) -> Result<bool, AllocError> {
     let text = tree_text(alloc, &two_spans(alloc, limits)?)?;
-    let mut parts = again(
+    let mut parts = retry(
         AllocError,
         || AnswerParts::new(alloc, two_spans(alloc, limits)?),
     )?;
@@ -243,7 +247,7 @@ fn parts_are_made(rt: HostRuntime) -> Result<(), Fail> {
     Ok(())
 }
 
-/// The same with each part given out, which takes no memory: the check of allocations counts both.
+/// Taking the parts doesn't allocate: the check of allocations counts both.
 #[test]
 fn memory_for_parts(rt: HostRuntime) -> Result<(), Fail> {
     let limits = Limits::new(1, 1, 0, 200).ok_or("limits")?;

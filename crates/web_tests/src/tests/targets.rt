@@ -3,12 +3,12 @@ use std::alloc::{AllocError, Global};
 use std::process::Abort;
 use std::test::*;
 use trace_model::{Find, Query};
-use trace_samples::again;
+use trace_samples::retry;
 
-/// What a target asks, in one line, or what is wrong with it.
+/// Returns the query of a target in one line, or its fault.
 fn asked(alloc: Global, target: &str) -> Result<String, Fail> {
     let router = endpoints(alloc)?;
-    let query = again(QueryFault::NoMemory, || parse_query(alloc, &router, target));
+    let query = retry(QueryFault::NoMemory, || parse_query(alloc, &router, target));
     Ok(line(alloc, query)?)
 }
 
@@ -54,7 +54,7 @@ fn find_line(alloc: Global, find: &Find) -> Result<String, AllocError> {
     Ok(line)
 }
 
-/// Each target asks what stands beside it.
+/// Each target has the query beside it.
 fn rows(rt: &impl Abort, alloc: Global, rows: &[(&str, &str)]) -> Result<(), Fail> {
     for (target, want) in rows {
         let line = asked(alloc, target)?;
@@ -205,7 +205,7 @@ fn tags_of_searches(rt: HostRuntime) -> Result<(), Fail> {
     )
 }
 
-/// What a search of service `a` asks with this shortest duration.
+/// Returns the query of a search of service `a` with this shortest duration.
 fn asked_of_duration(alloc: Global, text: &str) -> Result<String, Fail> {
     let target = format!(in alloc; "/api/traces?service=a&minDuration={text}")?;
     asked(alloc, &target)
@@ -245,7 +245,7 @@ fn durations(rt: HostRuntime) -> Result<(), Fail> {
     Ok(())
 }
 
-/// What a search asks whose parameters are bad, but for those in front.
+/// Returns the query of a search whose parameters are invalid, but for the first ones.
 fn asked_behind(alloc: Global, mended: &str) -> Result<String, Fail> {
     let target = format!(in alloc;
         "/api/traces?{mended}tags=x&tag=x&maxDuration=1&minDuration=1m30s&limit=1.5&end=9223372036854775808&start=-1"
@@ -253,7 +253,7 @@ fn asked_behind(alloc: Global, mended: &str) -> Result<String, Fail> {
     asked(alloc, &target)
 }
 
-/// Each bad parameter is mended in turn, by a good one in front.
+/// Each invalid parameter is mended in turn, by a valid one before it.
 #[test]
 fn first_faults_of_searches(rt: HostRuntime) -> Result<(), Fail> {
     let mut mended = String::new(rt.alloc());

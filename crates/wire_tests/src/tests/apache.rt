@@ -1,5 +1,5 @@
-//! The numbers of batches as Apache Thrift spells them, which no command shows. All else that they spell stands in
-//! `cases/apache`.
+//! The numbers of batches as Apache Thrift encodes them, which no command prints. `cases/apache` tests the rest of
+//! these batches.
 
 use crate::tests::batch_bytes::bytes_of;
 use batch_codec::decode;
@@ -8,7 +8,7 @@ use std::mem::drop;
 use std::test::*;
 use trace_samples::spellings::{EVERY_FIELD, NO_SPANS, STATISTICS};
 
-/// The number of the batch that is spelled so.
+/// Returns the number of the encoded batch.
 fn number_of(alloc: Global, hex: &str) -> Result<Option<i64>, Fail> {
     let batch = decode(alloc, &bytes_of(alloc, hex)?)?;
     let number = batch.seq_no;

@@ -4,9 +4,9 @@ use std::alloc::{AllocError, Global};
 use std::mem::drop;
 use std::test::*;
 use trace_samples::spellings::ALL;
-use trace_samples::{again, batch};
+use trace_samples::{batch, retry};
 
-/// The bytes of hexadecimal text; spaces are skipped.
+/// Returns the bytes of hexadecimal text, without its spaces.
 pub(crate) fn bytes_of(alloc: Global, text: &str) -> Result<Vec<u8>, Fail> {
     let mut bytes = Vec::new(alloc);
     for part in text.split(' ') {
@@ -15,18 +15,18 @@ pub(crate) fn bytes_of(alloc: Global, text: &str) -> Result<Vec<u8>, Fail> {
     Ok(bytes)
 }
 
-/// Whether the bytes are read as a batch, and written again.
+/// Whether the bytes are decoded to a batch that is encoded to the same bytes.
 fn is_kept_at_last(alloc: Global, bytes: &[u8]) -> bool {
-    let Ok(batch) = again(DecodeError::Memory, || decode(alloc, bytes)) else {
+    let Ok(batch) = retry(DecodeError::Memory, || decode(alloc, bytes)) else {
         return false;
     };
-    let written = again(DecodeError::Memory, || encode(alloc, &batch));
+    let written = retry(DecodeError::Memory, || encode(alloc, &batch));
     drop(batch);
     written.is_ok_and(|written| written.as_slice() == bytes)
 }
 
-/// Where memory runs out once it is said, and the same call behind that gives the batch and its one spelling: the
-/// check of allocations refuses each in turn.
+/// If memory runs out once, the call reports it, and the same call afterwards returns the batch and its one
+/// spelling. The check of allocations fails each allocation in turn.
 #[test]
 fn memory_for_a_batch(rt: HostRuntime) -> Result<(), Fail> {
     let bytes = bytes_of(rt.alloc(), ALL)?;
@@ -34,7 +34,7 @@ fn memory_for_a_batch(rt: HostRuntime) -> Result<(), Fail> {
     Ok(())
 }
 
-/// The one fault that no bytes have; the texts of the others stand in `cases/batches`.
+/// The one fault that no bytes have; the texts of the others are in `cases/batches`.
 #[test]
 fn text_of_no_memory(rt: HostRuntime) -> Result<(), Fail> {
     let text = DecodeError::Memory.text(rt.alloc())?;
@@ -47,17 +47,17 @@ const TAG: &str = "0c0001 0b0001 00000001 61 0f0002 0c 00000001 0b0001 00000001 
 
 const TAG_END: &str = "00 00 0f0002 0c 00000000 00";
 
-/// A batch of no spans with a number, as it is encoded.
+/// Returns an encoded batch without spans, with a number.
 const NUMBERED: &str = "0c0001 0b0001 00000001 61 00 0f0002 0c 00000000 0a0003 0000000000000001 00";
 
-/// A batch of no spans with the number 1.
+/// Returns a batch without spans, with the number 1.
 fn numbered(alloc: Global) -> Result<Batch, AllocError> {
     let mut numbered = batch(alloc, "a", Vec::new(alloc))?;
     numbered.seq_no = Some(1);
     Ok(numbered)
 }
 
-/// Whether the bytes are read as the batch.
+/// Whether the bytes are decoded to the batch.
 fn is_read_as(alloc: Global, bytes: &[u8], batch: &Batch) -> Result<bool, DecodeError> {
     let read = decode(alloc, bytes)?;
     let same = read.is_same(batch);
@@ -65,14 +65,14 @@ fn is_read_as(alloc: Global, bytes: &[u8], batch: &Batch) -> Result<bool, Decode
     Ok(same)
 }
 
-/// The batch's bytes, and whether they are read as the batch.
+/// Encodes the batch. Returns its bytes, and whether they are decoded to the batch.
 fn written_and_read(alloc: Global, batch: &Batch) -> Result<(Vec<u8>, bool), DecodeError> {
     let bytes = encode(alloc, batch)?;
     let same = is_read_as(alloc, &bytes, batch)?;
     Ok((bytes, same))
 }
 
-/// The same of the batch with a number.
+/// Encodes the batch with a number. Returns its bytes, and whether they are decoded to it.
 fn of_numbered(alloc: Global) -> Result<(Vec<u8>, bool), Fail> {
     let batch = numbered(alloc)?;
     let written = written_and_read(alloc, &batch);
@@ -80,7 +80,7 @@ fn of_numbered(alloc: Global) -> Result<(Vec<u8>, bool), Fail> {
     Ok(written?)
 }
 
-/// The same of the batch that is spelled so.
+/// Decodes a batch and encodes it. Returns its new bytes, and whether they are decoded to it.
 fn of_spelled(alloc: Global, bytes: &[u8]) -> Result<(Vec<u8>, bool), Fail> {
     let batch = decode(alloc, bytes)?;
     let written = written_and_read(alloc, &batch);
@@ -141,7 +141,7 @@ fn respelled(alloc: Global, fields: &str) -> Result<Vec<u8>, Fail> {
     Ok(written?)
 }
 
-/// Whether the one spelling of a tag that is read so is the one that is written.
+/// Whether the decoded tag is encoded in its one spelling.
 fn is_respelled(alloc: Global, read: &str, written: &str) -> Result<bool, Fail> {
     let want = with_tag(alloc, written)?;
     let bytes = respelled(alloc, read)?;

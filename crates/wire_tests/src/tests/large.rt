@@ -10,14 +10,14 @@ const MEGABYTE: usize = 1_000_000;
 
 const MANY: u64 = 5_000;
 
-/// A text and a binary of a megabyte each.
+/// Returns a text and a binary of a megabyte each.
 fn long_values(alloc: Global) -> Result<Vec<Tag>, Fail> {
     let text = Value::Text(Text::from_string("a".repeat(alloc, MEGABYTE)?));
     let tags = with_tag(alloc, Vec::new(alloc), "text", text)?;
     with_long_bytes(alloc, tags)
 }
 
-/// A binary of a megabyte behind these tags.
+/// Appends a binary of a megabyte to these tags.
 fn with_long_bytes(alloc: Global, tags: Vec<Tag>) -> Result<Vec<Tag>, Fail> {
     let (tags, bytes) = beside(tags, vec![in alloc; 0x61; MEGABYTE])?;
     with_tag(alloc, tags, "bytes", Value::Bytes(Seq::from_vec(bytes)))
@@ -31,7 +31,7 @@ fn add_tags(alloc: Global, tags: &mut Vec<Tag>) -> Result<(), Fail> {
     Ok(())
 }
 
-/// Many tags behind these.
+/// Appends many tags to these.
 fn with_many_tags(alloc: Global, tags: Vec<Tag>) -> Result<Seq<Tag>, Fail> {
     let mut tags = tags;
     let added = add_tags(alloc, &mut tags);
@@ -46,14 +46,14 @@ fn lengthen(alloc: Global, span: &mut Span) -> Result<(), Fail> {
     Ok(())
 }
 
-/// A span with them.
+/// Returns a span with them.
 fn long_span(alloc: Global) -> Result<Span, Fail> {
     let mut span = span(alloc, 1, 1)?;
     let lengthened = lengthen(alloc, &mut span);
     kept(span, lengthened)
 }
 
-/// Adds that span in front of many others.
+/// Adds that span before many others.
 fn add_spans(alloc: Global, spans: &mut Vec<Span>) -> Result<(), Fail> {
     spans.push(long_span(alloc)?)?;
     for number in 0..MANY {
@@ -62,14 +62,14 @@ fn add_spans(alloc: Global, spans: &mut Vec<Span>) -> Result<(), Fail> {
     Ok(())
 }
 
-/// A batch of these.
+/// Returns a batch of these.
 fn large_batch(alloc: Global) -> Result<Batch, Fail> {
     let mut spans = Vec::new(alloc);
     let added = add_spans(alloc, &mut spans);
     Ok(batch(alloc, "a", kept(spans, added)?)?)
 }
 
-/// The copy of the batch is the batch.
+/// Whether a copy of the batch equals it.
 fn is_copied(batch: &Batch) -> Result<bool, AllocError> {
     let copy = batch.clone()?;
     let same = batch.is_same(&copy);
@@ -77,7 +77,7 @@ fn is_copied(batch: &Batch) -> Result<bool, AllocError> {
     Ok(same)
 }
 
-/// What the batch's bytes are decoded to is the batch.
+/// Whether the batch's bytes are decoded to the batch.
 fn is_read(alloc: Global, batch: &Batch) -> Result<bool, Fail> {
     let bytes = encode(alloc, batch).ok().ok_or("not written")?;
     let read = decode(alloc, &bytes).ok().ok_or("not read")?;
@@ -86,7 +86,7 @@ fn is_read(alloc: Global, batch: &Batch) -> Result<bool, Fail> {
     Ok(same && bytes.len() > 2 * MEGABYTE)
 }
 
-/// Both of a large batch.
+/// Tests both for a large batch.
 fn is_kept(alloc: Global) -> Result<bool, Fail> {
     let batch = large_batch(alloc)?;
     let copied = is_copied(&batch);
@@ -95,7 +95,7 @@ fn is_kept(alloc: Global) -> Result<bool, Fail> {
     Ok(read? && copied?)
 }
 
-/// Nothing gives up past a size: a body of more than two megabytes is written, read and copied.
+/// No function fails above some size: a body of more than two megabytes is written, read and copied.
 #[test]
 fn large_batches(rt: HostRuntime) -> Result<(), Fail> {
     assert!(rt; is_kept(rt.alloc())?);

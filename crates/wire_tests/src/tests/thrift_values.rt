@@ -3,7 +3,7 @@ use std::fmt::Display;
 use std::test::*;
 use thrift_binary::{Cursor, Out, WireError, WriteError, types};
 
-/// Lists inside lists, so many levels, the innermost empty; without the type code of the outermost.
+/// Returns nested lists of a number of levels, the innermost empty, without the type code of the outermost.
 fn nested_lists(alloc: Global, levels: u8) -> Result<Vec<u8>, Fail> {
     let mut bytes = Vec::new(alloc);
     for level in 0..levels {
@@ -49,12 +49,12 @@ const WRITE_FAULTS: [(WriteError, &str); 2] = [
     (WriteError::Memory, "NoMemory"),
 ];
 
-/// Whether it is printed so.
+/// Whether it prints this text.
 fn is_printed(alloc: Global, fault: &impl Display, name: &str) -> Result<bool, AllocError> {
     Ok(format!(in alloc; "{fault}")?.as_str() == name)
 }
 
-/// Each fault is printed as its name: a body of `fmt` that always fails meets its contract.
+/// Each fault prints its name: a body of `fmt` that always fails would meet its contract.
 #[test]
 fn printed_faults(rt: HostRuntime) -> Result<(), Fail> {
     for (fault, name) in &READ_FAULTS {

@@ -6,7 +6,7 @@ use jaeger_model::{
 use std::alloc::{AllocError, Global};
 use std::mem::drop;
 use std::test::*;
-use trace_samples::{batch, beside, first_otherwise, kept, list_of, span};
+use trace_samples::{batch, beside, first_mismatch, kept, list_of, span};
 
 fn text(alloc: Global, text: &str) -> Result<Text, Fail> {
     Ok(Text::from_str(alloc, text)?)
@@ -25,7 +25,7 @@ fn add_tag(alloc: Global, tags: &mut Vec<Tag>, key: &str, value: Value) -> Resul
     Ok(())
 }
 
-/// The tags with one more at their end.
+/// Appends a tag to the tags.
 pub(crate) fn with_tag(
     alloc: Global,
     tags: Vec<Tag>,
@@ -37,7 +37,7 @@ pub(crate) fn with_tag(
     kept(tags, added)
 }
 
-/// A batch of one span of trace 1 with parent id 7, a follows-from reference to its own span 9 and the
+/// Returns a batch of one span of trace 1 with parent id 7, a follows-from reference to its own span 9 and the
 /// kind `server`.
 fn one_batch(alloc: Global) -> Result<Batch, Fail> {
     let spans = list_of(alloc, referring_span(alloc)?)?;
@@ -46,7 +46,7 @@ fn one_batch(alloc: Global) -> Result<Batch, Fail> {
     Ok(batch)
 }
 
-/// The span of that batch.
+/// Returns the span of that batch.
 fn referring_span(alloc: Global) -> Result<Span, Fail> {
     let mut span = span(alloc, 1, 2)?;
     span.parent = SpanId(7);
@@ -67,7 +67,7 @@ fn set_lists(alloc: Global, span: &mut Span) -> Result<(), Fail> {
     Ok(())
 }
 
-/// Whether the id is printed so, and read from that.
+/// Whether the id prints this text, and is parsed from it.
 fn is_printed(alloc: Global, id: TraceId, want: &str) -> Result<bool, AllocError> {
     let printed = trace_text(alloc, id)?;
     Ok(printed.as_str() == want && parse_trace(want) == Some(id))
@@ -94,13 +94,13 @@ fn ids(rt: HostRuntime) -> Result<(), Fail> {
     Ok(())
 }
 
-/// The tags with one more at their end, whose value is this text.
+/// Appends a tag with this text to the tags.
 fn with_text(alloc: Global, tags: Vec<Tag>, key: &str, word: &str) -> Result<Vec<Tag>, Fail> {
     let (tags, word) = beside(tags, text(alloc, word))?;
     with_tag(alloc, tags, key, Value::Text(word))
 }
 
-/// The tags with one more at their end, whose value is these bytes.
+/// Appends a tag with these bytes to the tags.
 fn with_bytes(alloc: Global, tags: Vec<Tag>, key: &str, bytes: Vec<u8>) -> Result<Vec<Tag>, Fail> {
     with_tag(alloc, tags, key, Value::Bytes(Seq::from_vec(bytes)))
 }
@@ -113,7 +113,7 @@ fn tags_of_plain_types(alloc: Global) -> Result<Vec<Tag>, Fail> {
     with_tag(alloc, tags, "flag", Value::Bool(false))
 }
 
-/// A tag of each type, and a second one with a key that stands there already.
+/// Returns a tag of each type, and a second one with a key that one of these has.
 fn a_tag_of_each_type(alloc: Global) -> Result<Vec<Tag>, Fail> {
     let bytes = vec![in alloc; 0xab, 0]?;
     let tags = tags_of_plain_types(alloc)?;
@@ -132,7 +132,7 @@ const TAG_TEXTS: [(&str, &str); 6] = [
     ("ip", ""),
 ];
 
-/// Whether the first tag with the key has this text, where there is one.
+/// Whether the first tag with the key has this text, if there is one.
 fn is_first(alloc: Global, tags: &[Tag], key: &str, want: &str) -> Result<bool, Fail> {
     let first = first_text(alloc, tags, key)?;
     let same = match first_tag(tags, key) {
@@ -142,10 +142,10 @@ fn is_first(alloc: Global, tags: &[Tag], key: &str, want: &str) -> Result<bool, 
     Ok(same && first.as_str() == want)
 }
 
-/// The first key that, among a tag of each type, hasn't the text that stands beside it; None where each has.
+/// Returns the first key whose tag, among a tag of each type, hasn't the text beside it, or `None`.
 fn first_other_text(alloc: Global) -> Result<Option<usize>, Fail> {
     let tags = a_tag_of_each_type(alloc)?;
-    let first = first_otherwise(&TAG_TEXTS, |(key, want)| is_first(alloc, &tags, key, want));
+    let first = first_mismatch(&TAG_TEXTS, |(key, want)| is_first(alloc, &tags, key, want));
     drop(tags);
     first
 }
@@ -156,7 +156,7 @@ fn texts_of_tags(rt: HostRuntime) -> Result<(), Fail> {
     Ok(())
 }
 
-/// Whether a copy of the batch, and its process, are the same.
+/// Whether a copy of the batch and of its process are equal to them.
 fn is_copied(batch: &Batch) -> Result<bool, Fail> {
     let copy = batch.clone()?;
     let same = batch.is_same(&copy) && batch.process.is_same(&copy.process);
@@ -164,7 +164,7 @@ fn is_copied(batch: &Batch) -> Result<bool, Fail> {
     Ok(same)
 }
 
-/// The same of that one batch.
+/// Whether a copy of that one batch is equal to it.
 fn one_is_copied(alloc: Global) -> Result<bool, Fail> {
     let batch = one_batch(alloc)?;
     let same = is_copied(&batch);
@@ -178,12 +178,12 @@ fn batches(rt: HostRuntime) -> Result<(), Fail> {
     Ok(())
 }
 
-/// The references are to these spans, in this order.
+/// Whether the references are to these spans, in this order.
 fn are_to(references: &[SpanRef], ids: [u64; 2]) -> bool {
     references.iter().map(|reference| reference.id.0).eq(ids)
 }
 
-/// The span of the batch as it stands in the store.
+/// Returns the span of the batch in the form in which a store keeps it.
 fn is_placed(span: &Span, placed: &Span) -> bool {
     parent_of(span) == SpanId(7)
         && parent_of(placed) == SpanId(7)
@@ -192,7 +192,7 @@ fn is_placed(span: &Span, placed: &Span) -> bool {
         && are_to(placed.references.as_slice(), [7, 9])
 }
 
-/// Whether the span of the process is placed so by itself too.
+/// Whether `place_span` returns this for the span and the process too.
 fn is_placed_alone(
     alloc: Global,
     process: &SharedProcess,
@@ -205,7 +205,7 @@ fn is_placed_alone(
     Ok(same)
 }
 
-/// Whether this is how the batch's one span is placed.
+/// Whether this is the batch's one span as `domain` returns it.
 fn are_placed(alloc: Global, batch: &Batch, placed: &[Placed]) -> Result<bool, Fail> {
     match (batch.spans.as_slice(), placed) {
         ([span], [placed]) => Ok(
@@ -215,7 +215,7 @@ fn are_placed(alloc: Global, batch: &Batch, placed: &[Placed]) -> Result<bool, F
     }
 }
 
-/// Whether the one batch is placed so.
+/// Whether `domain` returns the right span for the one batch.
 fn one_is_placed(alloc: Global, batch: &Batch) -> Result<bool, Fail> {
     let placed = domain(alloc, batch)?;
     let said = are_placed(alloc, batch, placed.as_slice());
@@ -223,7 +223,7 @@ fn one_is_placed(alloc: Global, batch: &Batch) -> Result<bool, Fail> {
     said
 }
 
-/// The same of a batch that is given up behind that.
+/// Whether `domain` returns the right span for the one batch, which is dropped afterwards.
 fn made_is_placed(alloc: Global) -> Result<bool, Fail> {
     let batch = one_batch(alloc)?;
     let said = one_is_placed(alloc, &batch);

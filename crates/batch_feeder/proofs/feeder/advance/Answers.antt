@@ -1,7 +1,7 @@
 use Rattle.std.proofs.Common.{sym, ◌∙◌}
 use Rattle.std.proofs.lemmas.Result.{err_from_is_err_and}
-use Rattle.batch_feeder.proofs.ContinuingAgain.{arrived-faults, arrived-whole}
-use Rattle.batch_feeder.proofs.FeedingAgain.{reading-faults, reading-waits, reading-whole, whole-comes, ends, refused-faults}
+use Rattle.batch_feeder.proofs.CallSteps.{arrived-faults, arrived-whole}
+use Rattle.batch_feeder.proofs.FeederSteps.{reading-faults, reading-waits, reading-whole, whole-comes, ends, refused-faults}
 use Rattle.batch_feeder.proofs.feeder.advance.Goals as goal
 
 pub returns-in-Err : goal.returns-in-Err

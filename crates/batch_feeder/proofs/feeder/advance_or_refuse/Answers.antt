@@ -1,6 +1,6 @@
 use Rattle.std.proofs.Common.{arith}
-use Rattle.batch_feeder.proofs.FeedingAgain.{refused-settled, refused-answers}
-use Rattle.batch_feeder.proofs.HoldingAgain.{holds-none}
+use Rattle.batch_feeder.proofs.FeederSteps.{refused-settled, refused-answers}
+use Rattle.batch_feeder.proofs.WaitingBytes.{holds-none}
 use Rattle.batch_feeder.proofs.feeder.advance_or_refuse.Goals as goal
 
 pub returns-in-Err : goal.returns-in-Err

@@ -1,6 +1,6 @@
 use Rattle.batch_codec.specs.BatchReading.{decoded}
 use Rattle.batch_feeder.specs.Answers.{answers}
-use Rattle.batch_feeder.proofs.PiecesAgain.{pieces-end, pieces-refuse}
+use Rattle.batch_feeder.proofs.FedPieces.{pieces-end, pieces-refuse}
 use Rattle.batch_feeder.proofs.feeder.decode_pieces.Goals as goal
 
 pub returns-in-Err : goal.returns-in-Err

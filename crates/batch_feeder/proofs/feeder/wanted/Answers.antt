@@ -1,5 +1,5 @@
 use Rattle.std.proofs.Common.{arith}
-use Rattle.batch_feeder.proofs.HoldingAgain.{empty-quiet}
+use Rattle.batch_feeder.proofs.WaitingBytes.{empty-quiet}
 use Rattle.batch_feeder.proofs.feeder.wanted.Goals as goal
 
 pub returns-in-empty : goal.returns-in-empty

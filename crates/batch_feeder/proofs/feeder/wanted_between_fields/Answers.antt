@@ -1,5 +1,5 @@
 use Rattle.std.proofs.Common.{arith}
-use Rattle.batch_feeder.proofs.HoldingAgain.{reading-between_fields}
+use Rattle.batch_feeder.proofs.WaitingBytes.{reading-between_fields}
 use Rattle.batch_feeder.proofs.feeder.wanted_between_fields.Goals as goal
 
 pub returns-then-is_between : goal.returns-then-is_between

@@ -1,4 +1,4 @@
-use Rattle.batch_feeder.proofs.HoldingAgain.{quiet-string}
+use Rattle.batch_feeder.proofs.WaitingBytes.{quiet-string}
 use Rattle.batch_feeder.proofs.feeder.wanted_of_string.Goals as goal
 
 pub returns-in-Some : goal.returns-in-Some

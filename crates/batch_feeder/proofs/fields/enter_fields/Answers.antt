@@ -1,4 +1,4 @@
-use Rattle.batch_feeder.proofs.ContinuingAgain.{comes-faults}
+use Rattle.batch_feeder.proofs.CallSteps.{comes-faults}
 use Rattle.batch_feeder.proofs.fields.enter_fields.Goals as goal
 
 pub returns-in-Err-clause-continues : goal.returns-in-Err-clause-continues

@@ -2,9 +2,9 @@ use Rattle.std.proofs.Common.{arith, refl}
 use Rattle.thrift_binary.specs.declared.fault.WireError.TheVariants.{Truncated}
 use Rattle.batch_codec.specs.declared.fault.DecodeError.TheVariants.{Wire}
 use Rattle.wire_pieces.proofs.Steps.{comes-trans, comes-waits}
-use Rattle.wire_pieces.proofs.ItemsAgain.{items-waits}
-use Rattle.batch_feeder.proofs.ContinuingAgain.{comes-faults}
-use Rattle.batch_feeder.proofs.ListsFromAgain.{items-faults, behind-opens, behind-none, item-done}
+use Rattle.wire_pieces.proofs.ListSteps.{items-waits}
+use Rattle.batch_feeder.proofs.CallSteps.{comes-faults}
+use Rattle.batch_feeder.proofs.ItemSteps.{items-faults, behind-opens, behind-none, item-done}
 use Rattle.batch_feeder.proofs.items.begin_items.Goals as goal
 
 pub returns-in-Err-clause-continues : goal.returns-in-Err-clause-continues

@@ -3,9 +3,9 @@ use Rattle.std.proofs.lemmas.Result.{err_from_is_err_and}
 use Rattle.thrift_binary.specs.declared.fault.WireError.TheVariants.{Truncated}
 use Rattle.batch_codec.specs.declared.fault.DecodeError.TheVariants.{Wire}
 use Rattle.wire_pieces.proofs.Steps.{comes-trans, comes-waits}
-use Rattle.wire_pieces.proofs.ItemsAgain.{items-waits}
-use Rattle.batch_feeder.proofs.ContinuingAgain.{comes-faults}
-use Rattle.batch_feeder.proofs.ListsFromAgain.{items-faults, behind-none, item-ended, ended-faults, ended-behind, item-next}
+use Rattle.wire_pieces.proofs.ListSteps.{items-waits}
+use Rattle.batch_feeder.proofs.CallSteps.{comes-faults}
+use Rattle.batch_feeder.proofs.ItemSteps.{items-faults, behind-none, item-ended, ended-faults, ended-behind, item-next}
 use Rattle.batch_feeder.proofs.items.next_items.Goals as goal
 
 pub returns-in_err-item-clause-continues : goal.returns-in_err-item-clause-continues

@@ -15,14 +15,13 @@ pub loop-numbers-preserved : goal.loop-numbers-preserved
 loop-numbers-preserved c =
     let done = map deref_pair c.loop-numbers.yielded in
     let numbers = c.in-Some.numbers.now in
-    let tally = c.in-Some.tally.now in
-    ap (map service_entry) c.in_ok-insert-2.ensures.entries
-    ∙ service_put c.insert.new.self.entries numbers.1 tally.callee
-    ∙ ap (λ l. insert_entry nat_cmp l numbers.1 (text_in tally.callee.now.span)) (
+    let first =
     ap (map service_entry) c.in_ok-insert.ensures.entries
-    ∙ service_put c.loop-numbers.services.entries numbers.0 tally.caller
-    ∙ ap (λ l. insert_entry nat_cmp l numbers.0 (text_in tally.caller.now.span)) c.loop-numbers.invariant
-    )
+    ∙ service_put c.loop-numbers.services.entries numbers.0 c.again.result
+    ∙ (λ i. insert_entry nat_cmp (c.loop-numbers.invariant i) numbers.0 (text_in (c.again.ensures i).span)) in
+    ap (map service_entry) c.in_ok-insert-2.ensures.entries
+    ∙ service_put c.insert.new.self.entries numbers.1 c.again-in-loop-numbers.result
+    ∙ (λ i. insert_entry nat_cmp (first i) numbers.1 (text_in (c.again-in-loop-numbers.ensures i).span))
     ∙ sym (ap (λ es. services_met (tallies_seen es)) (map_push deref_pair c.loop-numbers.yielded _) ∙ ap services_met (map_push tally_seen done _) ∙ fold_push with_services [] (tallies_seen done) _)
 
 pub returns : goal.returns

@@ -5,7 +5,7 @@ use Rattle.find_traces.proofs.judged_process.add_fields.Goals as goal
 
 pub loop-log-preserved : goal.loop-log-preserved
 loop-log-preserved c = λ a.
-    let q = c.args.wanted.now in
+    let q = c.args.prepared.now in
     let others = c.args.others.now.keys in
     let put = c.in_ok-add_pairs.ensures a ∙ ap (λ ts. is_in c.loop-log.pairs.keys a || (wants q others a && has_pair ts a)) c.as_slice.ensures in
     log_more q others c.add_pairs.new.pairs.keys c.loop-log.pairs.keys c.args.pairs.now.keys c.args.logs.now c.loop-log.log-index c.log-item.result

@@ -8,7 +8,7 @@ use Rattle.http_requests.proofs.asked.frame.Goals as goal
 pub returns : goal.returns
 returns c =
     let w = c.requires in
-    let e : w.beginning ≡ c.beginning_of-beginning.result.now = w.beginning_is ∙ sym c.beginning_of-beginning.ensures in
+    let e : w.prefix ≡ c.prefix_of-prefix.result.now = w.prefix_is ∙ sym c.prefix_of-prefix.ensures in
     let pairs : c.new-fields.result ≡ pairs_of w.head = c.new-fields.ensures ∙ ap (λ l. map (header_bytes l) (take c.args.spans.headers c.args.headers.now)) (sym e) ∙ w.at.fields in
     let method : c.method_of.result ≡ method_of w.head.method =
     c.method_of.ensures ∙ ap method_of (c.of.ensures ∙ ap (λ l. slice_range l c.args.spans.method.start c.args.spans.method.end) (sym e) ∙ w.at.method) in

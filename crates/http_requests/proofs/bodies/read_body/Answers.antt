@@ -2,16 +2,16 @@ use Rattle.std.proofs.Common.{◌∙◌, refl, sym}
 use Rattle.std.proofs.lemmas.Result.{err_from_is_err_and}
 use Rattle.http_requests.specs.Waiting.{source_of}
 use Rattle.http_requests.proofs.Parts.{has_looked}
-use Rattle.http_requests.proofs.PartByPart.{begins_body, more_body, broken_body, ended_body, body_read_on, body_stops_there}
+use Rattle.http_requests.proofs.PartByPart.{begins_body, more_body, malformed_body, ended_body, body_read_on, body_stops_there}
 use Rattle.http_requests.proofs.bodies.read_body.Goals as goal
 
 pub reads-init : goal.reads-init
 reads-init g c =
     (begins_body g.S.Sink.takes (source_of g.R.Input.remaining g.R.Input.gives) g.met.S.Sink.takes_nothing _ _ _ _ _ c.new-reader.ensures.part, refl, c.new-reader.ensures.looked _)
 
-pub returns-in-Broken-clause-body : goal.returns-in-Broken-clause-body
-returns-in-Broken-clause-body g c =
-    broken_body g.S.Sink.takes (source_of g.R.Input.remaining g.R.Input.gives) g.met.S.Sink.takes_joined _ _ _ _ _ _ _ c.take_from.new.sink _ _ c.take_from.new.self c.reads.invariant.0 c.in-Broken.why c.in-Broken.ensures.took
+pub returns-in-Malformed-clause-body : goal.returns-in-Malformed-clause-body
+returns-in-Malformed-clause-body g c =
+    malformed_body g.S.Sink.takes (source_of g.R.Input.remaining g.R.Input.gives) g.met.S.Sink.takes_joined _ _ _ _ _ _ _ c.take_from.new.sink _ _ c.take_from.new.self c.reads.invariant.0 c.in-Malformed.why c.in-Malformed.ensures.took
 
 pub returns-in-More-clause-body : goal.returns-in-More-clause-body
 returns-in-More-clause-body g c =
@@ -22,14 +22,14 @@ returns-in-More-clause-body g c =
 pub reads-preserved : goal.reads-preserved
 reads-preserved g c =
     let part = more_body g.S.Sink.takes (source_of g.R.Input.remaining g.R.Input.gives) g.met.S.Sink.takes_joined _ _ _ _ _ _ _ _ _ _ _ c.reads.invariant.0 c.in-More-2.ensures.took in
-    let read = c.in_ok-read_on-in-More-2.ensures in (
+    let read = c.in_ok-read_more-in-More-2.ensures in (
       body_read_on g.S.Sink.takes (source_of g.R.Input.remaining g.R.Input.gives) _ _ _ _ _ _ _ _ _ _ part c.in-More-2.ensures.leaves read.ok read.read,
       read.same ∙ c.reads.invariant.1,
-      has_looked c.take_from.new.self c.take_from.new.received.held c.read_on.new.self.held read.read.0 read.read.2 c.in-More-2.ensures.leaves,
+      has_looked c.take_from.new.self c.take_from.new.received.held c.read_more.new.self.held read.read.0 read.read.2 c.in-More-2.ensures.leaves,
     )
 
-pub returns-in_err-read_on-in-More-2-clause-err : goal.returns-in_err-read_on-in-More-2-clause-err
-returns-in_err-read_on-in-More-2-clause-err g c =
+pub returns-in_err-read_more-in-More-2-clause-err : goal.returns-in_err-read_more-in-More-2-clause-err
+returns-in_err-read_more-in-More-2-clause-err g c =
     let part = more_body g.S.Sink.takes (source_of g.R.Input.remaining g.R.Input.gives) g.met.S.Sink.takes_joined _ _ _ _ _ _ _ _ _ _ _ c.reads.invariant.0 c.in-More-2.ensures.took in
     let p = err_from_is_err_and c.from_residual.result c.from_residual.ensures.1 in
-    rw (p.1, p.2) (body_stops_there g.S.Sink.takes (source_of g.R.Input.remaining g.R.Input.gives) _ _ _ _ _ c.take_from.new.received _ _ _ _ part c.in-More-2.ensures.leaves _ _ c.in_err-read_on-in-More-2.ensures.err)
+    rw (p.1, p.2) (body_stops_there g.S.Sink.takes (source_of g.R.Input.remaining g.R.Input.gives) _ _ _ _ _ c.take_from.new.received _ _ _ _ part c.in-More-2.ensures.leaves _ _ c.in_err-read_more-in-More-2.ensures.err)

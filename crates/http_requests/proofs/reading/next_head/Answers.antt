@@ -19,13 +19,13 @@ returns-in-Whole-clause-found g c =
 pub reads-preserved : goal.reads-preserved
 reads-preserved g c =
     let so = c.reads.invariant in
-    let read = c.in_ok-read_on-in-More.ensures.read in
+    let read = c.in_ok-read_more-in-More.ensures.read in
     let awaits = c.in-More.ensures.found in
     let seen = c.in-More.ensures.seen in (
-      reads_more (source_of g.R.Input.remaining g.R.Input.gives) AwaitsHead _ _ _ _ _ _ _ so.0 c.as_slice.ensures awaits c.in_ok-read_on-in-More.ensures.ok read,
-      c.in_ok-read_on-in-More.ensures.same ∙ so.1,
+      reads_more (source_of g.R.Input.remaining g.R.Input.gives) AwaitsHead _ _ _ _ _ _ _ so.0 c.as_slice.ensures awaits c.in_ok-read_more-in-More.ensures.ok read,
+      c.in_ok-read_more-in-More.ensures.same ∙ so.1,
       (
-        subst (λ (n : ℕ). n ≤ length c.read_on.new.self.held) (sym seen) (fits_still _ _ _ read.0 c.as_slice.ensures read.2),
-        subst (λ (n : ℕ). AwaitsHead (take n c.read_on.new.self.held)) (sym seen) (seen_stays AwaitsHead _ _ _ read.0 c.as_slice.ensures read.2 awaits),
+        subst (λ (n : ℕ). n ≤ length c.read_more.new.self.held) (sym seen) (fits_still _ _ _ read.0 c.as_slice.ensures read.2),
+        subst (λ (n : ℕ). AwaitsHead (take n c.read_more.new.self.held)) (sym seen) (seen_stays AwaitsHead _ _ _ read.0 c.as_slice.ensures read.2 awaits),
       ),
     )

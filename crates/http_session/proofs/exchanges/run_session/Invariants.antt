@@ -1,5 +1,5 @@
 use Rattle.std.proofs.Common.{◌≡◌, ◌*◌, ◌-◌, false}
-use Rattle.http_requests.specs.declared.read_buffer.TheConstants.{MOST_READS}
+use Rattle.http_requests.specs.declared.read_buffer.TheConstants.{MAX_READS}
 use Rattle.http_requests.specs.declared.room.TheConstants.{PIECE}
 use Rattle.http_session.specs.InOrder.{line_of}
 use Rattle.http_session.specs.Between.{store_of}
@@ -17,4 +17,4 @@ invariant-requests g l =
 
 -- a response more is written by each piece, and there is a limit to them
 abbrev pub decreases-requests : goal.decreases-requests
-decreases-requests g l = PIECE * MOST_READS - l.session.answered
+decreases-requests g l = PIECE * MAX_READS - l.session.answered

@@ -6,7 +6,7 @@ use Rattle.trace_assembly.specs.Located.{span_at}
 use Rattle.journal_traces.specs.Standing.{spans_named}
 use Rattle.journal_traces.proofs.Processes.{process_there, more_at}
 use Rattle.journal_traces.proofs.Spots.{named_some, named_none, named_end}
-use Rattle.journal_traces.proofs.Keeping.{not_kept, kept_there}
+use Rattle.journal_traces.proofs.StoredSpans.{not_kept, kept_there}
 use Rattle.journal_traces.proofs.gathering.gather.Goals as goal
 
 pub loop-spot-preserved : goal.loop-spot-preserved

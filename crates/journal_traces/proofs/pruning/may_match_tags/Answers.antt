@@ -1,4 +1,4 @@
-use Rattle.journal_traces.proofs.Masks.{mask_tells}
+use Rattle.journal_traces.proofs.TagMasks.{mask_tells}
 use Rattle.journal_traces.proofs.pruning.may_match_tags.Goals as goal
 
 pub returns : goal.returns

@@ -4,4 +4,4 @@ use Rattle.journal_traces.specs.Spotted.{IsTellingOf}
 use Rattle.journal_traces.proofs.tag_candidates.entries_met.Given as goal
 
 abbrev pub invariant-loop-entry : goal.invariant-loop-entry
-invariant-loop-entry l = AllZip (IsTellingOf l.wanted) (take l.entry-index l.entries) l.met.items
+invariant-loop-entry l = AllZip (IsTellingOf l.prepared) (take l.entry-index l.entries) l.met.items

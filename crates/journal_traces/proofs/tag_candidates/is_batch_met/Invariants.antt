@@ -6,6 +6,6 @@ use Rattle.journal_traces.proofs.tag_candidates.is_batch_met.Given as goal
 
 abbrev pub invariant-loop-span : goal.invariant-loop-span
 invariant-loop-span l = record {
-  none : list_any (meets l.wanted l.process) (take l.span-index l.spans) ≡ false;
-  judged : IsJudgedAs l.wanted l.process l.judged;
+  none : list_any (meets l.prepared l.process) (take l.span-index l.spans) ≡ false;
+  judged : IsJudgedAs l.prepared l.process l.judged;
 }

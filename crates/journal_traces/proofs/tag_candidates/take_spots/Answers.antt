@@ -4,7 +4,7 @@ use Rattle.std.specs.Option.{option_and_then}
 use Rattle.trace_model.specs.Taking.{Taken}
 use Rattle.trace_assembly.specs.Located.{span_at}
 use Rattle.trace_assembly.specs.declared.spot.Spot.{Spot}
-use Rattle.journal_traces.specs.declared.tag_candidates.TakenSpot.{TakenSpot}
+use Rattle.journal_traces.specs.declared.taken_spot.TakenSpot.{TakenSpot}
 use Rattle.journal_traces.specs.Spotted.{entries_shared, process_numbered, spot_of}
 use Rattle.journal_traces.specs.Taking.{placed_taken, HasProcess}
 use Rattle.journal_traces.proofs.Spotting.{spots_left, no_spots_left, spots_named}

@@ -8,7 +8,7 @@ use Rattle.journal_traces.proofs.tag_taking.take_spots.Goals as goal
 
 pub loop-spot-init : goal.loop-spot-init
 loop-spot-init c =
-    let h = c.args.teller.now.journal.now.held.entries in
+    let h = c.args.matcher.now.journal.now.held.entries in
     let old = c.args.taken.now.traces in
     let now = c.begin.new.self.traces in
     let numbered : List Entry → Type 0 = λ es. AreNumbers h es c.args.numbers.now in
@@ -21,7 +21,7 @@ loop-spot-init c =
 
 pub loop-spot-preserved : goal.loop-spot-preserved
 loop-spot-preserved c =
-    let h = c.args.teller.now.journal.now.held.entries in
+    let h = c.args.matcher.now.journal.now.held.entries in
     record {
       numbers = c.in_ok-take_spot.ensures.numbers;
       query = c.take_spot.ensures.query ∙ c.loop-spot.invariant.query;

@@ -6,7 +6,7 @@ use Rattle.journal_traces.proofs.tag_taking.take_spots.Given as goal
 
 abbrev pub invariant-loop-spot : goal.invariant-loop-spot
 invariant-loop-spot l = record {
-  numbers : AreNumbers l.teller.journal.now.held.entries l.taken.entries l.numbers;
+  numbers : AreNumbers l.matcher.journal.now.held.entries l.taken.entries l.numbers;
   query : l.taken.query ≡ l.fn.taken.query;
-  taking : IsTaking Anything l.teller.journal.now.held.entries l.fn.taken.traces l.taken.traces l.spot-iterator l.fn.spots;
+  taking : IsTaking Anything l.matcher.journal.now.held.entries l.fn.taken.traces l.taken.traces l.spot-iterator l.fn.spots;
 }

@@ -5,7 +5,7 @@ use Rattle.journal_traces.proofs.taken_search.is_found.Goals as goal
 
 pub loop-span-preserved : goal.loop-span-preserved
 loop-span-preserved c =
-    let q = c.args.wanted.now in
+    let q = c.args.prepared.now in
     let xs = c.args.spans.now in
     let i = c.loop-span.span-index in
     let x = c.span-item.result in
@@ -22,7 +22,7 @@ loop-span-preserved c =
 
 pub returns-then-is_match-clause-found : goal.returns-then-is_match-clause-found
 returns-then-is_match-clause-found c = λ process_of before all.
-    let q = c.args.wanted.now in
+    let q = c.args.prepared.now in
     let xs = c.args.spans.now in
     let i = c.loop-span.span-index in
     let x = c.span-item.result in

@@ -4,5 +4,5 @@ use Rattle.play_script.proofs.script.play_step.Goals as goal
 
 pub returns : goal.returns
 returns c =
-    on_ok_weaker c.say_outcome.result (λ said. made_and_said _ _ c.args.world.now c.make.new.world c.args.step c.in_ok-outcome.outcome c.in_ok-outcome.ensures said)
-    c.say_outcome.ensures
+    on_ok_weaker c.write_outcome.result (λ reply. made_and_said _ _ c.args.world.now c.make.new.world c.args.step c.in_ok-outcome.outcome c.in_ok-outcome.ensures reply)
+    c.write_outcome.ensures

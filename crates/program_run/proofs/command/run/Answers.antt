@@ -1,7 +1,8 @@
-use Rattle.std.proofs.Common.{inl, inr, refl, subst, map, List, Option, ℕ, arith}
+use Rattle.std.proofs.Common.{inl, inr, refl, sym, subst, ◌∙◌, map, List, Option, ℕ, arith}
 use Rattle.get_command.specs.Runs.{output_of as get_output, status_of as get_status}
 use Rattle.play_script.specs.Playing.{output_of as play_output, status_of as play_status}
 use Rattle.text_lines.specs.RunErrors.{RunsAs}
+use Rattle.command_words.specs.Words.{IsFaultOf}
 use Rattle.command_words.specs.Asked.{Asks}
 use Rattle.command_words.specs.declared.words.Command.TheVariants.{Get, Pipe, Play, Serve}
 use Rattle.program_run.specs.Piping.{Pipes}
@@ -46,7 +47,7 @@ pub returns-in-Err : goal.returns-in-Err
 returns-in-Err g c = inr (record {
   unread = refl;
   input_works = c.requires.input_works;
-  fault = c.in-Err.ensures.status;
-  accepted = c.in-Err.ensures.accepted;
-  bad_trace = c.in-Err.ensures.bad_trace;
+  fault = subst (λ s. IsFaultOf s (g.W.Output.has_failed c.read_words.new.output)) (sym c.status.ensures) c.in-Err.ensures.status;
+  accepted = λ command a. c.status.ensures ∙ c.in-Err.ensures.accepted command a;
+  bad_trace = λ limits t e. c.in-Err.ensures.bad_trace limits t (sym c.status.ensures ∙ e);
 })

@@ -8,7 +8,7 @@ use Rattle.query_http.specs.Paths.{trace_pattern, names_pattern}
 use Rattle.std.specs.Prelude.{codes}
 use Rattle.query_http.proofs.paths.add_endpoints.Goals as goal
 
--- a route that conflicts with none is refused only where memory ran out
+-- adding a route that conflicts with none fails only if memory ran out
 module _ {T : Type 0} where
   only_memory : (p : List ℕ) (rows : RowsOf (RouteOf T)) (e : InsertError) → nearest p rows ≡ None → Refused p rows e → e ≡ OutOfMemory
   only_memory p rows (Conflict with) none (route, there, text) = search (none, there)
@@ -17,7 +17,7 @@ module _ {T : Type 0} where
   only_memory p rows InvalidParam none refused = elim refused [ ]
   only_memory p rows InvalidCatchAll none refused = elim refused [ ]
 
--- the error is handed on as it is
+-- the error is returned unchanged
 module _ {X : Type 0} where
   handed_on : (result : Result X InsertError) (e : InsertError) → IsErrAnd result (λ x. x ≡ e) → e ≡ OutOfMemory → IfErr result (λ x. x ≡ OutOfMemory)
   handed_on (Ok x) e is memory = tt

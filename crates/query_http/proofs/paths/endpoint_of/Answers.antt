@@ -1,6 +1,6 @@
 use Rattle.std.proofs.Common.{sym, ap, ◌∙◌}
 use Rattle.matchit.specs.Seek.{first}
-use Rattle.query_http.proofs.Finding.{endpoint_found, endpoint_there}
+use Rattle.query_http.proofs.EndpointsAreFound.{endpoint_found, endpoint_there}
 use Rattle.query_http.proofs.paths.endpoint_of.Goals as goal
 
 pub returns-in-Ok : goal.returns-in-Ok

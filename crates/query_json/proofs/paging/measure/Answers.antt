@@ -4,14 +4,14 @@ use Rattle.query_json.specs.Runs.{AllFit, left_at, text_of}
 use Rattle.query_json.proofs.Runs.{left_none, length_runs}
 use Rattle.query_json.proofs.paging.measure.Goals as goal
 
-pub put_next-at-requires-clause-run : goal.put_next-at-requires-clause-run
-put_next-at-requires-clause-run c = omega (arith, length_runs (item_pieces c.args.items.now), c.count.ensures.count, c.loop-at-test.true)
+pub write_next-at-requires-clause-run : goal.write_next-at-requires-clause-run
+write_next-at-requires-clause-run c = omega (arith, length_runs (item_pieces c.args.items.now), c.count.ensures.count, c.loop-at-test.true)
 
 pub loop-at-preserved : goal.loop-at-preserved
 loop-at-preserved c =
     let l = c.loop-at in
-    let next = c.put_next-at.ensures in
-    let at = c.put_next-at.result in
+    let next = c.write_next-at.ensures in
+    let at = c.write_next-at.result in
     let rs = runs_of c.args.items.now in
     let none = c.without_room-page.ensures in
     let size = c.in_ok-size.ensures in

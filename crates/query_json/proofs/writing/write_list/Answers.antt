@@ -11,17 +11,17 @@ pub loop-index-init : goal.loop-index-init
 loop-index-init g c =
     let ds = g.L.WriteItems.trees c.args.items in
     let some : 0 < length ds = omega (arith, c.count-count.ensures, c.if-count-eq0.false) in
-    list_begun (λ (d : Data). d) (drop_more ds 0 null some) (c.put-2.ensures ▸ c.write_item.ensures)
+    list_begun (λ (d : Data). d) (drop_more ds 0 null some) (c.push_str-2.ensures ▸ c.write_item.ensures)
 
 pub loop-index-preserved : goal.loop-index-preserved
 loop-index-preserved g c =
     let l = c.loop-index in
     let ds = g.L.WriteItems.trees c.args.items in
     let within : l.index < length ds = omega (arith, c.count-count.ensures, c.loop-index-test.true) in
-    Going-next (drop_more ds l.index null within) l.invariant (c.put-in-loop-index.ensures ▸ c.write_item-in-loop-index.ensures)
+    Going-next (drop_more ds l.index null within) l.invariant (c.push_str-in-loop-index.ensures ▸ c.write_item-in-loop-index.ensures)
 
 pub returns : goal.returns
 returns g c =
     let ds = g.L.WriteItems.trees c.args.items in
-    Puts-is (Going-over ds c.loop-index.index c.loop-index.invariant (omega (arith, c.loop-index-test.false, c.count-count.ensures)) c.put-3.ensures)
+    Puts-is (Going-over ds c.loop-index.index c.loop-index.invariant (omega (arith, c.loop-index-test.false, c.count-count.ensures)) c.push_str-3.ensures)
     (ap (λ ts. compact_text (list ts)) (map-id ds))

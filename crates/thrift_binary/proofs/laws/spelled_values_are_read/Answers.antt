@@ -1,6 +1,6 @@
-use Rattle.thrift_binary.proofs.Again.{bool_again, i32_again, i64_again, double_again, string_again, field_head_again, stop_again}
+use Rattle.thrift_binary.proofs.SpellingsAreRead.{bool_again, i32_again, i64_again, double_again, string_again, field_head_again, stop_again}
 use Rattle.thrift_binary.proofs.Lists.{list_head_read}
-use Rattle.thrift_binary.proofs.SkipAgain.{skip_again}
+use Rattle.thrift_binary.proofs.ValuesAreSkipped.{skip_again}
 use Rattle.thrift_binary.proofs.laws.spelled_values_are_read.Goals as goal
 
 pub returns-clause-bool : goal.returns-clause-bool

@@ -5,7 +5,7 @@ use Rattle.jaeger_model.specs.Texts.{text_cmp}
 use Rattle.trace_adjust.specs.Hosts.{hosts_of, number_in, AreNumbers, AreKept}
 use Rattle.trace_adjust.proofs.hosts.host_numbers.Given as goal
 
--- the table has the hosts so far, and what is kept under places are numbers of them
+-- the table has the hosts so far, and the stored numbers are numbers of them
 abbrev pub invariant-loop-index : goal.invariant-loop-index
 invariant-loop-index l = record {
   table : (t : List ℕ) → get text_cmp l.numbers t ≡ number_in (hosts_of (take l.index l.trace)) t;

@@ -5,7 +5,7 @@ use Rattle.trace_server.proofs.Endings.{reported, unheard}
 use Rattle.trace_server.proofs.serving.serve_named.Goals as goal
 
 pub returns-in-Err : goal.returns-in-Err
-returns-in-Err g c = inr (inl (unheard _ _ (g.W.Output.has_failed c.say_listening.new.output) _ _ c.in-Err.error _ c.status.ensures c.in-Err.ensures))
+returns-in-Err g c = inr (inl (unheard _ _ (g.W.Output.has_failed c.write_listening.new.output) _ _ c.in-Err.error _ c.status.ensures c.in-Err.ensures))
 
 pub returns : goal.returns
 returns g c =
@@ -16,4 +16,4 @@ returns g c =
     let new = g.W.Output.contents c.serve_store.new.output in
     subst (λ (l : Limits). Serves host l workers old new failed c.serve_store.result) (sym c.requires.limits)
     (reported host g.N.StoreName.limits workers c.in-Ok-open.shared.clerk.desk (map (λ p. p.1.seat) c.in-Ok-open.shared.lives.items) old _ new failed _ c.serve_store.result
-    c.in-Ok-open.ensures.new c.in_default-say_listening.ensures.0 c.serve_store.ensures)
+    c.in-Ok-open.ensures.new c.in_default-write_listening.ensures.0 c.serve_store.ensures)

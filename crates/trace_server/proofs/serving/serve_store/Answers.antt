@@ -19,8 +19,8 @@ returns-in-Ok-close_books g c =
     let on = IfOk-at_ok _ c.in-Ok.is c.serve_sessions-books.ensures.seats in
     let totals = c.in-Ok-close_books.totals in
     inr (record {
-      served = c.together-all.result.served;
-      failed = c.together-all.result.failed;
+      served = c.total_outcome-all.result.served;
+      failed = c.total_outcome-all.result.failed;
       acknowledged = totals.acknowledged;
       refused = totals.refused;
       left = totals.left;

@@ -3,7 +3,7 @@ use Rattle.std.specs.Int.{cast_signed}
 use Rattle.byteorder.specs.Endian.{big_number}
 use Rattle.thrift_binary.specs.Reading.{signed_at}
 use Rattle.wire_pieces.specs.Pieces.{Comes}
-use Rattle.wire_pieces.proofs.Filled.{filled-comes, signed-whole}
+use Rattle.wire_pieces.proofs.FilledBytes.{filled-comes, signed-whole}
 use Rattle.wire_pieces.proofs.heads.more_i16.Goals as goal
 
 pub returns-clause-reads : goal.returns-clause-reads

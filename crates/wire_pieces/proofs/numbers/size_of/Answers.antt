@@ -1,6 +1,6 @@
 use Rattle.std.proofs.Common.{◌≡◌, ◌≤◌, ◌<◌, ◌∙◌, Some, ap, arith}
 use Rattle.byteorder.specs.Endian.{big_number}
-use Rattle.wire_pieces.proofs.Filled.{size-whole, size-spelled}
+use Rattle.wire_pieces.proofs.FilledBytes.{size-whole, size-spelled}
 use Rattle.wire_pieces.proofs.numbers.size_of.Goals as goal
 
 pub returns-then-bytes-ne4-clause-every : goal.returns-then-bytes-ne4-clause-every

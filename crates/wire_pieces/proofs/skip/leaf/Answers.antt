@@ -1,7 +1,7 @@
 use Rattle.std.proofs.Common.{◌∙◌, ap, sym}
 use Rattle.thrift_binary.specs.Reading.{◌>>=◌}
 use Rattle.thrift_binary.specs.Skipping.{past}
-use Rattle.wire_pieces.proofs.StringsAgain.{text-is}
+use Rattle.wire_pieces.proofs.StringSteps.{text-is}
 use Rattle.wire_pieces.proofs.skip.leaf.Goals as goal
 
 pub returns-then-code-eq-STRING-clause-reads : goal.returns-then-code-eq-STRING-clause-reads

@@ -23,21 +23,21 @@ invariant_of-self c =
     let h : List Entry = map arc_value was.entries.items in
     let pushed : map arc_value c.push_reserved.new.self.items ≡ h ++ arc_value c.into_entry-entry.result ∷ [] = ap (map arc_value) c.push_reserved.ensures.items ∙ map_push arc_value was.entries.items c.into_entry-entry.result in
     let outline : c.outline-outline.result ≡ outline_in (arc_value c.into_entry-entry.result) = c.outline-outline.ensures ∙ ap outline_in (sym c.into_entry-entry.ensures) in
-    let outlined : c.note_outline.new.outlines.items ≡ with_outline was.keeps_outlines was.outlines.items (outline_in (arc_value c.into_entry-entry.result)) = c.note_outline.ensures.items ∙ ap (with_outline was.keeps_outlines was.outlines.items) outline in
+    let outlined : c.push_outline.new.outlines.items ≡ with_outline was.keeps_outlines was.outlines.items (outline_in (arc_value c.into_entry-entry.result)) = c.push_outline.ensures.items ∙ ap (with_outline was.keeps_outlines was.outlines.items) outline in
     let count : length c.spans.result.now ≡ length (spans_brought (arc_value c.into_entry-entry.result).work) = search rules in
-    let noted : (s : ℕ) → get_or c.note.new.numbers.items s 0 ≡ (if c.into_entry-entry.result.value.seat == s then c.into_entry-entry.result.value.number else get_or was.last_numbers.items s 0) = search rules in
+    let noted : (s : ℕ) → get_or c.set_last_number.new.numbers.items s 0 ≡ (if c.into_entry-entry.result.value.seat == s then c.into_entry-entry.result.value.number else get_or was.last_numbers.items s 0) = search rules in
     let may : admission was.limits h (arc_value c.into_entry-entry.result) ≡ Ok Added = ap (λ (v : Journaled). admission_by v.held (arc_value c.into_entry-entry.result)) c.self.view_is ∙ (ap (λ (x : Entry). admission_by c.args.self.now.held x) c.into_entry-entry.ensures ∙ c.requires) in
     let sent : SentKept (h ++ arc_value c.into_entry-entry.result ∷ []) c.add.new.self = subst (λ (l : List Entry). SentKept l c.add.new.self) (ap (map (arc_value {X = Entry} {Z = Global})) c.deref-4.ensures.value ∙ pushed) c.add.ensures.kept in
     rw (pushed, count)
-    (kept_push was.limits h (vec_capacity was.entries) (vec_capacity c.push_reserved.new.self) was.keeps_outlines was.outlines.items c.note_outline.new.outlines.items (vec_capacity was.outlines) (vec_capacity c.note_outline.new.outlines)
-    was.spans (arc_value c.into_entry-entry.result) was.last_numbers.items c.note.new.numbers.items (vec_capacity was.last_numbers) (vec_capacity c.note.new.numbers) was.sent c.add.new.self
-    c.self.invariant may outlined noted c.push_reserved.ensures.capacity c.note_outline.ensures.capacity c.note.ensures.capacity sent c.add.ensures.room)
+    (kept_push was.limits h (vec_capacity was.entries) (vec_capacity c.push_reserved.new.self) was.keeps_outlines was.outlines.items c.push_outline.new.outlines.items (vec_capacity was.outlines) (vec_capacity c.push_outline.new.outlines)
+    was.spans (arc_value c.into_entry-entry.result) was.last_numbers.items c.set_last_number.new.numbers.items (vec_capacity was.last_numbers) (vec_capacity c.set_last_number.new.numbers) was.sent c.add.new.self
+    c.self.invariant may outlined noted c.push_reserved.ensures.capacity c.push_outline.ensures.capacity c.set_last_number.ensures.capacity sent c.add.ensures.room)
 
 pub returns-clause-legal : goal.returns-clause-legal
 returns-clause-legal c = (invariant_of-self c).legal
 
-pub note_outline-requires : goal.note_outline-requires
-note_outline-requires c = λ keeps.
+pub push_outline-requires : goal.push_outline-requires
+push_outline-requires c = λ keeps.
     let was = c.self.inside in
     let h : List Entry = map (arc_value {X = Entry} {Z = Global}) was.entries.items in
     let e = arc_value c.into_entry-entry.result in

@@ -17,7 +17,7 @@ returns-in-Some-clause-answer c =
     let entries : map (arc_value {X = Entry} {Z = Global}) c.deref.result.now ≡ held.entries = ap (map (arc_value {X = Entry} {Z = Global})) c.deref.ensures.value ∙ ap (λ (v : Journaled). v.held.entries) c.self.view_is in
     let sought : c.deref-2.result.now ≡ e = search rules in
     let at : sent_before held.entries e ≡ Some c.in-Some.before = ap (λ (h : List Entry). sent_before h e) (sym entries) ∙ ap (sent_before (map (arc_value {X = Entry} {Z = Global}) c.deref.result.now)) (sym sought) ∙ sym c.find.ensures ∙ some in
-    c.judge_again.ensures ∙ ap (λ (x : Entry). repeated held.entries x c.in-Some.before) same ∙ sym (admission_repeated held.limits held.entries e c.in-Some.before at)
+    c.judge_resent.ensures ∙ ap (λ (x : Entry). repeated held.entries x c.in-Some.before) same ∙ sym (admission_repeated held.limits held.entries e c.in-Some.before at)
 
 pub returns-in-None-clause-answer : goal.returns-in-None-clause-answer
 returns-in-None-clause-answer c =
@@ -28,4 +28,4 @@ returns-in-None-clause-answer c =
     let entries : map (arc_value {X = Entry} {Z = Global}) c.deref.result.now ≡ held.entries = ap (map (arc_value {X = Entry} {Z = Global})) c.deref.ensures.value ∙ ap (λ (v : Journaled). v.held.entries) c.self.view_is in
     let sought : c.deref-2.result.now ≡ e = search rules in
     let at : sent_before held.entries e ≡ None = ap (λ (h : List Entry). sent_before h e) (sym entries) ∙ ap (sent_before (map (arc_value {X = Entry} {Z = Global}) c.deref.result.now)) (sym sought) ∙ sym c.find.ensures ∙ none in
-    c.judge_anew.ensures ∙ ap (λ (x : Entry). admitted_anew held.limits held.entries x) same ∙ sym (admission_anew held.limits held.entries e at)
+    c.judge_new.ensures ∙ ap (λ (x : Entry). admitted_anew held.limits held.entries x) same ∙ sym (admission_anew held.limits held.entries e at)

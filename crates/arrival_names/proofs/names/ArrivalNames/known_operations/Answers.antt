@@ -9,7 +9,7 @@ use Rattle.trace_model.specs.declared.answer.Operation.{Operation}
 use Rattle.trace_model.specs.Histories.{arrivals}
 use Rattle.trace_model.specs.Names.{operation_cmp, is_asked_kind}
 use Rattle.service_index.specs.Listing.{Listed, listed_in, operations_of}
-use Rattle.service_index.specs.Listing.{names_of as names_in_order}
+use Rattle.service_index.specs.Listing.{names_of as sorted_names}
 use Rattle.service_index.specs.Indexes.{listing_by, own_operations, operations_at}
 use Rattle.service_index.proofs.Arrivals.{names_listed, operations_listed}
 use Rattle.service_index.proofs.Linking.{names_are}
@@ -31,6 +31,6 @@ returns c =
     ap (λ (ns : List ℕ). sorted_set operation_cmp (operations_at names ns)) c.deref.ensures.value ∙ c.in_ok-numbers.ensures.operations ∙ all in
     IfOk-weaker c.operations_of.result (λ known. known.items ≡ operations_at names c.deref.result.now) (λ known. AreOperations s (arrivals h) known.items)
     (λ known is. record {
-      names = sym (names_are known.items) ∙ ap names_in_order (ap (sorted_set operation_cmp) is ∙ listed) ∙ names_are (operations_of s (listed_in (arrivals h))) ∙ names_listed s (arrivals h);
+      names = sym (names_are known.items) ∙ ap sorted_names (ap (sorted_set operation_cmp) is ∙ listed) ∙ names_are (operations_of s (listed_in (arrivals h))) ∙ names_listed s (arrivals h);
       operations = λ kind. ap (filter (is_asked_kind kind)) (ap (sorted_set operation_cmp) is ∙ listed) ∙ operations_listed s kind (arrivals h);
     }) c.operations_of.ensures

@@ -3,7 +3,7 @@ use Rattle.std.specs.Int.{cast_signed}
 use Rattle.byteorder.specs.Endian.{big_number}
 use Rattle.thrift_binary.specs.declared.fault.WireError.TheVariants.{Truncated}
 use Rattle.thrift_binary.specs.Reading.{◌>>=◌, lift}
-use Rattle.wire_pieces.proofs.Filled.{signed-whole}
+use Rattle.wire_pieces.proofs.FilledBytes.{signed-whole}
 use Rattle.batch_codec.specs.declared.fault.DecodeError.TheVariants.{Wire, BadEnum}
 use Rattle.batch_codec.specs.Decoding.{i32_at, wire}
 use Rattle.batch_codec.specs.TagReading.{type_at, type_of_number}

@@ -1,5 +1,5 @@
 use Rattle.batch_feeder.specs.Answers.{answers}
-use Rattle.batch_feeder.proofs.HoldingAgain.{feeds-then, feeds-plain}
+use Rattle.batch_feeder.proofs.WaitingBytes.{feeds-then, feeds-plain}
 use Rattle.batch_feeder.proofs.feeder.Feeder.feed_long.Goals as goal
 
 pub returns-in-Ok : goal.returns-in-Ok

@@ -1,6 +1,6 @@
 use Rattle.std.proofs.Common.{sym}
-use Rattle.batch_feeder.proofs.FeedingAgain.{reading-ends, whole-ends, refused-answers}
-use Rattle.batch_feeder.proofs.HoldingAgain.{holds-ends, whole-holds}
+use Rattle.batch_feeder.proofs.FeederSteps.{reading-ends, whole-ends, refused-answers}
+use Rattle.batch_feeder.proofs.WaitingBytes.{holds-ends, whole-holds}
 use Rattle.batch_feeder.proofs.feeder.Feeder.finish.Goals as goal
 
 pub returns-in-Reading : goal.returns-in-Reading

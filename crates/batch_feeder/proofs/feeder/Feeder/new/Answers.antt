@@ -1,6 +1,6 @@
 use Rattle.std.proofs.Common.{arith}
-use Rattle.batch_feeder.proofs.FeedingAgain.{start-settled, start-decodes}
-use Rattle.batch_feeder.proofs.HoldingAgain.{holds-none}
+use Rattle.batch_feeder.proofs.FeederSteps.{start-settled, start-decodes}
+use Rattle.batch_feeder.proofs.WaitingBytes.{holds-none}
 use Rattle.batch_feeder.proofs.feeder.Feeder.new.Goals as goal
 
 pub invariant_of-result : goal.invariant_of-result

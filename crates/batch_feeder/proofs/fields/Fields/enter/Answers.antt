@@ -6,4 +6,4 @@ use Rattle.batch_feeder.proofs.fields.Fields.enter.Goals as goal
 pub returns-clause-continues : goal.returns-clause-continues
 returns-clause-continues g c =
     let f : SFits w16 c.args.id = search rules in
-    simp to_z-of_z at c.enter_slowly.ensures.continues
+    simp to_z-of_z at c.enter_in_pieces.ensures.continues

@@ -1,4 +1,4 @@
-use Rattle.batch_feeder.proofs.ContinuingAgain.{same-comes, same-waits, same-faults}
+use Rattle.batch_feeder.proofs.CallSteps.{same-comes, same-waits, same-faults}
 use Rattle.batch_feeder.proofs.items.ListPart.begin.Goals as goal
 
 pub returns-in-Err-clause-continues : goal.returns-in-Err-clause-continues

@@ -1,4 +1,4 @@
-use Rattle.batch_feeder.proofs.ListsFromAgain.{head-none}
+use Rattle.batch_feeder.proofs.ItemSteps.{head-none}
 use Rattle.batch_feeder.proofs.items.ListPart.enter.Goals as goal
 
 pub returns-then-size-eq0-clause-continues : goal.returns-then-size-eq0-clause-continues

@@ -1,4 +1,4 @@
-use Rattle.batch_feeder.proofs.ListsFromAgain.{item-short}
+use Rattle.batch_feeder.proofs.ItemSteps.{item-short}
 use Rattle.batch_feeder.proofs.items.ListPart.is_between_fields.Goals as goal
 
 pub returns-in-Some : goal.returns-in-Some

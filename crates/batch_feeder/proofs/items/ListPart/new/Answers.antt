@@ -1,5 +1,5 @@
 use Rattle.batch_codec.specs.Decoding.{wire}
-use Rattle.wire_pieces.proofs.ItemsAgain.{list-fresh}
+use Rattle.wire_pieces.proofs.ListSteps.{list-fresh}
 use Rattle.batch_feeder.proofs.items.ListPart.new.Goals as goal
 
 pub returns : goal.returns

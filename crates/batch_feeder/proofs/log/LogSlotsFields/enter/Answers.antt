@@ -3,13 +3,13 @@ use Rattle.std.proofs.lemmas.Int.{to_z-of_z}
 use mir.Val.{SFits}
 use Rattle.batch_codec.specs.LogReading.{take_log}
 use Rattle.batch_codec.specs.TagReading.{tag_at}
-use Rattle.batch_feeder.proofs.EnlistingAgain.{enlisted}
+use Rattle.batch_feeder.proofs.NewLists.{enlisted}
 use Rattle.batch_feeder.proofs.log.LogSlotsFields.enter.Goals as goal
 
 pub returns-in_default-clause-continues : goal.returns-in_default-clause-continues
 returns-in_default-clause-continues c =
     let f : SFits w16 c.args.id = search rules in
-    simp to_z-of_z at c.enter_slowly.ensures.continues
+    simp to_z-of_z at c.enter_in_pieces.ensures.continues
 
 pub returns-in-15-eq2-clause-continues : goal.returns-in-15-eq2-clause-continues
 unfolding take_log tag_at

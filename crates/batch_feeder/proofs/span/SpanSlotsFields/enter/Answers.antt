@@ -5,13 +5,13 @@ use Rattle.batch_codec.specs.SpanReading.{take_span}
 use Rattle.batch_codec.specs.ReferenceReading.{reference_at}
 use Rattle.batch_codec.specs.TagReading.{tag_at}
 use Rattle.batch_codec.specs.LogReading.{log_at}
-use Rattle.batch_feeder.proofs.EnlistingAgain.{enlisted}
+use Rattle.batch_feeder.proofs.NewLists.{enlisted}
 use Rattle.batch_feeder.proofs.span.SpanSlotsFields.enter.Goals as goal
 
 pub returns-in_default-clause-continues : goal.returns-in_default-clause-continues
 returns-in_default-clause-continues c =
     let f : SFits w16 c.args.id = search rules in
-    simp to_z-of_z at c.enter_slowly.ensures.continues
+    simp to_z-of_z at c.enter_in_pieces.ensures.continues
 
 pub returns-in-15-eq6-clause-continues : goal.returns-in-15-eq6-clause-continues
 unfolding take_span reference_at

@@ -3,7 +3,7 @@ use Rattle.std.specs.Str.{is_utf8}
 use Rattle.std.proofs.lemmas.Str.{is_utf8-from_IsUtf8, IsUtf8-string_bytes}
 use Rattle.wire_pieces.specs.Pieces.{Comes}
 use Rattle.batch_feeder.specs.Values.{text_part}
-use Rattle.batch_feeder.proofs.TextsAgain.{text-whole, text-bad, not_text}
+use Rattle.batch_feeder.proofs.ReceivedTexts.{text-whole, text-bad, not_text}
 use Rattle.batch_feeder.proofs.texts.TextPartPartial.more.Goals as goal
 
 pub returns-in-Ok-clause-continues : goal.returns-in-Ok-clause-continues

@@ -1,6 +1,6 @@
 use Rattle.std.proofs.Common.{ap}
 use Rattle.thrift_binary.specs.Reading.{lift}
-use Rattle.thrift_binary.proofs.Again.{bytes_again}
+use Rattle.thrift_binary.proofs.SpellingsAreRead.{bytes_again}
 use Rattle.batch_codec.specs.Decoding.{double_at, wire}
 use Rattle.batch_feeder.proofs.values.ArrayU88Fixed8.of.Goals as goal
 

@@ -1,6 +1,6 @@
 use Rattle.std.proofs.Common.{Err, ap}
 use Rattle.thrift_binary.specs.declared.fault.WireError.TheVariants.{Truncated}
-use Rattle.wire_pieces.proofs.Filled.{filled-waits, filled-comes, filled-refuses}
+use Rattle.wire_pieces.proofs.FilledBytes.{filled-waits, filled-comes, filled-refuses}
 use Rattle.batch_codec.specs.declared.fault.DecodeError.TheVariants.{Wire}
 use Rattle.batch_feeder.proofs.values.FixedPartPartial.more.Goals as goal
 

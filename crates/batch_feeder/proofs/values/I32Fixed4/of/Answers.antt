@@ -2,7 +2,7 @@ use Rattle.std.proofs.Common.{◌≡◌, ◌++◌, ap, Ok, rules, w32}
 use Rattle.std.specs.Int.{cast_signed}
 use Rattle.byteorder.specs.Endian.{big_number}
 use Rattle.thrift_binary.specs.Reading.{lift}
-use Rattle.wire_pieces.proofs.Filled.{signed-whole}
+use Rattle.wire_pieces.proofs.FilledBytes.{signed-whole}
 use Rattle.batch_codec.specs.Decoding.{i32_at, wire}
 use Rattle.batch_feeder.proofs.values.I32Fixed4.of.Goals as goal
 

@@ -4,14 +4,14 @@ use Rattle.find_traces.proofs.judged_process.JudgedProcess.new.Goals as goal
 
 pub overflow_sub-left : goal.overflow_sub-left
 overflow_sub-left c =
-    let few = met_few c.args.wanted.now c.args.process.now c.in_ok-met.met.keys c.len.ensures.ordered c.in_ok-met.ensures in
+    let few = met_few c.args.prepared.now c.args.process.now c.in_ok-met.met.keys c.len.ensures.ordered c.in_ok-met.ensures in
     let length = c.len.ensures.len in
     let count = c.count.ensures in
     omega arith
 
 pub invariant_of-result : goal.invariant_of-result
 invariant_of-result c =
-    let few = met_few c.args.wanted.now c.args.process.now c.in_ok-met.met.keys c.len.ensures.ordered c.in_ok-met.ensures in
+    let few = met_few c.args.prepared.now c.args.process.now c.in_ok-met.met.keys c.len.ensures.ordered c.in_ok-met.ensures in
     let length = c.len.ensures.len in
     let count = c.count.ensures in
     record {

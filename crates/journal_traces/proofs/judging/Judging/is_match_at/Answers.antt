@@ -8,8 +8,8 @@ use Rattle.trace_model.specs.Seeing.{seen}
 use Rattle.trace_assembly.specs.Located.{span_at}
 use Rattle.trace_model.specs.Seeing.{placed_by_its_entry}
 use Rattle.journal_traces.specs.Standing.{spans_named}
-use Rattle.journal_traces.proofs.Adopting.{matches-adopted}
-use Rattle.journal_traces.proofs.Marking.{or_same}
+use Rattle.journal_traces.proofs.ParentReferences.{matches-adopted}
+use Rattle.journal_traces.proofs.TraceMarks.{or_same}
 use Rattle.journal_traces.proofs.Processes.{process_there}
 use Rattle.journal_traces.proofs.judging.Judging.is_match_at.Goals as goal
 

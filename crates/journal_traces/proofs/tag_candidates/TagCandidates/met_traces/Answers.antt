@@ -17,7 +17,7 @@ use Rattle.journal_traces.proofs.tag_candidates.TagCandidates.met_traces.Goals.{
 pub loop-place-preserved : goal.loop-place-preserved
 loop-place-preserved c =
     let v : Spotted = c.args.self.now in
-    let q = c.args.wanted.now in
+    let q = c.args.prepared.now in
     let was = c.self.inside in
     let xs : List (List Placed) = traces_spotted v in
     let k = c.loop-place.place in
@@ -52,7 +52,7 @@ loop-place-preserved c =
 pub returns-clause-found : goal.returns-clause-found
 returns-clause-found c =
     let v : Spotted = c.args.self.now in
-    let q = c.args.wanted.now in
+    let q = c.args.prepared.now in
     let was = c.self.inside in
     let xs : List (List Placed) = traces_spotted v in
     let many : length v.traces ≡ length was.starts.items = ap (λ (s : Spotted). length s.traces) (sym c.self.view_is) ∙ cuts (trace_spotted (entries_shared was.entries.items) was.spots.items) was.starts.items in

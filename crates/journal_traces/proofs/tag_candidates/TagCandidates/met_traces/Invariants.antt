@@ -6,6 +6,6 @@ use Rattle.journal_traces.proofs.tag_candidates.TagCandidates.met_traces.Given a
 
 abbrev pub invariant-loop-place : goal.invariant-loop-place
 invariant-loop-place l = record {
-  matching : matching l.wanted (map placed_taken l.traces) ≡ matching l.wanted (take l.place (traces_spotted l.self));
+  matching : matching l.prepared (map placed_taken l.traces) ≡ matching l.prepared (take l.place (traces_spotted l.self));
   numbers : AreNumbered l.self.entries l.traces;
 }

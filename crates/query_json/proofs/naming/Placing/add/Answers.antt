@@ -4,7 +4,7 @@ use Rattle.std.specs.Ordering.{nat_cmp}
 use Rattle.std.specs.BTreeMap.{get}
 use Rattle.query_json.specs.declared.naming.Placing.{Placing}
 use Rattle.query_json.specs.Placing.{HasPlace}
-use Rattle.query_json.proofs.Again.{all_more, known_place, known_processes, places_more}
+use Rattle.query_json.proofs.PlacesByEntries.{all_more, known_place, known_processes, places_more}
 use Rattle.query_json.proofs.naming.Placing.add.Goals as goal
 use Rattle.query_json.proofs.naming.Placing.add.Goals.{in-Some, in-None+in_ok-place-in-None}
 

@@ -9,7 +9,7 @@ use Rattle.query_json.specs.Naming.{added, place}
 use Rattle.query_json.specs.Numbering.{numbered}
 use Rattle.query_json.specs.Trees.{process_of, processes_of}
 use Rattle.query_json.specs.Writing.{process_place}
-use Rattle.query_json.proofs.Again.{known_put, one_more}
+use Rattle.query_json.proofs.PlacesByEntries.{known_put, one_more}
 use Rattle.query_json.proofs.Distinct.{place_stays, processes_more}
 use Rattle.query_json.proofs.naming.Placing.place_of.Goals as goal
 

@@ -9,7 +9,7 @@ use Rattle.query_json.proofs.Runs.{left_none, open_still}
 use Rattle.query_json.proofs.paging.PagedAnswer.extend.Goals as goal
 
 module _ (p : PagedAnswer) (new : Page) (to : List (List (List ℕ))) (ready : IsReady p) (later : p.later ≡ None) (f : Fills 16384 p.page new (left_of p) to) where
-  -- without a page for later parts that of the part is the one that is put on
+  -- without a page for later parts, pieces are written to the page of the part
   same_page : (q : Page) → unwrap_or p.later q ≡ q
   same_page q = ap (λ o. unwrap_or o q) later
 
@@ -27,7 +27,7 @@ module _ (p : PagedAnswer) (new : Page) (to : List (List (List ℕ))) (ready : I
     | inr h ↦ f.room h.most h.fit (has_room h) was_open
   ]
 
-  -- how many bytes were put
+  -- the number of bytes that were written
   put_count : length new.bytes.items ≡ length p.page.bytes.items + length f.bytes
   put_count = omega (arith, ap length (f.puts.adds.behind stays_open), length-append p.page.bytes.items f.bytes)
 

@@ -7,4 +7,4 @@ use Rattle.query_json.proofs.writing.processes.write_name.Goals as goal
 pub returns : goal.returns
 unfolding escape_byte
 returns c =
-    Puts-is (c.put.ensures ▸ c.count.ensures ▸ c.put-2.ensures) (ap (λ (t : List ℕ). 34 ∷ 112 ∷ (t ++ 34 ∷ [])) (sym (escape_decimal c.args.number)))
+    Puts-is (c.push_str.ensures ▸ c.count.ensures ▸ c.push_str-2.ensures) (ap (λ (t : List ℕ). 34 ∷ 112 ∷ (t ++ 34 ∷ [])) (sym (escape_decimal c.args.number)))

@@ -16,7 +16,7 @@ id_of (x ∷ ss) s h is = ap (λ (y : Shown). trace_text y.placed.span.trace) (s
 pub returns-then-len-eq0 : goal.returns-then-len-eq0
 returns-then-len-eq0 c =
     let none : c.args.spans.now ≡ [] = nil_from_length c.args.spans.now (search rules) in
-    Puts-is c.put.ensures (ap (λ ss. compact_text (string (trace_id_text ss))) (sym none))
+    Puts-is c.push_str.ensures (ap (λ ss. compact_text (string (trace_id_text ss))) (sym none))
 
 pub returns : goal.returns
 returns c =

@@ -8,7 +8,7 @@ use Rattle.trace_model.specs.Histories.{before_last}
 use Rattle.trace_model.specs.Works.{batch_brought}
 use Rattle.row_places.specs.Leading.{LeadsTo}
 use Rattle.sent_batches.specs.Hashing.{batch_hash}
-use Rattle.sent_batches.specs.Sent.{Sent, IsKept, AreBehind, has_number, hash_behind, numbered_from}
+use Rattle.sent_batches.specs.Sent.{Sent, IsKept, AreAfterEntries, has_number, hash_after, numbered_from}
 use Rattle.sent_batches.proofs.Sending.{hash_is, limit_has_none, batch_has, brought_is, one_more, kept_same, kept_more, numbered_within}
 use Rattle.sent_batches.proofs.batches.SentBatches.add.Goals as goal
 
@@ -34,9 +34,9 @@ mark-requires-clause-can_read c =
     let kept = c.requires.kept in
     let more = one_more c.args.entries.now c.index-entries-before.result e c.args.self.now c.requires.some c.index-entries-before.is c.deref.ensures kept c.requires.room in
     let befores : c.deref-2.result.now ≡ numbered_from 0 (before_last h) = c.deref-2.ensures.value ∙ ap (λ (v : Sent). v.befores) c.self.view_is ∙ kept.befores in
-    let hashes : c.deref-3.result.now ≡ map (hash_behind c.args.self.now.keys (before_last h)) c.args.self.now.befores = c.deref-3.ensures.value ∙ ap (λ (v : Sent). v.hashes) c.self.view_is ∙ kept.hashes in (
-      subst (λ (bs : List ℕ). AreBehind h bs) (sym befores) (record { within = λ row l. let below = numbered_within (before_last h) row l in omega (arith, ap length more.last, length-append (before_last h) (e ∷ [])) }),
-      ap length befores ∙ sym (ap length hashes ∙ length-map c.args.self.now.befores (hash_behind c.args.self.now.keys (before_last h)) ∙ ap length kept.befores),
+    let hashes : c.deref-3.result.now ≡ map (hash_after c.args.self.now.keys (before_last h)) c.args.self.now.befores = c.deref-3.ensures.value ∙ ap (λ (v : Sent). v.hashes) c.self.view_is ∙ kept.hashes in (
+      subst (λ (bs : List ℕ). AreAfterEntries h bs) (sym befores) (record { within = λ row l. let below = numbered_within (before_last h) row l in omega (arith, ap length more.last, length-append (before_last h) (e ∷ [])) }),
+      ap length befores ∙ sym (ap length hashes ∙ length-map c.args.self.now.befores (hash_after c.args.self.now.keys (before_last h)) ∙ ap length kept.befores),
     )
 
 pub mark-requires-clause-room : goal.mark-requires-clause-room

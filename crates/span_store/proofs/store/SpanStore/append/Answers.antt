@@ -13,24 +13,24 @@ use Rattle.arrival_names.specs.Kept.{IsKept as NamesKept}
 use Rattle.service_places.specs.Reported.{IsKept as PlacesKept}
 use Rattle.span_store.specs.Opening.{AreFirst, IsRanged}
 use Rattle.span_store.specs.Kept.{Follows, IsNamed, IsPlaced}
-use Rattle.span_store.proofs.Keeping.{Grows, arrivals_fit, kept_more, kept_room, kept_within, spans_fit}
+use Rattle.span_store.proofs.IndexesAreKept.{Grows, arrivals_fit, kept_more, kept_room, kept_within, spans_fit}
 use Rattle.span_store.proofs.store.SpanStore.append.Goals as goal
 
-pub follow-requires-clause-within : goal.follow-requires-clause-within
-follow-requires-clause-within c =
+pub apply_entry-requires-clause-within : goal.apply_entry-requires-clause-within
+apply_entry-requires-clause-within c =
     let was = c.self.inside in
     kept_within was.journal.held was.shown was.starts was.names was.reported c.self.invariant
 
-pub follow-requires-clause-fits : goal.follow-requires-clause-fits
-follow-requires-clause-fits c =
+pub apply_entry-requires-clause-fits : goal.apply_entry-requires-clause-fits
+apply_entry-requires-clause-fits c =
     let was = c.self.inside in
     let e : Entry = c.args.entry in
     let may : admission_by was.journal.held e ≡ Ok Added = ap (λ (v : Held). admission_by v e) c.self.view_is ∙ c.requires in
     let fits : length (spans_brought e.work) < 2 ^ 32 = spans_fit was.journal.held e may in
     search rules
 
-pub follow-requires-clause-room : goal.follow-requires-clause-room
-follow-requires-clause-room c =
+pub apply_entry-requires-clause-room : goal.apply_entry-requires-clause-room
+apply_entry-requires-clause-room c =
     let was = c.self.inside in
     let e : Entry = c.args.entry in
     let may : admission_by was.journal.held e ≡ Ok Added = ap (λ (v : Held). admission_by v e) c.self.view_is ∙ c.requires in
@@ -45,16 +45,16 @@ invariant_of-self c =
     let place : c.len-place.result + 1 ≡ length was.journal.held.entries + 1 = ap (λ k. k + 1) c.len-place.ensures.length in
     let n = was.journal.held.limits.traces in
     let h = was.journal.held.entries in
-    let here = c.follow.ensures.follows n h place c.self.invariant.follows in
-    let after = c.follow.new.shown in
+    let here = c.apply_entry.ensures.follows n h place c.self.invariant.follows in
+    let after = c.apply_entry.new.shown in
     let follows : Follows n (located_events (h ++ e ∷ [])) after.newest (spots_of after) =
     subst (λ (x : Entry). Follows n (located_events (h ++ x ∷ [])) after.newest (spots_of after)) (c.deref.ensures ∙ c.entry.ensures) here in
-    let first : AreFirst n (located_events (h ++ e ∷ [])) c.follow.new.starts.starts =
-    subst (λ (x : Entry). AreFirst n (located_events (h ++ x ∷ [])) c.follow.new.starts.starts) (c.deref.ensures ∙ c.entry.ensures) (c.follow.ensures.first n h place c.self.invariant.follows c.self.invariant.first) in
-    let ranged : IsRanged n (located_events (h ++ e ∷ [])) after c.follow.new.starts =
-    subst (λ (x : Entry). IsRanged n (located_events (h ++ x ∷ [])) after c.follow.new.starts) (c.deref.ensures ∙ c.entry.ensures) (c.follow.ensures.ranged n h place c.self.invariant.follows c.self.invariant.ranged) in
+    let first : AreFirst n (located_events (h ++ e ∷ [])) c.apply_entry.new.starts.starts =
+    subst (λ (x : Entry). AreFirst n (located_events (h ++ x ∷ [])) c.apply_entry.new.starts.starts) (c.deref.ensures ∙ c.entry.ensures) (c.apply_entry.ensures.first n h place c.self.invariant.follows c.self.invariant.first) in
+    let ranged : IsRanged n (located_events (h ++ e ∷ [])) after c.apply_entry.new.starts =
+    subst (λ (x : Entry). IsRanged n (located_events (h ++ x ∷ [])) after c.apply_entry.new.starts) (c.deref.ensures ∙ c.entry.ensures) (c.apply_entry.ensures.ranged n h place c.self.invariant.follows c.self.invariant.ranged) in
     let used : after.used ≡ was.shown.used + length (spans_brought e.work) = search rules in
-    let grows : Grows was.shown after (length (spans_brought e.work)) = record { room = c.follow.ensures.room; used = used } in
+    let grows : Grows was.shown after (length (spans_brought e.work)) = record { room = c.apply_entry.ensures.room; used = used } in
     let list : map (arc_value {X = Entry} {Z = Global}) c.entries-entries.result.now ≡ was.journal.held.entries ++ e ∷ [] = c.entries-entries.ensures ∙ ap (λ (v : Held). v.entries) held in
     let named = c.self.invariant.named in
     let names : IsNamed (followed_by was.journal.held e) c.add-2.new.self = record {
@@ -67,7 +67,7 @@ invariant_of-self c =
       kept = subst (λ (h : List Entry). PlacesKept h c.add.new.self) list c.add.ensures.kept;
       batches = c.add.ensures.batches ∙ c.self.invariant.placed.batches;
     } in
-    kept_more was.journal.held c.append.new.self.held e was.shown after was.starts c.follow.new.starts was.names c.add-2.new.self was.reported c.add.new.self c.self.invariant held grows follows first c.follow.ensures.counted ranged names placed
+    kept_more was.journal.held c.append.new.self.held e was.shown after was.starts c.apply_entry.new.starts was.names c.add-2.new.self was.reported c.add.new.self c.self.invariant held grows follows first c.apply_entry.ensures.counted ranged names placed
 
 pub add-requires-2-clause-numbers : goal.add-requires-2-clause-numbers
 add-requires-2-clause-numbers c =

@@ -8,8 +8,8 @@ use Rattle.trace_model.specs.Showing.{spans_of_trace}
 use Rattle.service_places.specs.Reported.{places_of}
 use Rattle.journal_traces.specs.Picked.{reaches, near_along}
 use Rattle.journal_traces.specs.Standing.{traces_named}
-use Rattle.span_store.proofs.Keeping.{found_kept}
-use Rattle.span_store.proofs.Picking.{found_near}
+use Rattle.span_store.proofs.IndexesAreKept.{found_kept}
+use Rattle.span_store.proofs.CandidatesAreComplete.{found_near}
 use Rattle.span_store.proofs.store.SpanStore.candidates_met.Goals as goal
 
 pub returns : goal.returns

@@ -7,9 +7,9 @@ use Rattle.trace_assembly.specs.Rows.{spots_of}
 use Rattle.service_places.specs.Reported.{group_of}
 use Rattle.journal_traces.specs.Reporting.{are_reported}
 use Rattle.journal_traces.specs.Standing.{traces_named}
-use Rattle.span_store.proofs.Following.{trace_stands}
-use Rattle.span_store.proofs.Keeping.{found_kept, kept_spots}
-use Rattle.span_store.proofs.Picking.{found_reported}
+use Rattle.span_store.proofs.RingFollowsEvents.{trace_stands}
+use Rattle.span_store.proofs.IndexesAreKept.{found_kept, kept_spots}
+use Rattle.span_store.proofs.CandidatesAreComplete.{found_reported}
 use Rattle.span_store.proofs.store.SpanStore.candidates_reported.Goals as goal
 
 pub spots_reported-requires-clause-few : goal.spots_reported-requires-clause-few

@@ -13,7 +13,7 @@ returns c =
     let held : Held = c.args.self.now in
     ap say.Ids (
     c.from_vec.ensures ∙ c.in_ok-ids.ensures
-    ∙ ap (λ (v : Held). ids_of (found_in c.in_ok-wanted.wanted (traces_named v.entries c.deref.result.now))) c.self.view_is
-    ∙ ap (λ (f : Find). ids_of (found_in f (traces_named held.entries c.deref.result.now))) c.in_ok-wanted.ensures
+    ∙ ap (λ (v : Held). ids_of (found_in c.in_ok-prepared.prepared (traces_named v.entries c.deref.result.now))) c.self.view_is
+    ∙ ap (λ (f : Find). ids_of (found_in f (traces_named held.entries c.deref.result.now))) c.in_ok-prepared.ensures
     ∙ ap (λ (ss : List (List Spot)). ids_of (found_in q (traces_named held.entries ss))) c.deref.ensures.value
     ∙ ap ids_of c.in_ok-spots.ensures)

@@ -24,8 +24,8 @@ returns c =
     let q : Find = c.args.query.now in
     let found : map placed_taken c.in_ok-found.found ≡ found_in q (traces held.limits.traces (events held.entries)) =
     c.in_ok-found.ensures.found
-    ∙ ap (λ (v : Held). found_in c.in_ok-wanted.wanted (traces_named v.entries c.deref.result.now)) c.self.view_is
-    ∙ ap (λ (f : Find). found_in f (traces_named held.entries c.deref.result.now)) c.in_ok-wanted.ensures
+    ∙ ap (λ (v : Held). found_in c.in_ok-prepared.prepared (traces_named v.entries c.deref.result.now)) c.self.view_is
+    ∙ ap (λ (f : Find). found_in f (traces_named held.entries c.deref.result.now)) c.in_ok-prepared.ensures
     ∙ ap (λ (ss : List (List Spot)). found_in q (traces_named held.entries ss)) c.deref.ensures.value
     ∙ c.in_ok-spots.ensures in
     c.new-traces.ensures ∙ ap (λ (l : Limits). say.Traces (map (adjusted l.max_skew) (map placed_taken c.in_ok-found.found))) c.limits.ensures

@@ -6,7 +6,7 @@ use Rattle.trace_model.specs.Searching.{found_in, traces}
 use Rattle.trace_model.specs.Histories.{arrivals, events}
 use Rattle.trace_model.proofs.Arriving.{came_of}
 use Rattle.arrival_names.specs.Kept.{reports_service, reports_operation}
-use Rattle.span_store.proofs.Picking.{unknown_service, unknown_operation}
+use Rattle.span_store.proofs.CandidatesAreComplete.{unknown_service, unknown_operation}
 use Rattle.span_store.proofs.store.SpanStore.may_find.Goals as goal
 
 pub returns-then-eq : goal.returns-then-eq

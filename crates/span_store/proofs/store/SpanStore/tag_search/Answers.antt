@@ -7,7 +7,7 @@ use Rattle.trace_model.specs.Searching.{found_in}
 use Rattle.journal_traces.specs.Spotted.{traces_spotted}
 use Rattle.journal_traces.specs.Standing.{traces_named}
 use Rattle.span_store.specs.Found.{found_answer}
-use Rattle.span_store.proofs.Collecting.{found_is}
+use Rattle.span_store.proofs.CollectedAnswers.{found_is}
 use Rattle.span_store.proofs.store.SpanStore.tag_search.Goals as goal
 
 pub returns : goal.returns

@@ -7,8 +7,8 @@ use Rattle.trace_model.specs.Histories.{events}
 use Rattle.trace_model.specs.Keeping.{spans_there}
 use Rattle.trace_model.specs.Showing.{spans_of_trace, trace_found}
 use Rattle.trace_assembly.specs.Rows.{spots_of}
-use Rattle.span_store.proofs.Sharing.{share_processes}
-use Rattle.span_store.proofs.Following.{spots_name, none_found, some_found}
+use Rattle.span_store.proofs.SharedProcesses.{share_processes}
+use Rattle.span_store.proofs.RingFollowsEvents.{spots_name, none_found, some_found}
 use Rattle.span_store.proofs.store.SpanStore.trace.Goals as goal
 
 pub returns-then-is_empty : goal.returns-then-is_empty

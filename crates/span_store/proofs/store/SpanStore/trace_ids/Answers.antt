@@ -4,7 +4,7 @@ use Rattle.trace_model.specs.Held.{Held}
 use Rattle.trace_model.specs.Histories.{events}
 use Rattle.trace_model.specs.Showing.{ring}
 use Rattle.trace_ring.specs.Windows.{Window}
-use Rattle.span_store.proofs.Keeping.{kept_ring}
+use Rattle.span_store.proofs.IndexesAreKept.{kept_ring}
 use Rattle.span_store.proofs.store.SpanStore.trace_ids.Goals as goal
 
 pub returns : goal.returns

@@ -10,10 +10,10 @@ use Rattle.service_places.specs.Reported.{service_at, group_in}
 use Rattle.call_links.specs.Seen.{links_in}
 use Rattle.journal_traces.specs.Standing.{trace_named}
 use Rattle.journal_traces.specs.Taking.{placed_taken}
-use Rattle.span_store.proofs.Following.{trace_stands}
-use Rattle.span_store.proofs.Keeping.{kept_spots, kept_traces}
+use Rattle.span_store.proofs.RingFollowsEvents.{trace_stands}
+use Rattle.span_store.proofs.IndexesAreKept.{kept_spots, kept_traces}
 use Rattle.journal_traces.proofs.Spots.{links_chosen}
-use Rattle.span_store.proofs.Ranging.{named_ranged}
+use Rattle.span_store.proofs.RangesFollowEvents.{named_ranged}
 use Rattle.span_store.proofs.store.SpanStore.traces_within.Goals as goal
 
 pub returns-clause-links : goal.returns-clause-links

@@ -15,7 +15,7 @@ returns-then-self c =
     let was = c.self.inside in
     let q : Find = was.traces.query in
     let ts : List (List Placed) = traces_spotted was.traces in
-    let asked : c.in_ok-wanted.wanted ≡ q = c.in_ok-wanted.ensures ∙ c.query.ensures in
+    let asked : c.in_ok-prepared.prepared ≡ q = c.in_ok-prepared.ensures ∙ c.query.ensures in
     let found =
     ap (λ (s : Find × List (List Taken)). found_in (query_taken s) (traces_taken s)) c.new-search.ensures
     ∙ c.in_ok-traces.ensures.found ∙ ap (λ (f : Find). found_in f ts) asked in
@@ -27,7 +27,7 @@ returns c =
     let was = c.self.inside in
     let q : Find = was.traces.query in
     let ts : List (List Placed) = traces_spotted was.traces in
-    let asked : c.in_ok-wanted.wanted ≡ q = c.in_ok-wanted.ensures ∙ c.query.ensures in
+    let asked : c.in_ok-prepared.prepared ≡ q = c.in_ok-prepared.ensures ∙ c.query.ensures in
     let found =
     ap (λ (s : Find × List (List Taken)). found_in (query_taken s) (traces_taken s)) c.new-search.ensures
     ∙ c.in_ok-traces.ensures.found ∙ ap (λ (f : Find). found_in f ts) asked in

@@ -1,6 +1,6 @@
 use Rattle.std.proofs.Common.{◌++◌, ◌≡◌, ◌==◌, take, length, rules, true, false}
 use Rattle.text_lines.proofs.Taking.{gathers_more, takes_line, ends, no_feed}
-use Rattle.text_lines.proofs.Pages.{moves_then}
+use Rattle.text_lines.proofs.Buffers.{moves_then}
 use Rattle.text_lines.specs.Lines.{without_return, HasNoFeed}
 use Rattle.text_lines.proofs.line_buffer.LineBuffer.next.Goals as goal
 
@@ -26,13 +26,13 @@ pieces-preserved g c =
     let all : c.extend_from_slice-in-pieces.new.self.items ≡ c.pieces.line.items ++ c.pieces.self.waiting = search rules in
     record {
       gathered = rw all (gathers_more _ _ _ _ c.pieces.self _ c.pieces.line.items c.pieces.invariant.gathered plain goes (rw c.skip_all.ensures at c.in_ok-fill.ensures.read));
-      moves = moves_then _ _ _ _ _ _ c.pieces.invariant.moves c.hand_out.ensures.moves;
+      moves = moves_then _ _ _ _ _ _ c.pieces.invariant.moves c.flush.ensures.moves;
       input_works = c.in_ok-fill.ensures.works;
-      output_works = c.in_ok-hand_out.ensures.works;
+      output_works = c.in_ok-flush.ensures.works;
     }
 
-pub returns-in_err-hand_out-clause-page : goal.returns-in_err-hand_out-clause-page
-returns-in_err-hand_out-clause-page g c = moves_then _ _ _ _ _ _ c.pieces.invariant.moves c.hand_out.ensures.moves
+pub returns-in_err-flush-clause-buffer : goal.returns-in_err-flush-clause-buffer
+returns-in_err-flush-clause-buffer g c = moves_then _ _ _ _ _ _ c.pieces.invariant.moves c.flush.ensures.moves
 
-pub returns-in_err-fill-clause-page : goal.returns-in_err-fill-clause-page
-returns-in_err-fill-clause-page g c = moves_then _ _ _ _ _ _ c.pieces.invariant.moves c.hand_out.ensures.moves
+pub returns-in_err-fill-clause-buffer : goal.returns-in_err-fill-clause-buffer
+returns-in_err-fill-clause-buffer g c = moves_then _ _ _ _ _ _ c.pieces.invariant.moves c.flush.ensures.moves

@@ -1,6 +1,6 @@
 use Rattle.std.proofs.Common.{rules}
 use Rattle.thrift_binary.specs.Reading.{field_at}
-use Rattle.thrift_binary.proofs.Found.{field_beginning}
+use Rattle.thrift_binary.proofs.ReadBytesSpell.{field_beginning}
 use Rattle.thrift_binary.proofs.cursor.Cursor.field.Goals as goal
 
 pub returns-clause-exact : goal.returns-clause-exact

@@ -1,6 +1,6 @@
 use Rattle.std.proofs.Common.{rules}
 use Rattle.thrift_binary.specs.Reading.{list_at}
-use Rattle.thrift_binary.proofs.SkipFound.{list_head_beginning}
+use Rattle.thrift_binary.proofs.SkippedAreValues.{list_head_beginning}
 use Rattle.thrift_binary.proofs.cursor.Cursor.list_head.Goals as goal
 
 pub returns-clause-exact : goal.returns-clause-exact

@@ -1,7 +1,7 @@
 use Rattle.std.proofs.Common.{rules}
 use Rattle.thrift_binary.specs.Reading.{string_at}
 use Rattle.thrift_binary.specs.Spelling.{IsString}
-use Rattle.thrift_binary.proofs.Found.{reads_spelled, string_beginning}
+use Rattle.thrift_binary.proofs.ReadBytesSpell.{reads_spelled, string_beginning}
 use Rattle.thrift_binary.proofs.cursor.Cursor.read_bytes.Goals as goal
 
 pub returns-clause-exact : goal.returns-clause-exact

@@ -1,6 +1,6 @@
 use Rattle.std.proofs.Common.{rules}
 use Rattle.thrift_binary.specs.Skipping.{skip_at}
-use Rattle.thrift_binary.proofs.SkipAgain.{skip_reads_found, skip_reads_complete}
+use Rattle.thrift_binary.proofs.ValuesAreSkipped.{skip_reads_found, skip_reads_complete}
 use Rattle.thrift_binary.proofs.cursor.Cursor.skip.Goals as goal
 
 pub returns-then-is_empty-clause-exact : goal.returns-then-is_empty-clause-exact

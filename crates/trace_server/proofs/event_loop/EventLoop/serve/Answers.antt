@@ -14,7 +14,7 @@ returns-in-Open-clause-goes_on g c = asking_goes_on g.N.StoreName.limits c.args.
 
 pub returns-in-Left-clause-underway : goal.returns-in-Left-clause-underway
 returns-in-Left-clause-underway g c =
-    subst (AllUnderway g.N.StoreName.limits c.answer_next.new.backend) (sym c.let_go.ensures.open) c.answer_next.ensures.underway
+    subst (AllUnderway g.N.StoreName.limits c.answer_next.new.backend) (sym c.close_connection.ensures.open) c.answer_next.ensures.underway
 
 pub returns-in-Left-clause-goes_on : goal.returns-in-Left-clause-goes_on
 returns-in-Left-clause-goes_on g c = asking_goes_on g.N.StoreName.limits c.args.store.now c.answer_next.new.backend c.answer_next.ensures.asks

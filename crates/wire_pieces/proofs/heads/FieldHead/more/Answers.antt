@@ -1,6 +1,6 @@
 use Rattle.std.proofs.lemmas.Result.{err_from_is_err_and}
 use Rattle.wire_pieces.proofs.Steps.{comes-reaches, comes-refused}
-use Rattle.wire_pieces.proofs.HeadsAgain.{head-typed}
+use Rattle.wire_pieces.proofs.HeadSteps.{head-typed}
 use Rattle.wire_pieces.proofs.heads.FieldHead.more.Goals as goal
 
 pub returns-in_err-head-in-First-clause-reads : goal.returns-in_err-head-in-First-clause-reads

@@ -2,7 +2,7 @@ use Rattle.thrift_binary.specs.declared.fault.WireError.TheVariants.{Truncated, 
 use Rattle.thrift_binary.specs.Reading.{size_at}
 use Rattle.std.proofs.Common.{◌≤◌, ◌<◌}
 use Rattle.byteorder.specs.Endian.{big_number}
-use Rattle.wire_pieces.proofs.Filled.{filled-waits, filled-comes, filled-refuses, size-short, size-whole, size-bad}
+use Rattle.wire_pieces.proofs.FilledBytes.{filled-waits, filled-comes, filled-refuses, size-short, size-whole, size-bad}
 use Rattle.wire_pieces.proofs.numbers.Size.more.Goals as goal
 
 pub returns-in_default-clause-reads : goal.returns-in_default-clause-reads

@@ -2,7 +2,7 @@ use Rattle.std.proofs.Common.{◌≡◌, false}
 use Rattle.std.proofs.lemmas.Result.{err_from_is_err_and}
 use Rattle.thrift_binary.specs.Skipping.{is_container}
 use Rattle.wire_pieces.proofs.Steps.{refused-wire}
-use Rattle.wire_pieces.proofs.FramesAgain.{begun-bad, begun-leaf}
+use Rattle.wire_pieces.proofs.SkipSteps.{begun-bad, begun-leaf}
 use Rattle.wire_pieces.proofs.skip.Skipping.begin.Goals as goal
 
 pub returns-in_err-self-clause-steps : goal.returns-in_err-self-clause-steps

@@ -1,5 +1,5 @@
 use Rattle.std.proofs.Common.{refl}
-use Rattle.wire_pieces.proofs.FramesAgain.{skipping-fresh}
+use Rattle.wire_pieces.proofs.SkipSteps.{skipping-fresh}
 use Rattle.wire_pieces.proofs.skip.Skipping.new.Goals as goal
 
 pub returns : goal.returns

@@ -1,6 +1,6 @@
 use Rattle.std.proofs.Common.{◌≡◌, ◌∙◌, [], sym}
-use Rattle.wire_pieces.proofs.StringsAgain.{nothing}
-use Rattle.wire_pieces.proofs.FramesAgain.{pop-last, pop-next}
+use Rattle.wire_pieces.proofs.StringSteps.{nothing}
+use Rattle.wire_pieces.proofs.SkipSteps.{pop-last, pop-next}
 use Rattle.wire_pieces.proofs.skip.Skipping.pop.Goals as goal
 
 pub returns-in-None-clause-progress : goal.returns-in-None-clause-progress

@@ -4,7 +4,7 @@ use Rattle.wire_pieces.specs.Heads.{list_head, map_head}
 use Rattle.std.specs.Option.{is_some}
 use Rattle.std.proofs.lemmas.Result.{err_from_is_err_and}
 use Rattle.wire_pieces.proofs.Steps.{reaches-none, reaches-some, waits-inside, refused-inside}
-use Rattle.wire_pieces.proofs.FramesAgain.{now-waits, now-refused, now-done, size-next, list-next, map-next}
+use Rattle.wire_pieces.proofs.SkipSteps.{now-waits, now-refused, now-done, size-next, list-next, map-next}
 use Rattle.wire_pieces.proofs.skip.Skipping.step.Goals as goal
 
 pub returns-then-is_none-clause-progress : goal.returns-then-is_none-clause-progress
@@ -26,7 +26,7 @@ pub returns-in_default-clause-progress : goal.returns-in_default-clause-progress
 returns-in_default-clause-progress c = rw c.in-Size.is (now-waits _ _ _ _ _ _ (waits-inside _ (rw c.in_default.is at c.in_ok-size-in-Size.ensures.reads)))
 
 pub returns-in-Some-clause-progress : goal.returns-in-Some-clause-progress
-returns-in-Some-clause-progress c = rw c.in-Size.is (size-next _ _ _ _ _ _ _ c.past_of-self.ensures.reads (rw c.in-Some.is at c.in_ok-size-in-Size.ensures.reads))
+returns-in-Some-clause-progress c = rw c.in-Size.is (size-next _ _ _ _ _ _ _ c.skip_bytes-self.ensures.reads (rw c.in-Some.is at c.in_ok-size-in-Size.ensures.reads))
 
 pub returns-in_err-code-in-List-clause-progress : goal.returns-in_err-code-in-List-clause-progress
 returns-in_err-code-in-List-clause-progress c =

@@ -1,7 +1,7 @@
 use Rattle.std.proofs.Common.{◌∙◌, ap, []}
 use Rattle.thrift_binary.specs.Reading.{◌>>=◌}
 use Rattle.wire_pieces.specs.Strings.{bytes_end}
-use Rattle.wire_pieces.proofs.StringsAgain.{string-fresh}
+use Rattle.wire_pieces.proofs.StringSteps.{string-fresh}
 use Rattle.wire_pieces.proofs.strings.StringPart.new.Goals as goal
 
 pub returns : goal.returns

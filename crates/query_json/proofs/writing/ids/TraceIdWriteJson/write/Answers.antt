@@ -7,5 +7,5 @@ use Rattle.query_json.proofs.writing.ids.TraceIdWriteJson.write.Goals as goal
 pub returns : goal.returns
 returns c =
     let t = c.args.self.now in
-    Puts-is (c.put.ensures ▸ c.write_high.ensures ▸ c.digits_of_number.ensures ▸ c.put-2.ensures)
+    Puts-is (c.push_str.ensures ▸ c.write_high.ensures ▸ c.digits_of_number.ensures ▸ c.push_str-2.ensures)
     (ap (λ (ds : List ℕ). 34 ∷ (ds ++ 34 ∷ [])) (trace_text-halves t ∙ sym (escape_trace_text t)))

@@ -6,5 +6,5 @@ use Rattle.query_json.proofs.writing.values.TagWriteJson.write.Goals as goal
 pub returns : goal.returns
 unfolding escape_byte
 returns c =
-    Puts-is (c.put.ensures ▸ c.in_string.ensures ▸ c.write_typed.ensures)
+    Puts-is (c.push_str.ensures ▸ c.in_string.ensures ▸ c.write_typed.ensures)
     (rw (c.as_str.ensures.value) (tag_text c.args.self.now))

@@ -1,0 +1,10 @@
+use Rattle.std.proofs.Common.{◌∙◌, ap}
+use Rattle.std.proofs.lemmas.Map.Made.{length-from_keys}
+use Rattle.find_traces.specs.Wanting.{requested_count}
+use Rattle.find_traces.proofs.Wanting.{pair_laws, distinct_pairs}
+use Rattle.find_traces.proofs.prepared.PreparedSearch.count.Goals as goal
+
+pub returns : goal.returns
+returns c =
+    c.len.ensures.len ∙ length-from_keys pair_laws c.self.inside.pairs.keys c.self.inside.query.now.tags (distinct_pairs c.self.inside.pairs.keys c.len.ensures.ordered) c.self.invariant.pairs_asked
+    ∙ ap requested_count c.self.view_is

@@ -1,6 +1,0 @@
-use Rattle.std.proofs.Common.{◌≡◌, take}
-use Rattle.find_traces.specs.Wanting.{key_bits}
-use Rattle.find_traces.proofs.wanted.key_bits.Given as goal
-
-abbrev pub invariant-loop-pair : goal.invariant-loop-pair
-invariant-loop-pair l = l.bits ≡ key_bits (take l.pair-index l.asked)

@@ -1,5 +1,0 @@
-use Rattle.http_requests.proofs.Once.{piece_no_request}
-use Rattle.http_requests.proofs.laws.a_request_is_no_breach.Goals as goal
-
-pub returns : goal.returns
-returns c = piece_no_request

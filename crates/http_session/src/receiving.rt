@@ -1,0 +1,306 @@
+//! Takes requests from the bytes received: a head, what it asks, and the body piece by piece. Nothing is read here.
+
+ghost use Rattle.std.specs.Prelude.{◌≡◌, ℕ, List, [], ◌++◌, IfOk, OnErr};
+ghost use Rattle.batch_codec.specs.BatchReading.{decoded};
+ghost use Rattle.batch_feeder.specs.Answers.{answers};
+ghost use Rattle.query_http.specs.Paths.{endpoint_rows};
+ghost use Rattle.http_requests.specs.InParts.{IsPart, HasSeen, HasLooked, Comes, Leaves, TakesOn};
+ghost use Rattle.http_requests.specs.Receiving.{put_back};
+ghost use Rattle.http_session.specs.Verdicts.{BeginsWithQuery};
+ghost use Rattle.http_session.specs.Questions.{JudgesRead, Decides};
+ghost use Rattle.http_session.specs.declared.question.Question.{Question as QuestionValue};
+ghost use Rattle.http_session.specs.Incoming.{before_a_request, JudgesBy, Carries, IsPartOf, HasReceived, HasLookedBy, IsBody, PartComes, LeavesPart, FinishesAs, ReceivesOf, LeavesWaiting};
+
+use crate::question::{Question, question_of};
+use crate::verdict::{ErrorReply, Verdict};
+use batch_codec::DecodeError;
+use batch_feeder::Feeder;
+use http_requests::{
+    BadRequest, BodyLength, BodyLook, BodyReader, HeadWait, Look, ReadBuffer, Sink,
+};
+use matchit::Router;
+use query_http::Endpoint;
+use std::alloc::{AllocError, Global};
+use std::boxed::Box;
+use std::mem;
+
+/// What a client sent.
+#[derive(Debug, Drop)]
+pub(crate) enum Incoming {
+    /// A request: what it asks, and whether it asks to close the session.
+    One(Verdict, bool),
+    /// The input has ended between two requests.
+    Clean,
+    /// No request, for this reason.
+    Malformed(BadRequest),
+}
+
+/// Discards a body.
+#[derive(Clone, Copy, Debug)]
+struct Discard;
+
+impl Sink for Discard {
+    ghost use Rattle.http_session.specs.Fed.{Passes};
+    ghost use Rattle.http_session.specs.FedLaws.{passes_nothing, passes_joined};
+
+    ghost takes = { Passes };
+
+    fn put(&mut self, _piece: &[u8]) {}
+
+    ghost takes_nothing = { passes_nothing };
+
+    ghost takes_joined = { passes_joined };
+}
+
+/// Decodes a body as a batch. A fault that is found early is kept, and returned at the end.
+#[derive(Drop)]
+pub(crate) struct BatchBody {
+    /// On the heap, so that a session without a body is small.
+    feeder: Box<Feeder>,
+    alloc: Global,
+}
+
+impl BatchBody {
+    /// Creates a decoder before the first byte.
+    fn new(alloc: Global) -> Result<Self, AllocError>
+        ensures { IfOk result (λ b. (w : List ℕ) → answers b.feeder.value w ≡ decoded w) }
+    {
+        let feeder = Box::new(alloc, Feeder::new(alloc))?;
+        Ok(BatchBody { feeder, alloc })
+    }
+
+    /// Returns the verdict once the body is complete.
+    fn verdict(self) -> Verdict
+        ensures { JudgesRead (answers self.feeder.value []) result }
+    {
+        match Box::into_inner(self.feeder).finish() {
+            Ok(batch) => Verdict::Submit(batch),
+            Err(DecodeError::Memory) => Verdict::Reject(ErrorReply::NoMemory),
+            Err(fault) => Verdict::Reject(ErrorReply::BatchRefused(fault)),
+        }
+    }
+}
+
+impl Sink for BatchBody {
+    ghost use Rattle.batch_feeder.specs.Answers.{answers};
+    ghost use Rattle.http_session.specs.Fed.{Follows};
+    ghost use Rattle.http_session.specs.FedLaws.{follows_nothing, follows_joined};
+
+    ghost takes = { λ s w t. Follows (answers s.feeder.value) w (answers t.feeder.value) };
+
+    fn put(&mut self, piece: &[u8]) {
+        // The feeder keeps its fault, and returns it from then on.
+        let _ = self.feeder.feed(self.alloc, piece);
+    }
+
+    ghost takes_nothing = { λ s. follows_nothing (answers s.feeder.value) };
+
+    ghost takes_joined = { λ s t u front back. follows_joined (answers s.feeder.value) (answers t.feeder.value)
+        (answers u.feeder.value) front back };
+}
+
+/// What is done with a body. A batch is discarded if memory ran out before its body.
+#[derive(Drop)]
+pub(crate) enum BodySink {
+    /// It is discarded, and this is the verdict.
+    Settled(Verdict),
+    Batch(BatchBody),
+}
+
+/// A request whose head was taken, and a part of its body.
+#[derive(Drop)]
+pub(crate) struct PartialRequest {
+    reader: BodyReader,
+    sink: BodySink,
+    closes: bool,
+}
+
+/// What a session awaits.
+#[derive(Drop)]
+pub(crate) enum Stage {
+    /// The head of the next request.
+    Head(HeadWait),
+    /// More of a body.
+    Body(PartialRequest),
+}
+
+impl PartialRequest {
+    /// Creates a request before the first byte of its body.
+    fn new(alloc: Global, question: Question, size: BodyLength, closes: bool) -> Self
+        ensures part { IsPart size [] [] result.reader }
+        ensures looked { (held : List ℕ) → HasLooked result.reader held }
+        ensures judged { JudgesBy question result.sink [] }
+        ensures closes { result.closes ≡ closes }
+    {
+        let sink = match question {
+            Question::Settled(verdict) => BodySink::Settled(verdict),
+            Question::Batch => match BatchBody::new(alloc) {
+                Ok(body) => BodySink::Batch(body),
+                Err(_) => BodySink::Settled(Verdict::Reject(ErrorReply::NoMemory)),
+            },
+        };
+        PartialRequest {
+            reader: BodyReader::new(size),
+            sink,
+            closes,
+        }
+    }
+
+    /// Takes the received part of the body. A batch is decoded piece by piece.
+    fn take_from(&mut self, received: &mut ReadBuffer) -> BodyLook
+        requires looked { HasLooked self.old.reader received.old.held }
+        ensures took { TakesOn Carries received.old received.new self.old.sink self.new.sink
+            self.old.reader
+            (λ size text content. Comes size text content received.new.held self.new.reader result) }
+        ensures leaves { Leaves self.new.reader received.new.held result }
+        ensures closes { self.new.closes ≡ self.old.closes }
+    {
+        match &mut self.sink {
+            BodySink::Settled(_) => self.reader.take_from(received, &mut Discard),
+            BodySink::Batch(body) => self.reader.take_from(received, body),
+        }
+    }
+
+    /// Takes the received part of the body. If the input has ended, an incomplete body is malformed.
+    fn take_part(&mut self, received: &mut ReadBuffer) -> BodyLook
+        requires looked { HasLooked self.old.reader received.old.held }
+        ensures part { (text : List ℕ) → IsPartOf self.old text →
+            PartComes (put_back text received.old) received.new self.new result }
+        ensures waits { LeavesPart received.new self.new result }
+    {
+        match self.take_from(received) {
+            BodyLook::Whole => BodyLook::Whole,
+            BodyLook::Malformed(bad_request) => BodyLook::Malformed(bad_request),
+            BodyLook::More if received.has_ended() => BodyLook::Malformed(BadRequest::Body),
+            BodyLook::More => BodyLook::More,
+        }
+    }
+
+    /// Returns the verdict once the body is complete.
+    fn verdict(self) -> Verdict
+        ensures { (question : QuestionValue) (body : List ℕ) → JudgesBy question self.sink body →
+            Decides question body result }
+    {
+        match self.sink {
+            BodySink::Settled(verdict) => verdict,
+            BodySink::Batch(body) => body.verdict(),
+        }
+    }
+}
+
+impl Stage {
+    /// Creates the stage before the first byte of a request.
+    pub(crate) fn new() -> Self
+        ensures { result ≡ before_a_request }
+    {
+        Stage::Head(HeadWait::new())
+    }
+}
+
+/// Replaces a value.
+fn assign<V: Drop>(place: &mut V, value: V)
+    ensures { place.new ≡ value }
+{
+    *place = value;
+}
+
+/// Returns a request whose body is complete, and goes to the next stage.
+fn finish(stage: &mut Stage) -> Incoming
+    requires body { IsBody stage.old }
+    ensures finished { FinishesAs stage.old result }
+    ensures next { stage.new ≡ before_a_request }
+{
+    match mem::replace(stage, Stage::new()) {
+        Stage::Body(request) => {
+            let closes = request.closes;
+            Incoming::One(request.verdict(), closes)
+        }
+        Stage::Head(_) => unreachable!(),
+    }
+}
+
+/// Takes the received part of a body.
+fn receive_body(stage: &mut Stage, received: &mut ReadBuffer) -> Option<Incoming>
+    requires body { IsBody stage.old }
+    requires looked { HasLookedBy stage.old received.old.held }
+    ensures incoming { (text : List ℕ) → HasReceived stage.old text →
+        ReceivesOf (put_back text received.old) received.new stage.new result }
+    ensures waits { LeavesWaiting received.new stage.new result }
+{
+    let Stage::Body(request) = stage else {
+        unreachable!()
+    };
+    match request.take_part(received) {
+        BodyLook::Whole => Some(finish(stage)),
+        BodyLook::Malformed(bad_request) => Some(Incoming::Malformed(bad_request)),
+        BodyLook::More => None,
+    }
+}
+
+/// Takes a head, if it is complete, and the received part of the body after it.
+///
+/// # Errors
+///
+/// Out of memory, for a query.
+#[tactic(auto, using(crate::proofs::IncomingParts::ends_in_head, crate::proofs::IncomingParts::no_head_comes))]
+fn receive_head(
+    alloc: Global,
+    router: &Router<Endpoint>,
+    wait: HeadWait,
+    stage: &mut Stage,
+    received: &mut ReadBuffer,
+) -> Result<Option<Incoming>, AllocError>
+    requires routes { router.now ≡ endpoint_rows }
+    requires seen { HasSeen wait received.old.held }
+    ensures incoming { IfOk result (ReceivesOf received.old received.new stage.new) }
+    ensures waits { IfOk result (LeavesWaiting received.new stage.new) }
+    ensures err { OnErr result (BeginsWithQuery received.old.held) }
+{
+    let mut wait = wait;
+    match wait.look(received.as_slice()) {
+        Look::Whole((request, length, size)) => {
+            let head = &received.as_slice()[..length];
+            let question = question_of(alloc, router, head, &request)?;
+            received.take(length);
+            let partial = PartialRequest::new(alloc, question, size, request.closes);
+            assign(stage, Stage::Body(partial));
+            Ok(receive_body(stage, received))
+        }
+        Look::More if !received.has_ended() => {
+            assign(stage, Stage::Head(wait));
+            Ok(None)
+        }
+        Look::More if received.as_slice().is_empty() => Ok(Some(Incoming::Clean)),
+        Look::More => Ok(Some(Incoming::Malformed(BadRequest::Head))),
+        Look::Never => Ok(Some(Incoming::Malformed(BadRequest::Head))),
+    }
+}
+
+/// Takes the next request, of which a part may have been taken before: its head and its body. No body is held as a
+/// whole. Returns `None` if more of it is awaited.
+///
+/// # Errors
+///
+/// Out of memory, for a query.
+pub(crate) fn receive(
+    alloc: Global,
+    router: &Router<Endpoint>,
+    stage: &mut Stage,
+    received: &mut ReadBuffer,
+) -> Result<Option<Incoming>, AllocError>
+    requires routes { router.now ≡ endpoint_rows }
+    requires looked { HasLookedBy stage.old received.old.held }
+    ensures incoming { IfOk result (λ incoming. (text : List ℕ) → HasReceived stage.old text →
+        ReceivesOf (put_back text received.old) received.new stage.new incoming) }
+    ensures waits { IfOk result (LeavesWaiting received.new stage.new) }
+    ensures err { OnErr result ((text : List ℕ) → HasReceived stage.old text →
+        BeginsWithQuery (text ++ received.old.held)) }
+{
+    match stage {
+        Stage::Head(wait) => {
+            let wait = *wait;
+            receive_head(alloc, router, wait, stage, received)
+        }
+        Stage::Body(_) => Ok(receive_body(stage, received)),
+    }
+}

@@ -1,7 +1,0 @@
-use Rattle.std.proofs.Common.{◌≡◌, map, take, get_or}
-use Rattle.journal_traces.proofs.Spots.{no_id}
-use Rattle.trace_assembly.specs.Rows.{spots_of}
-use Rattle.journal_traces.proofs.latest.spots_after.Given as goal
-
-abbrev pub invariant-loop-place : goal.invariant-loop-place
-invariant-loop-place l = l.spots.items ≡ map (λ p. spots_of l.assembly (get_or l.assembly.newest.ids p no_id)) (take l.place-index l.place-items)

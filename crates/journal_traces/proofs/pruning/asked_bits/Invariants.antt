@@ -1,6 +1,0 @@
-use Rattle.std.proofs.Common.{◌≡◌, take}
-use Rattle.journal_traces.specs.Pruned.{asked_bits}
-use Rattle.journal_traces.proofs.pruning.asked_bits.Given as goal
-
-abbrev pub invariant-loop-pair : goal.invariant-loop-pair
-invariant-loop-pair l = l.bits ≡ asked_bits (take l.pair-index l.asked)

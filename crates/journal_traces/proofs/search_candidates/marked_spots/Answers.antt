@@ -1,0 +1,21 @@
+use Rattle.std.proofs.Common.{◌∙◌, ◌++◌, ◌∷◌, ◌<◌, [], false, sym, ap, length, arith}
+use Rattle.trace_ring.specs.Windows.{Window}
+use Rattle.trace_assembly.specs.Rows.{spots_of}
+use Rattle.journal_traces.proofs.TraceMarks.{mark_read, picked, passed}
+use Rattle.journal_traces.proofs.Spots.{no_id}
+use Rattle.journal_traces.proofs.search_candidates.marked_spots.Goals as goal
+use Rattle.journal_traces.proofs.search_candidates.marked_spots.Goals.{then-marks-place+in_ok-push, else-marks-place}
+
+pub loop-place-preserved : goal.loop-place-preserved
+loop-place-preserved c = λ p e.
+    let f = spots_of c.args.assembly.now in
+    let ids = c.args.assembly.now.newest.ids in
+    let i = c.loop-place.place in
+    let le : i < length ids = omega (arith, c.loop-place-test.true, c.len-place-end.ensures.length ∙ ap (λ (w : Window). length w.ids) c.ring.ensures) in
+    let read = mark_read p ids c.args.marks.now i no_id false le e in
+    elim c.if-marks-place.branch [
+      | then-marks-place+in_ok-push w ↦
+          ap (λ v. v.items) w.spots-is ∙ w.in_ok-push.ensures.items
+          ∙ (λ j. c.loop-place.invariant p e j ++ w.spots_at.ensures j ∷ []) ∙ sym (picked f p ids i no_id le (sym read ∙ w.if-marks-place.true))
+      | else-marks-place w ↦ ap (λ v. v.items) w.spots-is ∙ c.loop-place.invariant p e ∙ sym (passed f p ids i no_id le (sym read ∙ w.if-marks-place.false))
+    ]

@@ -1,0 +1,15 @@
+use Rattle.std.proofs.Common.{◌≡◌, ◌-◌, ◌≤◌, Bool, List, length, map, take}
+use Rattle.std.specs.Prelude.{filter}
+use Rattle.trace_assembly.specs.declared.spot.Spot.{Spot}
+use Rattle.trace_assembly.specs.Rows.{spots_of}
+use Rattle.journal_traces.specs.Ranged.{FailsOutside}
+use Rattle.journal_traces.proofs.window_candidates.spots_within.Given as goal
+
+abbrev pub invariant-loop-place : goal.invariant-loop-place
+invariant-loop-place l = record {
+  place : l.place ≤ length l.assembly.newest.ids;
+  found : (p : List Spot → Bool) → FailsOutside l.window l.starts l.assembly p → filter p l.spots.items ≡ filter p (map (spots_of l.assembly) (take l.place l.assembly.newest.ids));
+}
+
+abbrev pub decreases-loop-place : goal.decreases-loop-place
+decreases-loop-place l = length l.assembly.newest.ids - l.place

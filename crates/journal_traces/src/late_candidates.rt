@@ -1,0 +1,35 @@
+//! The traces that start late, by their first starts: no other trace is read.
+
+ghost use Rattle.std.specs.Prelude.{◌≡◌, ℤ, int_lt, IfOk, map, filter, length};
+ghost use Rattle.jaeger_model.specs.declared.ids.TraceId.{TraceId as TraceIdValue};
+ghost use Rattle.trace_assembly.specs.Rows.{spots_of};
+
+use first_starts::FirstStarts;
+use std::alloc::{AllocError, Global};
+use trace_assembly::{Assembly, Spots};
+
+/// Returns the spots of each trace of the ring whose first start is after this time, those of the one opened first
+/// at the front.
+///
+/// # Errors
+///
+/// Out of memory, and nothing else.
+pub fn spots_after<'a>(
+    alloc: Global,
+    assembly: &'a Assembly,
+    starts: &FirstStarts,
+    time: i64,
+) -> Result<Vec<Spots<'a>>, AllocError>
+    requires { length starts.now.starts ≡ length assembly.now.newest.ids }
+    ensures { (start : TraceIdValue → ℤ) →
+        starts.now.starts ≡ map start assembly.now.newest.ids →
+        IfOk result (λ v. v.items ≡ map (spots_of assembly.now)
+        (filter (λ t. int_lt time (start t)) assembly.now.newest.ids)) }
+{
+    let places = starts.places_after(alloc, time)?;
+    let mut spots = Vec::with_capacity(alloc, places.len())?;
+    for place in &places {
+        spots.push(assembly.spots_at(*place))?;
+    }
+    Ok(spots)
+}

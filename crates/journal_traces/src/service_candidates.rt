@@ -1,0 +1,71 @@
+//! The traces of which a service brought a span, by the numbers of the services of entries: no span is read.
+
+ghost use Rattle.std.specs.Prelude.{◌≡◌, ◌<◌, ◌^◌, IfOk, map, filter, length};
+ghost use Rattle.std.specs.List.{list_any};
+ghost use Rattle.trace_assembly.specs.Rows.{spots_of};
+ghost use Rattle.service_places.specs.Reported.{AreGroups};
+ghost use Rattle.journal_traces.specs.Reporting.{is_reported, are_reported};
+
+use arrival_journal::Journal;
+use service_places::ServicePlaces;
+use std::alloc::{AllocError, Global};
+use trace_assembly::{Assembly, Spot, Spots};
+
+/// Whether there is an entry at a spot's place, and its service has this number.
+fn is_reported(journal: &Journal, reported: &ServicePlaces, service: u32, spot: Spot) -> bool
+    requires few { length journal.now.held.entries < 2 ^ 32 }
+    requires numbers { AreGroups journal.now.held.entries reported.now.groups }
+    ensures { result ≡
+        is_reported journal.now.held.entries reported.now.groups service spot }
+{
+    if journal.entry(spot.place).is_none() {
+        return false;
+    }
+    let before = spot.place - 1;
+    reported.group_at(before as u32) == service
+}
+
+/// Whether the entry of one of the spots is of the service with this number.
+fn are_reported(journal: &Journal, reported: &ServicePlaces, service: u32, spots: Spots<'_>) -> bool
+    requires few { length journal.now.held.entries < 2 ^ 32 }
+    requires numbers { AreGroups journal.now.held.entries reported.now.groups }
+    ensures { result ≡
+        are_reported journal.now.held.entries reported.now.groups service spots.entry }
+{
+    for spot in spots {
+        if is_reported(journal, reported, service, spot) {
+            return true;
+        }
+    }
+    false
+}
+
+/// Returns the spots of each trace of the ring of which an entry of the service with this number brought a span,
+/// those of the one opened first at the front. For each trace of the ring, reads its spots up to the first that the
+/// service brought, and no span.
+///
+/// # Errors
+///
+/// Out of memory, and nothing else.
+pub fn spots_reported<'a>(
+    alloc: Global,
+    assembly: &'a Assembly,
+    journal: &Journal,
+    reported: &ServicePlaces,
+    service: u32,
+) -> Result<Vec<Spots<'a>>, AllocError>
+    requires few { length journal.now.held.entries < 2 ^ 32 }
+    requires numbers { AreGroups journal.now.held.entries reported.now.groups }
+    ensures { IfOk result (λ v. v.items ≡ map (spots_of assembly.now)
+        (filter (λ t. are_reported journal.now.held.entries reported.now.groups service
+        (spots_of assembly.now t)) assembly.now.newest.ids)) }
+{
+    let mut found = Vec::new(alloc);
+    for place in 0..assembly.ring().len() {
+        let spots = assembly.spots_at(place);
+        if are_reported(journal, reported, service, spots.again()) {
+            found.push(spots)?;
+        }
+    }
+    Ok(found)
+}

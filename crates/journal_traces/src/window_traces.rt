@@ -1,0 +1,169 @@
+//! The traces of a window of time, by the spots of their spans, with each of their entries collected once.
+
+ghost use Rattle.std.specs.Prelude.{◌≡◌, ◌+◌, ◌<◌, ◌≤◌, [], ◌∷◌, ◌++◌, length, slice_index_or, slice_range, IfOk, OnOk};
+ghost use Rattle.std.specs.Arc.{arc_value};
+ghost use Rattle.journal_traces.specs.Cutting.{cut_at, AreStarts};
+ghost use Rattle.journal_traces.specs.Windowed.{entries_seen, taken_reported, trace_reported, traces_reported};
+
+use crate::taken_spot::TakenSpot;
+use call_links::NumberedSpan;
+use std::alloc::{AllocError, Global};
+use std::marker::Model;
+use std::sync::Arc;
+use trace_model::Entry;
+
+/// An entry that is shared with the store, and the number of its service.
+#[derive(Drop)]
+pub(crate) struct ReportedEntry {
+    pub(crate) entry: Arc<Entry>,
+    pub(crate) service: u32,
+}
+
+/// The spots of the spans of some traces, and their entries.
+#[derive(Drop)]
+pub(crate) struct WindowSpots {
+    /// Each entry once, by its number.
+    pub(crate) entries: Vec<ReportedEntry>,
+    /// The spots of all traces, one trace after the other.
+    pub(crate) spots: Vec<TakenSpot>,
+    /// For each trace the number of spots before its first one.
+    pub(crate) starts: Vec<usize>,
+}
+
+/// The traces of a window of time, collected from a store, so that their spans can be read after the store is left.
+/// They hold 8 bytes for each span, and each entry is shared once. Contracts see the traces, each with its spans and
+/// the numbers of their services.
+#[derive(Drop)]
+pub struct WindowTraces {
+    taken: WindowSpots,
+}
+
+impl Model for WindowTraces {
+    ghost use Rattle.std.specs.Prelude.{List, length};
+    ghost use Rattle.trace_model.specs.Taking.{Taken};
+    ghost use Rattle.journal_traces.specs.Cutting.{AreStarts};
+    ghost use Rattle.journal_traces.specs.Windowed.{traces_reported};
+
+    ghost Value = { List (List Taken) };
+
+    ghost view = { λ w. traces_reported w.taken };
+
+    ghost invariant = { λ w. AreStarts (length w.taken.spots.items) w.taken.starts.items };
+}
+
+impl WindowSpots {
+    /// Makes spots of no traces, with no entries.
+    pub(crate) fn new(alloc: Global) -> WindowSpots
+        ensures entries { result.entries.items ≡ [] }
+        ensures spots { result.spots.items ≡ [] }
+        ensures starts { result.starts.items ≡ [] }
+    {
+        WindowSpots {
+            entries: Vec::new(alloc),
+            spots: Vec::new(alloc),
+            starts: Vec::new(alloc),
+        }
+    }
+
+    /// Adds an entry, and the number of its service.
+    ///
+    /// # Errors
+    ///
+    /// Out of memory, and nothing else.
+    pub(crate) fn share(&mut self, entry: &Arc<Entry>, service: u32) -> Result<(), AllocError>
+        ensures entries { OnOk result (entries_seen self.new.entries.items ≡
+            entries_seen self.old.entries.items ++ (arc_value entry.now, service) ∷ []) }
+        ensures spots { self.new.spots ≡ self.old.spots }
+        ensures starts { self.new.starts ≡ self.old.starts }
+    {
+        let entry = Arc::try_clone(entry)?;
+        self.entries.push(ReportedEntry { entry, service })?;
+        Ok(())
+    }
+}
+
+/// Returns the start of the trace after the one at a place, or the end.
+fn next_start(starts: &[usize], place: usize, end: usize) -> usize
+    requires { place < length starts.now }
+    ensures { result ≡ slice_index_or starts.now (place + 1) end }
+{
+    match starts.get(place + 1) {
+        Some(next) => *next,
+        None => end,
+    }
+}
+
+fn part(spots: &[TakenSpot], start: usize, end: usize) -> &[TakenSpot]
+    requires ordered { start ≤ end }
+    requires within { end ≤ length spots.now }
+    ensures { result.now ≡ slice_range spots.now start end }
+{
+    &spots[start..end]
+}
+
+/// Returns the spots of the trace at a place, which counts from 0; none if there is no such trace.
+fn spots_of(taken: &WindowSpots, place: usize) -> &[TakenSpot]
+    requires { AreStarts (length taken.now.spots.items) taken.now.starts.items }
+    ensures { result.now ≡
+        slice_index_or (cut_at taken.now.spots.items taken.now.starts.items) place [] }
+{
+    if place >= taken.starts.len() {
+        return &[];
+    }
+    let start = taken.starts[place];
+    let end = next_start(&taken.starts, place, taken.spots.len());
+    part(&taken.spots, start, end)
+}
+
+/// Returns the span at a spot, with the number of its service.
+fn span_at<'a>(entries: &'a [ReportedEntry], spot: TakenSpot) -> Option<NumberedSpan<'a>>
+    ensures { result ≡ taken_reported (entries_seen entries.now) spot }
+{
+    let reported = entries.get(spot.number as usize)?;
+    NumberedSpan::new(&reported.entry, spot.index, reported.service)
+}
+
+/// Returns the spans at these spots, in their order.
+fn spans_at<'a>(
+    alloc: Global,
+    entries: &'a [ReportedEntry],
+    spots: &[TakenSpot],
+) -> Result<Vec<NumberedSpan<'a>>, AllocError>
+    ensures { IfOk result (λ v. v.items ≡ trace_reported (entries_seen entries.now) spots.now) }
+{
+    let mut spans = Vec::with_capacity(alloc, spots.len())?;
+    for spot in spots {
+        if let Some(span) = span_at(entries, *spot) {
+            spans.push(span)?;
+        }
+    }
+    Ok(spans)
+}
+
+impl WindowTraces {
+    /// Makes the traces of these spots.
+    pub(crate) fn new(taken: WindowSpots) -> WindowTraces
+        requires { AreStarts (length taken.spots.items) taken.starts.items }
+        ensures { result ≡ traces_reported taken }
+    {
+        WindowTraces { taken }
+    }
+
+    /// Returns the number of traces.
+    pub fn count(&self) -> usize
+        ensures { result ≡ length self.now }
+    {
+        self.taken.starts.len()
+    }
+
+    /// Returns the spans of the trace at a place, which counts from 0; none if there is no such trace.
+    ///
+    /// # Errors
+    ///
+    /// Out of memory, and nothing else.
+    pub fn spans(&self, alloc: Global, place: usize) -> Result<Vec<NumberedSpan<'_>>, AllocError>
+        ensures { IfOk result (λ v. v.items ≡ slice_index_or self.now place []) }
+    {
+        spans_at(alloc, &self.taken.entries, spots_of(&self.taken, place))
+    }
+}

@@ -1,5 +1,0 @@
-use Rattle.schedule_core.proofs.Facts.{every_run}
-use Rattle.schedule_core.proofs.laws.a_look_stays_where_it_entered.Goals as goal
-
-pub returns : goal.returns
-returns c = λ limits steps. (every_run limits steps).steady

@@ -1,7 +1,0 @@
-use Rattle.std.specs.Cmp.Lexicographic.{texts_ties}
-use Rattle.trace_model.proofs.NameLaws.{text_total, text_exact}
-use Rattle.service_index.proofs.Ordering.{sorted_once}
-use Rattle.service_index.proofs.operation_sets.texts_in_order.Goals as goal
-
-pub returns : goal.returns
-returns c = sorted_once text_total text_exact texts_ties c.args.texts.items _ c.dedup.new.self.items c.in_ok-sort.ensures.permutation c.in_ok-sort.ensures.sorted c.dedup.ensures.filtered

@@ -1,5 +1,0 @@
-use Rattle.step_lines.proofs.Texts.{put_line}
-use Rattle.step_lines.proofs.laws.a_batch_is_what_stands_behind_its_seat.Goals as goal
-
-pub returns : goal.returns
-returns c = put_line

@@ -1,5 +1,0 @@
-use Rattle.store_laws.proofs.SentOnce.{stands_once}
-use Rattle.store_laws.proofs.histories.an_acknowledged_batch_stands_once.Goals as goal
-
-pub returns : goal.returns
-returns c = stands_once

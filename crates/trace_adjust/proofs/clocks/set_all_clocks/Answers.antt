@@ -1,0 +1,32 @@
+use Rattle.std.proofs.Common.{◌≡◌, ◌+◌, ◌≤◌, ◌∙◌, cond, sym, ap, arith}
+use Rattle.std.proofs.lemmas.Bool.{false≢true}
+use Rattle.trace_adjust.specs.Settling.{unset_count}
+use Rattle.trace_adjust.proofs.Settled.{closed_more}
+use Rattle.trace_adjust.proofs.clocks.set_all_clocks.Goals as goal
+use Rattle.trace_adjust.proofs.clocks.set_all_clocks.Goals.{then-set_clock_at, else-set_clock_at}
+
+pub loop-place-preserved : goal.loop-place-preserved
+loop-place-preserved c =
+    let old = c.loop-place.clocks.items in
+    let new = c.set_clock_at.new.clocks.items in
+    record {
+      set = c.set_clock_at.ensures.set;
+      closed = elim c.if-set_clock_at.branch [
+        | then-set_clock_at w ↦ λ e. absurd (false≢true (sym e ∙ w.changed-is))
+        | else-set_clock_at w ↦ λ e.
+            let h = c.set_clock_at.ensures.closed w.if-set_clock_at.false in
+            closed_more c.args.max_skew c.args.trace.now c.loop-place.place old new h.0 (c.loop-place.invariant.closed (sym w.changed-is ∙ e)) h.1
+      ];
+      fewer = elim c.if-set_clock_at.branch [
+        | then-set_clock_at w ↦
+            let f : unset_count new + 1 ≡ unset_count old = ap (λ b. unset_count new + cond b 1 0) (sym w.if-set_clock_at.true) ∙ c.set_clock_at.ensures.fewer in
+            let g : unset_count new + cond c.if-set_clock_at.changed 1 0 ≡ unset_count new + 1 = ap (λ b. unset_count new + cond b 1 0) w.changed-is in
+            let h : unset_count old + cond c.loop-place.changed 1 0 ≤ unset_count c.args.clocks.now.items = c.loop-place.invariant.fewer in
+            omega (arith, f, g, h)
+        | else-set_clock_at w ↦
+            let f : unset_count new + 0 ≡ unset_count old = ap (λ b. unset_count new + cond b 1 0) (sym w.if-set_clock_at.false) ∙ c.set_clock_at.ensures.fewer in
+            let g : unset_count new + cond c.if-set_clock_at.changed 1 0 ≡ unset_count new + cond c.loop-place.changed 1 0 = ap (λ b. unset_count new + cond b 1 0) w.changed-is in
+            let h : unset_count old + cond c.loop-place.changed 1 0 ≤ unset_count c.args.clocks.now.items = c.loop-place.invariant.fewer in
+            omega (arith, f, g, h)
+      ];
+    }
