@@ -47,8 +47,8 @@ QUERIES = [
 # The crate, the test, and one that takes as many allocations.
 TESTS = [
     ("wire_tests", "tests::batch_bytes::memory_for_a_batch", None),
-    ("piece_tests", "tests::faults::memory_for_pieces", None),
-    ("piece_tests", "tests::faults::sizes_beyond_the_bytes", None),
+    ("wire_tests", "tests::piece_faults::memory_for_pieces", None),
+    ("wire_tests", "tests::piece_faults::sizes_beyond_the_bytes", None),
     ("store_tests", "tests::stores::apply_without_memory", "tests::stores::a_store_is_opened"),
     ("web_tests", "tests::answers::memory_for_a_tree", None),
     ("web_tests", "tests::responses::memory_for_a_response", None),

@@ -94,7 +94,7 @@ class Names:
                 self.plain.update(re.findall(r"\w+", (TOP / file).read_text(encoding="utf-8")))
             if file.endswith(".py"):
                 self.options.update(re.findall(r'"(--[a-z-]+)"', (TOP / file).read_text(encoding="utf-8")))
-        for file in (CRATES / "command_words/src").glob("*.rt"):
+        for file in (CRATES / "commands/src").glob("*.rt"):
             words = re.findall(r'"([a-z][a-z-]*)"', file.read_text(encoding="utf-8"))
             self.options.update("--" + it for it in words)
 

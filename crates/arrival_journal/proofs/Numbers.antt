@@ -1,5 +1,6 @@
 -- The first bytes of the texts of values that are no text.
-use Rattle.std.proofs.Common.{◌≡◌, ℕ, ℤ, zero, suc, ◌+◌, ◌*◌, ◌<◌, ◌≤◌, ◌/◌, ◌%◌, Bool, true, false, ◌&&◌, ◌||◌, List, [], ◌∷◌, refl, sym, ap, arith, le-leb, get_or}
+use Rattle.std.proofs.Common.{◌≡◌, ℕ, ℤ, zero, suc, ◌+◌, ◌*◌, ◌<◌, ◌≤◌, ◌/◌, ◌%◌, Bool, true, false, ◌&&◌, ◌||◌, List, [], ◌∷◌, refl, sym, ap, arith, le-leb}
+use Rattle.std.proofs.Common.{get_or}
 use Rattle.std.specs.Prelude.{nat_lt, nat_le, if◌then◌else◌, pos, negsuc, ◌==◌}
 use Rattle.std.specs.Fmt.{decimal, digits, digits_onto, digit_glyph, signed_decimal}
 use Rattle.std.proofs.lemmas.Bool.{ltb-true, ltb-false, lt-leb}
@@ -17,10 +18,12 @@ digit_begins d small = by (nat_lt d 10) refl
     by : (b : Bool) → nat_lt d 10 ≡ b → begins_number (if b then 48 + d else 87 + d) ≡ true
     by true e =
         let less : d < 10 = ltb-true d 10 e in
-        λ i. (le-leb 48 (48 + d) (omega arith) i && le-leb (48 + d) 57 (omega arith) i) || (nat_le 97 (48 + d) && nat_le (48 + d) 102) || ((48 + d) == 116) || ((48 + d) == 45)
+        λ i. (le-leb 48 (48 + d) (omega arith) i && le-leb (48 + d) 57 (omega arith) i) || (nat_le 97 (48 + d) && nat_le (48 + d) 102) || ((48 + d) == 116)
+        || ((48 + d) == 45)
     by false e =
         let more : 10 ≤ d = ltb-false d 10 e in
-        λ i. (le-leb 48 (87 + d) (omega arith) i && lt-leb (87 + d) 57 (omega arith) i) || (le-leb 97 (87 + d) (omega arith) i && le-leb (87 + d) 102 (omega arith) i) || ((87 + d) == 116) || ((87 + d) == 45)
+        λ i. (le-leb 48 (87 + d) (omega arith) i && lt-leb (87 + d) 57 (omega arith) i)
+        || (le-leb 97 (87 + d) (omega arith) i && le-leb (87 + d) 102 (omega arith) i) || ((87 + d) == 116) || ((87 + d) == 45)
 
 hex_begins : (b : ℕ) (bs : List ℕ) → b < 256 → may_be_number (hex_text (b ∷ bs)) ≡ true
 hex_begins b bs small = digit_begins (b / 16) (omega arith)

@@ -9,7 +9,8 @@ use Rattle.arrival_journal.specs.Outlines.{outlines_kept}
 
 -- the entries are legal, what is kept beside them is computed of them, and there is room for all entries and for
 -- every seat
-pub record IsKept (limits : Limits) (entries : List Entry) (most : ℕ) (keeps : Bool) (outlines : List Outline) (most_outlines spans : ℕ) (last_numbers : List ℕ) (seats : ℕ) (sent : Sent) : Type 0 where
+pub record IsKept (limits : Limits) (entries : List Entry) (most : ℕ) (keeps : Bool) (outlines : List Outline) (most_outlines spans : ℕ) (last_numbers : List ℕ)
+    (seats : ℕ) (sent : Sent) : Type 0 where
   pub legal : IsLegal limits entries
   pub room : limits.batches ≤ most
   pub outlined : outlines ≡ outlines_kept keeps entries

@@ -3,7 +3,8 @@
 ghost use Rattle.std.specs.Prelude.{◌≡◌, ◌<◌, get_or, flat_map};
 ghost use Rattle.std.specs.List.{fold};
 ghost use Rattle.jaeger_model.specs.Tags.{tag_text, hex_text};
-ghost use Rattle.arrival_journal.specs.Tagging.{text_hash, begins_number, may_be_number, text_part, tag_place, bit_of, with_tag, fields_of, own_tags, bits_of, bits_brought};
+ghost use Rattle.arrival_journal.specs.Tagging.{text_hash, begins_number, may_be_number, text_part, tag_place, bit_of, with_tag, fields_of, own_tags, bits_of};
+ghost use Rattle.arrival_journal.specs.Tagging.{bits_brought};
 
 use jaeger_model::{Batch, Log, Span, Tag, TagValue, ValueRef};
 use trace_model::Work;

@@ -34,9 +34,11 @@ never_short missing = missing.no_other (Wire Truncated) refl
 made : {A : Type 0} (x : A) → OnlyMissing (Ok x)
 made x = record { no_other = λ e other h. absurd cc }
 
-needs : {A B : Type 0} (o : Option A) (part : Part) (i : ℕ) (f : A → Result B DecodeError) → ((x : A) → OnlyMissing (f x)) → OnlyMissing (required o part i >>= f)
+needs : {A B : Type 0} (o : Option A) (part : Part) (i : ℕ) (f : A → Result B DecodeError) → ((x : A) → OnlyMissing (f x))
+    → OnlyMissing (required o part i >>= f)
 needs (Some x) part i f more = more x
-needs None part i f more = record { no_other = λ e other h. (let same : Missing part i ≡ e = cc in let no : true ≡ false = ap is_missing same ∙ other in absurd cc) }
+needs None part i f more =
+    record { no_other = λ e other h. (let same : Missing part i ≡ e = cc in let no : true ≡ false = ap is_missing same ∙ other in absurd cc) }
 
 pub tag_missing : (s : TagSlots) → OnlyMissing (tag_from s)
 unfolding tag_from

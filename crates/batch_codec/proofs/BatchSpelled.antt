@@ -79,7 +79,8 @@ abbrev ok_batch : Batch → Result Batch DecodeError
 ok_batch b = Ok b
 
 -- the result of a call whose reading yields a batch
-decoded_so : (read : Result Batch DecodeError) (b : Batch) (result : Result Batch DecodeError) → read ≡ ok_batch b → Gives result read → (result ≡ ok_batch b) ⊎ (result ≡ Err Memory)
+decoded_so : (read : Result Batch DecodeError) (b : Batch) (result : Result Batch DecodeError) → read ≡ ok_batch b → Gives result read → (result ≡ ok_batch b)
+    ⊎ (result ≡ Err Memory)
 decoded_so read b (Ok x) e g = inl (sym g ∙ e)
 decoded_so read b (Err Memory) e g = inr refl
 decoded_so read b (Err (Wire d)) e g = absurd cc

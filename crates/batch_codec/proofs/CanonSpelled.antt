@@ -21,9 +21,14 @@ use Rattle.batch_codec.specs.declared.tag.TagType.TheVariants as types
 use Rattle.batch_codec.specs.declared.span.SpanSlots.{SpanSlots}
 use Rattle.batch_codec.specs.declared.batch.BatchSlots.{BatchSlots}
 use Rattle.batch_codec.specs.EmptySlots.{no_tag, no_log, no_reference, no_process, no_span, no_batch, value_named}
-use Rattle.batch_codec.specs.Batches.{IsId, type_number, kind_number, IsTagType, IsRefKind, Gathers, IsStructList, TagField, IsTag, LogField, IsLog, ReferenceField, IsReference, ProcessField, IsProcess, SpanField, IsSpan, BatchField, IsBatch, whole_log, whole_reference, whole_process, whole_span, whole_batch}
-use Rattle.batch_codec.specs.Canon.{list_field, list_if_any, number_if_any, value_type, value_field, tag_fields, canon_tag, log_fields, canon_log, reference_fields, canon_reference, process_fields, canon_process, span_front, span_middle, span_fields, canon_span, batch_fields, canon}
-use Rattle.batch_codec.specs.Proper.{AreProper, IsProperValue, IsProperTag, IsProperLog, IsProperReference, IsProperProcess, IsProperFront, IsProperMiddle, IsProperSpan, IsProperNumber, IsProper}
+use Rattle.batch_codec.specs.Batches.{IsId, type_number, kind_number, IsTagType, IsRefKind, Gathers, IsStructList, TagField, IsTag, LogField, IsLog}
+use Rattle.batch_codec.specs.Batches.{ReferenceField, IsReference, ProcessField, IsProcess, SpanField, IsSpan, BatchField, IsBatch, whole_log, whole_reference}
+use Rattle.batch_codec.specs.Batches.{whole_process, whole_span, whole_batch}
+use Rattle.batch_codec.specs.Canon.{list_field, list_if_any, number_if_any, value_type, value_field, tag_fields, canon_tag, log_fields, canon_log}
+use Rattle.batch_codec.specs.Canon.{reference_fields, canon_reference, process_fields, canon_process, span_front, span_middle, span_fields, canon_span}
+use Rattle.batch_codec.specs.Canon.{batch_fields, canon}
+use Rattle.batch_codec.specs.Proper.{AreProper, IsProperValue, IsProperTag, IsProperLog, IsProperReference, IsProperProcess, IsProperFront, IsProperMiddle}
+use Rattle.batch_codec.specs.Proper.{IsProperSpan, IsProperNumber, IsProper}
 use Rattle.std.proofs.Math.Facts.{sfits_lit, sfits_to_z}
 use Rattle.std.proofs.lemmas.Int.{of_z-to_z}
 use Rattle.std.proofs.Common.{Fits}
@@ -51,12 +56,14 @@ kind_written FollowsFrom = i32_written (pos 1) (sfits_lit tt)
 
 -- ---- sequences of fields
 
-gathers-append : {S : Type 0} (Does : S → Field → S → Type 0) (s t u : S) (fs gs : List Field) → Gathers Does s fs t → Gathers Does t gs u → Gathers Does s (fs ++ gs) u
+gathers-append : {S : Type 0} (Does : S → Field → S → Type 0) (s t u : S) (fs gs : List Field) → Gathers Does s fs t → Gathers Does t gs u
+    → Gathers Does s (fs ++ gs) u
 gathers-append Does s t u [] gs e g = subst (λ (x : _). Gathers Does x gs u) e g
 gathers-append Does s t u (f ∷ fs) gs (v, d, more) g = (v, d, gathers-append Does v t u fs gs more g)
 
 -- a list that is left out if it is empty
-gathers_if_any : {A S : Type 0} (Does : S → Field → S → Type 0) (i : ℤ) (one : A → List ℕ) (set : List A → S) (xs : List A) → Does (set []) (list_field i one xs) (set xs) → Gathers Does (set []) (list_if_any i one xs) (set xs)
+gathers_if_any : {A S : Type 0} (Does : S → Field → S → Type 0) (i : ℤ) (one : A → List ℕ) (set : List A → S) (xs : List A)
+    → Does (set []) (list_field i one xs) (set xs) → Gathers Does (set []) (list_if_any i one xs) (set xs)
 gathers_if_any Does i one set [] d = refl
 gathers_if_any Does i one set (x ∷ xs) d = (set (x ∷ xs), d, refl)
 
@@ -65,7 +72,8 @@ all_map P Q f [] a = tt
 all_map P Q f (x ∷ xs) a = (f x a.0, all_map P Q f xs a.1)
 
 -- a list of structs that each spell their value
-list_spelled : {A : Type 0} (Is : A → Type 0) (Spells : List ℕ → A → Type 0) (one : A → List ℕ) → ((x : A) → Is x → Spells (one x) x) → (xs : List A) → AreProper Is xs → IsStructList Spells (list_text 12 one xs) xs
+list_spelled : {A : Type 0} (Is : A → Type 0) (Spells : List ℕ → A → Type 0) (one : A → List ℕ) → ((x : A) → Is x → Spells (one x) x) → (xs : List A)
+    → AreProper Is xs → IsStructList Spells (list_text 12 one xs) xs
 list_spelled Is Spells one each xs p = list_written 12 Spells one xs (all_map Is (λ x. Spells (one x) x) each xs p.1) p.0
 
 -- a head can spell the type and the id of each of them
@@ -93,7 +101,9 @@ value_head (values.Bool x) = (sfits_lit tt, refl)
 value_head (values.Long x) = (sfits_lit tt, refl)
 value_head (values.Bytes x) = (sfits_lit tt, refl)
 
-tag_value : (k : List ℕ) (v : Value) → IsProperValue v → (t : TagSlots) × TagField (record no_tag { key = Some k; kind = Some (value_type v) }) (value_field v) t × (t.key ≡ Some k) × (t.kind ≡ Some (value_type v)) × (v ≡ value_named (value_type v) t)
+tag_value : (k : List ℕ) (v : Value) → IsProperValue v → (t : TagSlots)
+    × TagField (record no_tag { key = Some k; kind = Some (value_type v) }) (value_field v) t × (t.key ≡ Some k) × (t.kind ≡ Some (value_type v))
+    × (v ≡ value_named (value_type v) t)
 unfolding TagField
 tag_value k (values.Text x) p = (record no_tag { key = Some k; kind = Some types.Text; text = x }, (x, (string_written x p.0, p.1), refl), refl, refl, refl)
 tag_value k (values.Double x) p = (record no_tag { key = Some k; kind = Some types.Double; double = x }, (x, double_written x p, refl), refl, refl, refl)
@@ -171,7 +181,8 @@ process_spelled p q =
       gathers = (
         record no_process { service = Some p.service },
         (p.service, (string_written p.service q.service.0, q.service.1), refl),
-        gathers_if_any ProcessField (pos 2) canon_tag (λ xs. record { service = Some p.service; tags = xs }) p.tags (p.tags, list_spelled IsProperTag IsTag canon_tag tag_spelled p.tags q.tags, refl),
+        gathers_if_any ProcessField (pos 2) canon_tag
+            (λ xs. record { service = Some p.service; tags = xs }) p.tags (p.tags, list_spelled IsProperTag IsTag canon_tag tag_spelled p.tags q.tags, refl),
       );
       makes = refl;
     }
@@ -180,10 +191,30 @@ process_spelled p q =
 
 -- the state of a span after each of its parts
 front_slots : Span → List SpanRef → SpanSlots
-front_slots s xs = record no_span { trace_low = Some s.trace.low; trace_high = Some s.trace.high; id = Some s.id.0; parent = Some s.parent.0; operation = Some s.operation; references = xs }
+front_slots s xs =
+    record no_span {
+      trace_low = Some s.trace.low;
+      trace_high = Some s.trace.high;
+      id = Some s.id.0;
+      parent = Some s.parent.0;
+      operation = Some s.operation;
+      references = xs;
+    }
 
 middle_slots : Span → List Tag → SpanSlots
-middle_slots s xs = record no_span { trace_low = Some s.trace.low; trace_high = Some s.trace.high; id = Some s.id.0; parent = Some s.parent.0; operation = Some s.operation; references = s.references; flags = Some s.flags; start = Some s.start; duration = Some s.duration; tags = xs }
+middle_slots s xs =
+    record no_span {
+      trace_low = Some s.trace.low;
+      trace_high = Some s.trace.high;
+      id = Some s.id.0;
+      parent = Some s.parent.0;
+      operation = Some s.operation;
+      references = s.references;
+      flags = Some s.flags;
+      start = Some s.start;
+      duration = Some s.duration;
+      tags = xs;
+    }
 
 last_slots : Span → List Log → SpanSlots
 last_slots s xs = record (whole_span s) { logs = xs }
@@ -220,10 +251,12 @@ middle_gathers s p = (
   ),
 )
 
-references_gather : (s : Span) → IsProperSpan s → Gathers SpanField (front_slots s []) (list_if_any (pos 6) canon_reference s.references) (front_slots s s.references)
+references_gather : (s : Span) → IsProperSpan s
+    → Gathers SpanField (front_slots s []) (list_if_any (pos 6) canon_reference s.references) (front_slots s s.references)
 unfolding SpanField front_slots
 references_gather s p =
-    gathers_if_any SpanField (pos 6) canon_reference (front_slots s) s.references (s.references, list_spelled IsProperReference IsReference canon_reference reference_spelled s.references p.references, refl)
+    gathers_if_any SpanField (pos 6) canon_reference (front_slots s) s.references
+    (s.references, list_spelled IsProperReference IsReference canon_reference reference_spelled s.references p.references, refl)
 
 tags_gather : (s : Span) → IsProperSpan s → Gathers SpanField (middle_slots s []) (list_if_any (pos 10) canon_tag s.tags) (middle_slots s s.tags)
 unfolding SpanField middle_slots
@@ -242,8 +275,10 @@ span_gathers s p =
     let t = list_if_any (pos 10) canon_tag s.tags in
     let l = list_if_any (pos 11) canon_log s.logs in
     let four = gathers-append SpanField (middle_slots s []) (middle_slots s s.tags) (whole_span s) t l (tags_gather s p) (logs_gather s p) in
-    let three = gathers-append SpanField (front_slots s s.references) (middle_slots s []) (whole_span s) (span_middle s) (t ++ l) (middle_gathers s p.middle) four in
-    let two = gathers-append SpanField (front_slots s []) (front_slots s s.references) (whole_span s) r (span_middle s ++ (t ++ l)) (references_gather s p) three in
+    let three = gathers-append SpanField (front_slots s s.references) (middle_slots s []) (whole_span s) (span_middle s) (t ++ l) (middle_gathers s p.middle)
+    four in
+    let two = gathers-append SpanField (front_slots s []) (front_slots s s.references) (whole_span s) r (span_middle s ++ (t ++ l)) (references_gather s p)
+    three in
     gathers-append SpanField no_span (front_slots s []) (whole_span s) (span_front s) (r ++ (span_middle s ++ (t ++ l))) (front_gathers s p.front) two
 
 span_heads : (s : Span) → AllHaveHeads (span_fields s)
@@ -251,7 +286,8 @@ span_heads s =
     let r = list_if_any (pos 6) canon_reference s.references in
     let t = list_if_any (pos 10) canon_tag s.tags in
     let l = list_if_any (pos 11) canon_log s.logs in
-    let front : AllHaveHeads (span_front s) = ((sfits_lit tt, refl), ((sfits_lit tt, refl), ((sfits_lit tt, refl), ((sfits_lit tt, refl), ((sfits_lit tt, refl), tt))))) in
+    let front : AllHaveHeads (span_front s) =
+    ((sfits_lit tt, refl), ((sfits_lit tt, refl), ((sfits_lit tt, refl), ((sfits_lit tt, refl), ((sfits_lit tt, refl), tt))))) in
     let middle : AllHaveHeads (span_middle s) = ((sfits_lit tt, refl), ((sfits_lit tt, refl), ((sfits_lit tt, refl), tt))) in
     heads-append (span_front s) (r ++ (span_middle s ++ (t ++ l))) front
     (heads-append r (span_middle s ++ (t ++ l)) (heads_if_any (pos 6) canon_reference s.references (sfits_lit tt))

@@ -20,9 +20,11 @@ use Rattle.batch_codec.specs.ReferenceReading.{take_reference, reference_from, r
 use Rattle.batch_codec.specs.ProcessReading.{take_process, process_from, process_at}
 use Rattle.batch_codec.specs.SpanReading.{take_span, span_from, span_at}
 use Rattle.batch_codec.specs.BatchReading.{take_batch, batch_from, batch_at}
-use Rattle.batch_codec.proofs.CutStructs.{Safe, SafeAt, bool_safe, double_safe, i32_safe, i64_safe, id_safe, text_safe, binary_safe, kind_safe, type_safe, known_safe, skipped_safe, list_safe, struct_safe}
+use Rattle.batch_codec.proofs.CutStructs.{Safe, SafeAt, bool_safe, double_safe, i32_safe, i64_safe, id_safe, text_safe, binary_safe, kind_safe, type_safe}
+use Rattle.batch_codec.proofs.CutStructs.{known_safe, skipped_safe, list_safe, struct_safe}
 use Rattle.batch_codec.proofs.AtStop.{OnlyMissing, tag_missing, log_missing, reference_missing, process_missing, span_missing, batch_missing}
-use Rattle.batch_codec.proofs.NeverTrailing.{Not, Never, bool_never, double_never, i32_never, i64_never, id_never, text_never, binary_never, kind_never, type_never, known_never, skipped_never, list_never, struct_never}
+use Rattle.batch_codec.proofs.NeverTrailing.{Not, Never, bool_never, double_never, i32_never, i64_never, id_never, text_never, binary_never, kind_never}
+use Rattle.batch_codec.proofs.NeverTrailing.{type_never, known_never, skipped_never, list_never, struct_never}
 
 -- the faults of the reading have places, and none is Trailing
 abbrev Sound : {A : Type 0} → Reading A → Type 0
@@ -32,7 +34,8 @@ Sound read = Safe read × Never read
 abbrev SoundAt : {A : Type 0} → Reading A → List ℕ → Type 0
 SoundAt read w = SafeAt read w × Not (read w)
 
-known_sound : {A S : Type 0} (read : Reading A) → Sound read → (set : A → S) (b : Bool) (others : Reading S) (w : List ℕ) → SoundAt others w → SoundAt (λ v. cond b (read v >>= λ x. Ok (set x.0, x.1)) (others v)) w
+known_sound : {A S : Type 0} (read : Reading A) → Sound read → (set : A → S) (b : Bool) (others : Reading S) (w : List ℕ) → SoundAt others w
+    → SoundAt (λ v. cond b (read v >>= λ x. Ok (set x.0, x.1)) (others v)) w
 known_sound read sound set b others w more = (known_safe read sound.0 set b others w more.0, known_never read sound.1 set b w (others w) more.1)
 
 skipped_sound : {S : Type 0} (s : S) (c : ℕ) (w : List ℕ) → SoundAt (skipped s c) w
@@ -41,8 +44,11 @@ skipped_sound s c w = (skipped_safe s c w, skipped_never s c w)
 list_sound : {A : Type 0} (read : Reading A) → Sound read → Sound (list_of wire 12 read)
 list_sound read sound = (list_safe read sound.0, list_never read sound.1)
 
-struct_sound : {S X : Type 0} (take : Take S DecodeError) (none : S) (from : S → Result X DecodeError) → ((s : S) (c : ℕ) (i : ℤ) (w : List ℕ) → SoundAt (take s c i) w) → ((s : S) → OnlyMissing (from s)) → Sound (λ w. fields_at wire take none w >>= λ y. from y.0 >>= λ z. Ok (z, y.1))
-struct_sound take none from sound made = (struct_safe take none from (λ s c i w. (sound s c i w).0), struct_never take none from (λ s c i w. (sound s c i w).1) made)
+struct_sound : {S X : Type 0} (take : Take S DecodeError) (none : S) (from : S → Result X DecodeError)
+    → ((s : S) (c : ℕ) (i : ℤ) (w : List ℕ) → SoundAt (take s c i) w) → ((s : S) → OnlyMissing (from s))
+    → Sound (λ w. fields_at wire take none w >>= λ y. from y.0 >>= λ z. Ok (z, y.1))
+struct_sound take none from sound made =
+    (struct_safe take none from (λ s c i w. (sound s c i w).0), struct_never take none from (λ s c i w. (sound s c i w).1) made)
 
 take_tag_sound : (s : TagSlots) (c : ℕ) (i : ℤ) (w : List ℕ) → SoundAt (take_tag s c i) w
 unfolding take_tag

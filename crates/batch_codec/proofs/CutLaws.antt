@@ -1,5 +1,6 @@
 -- The law of cuts for batches.
-use Rattle.std.proofs.Common.{◌≡◌, ℕ, ◌≤◌, ◌<◌, false, eqb, List, [], ◌∷◌, ◌++◌, length, take, Result, Ok, Err, refl, sym, ap, subst, ◌∙◌, append-nil, length-append, arith}
+use Rattle.std.proofs.Common.{◌≡◌, ℕ, ◌≤◌, ◌<◌, false, eqb, List, [], ◌∷◌, ◌++◌, length, take, Result, Ok, Err, refl, sym, ap, subst, ◌∙◌, append-nil}
+use Rattle.std.proofs.Common.{length-append, arith}
 use Rattle.std.proofs.Math.Seq.{take-append_seam}
 use Rattle.std.proofs.lemmas.Bool.{ne_eqb}
 use Rattle.std.proofs.lemmas.List.{take-append-le}
@@ -35,7 +36,8 @@ left_over e b [] h = absurd (ok_is_no_err b e (sym h))
 left_over e b (x ∷ r) h = err_is e Trailing (h ∙ end_some b (x ∷ r) (no_some x r))
 
 -- where a batch ends
-ends : (w : List ℕ) (b : Batch) (r : List ℕ) → batch_at w ≡ Ok (b, r) → (text : List ℕ) × (w ≡ text ++ r) × IsPlace (length text) w × ((v : List ℕ) → decoded (text ++ v) ≡ at_end (b, v))
+ends : (w : List ℕ) (b : Batch) (r : List ℕ) → batch_at w ≡ Ok (b, r) → (text : List ℕ) × (w ≡ text ++ r) × IsPlace (length text) w
+    × ((v : List ℕ) → decoded (text ++ v) ≡ at_end (b, v))
 ends w b r h =
     let p = readings.values_have_ends (Wire Truncated) batch_at batch_safe w b r h in
     let within : length p.0 ≤ length w = omega (arith, ap length p.1, length-append p.0 r) in
@@ -58,7 +60,8 @@ faults_have_places w e is not_short not_trailing = by (batch_at w) refl
 pub trailing_has_a_place : TrailingHasAPlace
 trailing_has_a_place w is = by (batch_at w) refl
   where
-    by : (r : Result (Batch × List ℕ) DecodeError) → batch_at w ≡ r → (n : ℕ) × IsPlace n w × (b : Batch) × (decoded (take n w) ≡ Ok b) × ((v : List ℕ) → (v ≡ [] → ⊥) → decoded (take n w ++ v) ≡ Err Trailing)
+    by : (r : Result (Batch × List ℕ) DecodeError) → batch_at w ≡ r → (n : ℕ) × IsPlace n w × (b : Batch) × (decoded (take n w) ≡ Ok b)
+        × ((v : List ℕ) → (v ≡ [] → ⊥) → decoded (take n w ++ v) ≡ Err Trailing)
     by (Ok (b, r)) h =
         let p = ends w b r h in
         let front : take (length p.0) w ≡ p.0 = ap (take (length p.0)) p.1 ∙ take-append_seam p.0 r in

@@ -56,7 +56,9 @@ binary_safe w = cut_lift wire Truncated string_at w (string_cut w)
 
 -- a value, or the result of the other readings
 choice_safe : {A : Type 0} (b : Bool) (x : A) (others : Reading A) (w : List ℕ) → SafeAt others w → SafeAt (λ v. cond b (Ok (x, v)) (others v)) w
-choice_safe {A = A} b x others w more = let one : Reading A = λ v. Ok (x, v) in cut_if (Wire Truncated) b one others w (cut_ok (Wire Truncated) one x (λ v. refl) w) more
+choice_safe {A = A} b x others w more =
+    let one : Reading A = λ v. Ok (x, v) in
+    cut_if (Wire Truncated) b one others w (cut_ok (Wire Truncated) one x (λ v. refl) w) more
 
 abbrev bad : {A : Type 0} → DecodeError → Reading A
 bad e v = Err e
@@ -86,8 +88,10 @@ type_safe = cut_then (Wire Truncated) i32_at (λ n v. type_of_number n >>= λ k.
 
 -- ---- fields
 
-pub known_safe : {A S : Type 0} (read : Reading A) → Safe read → (set : A → S) (b : Bool) (others : Reading S) (w : List ℕ) → SafeAt others w → SafeAt (λ v. cond b (read v >>= λ x. Ok (set x.0, x.1)) (others v)) w
-known_safe read safe set b others w more = cut_if (Wire Truncated) b (λ v. read v >>= λ x. Ok (set x.0, x.1)) others w (cut_map (Wire Truncated) read set safe w) more
+pub known_safe : {A S : Type 0} (read : Reading A) → Safe read → (set : A → S) (b : Bool) (others : Reading S) (w : List ℕ) → SafeAt others w
+    → SafeAt (λ v. cond b (read v >>= λ x. Ok (set x.0, x.1)) (others v)) w
+known_safe read safe set b others w more =
+    cut_if (Wire Truncated) b (λ v. read v >>= λ x. Ok (set x.0, x.1)) others w (cut_map (Wire Truncated) read set safe w) more
 
 pub skipped_safe : {S : Type 0} (s : S) (c : ℕ) (w : List ℕ) → SafeAt (skipped s c) w
 skipped_safe {S = S} s c w =
@@ -101,8 +105,10 @@ pub list_safe : {A : Type 0} (read : Reading A) → Safe read → Safe (list_of 
 list_safe read safe = list_cut wire 12 read safe
 
 -- the place of a missing required field's fault is the stop byte
-pub struct_safe : {S X : Type 0} (take : Take S DecodeError) (none : S) (from : S → Result X DecodeError) → ((s : S) (c : ℕ) (i : ℤ) (w : List ℕ) → SafeAt (take s c i) w) → Safe (λ w. fields_at wire take none w >>= λ y. from y.0 >>= λ z. Ok (z, y.1))
-struct_safe {S = S} {X = X} take none from safe = cut_then (Wire Truncated) (fields_at wire take none) made (fields_cut wire take safe none) (λ s w. by s (from s) w)
+pub struct_safe : {S X : Type 0} (take : Take S DecodeError) (none : S) (from : S → Result X DecodeError)
+    → ((s : S) (c : ℕ) (i : ℤ) (w : List ℕ) → SafeAt (take s c i) w) → Safe (λ w. fields_at wire take none w >>= λ y. from y.0 >>= λ z. Ok (z, y.1))
+struct_safe {S = S} {X = X} take none from safe =
+    cut_then (Wire Truncated) (fields_at wire take none) made (fields_cut wire take safe none) (λ s w. by s (from s) w)
   where
     made : S → Reading X
     made s v = from s >>= λ z. Ok (z, v)

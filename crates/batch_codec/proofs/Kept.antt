@@ -6,7 +6,10 @@ use Rattle.batch_codec.specs.declared.fault.DecodeError.{DecodeError}
 use Rattle.batch_codec.specs.Decoding.{Reading, Decodes, Takes, Fails-whole}
 
 -- The slot of the field has the value that the field reads.
-pub takes-kept : {A S : Type 0} (take : Take S DecodeError) (s : S) (c : ℕ) (i : ℤ) (w left : List ℕ) (reads : Reading A) (into : A → S) (read : Result A DecodeError) (result : Result (Unit {0}) DecodeError) (slot : A) → take s c i w ≡ (reads w >>= λ x. Ok (into x.0, x.1)) → Decodes (λ x. x) reads w read left → ((x : A) → read ≡ Ok x → slot ≡ x) → ((x : A) → read ≡ Ok x → IsOk result) → ((e : DecodeError) → read ≡ Err e → result ≡ Err e) → Takes take s c i w result (into slot) left
+pub takes-kept : {A S : Type 0} (take : Take S DecodeError) (s : S) (c : ℕ) (i : ℤ) (w left : List ℕ) (reads : Reading A) (into : A → S)
+    (read : Result A DecodeError) (result : Result (Unit {0}) DecodeError) (slot : A) → take s c i w ≡ (reads w >>= λ x. Ok (into x.0, x.1))
+    → Decodes (λ x. x) reads w read left → ((x : A) → read ≡ Ok x → slot ≡ x) → ((x : A) → read ≡ Ok x → IsOk result)
+    → ((e : DecodeError) → read ≡ Err e → result ≡ Err e) → Takes take s c i w result (into slot) left
 takes-kept take s c i w left reads into (Ok x) (Ok u) slot is d kept same refused = rw (is, d, kept x refl) refl
 takes-kept take s c i w left reads into (Ok x) (Err f) slot is d kept same refused = let bad : false ≡ true = same x refl in absurd cc
 takes-kept take s c i w left reads into (Err f) (Ok u) slot is d kept same refused = let bad : Ok u ≡ Err f = refused f refl in absurd cc
@@ -14,7 +17,8 @@ takes-kept take s c i w left reads into (Err f) (Err g) slot is d kept same refu
     let fault : g ≡ f = cc (refused f refl) in
     rw fault (Fails-whole f (reads w) (take s c i w) (λ e h. rw (is, h) refl) d)
 
-pub kept-no_longer : {A : Type 0} (P : Type 0) (read : Result A DecodeError) (result : Result (Unit {0}) DecodeError) → OnOk read P → ((e : DecodeError) → read ≡ Err e → result ≡ Err e) → OnOk result P
+pub kept-no_longer : {A : Type 0} (P : Type 0) (read : Result A DecodeError) (result : Result (Unit {0}) DecodeError) → OnOk read P
+    → ((e : DecodeError) → read ≡ Err e → result ≡ Err e) → OnOk result P
 kept-no_longer P (Ok x) (Ok u) h refused = h
 kept-no_longer P (Ok x) (Err f) h refused = tt
 kept-no_longer P (Err f) (Ok u) h refused = let bad : Ok u ≡ Err f = refused f refl in absurd cc

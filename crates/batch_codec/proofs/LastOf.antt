@@ -14,8 +14,11 @@ use Rattle.batch_codec.specs.declared.span.SpanSlots.{SpanSlots}
 use Rattle.batch_codec.specs.declared.batch.BatchSlots.{BatchSlots}
 use Rattle.batch_codec.specs.declared.fault.DecodeError.{DecodeError}
 use Rattle.batch_codec.specs.Decoding.{Reading}
-use Rattle.batch_codec.specs.Batches.{Gathers, IsStruct, TagField, LogField, ReferenceField, ProcessField, SpanField, BatchField, IsTag, IsLog, IsReference, IsProcess, IsSpan, IsBatch}
-use Rattle.batch_codec.specs.LastCounts.{is_known, OthersAreValues, LastCounts, IsByLast, known_of_tag, known_of_log, known_of_reference, known_of_process, known_of_span, known_of_batch, LastOfTag, LastOfLog, LastOfReference, LastOfProcess, LastOfSpan, LastOfBatch, TagLast, LogLast, ReferenceLast, ProcessLast, SpanLast, BatchLast}
+use Rattle.batch_codec.specs.Batches.{Gathers, IsStruct, TagField, LogField, ReferenceField, ProcessField, SpanField, BatchField, IsTag, IsLog, IsReference}
+use Rattle.batch_codec.specs.Batches.{IsProcess, IsSpan, IsBatch}
+use Rattle.batch_codec.specs.LastCounts.{is_known, OthersAreValues, LastCounts, IsByLast, known_of_tag, known_of_log, known_of_reference, known_of_process}
+use Rattle.batch_codec.specs.LastCounts.{known_of_span, known_of_batch, LastOfTag, LastOfLog, LastOfReference, LastOfProcess, LastOfSpan, LastOfBatch, TagLast}
+use Rattle.batch_codec.specs.LastCounts.{LogLast, ReferenceLast, ProcessLast, SpanLast, BatchLast}
 use Rattle.batch_codec.proofs.ValuesSpelled.{Agrees}
 use Rattle.batch_codec.proofs.OneDivision.{the_same, one_division, one_value}
 use Rattle.batch_codec.proofs.TagSpelled.{is_tag, tag_field_is}
@@ -41,7 +44,8 @@ decide {G = G} c d i j this others = by (eqb c d) refl (int_eq i j) refl this ot
     by false p b q this others = others refl
 
 -- a field of this type and id, or another
-split : {G : Type 0} (A Others : Type 0) (d : ℕ) (j : ℤ) (f : Field) → MatchBool (has d j f) A Others → (f.code ≡ d → f.id ≡ j → A → G) → (has d j f ≡ false → Others → G) → G
+split : {G : Type 0} (A Others : Type 0) (d : ℕ) (j : ℤ) (f : Field) → MatchBool (has d j f) A Others → (f.code ≡ d → f.id ≡ j → A → G)
+    → (has d j f ≡ false → Others → G) → G
 split A Others d j f m this others = decide f.code d f.id j (λ p q h. this p q (given true h)) (λ h. others h (given false h))
   where
     given : (b : Bool) → has d j f ≡ b → MatchBool b A Others
@@ -50,14 +54,17 @@ split A Others d j f m this others = decide f.code d f.id j (λ p q h. this p q 
 -- ---- the other fields
 
 -- a field that isn't this one, nor one of the others that are known
-pass : {Others G : Type 0} (A : Type 0) (f : Field) (d : ℕ) (j : ℤ) (rest : Bool) → (Others → rest ≡ false → G) → MatchBool (has d j f) A Others → (has d j f || rest) ≡ false → G
+pass : {Others G : Type 0} (A : Type 0) (f : Field) (d : ℕ) (j : ℤ) (rest : Bool) → (Others → rest ≡ false → G) → MatchBool (has d j f) A Others
+    → (has d j f || rest) ≡ false → G
 pass {Others = Others} {G = G} A f d j rest go = by (has d j f)
   where
     by : (b : Bool) → MatchBool b A Others → (b || rest) ≡ false → G
     by true m e = absurd cc
     by false m e = go m e
 
-others_of : {S : Type 0} (Does : S → Field → S → Type 0) (known : List (ℕ × ℤ)) → ((s : S) (f : Field) (t : S) → Does s f t → is_known known f ≡ false → IsValue 64 f.code f.text) → (fs : List Field) (s t : S) → Gathers Does s fs t → OthersAreValues known fs
+others_of : {S : Type 0} (Does : S → Field → S → Type 0) (known : List (ℕ × ℤ))
+    → ((s : S) (f : Field) (t : S) → Does s f t → is_known known f ≡ false → IsValue 64 f.code f.text) → (fs : List Field) (s t : S) → Gathers Does s fs t
+    → OthersAreValues known fs
 others_of Does known each [] s t g = tt
 others_of Does known each (f ∷ fs) s t (u, d, g) = (each s f u d, others_of Does known each fs u t g)
 
@@ -76,21 +83,26 @@ gathers_on Does LastOf nothing first (f ∷ fs) s t (u, d, g) = first s u t f fs
 
 gathers_back : {S : Type 0} (Does : S → Field → S → Type 0) (known : List (ℕ × ℤ)) (LastOf : S → List Field → S → Type 0)
     → ((s t : S) → LastOf s [] t → t ≡ s)
-    → ((s t : S) (c : ℕ) (i : ℤ) (v : List ℕ) (fs : List Field) → LastOf s (field c i v ∷ fs) t → (is_known known (field c i v) ≡ false → IsValue 64 c v) → (u : S) × Does s (field c i v) u × LastOf u fs t)
+    → ((s t : S) (c : ℕ) (i : ℤ) (v : List ℕ) (fs : List Field) → LastOf s (field c i v ∷ fs) t → (is_known known (field c i v) ≡ false → IsValue 64 c v)
+    → (u : S) × Does s (field c i v) u × LastOf u fs t)
     → (fs : List Field) (s t : S) → LastOf s fs t → OthersAreValues known fs → Gathers Does s fs t
 gathers_back Does known LastOf none step [] s t l o = none s t l
-gathers_back Does known LastOf none step (f ∷ fs) s t l o = let m = step s t f.code f.id f.text fs l o.0 in (m.0, m.1, gathers_back Does known LastOf none step fs m.0 t m.2 o.1)
+gathers_back Does known LastOf none step (f ∷ fs) s t l o =
+    let m = step s t f.code f.id f.text fs l o.0 in
+    (m.0, m.1, gathers_back Does known LastOf none step fs m.0 t m.2 o.1)
 
 -- ---- a struct: what its last fields leave is what it has
 
-module _ {S X : Type 0} {read : Reading X} {Does : S → Field → S → Type 0} {none : S} {Makes : S → X → Type 0} {known : List (ℕ × ℤ)} {LastOf : S → List Field → S → Type 0} (take : Take S DecodeError) where
+module _ {S X : Type 0} {read : Reading X} {Does : S → Field → S → Type 0} {none : S} {Makes : S → X → Type 0} {known : List (ℕ × ℤ)} {LastOf : S → List Field
+    → S → Type 0} (take : Take S DecodeError) where
   pub by_last : Agrees read (IsStruct Does none Makes)
       → ((s : S) (c : ℕ) (i : ℤ) → Agrees (take s c i) (λ v t. Does s (field c i v) t))
       → ((s : S) (f : Field) (t : S) → Does s f t → is_known known f ≡ false → IsValue 64 f.code f.text)
       → ((s : S) → LastOf s [] s)
       → ((s t : S) → LastOf s [] t → t ≡ s)
       → ((s u t : S) (f : Field) (fs : List Field) → Does s f u → LastOf u fs t → LastOf s (f ∷ fs) t)
-      → ((s t : S) (c : ℕ) (i : ℤ) (v : List ℕ) (fs : List Field) → LastOf s (field c i v ∷ fs) t → (is_known known (field c i v) ≡ false → IsValue 64 c v) → (u : S) × Does s (field c i v) u × LastOf u fs t)
+      → ((s t : S) (c : ℕ) (i : ℤ) (v : List ℕ) (fs : List Field) → LastOf s (field c i v ∷ fs) t → (is_known known (field c i v) ≡ false → IsValue 64 c v)
+      → (u : S) × Does s (field c i v) u × LastOf u fs t)
       → IsByLast (IsStruct Does none Makes) none known LastOf Makes
   by_last agrees field_is other kept nothing first step = record { same = λ w x. (forth w x, back w x); one = one }
     where
@@ -112,7 +124,8 @@ module _ {S X : Type 0} {read : Reading X} {Does : S → Field → S → Type 0}
 
       one : (w : List ℕ) (x y : X) (a : LastCounts none known LastOf Makes w x) (b : LastCounts none known LastOf Makes w y) → (a.fields ≡ b.fields) × (x ≡ y)
       one w x y a b = (
-        one_division take Does (λ s f u v d. (field_is s f.code f.id).again f.text v u d) a.fields b.fields w none a.left b.left a.spelled b.spelled (gathers w x a) (gathers w y b),
+        one_division take Does (λ s f u v d. (field_is s f.code f.id).again f.text v u d) a.fields b.fields w none a.left b.left a.spelled b.spelled
+            (gathers w x a) (gathers w y b),
         one_value agrees w x y (back w x a) (back w y b),
       )
 
@@ -145,7 +158,8 @@ tag_other s f t =
 tag_none : (s t : TagSlots) → LastOfTag s [] t → t ≡ s
 tag_none s t l = rw (l.0, l.1, the_same l.2, the_same l.3, the_same l.4, the_same l.5, the_same l.6) refl
 
-tag_step : (s t : TagSlots) (c : ℕ) (i : ℤ) (v : List ℕ) (fs : List Field) → LastOfTag s (field c i v ∷ fs) t → (is_known known_of_tag (field c i v) ≡ false → IsValue 64 c v) → (u : TagSlots) × TagField s (field c i v) u × LastOfTag u fs t
+tag_step : (s t : TagSlots) (c : ℕ) (i : ℤ) (v : List ℕ) (fs : List Field) → LastOfTag s (field c i v ∷ fs) t
+    → (is_known known_of_tag (field c i v) ≡ false → IsValue 64 c v) → (u : TagSlots) × TagField s (field c i v) u × LastOfTag u fs t
 unfolding TagField
 tag_step s t c i v fs =
     decide c 11 i (pos 1) (λ p q _. rw (p, q) (λ l o. (record s { key = Some l.0.0 }, (l.0.0, l.0.1, refl), (l.0.2, l.1, l.2, l.3, l.4, l.5, l.6)))) (λ h1.
@@ -180,7 +194,8 @@ log_other s f t =
 log_none : (s t : LogSlots) → LastOfLog s [] t → t ≡ s
 log_none s t l = rw (l.0, l.1) refl
 
-log_step : (s t : LogSlots) (c : ℕ) (i : ℤ) (v : List ℕ) (fs : List Field) → LastOfLog s (field c i v ∷ fs) t → (is_known known_of_log (field c i v) ≡ false → IsValue 64 c v) → (u : LogSlots) × LogField s (field c i v) u × LastOfLog u fs t
+log_step : (s t : LogSlots) (c : ℕ) (i : ℤ) (v : List ℕ) (fs : List Field) → LastOfLog s (field c i v ∷ fs) t
+    → (is_known known_of_log (field c i v) ≡ false → IsValue 64 c v) → (u : LogSlots) × LogField s (field c i v) u × LastOfLog u fs t
 unfolding LogField
 log_step s t c i v fs =
     decide c 10 i (pos 1) (λ p q _. rw (p, q) (λ l o. (record s { at = Some l.0.0 }, (l.0.0, l.0.1, refl), (l.0.2, l.1)))) (λ h1.
@@ -202,7 +217,8 @@ reference_first s u t f fs m0 =
     split _ _ 10 (pos 4) f m3 (λ c i v. rw (c, i, v.2) (λ l. (l.0, l.1, l.2, (v.0, v.1, l.3)))) (λ h4 m4.
     rw (h1, h2, h3, h4, m4.1) (λ l. l)))))
 
-reference_other : (s : ReferenceSlots) (f : Field) (t : ReferenceSlots) → ReferenceField s f t → is_known known_of_reference f ≡ false → IsValue 64 f.code f.text
+reference_other : (s : ReferenceSlots) (f : Field) (t : ReferenceSlots) → ReferenceField s f t → is_known known_of_reference f ≡ false
+    → IsValue 64 f.code f.text
 unfolding ReferenceField
 reference_other s f t =
     pass _ f 8 (pos 1) _ (
@@ -214,7 +230,8 @@ reference_other s f t =
 reference_none : (s t : ReferenceSlots) → LastOfReference s [] t → t ≡ s
 reference_none s t l = rw (l.0, l.1, l.2, l.3) refl
 
-reference_step : (s t : ReferenceSlots) (c : ℕ) (i : ℤ) (v : List ℕ) (fs : List Field) → LastOfReference s (field c i v ∷ fs) t → (is_known known_of_reference (field c i v) ≡ false → IsValue 64 c v) → (u : ReferenceSlots) × ReferenceField s (field c i v) u × LastOfReference u fs t
+reference_step : (s t : ReferenceSlots) (c : ℕ) (i : ℤ) (v : List ℕ) (fs : List Field) → LastOfReference s (field c i v ∷ fs) t
+    → (is_known known_of_reference (field c i v) ≡ false → IsValue 64 c v) → (u : ReferenceSlots) × ReferenceField s (field c i v) u × LastOfReference u fs t
 unfolding ReferenceField
 reference_step s t c i v fs =
     decide c 8 i (pos 1) (λ p q _. rw (p, q) (λ l o. (record s { kind = Some l.0.0 }, (l.0.0, l.0.1, refl), (l.0.2, l.1, l.2, l.3)))) (λ h1.
@@ -225,7 +242,8 @@ reference_step s t c i v fs =
 
 pub reference_last : ReferenceLast
 unfolding IsReference
-reference_last = by_last take_reference is_reference reference_field_is reference_other (λ s. (refl, refl, refl, refl)) reference_none reference_first reference_step
+reference_last =
+    by_last take_reference is_reference reference_field_is reference_other (λ s. (refl, refl, refl, refl)) reference_none reference_first reference_step
 
 -- ---- Process
 
@@ -246,7 +264,8 @@ process_other s f t =
 process_none : (s t : ProcessSlots) → LastOfProcess s [] t → t ≡ s
 process_none s t l = rw (l.0, the_same l.1) refl
 
-process_step : (s t : ProcessSlots) (c : ℕ) (i : ℤ) (v : List ℕ) (fs : List Field) → LastOfProcess s (field c i v ∷ fs) t → (is_known known_of_process (field c i v) ≡ false → IsValue 64 c v) → (u : ProcessSlots) × ProcessField s (field c i v) u × LastOfProcess u fs t
+process_step : (s t : ProcessSlots) (c : ℕ) (i : ℤ) (v : List ℕ) (fs : List Field) → LastOfProcess s (field c i v ∷ fs) t
+    → (is_known known_of_process (field c i v) ≡ false → IsValue 64 c v) → (u : ProcessSlots) × ProcessField s (field c i v) u × LastOfProcess u fs t
 unfolding ProcessField
 process_step s t c i v fs =
     decide c 11 i (pos 1) (λ p q _. rw (p, q) (λ l o. (record s { service = Some l.0.0 }, (l.0.0, l.0.1, refl), (l.0.2, l.1)))) (λ h1.
@@ -294,25 +313,38 @@ span_other s f t =
 span_none : (s t : SpanSlots) → LastOfSpan s [] t → t ≡ s
 span_none s t l = rw (l.0, l.1, l.2, l.3, l.4, the_same l.5, l.6, l.7, l.8, the_same l.9, the_same l.10) refl
 
-span_step : (s t : SpanSlots) (c : ℕ) (i : ℤ) (v : List ℕ) (fs : List Field) → LastOfSpan s (field c i v ∷ fs) t → (is_known known_of_span (field c i v) ≡ false → IsValue 64 c v) → (u : SpanSlots) × SpanField s (field c i v) u × LastOfSpan u fs t
+span_step : (s t : SpanSlots) (c : ℕ) (i : ℤ) (v : List ℕ) (fs : List Field) → LastOfSpan s (field c i v ∷ fs) t
+    → (is_known known_of_span (field c i v) ≡ false → IsValue 64 c v) → (u : SpanSlots) × SpanField s (field c i v) u × LastOfSpan u fs t
 unfolding SpanField
 span_step s t c i v fs =
-    decide c 10 i (pos 1) (λ p q _. rw (p, q) (λ l o. (record s { trace_low = Some l.0.0 }, (l.0.0, l.0.1, refl), (l.0.2, l.1, l.2, l.3, l.4, l.5, l.6, l.7, l.8, l.9, l.10)))) (λ h1.
-    decide c 10 i (pos 2) (λ p q _. rw (p, q) (λ l o. (record s { trace_high = Some l.1.0 }, (l.1.0, l.1.1, refl), (l.0, l.1.2, l.2, l.3, l.4, l.5, l.6, l.7, l.8, l.9, l.10)))) (λ h2.
-    decide c 10 i (pos 3) (λ p q _. rw (p, q) (λ l o. (record s { id = Some l.2.0 }, (l.2.0, l.2.1, refl), (l.0, l.1, l.2.2, l.3, l.4, l.5, l.6, l.7, l.8, l.9, l.10)))) (λ h3.
-    decide c 10 i (pos 4) (λ p q _. rw (p, q) (λ l o. (record s { parent = Some l.3.0 }, (l.3.0, l.3.1, refl), (l.0, l.1, l.2, l.3.2, l.4, l.5, l.6, l.7, l.8, l.9, l.10)))) (λ h4.
-    decide c 11 i (pos 5) (λ p q _. rw (p, q) (λ l o. (record s { operation = Some l.4.0 }, (l.4.0, l.4.1, refl), (l.0, l.1, l.2, l.3, l.4.2, l.5, l.6, l.7, l.8, l.9, l.10)))) (λ h5.
-    decide c 15 i (pos 6) (λ p q _. rw (p, q) (λ l o. (record s { references = l.5.0 }, (l.5.0, l.5.1, refl), (l.0, l.1, l.2, l.3, l.4, l.5.2, l.6, l.7, l.8, l.9, l.10)))) (λ h6.
-    decide c 8 i (pos 7) (λ p q _. rw (p, q) (λ l o. (record s { flags = Some l.6.0 }, (l.6.0, l.6.1, refl), (l.0, l.1, l.2, l.3, l.4, l.5, l.6.2, l.7, l.8, l.9, l.10)))) (λ h7.
-    decide c 10 i (pos 8) (λ p q _. rw (p, q) (λ l o. (record s { start = Some l.7.0 }, (l.7.0, l.7.1, refl), (l.0, l.1, l.2, l.3, l.4, l.5, l.6, l.7.2, l.8, l.9, l.10)))) (λ h8.
-    decide c 10 i (pos 9) (λ p q _. rw (p, q) (λ l o. (record s { duration = Some l.8.0 }, (l.8.0, l.8.1, refl), (l.0, l.1, l.2, l.3, l.4, l.5, l.6, l.7, l.8.2, l.9, l.10)))) (λ h9.
-    decide c 15 i (pos 10) (λ p q _. rw (p, q) (λ l o. (record s { tags = l.9.0 }, (l.9.0, l.9.1, refl), (l.0, l.1, l.2, l.3, l.4, l.5, l.6, l.7, l.8, l.9.2, l.10)))) (λ h10.
-    decide c 15 i (pos 11) (λ p q _. rw (p, q) (λ l o. (record s { logs = l.10.0 }, (l.10.0, l.10.1, refl), (l.0, l.1, l.2, l.3, l.4, l.5, l.6, l.7, l.8, l.9, l.10.2)))) (λ h11.
+    decide c 10 i (pos 1) (λ p q _. rw (p, q)
+    (λ l o. (record s { trace_low = Some l.0.0 }, (l.0.0, l.0.1, refl), (l.0.2, l.1, l.2, l.3, l.4, l.5, l.6, l.7, l.8, l.9, l.10)))) (λ h1.
+    decide c 10 i (pos 2) (λ p q _. rw (p, q)
+    (λ l o. (record s { trace_high = Some l.1.0 }, (l.1.0, l.1.1, refl), (l.0, l.1.2, l.2, l.3, l.4, l.5, l.6, l.7, l.8, l.9, l.10)))) (λ h2.
+    decide c 10 i (pos 3) (λ p q _. rw (p, q)
+    (λ l o. (record s { id = Some l.2.0 }, (l.2.0, l.2.1, refl), (l.0, l.1, l.2.2, l.3, l.4, l.5, l.6, l.7, l.8, l.9, l.10)))) (λ h3.
+    decide c 10 i (pos 4) (λ p q _. rw (p, q)
+    (λ l o. (record s { parent = Some l.3.0 }, (l.3.0, l.3.1, refl), (l.0, l.1, l.2, l.3.2, l.4, l.5, l.6, l.7, l.8, l.9, l.10)))) (λ h4.
+    decide c 11 i (pos 5) (λ p q _. rw (p, q)
+    (λ l o. (record s { operation = Some l.4.0 }, (l.4.0, l.4.1, refl), (l.0, l.1, l.2, l.3, l.4.2, l.5, l.6, l.7, l.8, l.9, l.10)))) (λ h5.
+    decide c 15 i (pos 6) (λ p q _. rw (p, q)
+    (λ l o. (record s { references = l.5.0 }, (l.5.0, l.5.1, refl), (l.0, l.1, l.2, l.3, l.4, l.5.2, l.6, l.7, l.8, l.9, l.10)))) (λ h6.
+    decide c 8 i (pos 7) (λ p q _. rw (p, q)
+    (λ l o. (record s { flags = Some l.6.0 }, (l.6.0, l.6.1, refl), (l.0, l.1, l.2, l.3, l.4, l.5, l.6.2, l.7, l.8, l.9, l.10)))) (λ h7.
+    decide c 10 i (pos 8) (λ p q _. rw (p, q)
+    (λ l o. (record s { start = Some l.7.0 }, (l.7.0, l.7.1, refl), (l.0, l.1, l.2, l.3, l.4, l.5, l.6, l.7.2, l.8, l.9, l.10)))) (λ h8.
+    decide c 10 i (pos 9) (λ p q _. rw (p, q)
+    (λ l o. (record s { duration = Some l.8.0 }, (l.8.0, l.8.1, refl), (l.0, l.1, l.2, l.3, l.4, l.5, l.6, l.7, l.8.2, l.9, l.10)))) (λ h9.
+    decide c 15 i (pos 10) (λ p q _. rw (p, q)
+    (λ l o. (record s { tags = l.9.0 }, (l.9.0, l.9.1, refl), (l.0, l.1, l.2, l.3, l.4, l.5, l.6, l.7, l.8, l.9.2, l.10)))) (λ h10.
+    decide c 15 i (pos 11) (λ p q _. rw (p, q)
+    (λ l o. (record s { logs = l.10.0 }, (l.10.0, l.10.1, refl), (l.0, l.1, l.2, l.3, l.4, l.5, l.6, l.7, l.8, l.9, l.10.2)))) (λ h11.
     rw (h1, h2, h3, h4, h5, h6, h7, h8, h9, h10, h11) (λ l o. (s, (o refl, refl), l)))))))))))))
 
 pub span_last : SpanLast
 unfolding IsSpan
-span_last = by_last take_span is_span span_field_is span_other (λ s. (refl, refl, refl, refl, refl, refl, refl, refl, refl, refl, refl)) span_none span_first span_step
+span_last =
+    by_last take_span is_span span_field_is span_other (λ s. (refl, refl, refl, refl, refl, refl, refl, refl, refl, refl, refl)) span_none span_first span_step
 
 -- ---- Batch
 
@@ -335,7 +367,8 @@ batch_other s f t =
 batch_none : (s t : BatchSlots) → LastOfBatch s [] t → t ≡ s
 batch_none s t l = rw (l.0, l.1, l.2) refl
 
-batch_step : (s t : BatchSlots) (c : ℕ) (i : ℤ) (v : List ℕ) (fs : List Field) → LastOfBatch s (field c i v ∷ fs) t → (is_known known_of_batch (field c i v) ≡ false → IsValue 64 c v) → (u : BatchSlots) × BatchField s (field c i v) u × LastOfBatch u fs t
+batch_step : (s t : BatchSlots) (c : ℕ) (i : ℤ) (v : List ℕ) (fs : List Field) → LastOfBatch s (field c i v ∷ fs) t
+    → (is_known known_of_batch (field c i v) ≡ false → IsValue 64 c v) → (u : BatchSlots) × BatchField s (field c i v) u × LastOfBatch u fs t
 unfolding BatchField
 batch_step s t c i v fs =
     decide c 12 i (pos 1) (λ p q _. rw (p, q) (λ l o. (record s { process = Some l.0.0 }, (l.0.0, l.0.1, refl), (l.0.2, l.1, l.2)))) (λ h1.

@@ -1,5 +1,6 @@
 -- No reading of a value yields Trailing, nor does that of a struct if those of its fields don't.
-use Rattle.std.proofs.Common.{◌≡◌, ℕ, ℤ, zero, suc, pos, Bool, true, false, cond, eqb, ◌||◌, List, length, Option, Some, None, Result, Ok, Err, refl, ap, w32, w64}
+use Rattle.std.proofs.Common.{◌≡◌, ℕ, ℤ, zero, suc, pos, Bool, true, false, cond, eqb, ◌||◌, List, length, Option, Some, None, Result, Ok, Err, refl, ap, w32}
+use Rattle.std.proofs.Common.{w64}
 use Rattle.std.specs.Ordering.{int_eq}
 use Rattle.std.specs.Str.{is_utf8}
 use Rattle.thrift_binary.specs.declared.fault.WireError.{WireError}
@@ -98,24 +99,31 @@ type_never w = not_then (i32_at w) _ (i32_never w) (λ n. not_then (type_of_numb
 
 -- ---- fields, structs and lists of them
 
-pub known_never : {A S : Type 0} (read : Reading A) → Never read → (set : A → S) (b : Bool) (w : List ℕ) (others : Result (S × List ℕ) DecodeError) → Not others → Not (cond b (read w >>= λ x. Ok (set x.0, x.1)) others)
+pub known_never : {A S : Type 0} (read : Reading A) → Never read → (set : A → S) (b : Bool) (w : List ℕ) (others : Result (S × List ℕ) DecodeError) → Not others
+    → Not (cond b (read w >>= λ x. Ok (set x.0, x.1)) others)
 known_never read never set b w others more = not_if b _ others (not_then (read w) _ (never w) (λ x. not_ok _)) more
 
 pub skipped_never : {S : Type 0} (s : S) (c : ℕ) (w : List ℕ) → Not (skipped s c w)
 skipped_never s c w = not_then (lift wire (skip_at c w)) _ (not_lift (skip_at c w)) (λ x. not_ok _)
 
-fields_never : {S : Type 0} (gets : Take S DecodeError) → ((s : S) (c : ℕ) (i : ℤ) (w : List ℕ) → Not (gets s c i w)) → (n : ℕ) (s : S) (w : List ℕ) → Not (fields_in wire gets n s w)
+fields_never : {S : Type 0} (gets : Take S DecodeError) → ((s : S) (c : ℕ) (i : ℤ) (w : List ℕ) → Not (gets s c i w)) → (n : ℕ) (s : S) (w : List ℕ)
+    → Not (fields_in wire gets n s w)
 unfolding fields_in
 fields_never gets never zero s w = not_wire Truncated
-fields_never {S = S} gets never (suc n) s w = not_then (lift wire (field_at w)) _ (not_lift (field_at w)) (λ h. by (λ t v. fields_never gets never n t v) h.0 h.1)
+fields_never {S = S} gets never (suc n) s w =
+    not_then (lift wire (field_at w)) _ (not_lift (field_at w)) (λ h. by (λ t v. fields_never gets never n t v) h.0 h.1)
   where
     by : ((t : S) (v : List ℕ) → Not (fields_in wire gets n t v)) → (o : Option (ℕ × ℤ)) (v : List ℕ) → Not (behind_field (fields_in wire gets n) gets s o v)
     by others None v = not_ok _
     by others (Some f) v = not_then (gets s f.0 f.1 v) _ (never s f.0 f.1 v) (λ y. others y.0 y.1)
 
-pub struct_never : {S X : Type 0} (gets : Take S DecodeError) (none : S) (from : S → Result X DecodeError) → ((s : S) (c : ℕ) (i : ℤ) (w : List ℕ) → Not (gets s c i w)) → ((s : S) → OnlyMissing (from s)) → Never (λ w. fields_at wire gets none w >>= λ y. from y.0 >>= λ z. Ok (z, y.1))
+pub struct_never : {S X : Type 0} (gets : Take S DecodeError) (none : S) (from : S → Result X DecodeError)
+    → ((s : S) (c : ℕ) (i : ℤ) (w : List ℕ) → Not (gets s c i w)) → ((s : S) → OnlyMissing (from s))
+    → Never (λ w. fields_at wire gets none w >>= λ y. from y.0 >>= λ z. Ok (z, y.1))
 unfolding fields_at
-struct_never gets none from never made w = not_then (fields_at wire gets none w) _ (fields_never gets never (length w) none w) (λ y. not_then (from y.0) _ (record { never = (made y.0).no_other Trailing refl }) (λ z. not_ok _))
+struct_never gets none from never made w =
+    not_then (fields_at wire gets none w) _ (fields_never gets never (length w) none w)
+    (λ y. not_then (from y.0) _ (record { never = (made y.0).no_other Trailing refl }) (λ z. not_ok _))
 
 items_never : {A : Type 0} (one : Reading A) → Never one → (n : ℕ) → Never (items_at one n)
 unfolding items_at
@@ -124,4 +132,6 @@ items_never one never (suc n) w = not_then (one w) _ (never w) (λ x. not_then (
 
 pub list_never : {A : Type 0} (one : Reading A) → Never one → Never (list_of wire 12 one)
 unfolding list_of
-list_never one never w = not_then (lift wire (list_at w)) _ (not_lift (list_at w)) (λ h. not_if (eqb h.0.1 0 || eqb h.0.0 12) _ _ (items_never one never h.0.1 h.1) (not_wire BadType))
+list_never one never w =
+    not_then (lift wire (list_at w)) _ (not_lift (list_at w))
+    (λ h. not_if (eqb h.0.1 0 || eqb h.0.0 12) _ _ (items_never one never h.0.1 h.1) (not_wire BadType))

@@ -63,7 +63,8 @@ module _ {S : Type 0} (take : Take S DecodeError) (Does : S → Field → S → 
       let both = both_are v v2 r r2 (sym (again s f v r d) ∙ other) in
       let text : f.text ≡ g.text = append_cancel_right f.text g.text r2 (subst (λ (x : List ℕ). f.text ++ x ≡ g.text ++ r2) both.1 tail) in
       let first : f ≡ g = same_field f g code id text in
-      let more : fs ≡ gs = one_division fs gs r v t u a (subst (λ (x : List ℕ). IsFields gs x) (sym both.1) b) p (subst (λ (x : S). Gathers Does x gs u) (sym both.0) q) in
+      let more : fs ≡ gs = one_division fs gs r v t u a (subst (λ (x : List ℕ). IsFields gs x) (sym both.1) b) p
+      (subst (λ (x : S). Gathers Does x gs u) (sym both.0) q) in
       rw (first, more) refl
 
 pub one_value : {X : Type 0} {read : Reading X} {Spells : List ℕ → X → Type 0} → Agrees read Spells → (w : List ℕ) (x y : X) → Spells w x → Spells w y → x ≡ y

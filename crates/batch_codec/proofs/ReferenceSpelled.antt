@@ -11,7 +11,8 @@ use Rattle.batch_codec.specs.Batches.{ReferenceField, whole_reference, IsReferen
 use Rattle.batch_codec.proofs.ValuesSpelled.{Agrees, is_kind, is_id}
 use Rattle.batch_codec.proofs.Structs.{known_is, skipped_is, struct_is, required_found}
 
-pub reference_field_is : (s : ReferenceSlots) (c : ℕ) (i : ℤ) → Agrees (take_reference s c i) (λ v t. ReferenceField s (record { code = c; id = i; text = v }) t)
+pub reference_field_is : (s : ReferenceSlots) (c : ℕ) (i : ℤ)
+    → Agrees (take_reference s c i) (λ v t. ReferenceField s (record { code = c; id = i; text = v }) t)
 unfolding take_reference ReferenceField
 reference_field_is s c i =
     known_is is_kind (λ x. record s { kind = Some x }) (eqb c 8 && int_eq i (pos 1)) _ _ (
@@ -20,7 +21,8 @@ reference_field_is s c i =
     known_is is_id (λ x. record s { id = Some x }) (eqb c 10 && int_eq i (pos 4)) _ _ (
     skipped_is s c))))
 
-all_there : (s : ReferenceSlots) (x : SpanRef) → s.kind ≡ Some x.kind → s.trace_low ≡ Some x.trace.low → s.trace_high ≡ Some x.trace.high → s.id ≡ Some x.id.0 → s ≡ whole_reference x
+all_there : (s : ReferenceSlots) (x : SpanRef) → s.kind ≡ Some x.kind → s.trace_low ≡ Some x.trace.low → s.trace_high ≡ Some x.trace.high → s.id ≡ Some x.id.0
+    → s ≡ whole_reference x
 all_there s x a b c d = rw (a, b, c, d) refl
 
 made : (s : ReferenceSlots) (x : SpanRef) → reference_from s ≡ Ok x → s ≡ whole_reference x

@@ -33,29 +33,35 @@ a_is_text : is_utf8 (97 ∷ []) ≡ true
 a_is_text = is_utf8-from_IsUtf8 (97 ∷ []) (IsUtf8-from_ascii (97 ∷ []) (IsAscii-cons 97 [] (lit< tt) IsAscii-nil))
 
 no_spans : decoded (process ++ none 12 ++ 0 ∷ []) ≡ Ok alone
-unfolding decoded batch_at batch_from take_batch process_at process_from take_process text_at fields_at fields_in field_at string_at size_at list_of list_at items_at process none alone
+unfolding decoded batch_at batch_from take_batch process_at process_from take_process text_at fields_at fields_in field_at string_at size_at list_of list_at
+    items_at process none alone
 no_spans = rw a_is_text refl
 
 -- the element type of an empty list isn't checked
 no_spans_of_another_type : decoded (process ++ none 3 ++ 0 ∷ []) ≡ Ok alone
-unfolding decoded batch_at batch_from take_batch process_at process_from take_process text_at fields_at fields_in field_at string_at size_at list_of list_at items_at process none alone
+unfolding decoded batch_at batch_from take_batch process_at process_from take_process text_at fields_at fields_in field_at string_at size_at list_of list_at
+    items_at process none alone
 no_spans_of_another_type = rw a_is_text refl
 
 without_its_stop : decoded (process ++ none 12) ≡ Err (Wire Truncated)
-unfolding decoded batch_at batch_from take_batch process_at process_from take_process text_at fields_at fields_in field_at string_at size_at list_of list_at items_at process none
+unfolding decoded batch_at batch_from take_batch process_at process_from take_process text_at fields_at fields_in field_at string_at size_at list_of list_at
+    items_at process none
 without_its_stop = rw a_is_text refl
 
 one_byte_more : decoded (process ++ none 12 ++ 0 ∷ 0 ∷ []) ≡ Err Trailing
-unfolding decoded batch_at batch_from take_batch process_at process_from take_process text_at fields_at fields_in field_at string_at size_at list_of list_at items_at process none
+unfolding decoded batch_at batch_from take_batch process_at process_from take_process text_at fields_at fields_in field_at string_at size_at list_of list_at
+    items_at process none
 one_byte_more = rw a_is_text refl
 
 claimed_size : decoded (process ++ spans 12 127 255) ≡ Err (Wire Truncated)
-unfolding decoded batch_at batch_from take_batch process_at process_from take_process text_at fields_at fields_in field_at string_at size_at list_of list_at items_at span_at process spans
+unfolding decoded batch_at batch_from take_batch process_at process_from take_process text_at fields_at fields_in field_at string_at size_at list_of list_at
+    items_at span_at process spans
 claimed_size = rw a_is_text refl
 
 -- the length is checked before the type
 negative_size : decoded (process ++ spans 16 255 255) ≡ Err (Wire BadLength)
-unfolding decoded batch_at batch_from take_batch process_at process_from take_process text_at fields_at fields_in field_at string_at size_at list_of list_at items_at process spans
+unfolding decoded batch_at batch_from take_batch process_at process_from take_process text_at fields_at fields_in field_at string_at size_at list_of list_at
+    items_at process spans
 negative_size = rw a_is_text refl
 
 nothing : decoded [] ≡ Err (Wire Truncated)

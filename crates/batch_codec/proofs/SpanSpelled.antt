@@ -30,7 +30,9 @@ span_field_is s c i =
     known_is (is_list is_log) (λ x. record s { logs = x }) (eqb c 15 && int_eq i (pos 11)) _ _ (
     skipped_is s c)))))))))))
 
-all_there : (s : SpanSlots) (x : Span) → s.trace_low ≡ Some x.trace.low → s.trace_high ≡ Some x.trace.high → s.id ≡ Some x.id.0 → s.parent ≡ Some x.parent.0 → s.operation ≡ Some x.operation → s.references ≡ x.references → s.flags ≡ Some x.flags → s.start ≡ Some x.start → s.duration ≡ Some x.duration → s.tags ≡ x.tags → s.logs ≡ x.logs → s ≡ whole_span x
+all_there : (s : SpanSlots) (x : Span) → s.trace_low ≡ Some x.trace.low → s.trace_high ≡ Some x.trace.high → s.id ≡ Some x.id.0 → s.parent ≡ Some x.parent.0
+    → s.operation ≡ Some x.operation → s.references ≡ x.references → s.flags ≡ Some x.flags → s.start ≡ Some x.start → s.duration ≡ Some x.duration
+    → s.tags ≡ x.tags → s.logs ≡ x.logs → s ≡ whole_span x
 all_there s x a b c d e f g h i j k = rw (a, b, c, d, e, f, g, h, i, j, k) refl
 
 made : (s : SpanSlots) (x : Span) → span_from s ≡ Ok x → s ≡ whole_span x
@@ -44,7 +46,19 @@ made s x e =
     let f = required_found s.flags parts.Span 7 _ x e.2 in
     let g = required_found s.start parts.Span 8 _ x f.2 in
     let h = required_found s.duration parts.Span 9 _ x g.2 in
-    let whole : Span = record { trace = record { high = b.0; low = a.0 }; id = record { 0 = c.0 }; parent = record { 0 = d.0 }; operation = e.0; references = s.references; flags = f.0; start = g.0; duration = h.0; tags = s.tags; logs = s.logs } in
+    let whole : Span = record {
+      trace = record { high = b.0; low = a.0 };
+      id = record { 0 = c.0 };
+      parent = record { 0 = d.0 };
+      operation = e.0;
+      references =
+          s.references;
+      flags = f.0;
+      start = g.0;
+      duration = h.0;
+      tags = s.tags;
+      logs = s.logs;
+    } in
     let same : whole ≡ x = ok_is whole x h.2 in
     let there : s ≡ whole_span whole = all_there s whole a.1 b.1 c.1 d.1 e.1 refl f.1 g.1 h.1 refl refl in
     there ∙ ap (λ (y : Span). whole_span y) same

@@ -20,7 +20,8 @@ use Rattle.batch_codec.proofs.ValuesSpelled.{Found, Again, Agrees, made_found, m
 -- ---- one field
 
 -- a field of this type and id, or the result of the other readings
-pub known_is : {A S : Type 0} {read : Reading A} {Spells : List ℕ → A → Type 0} → Agrees read Spells → (set : A → S) (b : Bool) (others : Reading S) (Others : List ℕ → S → Type 0)
+pub known_is : {A S : Type 0} {read : Reading A} {Spells : List ℕ → A → Type 0} → Agrees read Spells
+    → (set : A → S) (b : Bool) (others : Reading S) (Others : List ℕ → S → Type 0)
     → Agrees others Others
     → Agrees (λ w. cond b (read w >>= λ x. Ok (set x.0, x.1)) (others w)) (λ v t. MatchBool b ((x : A) × Spells v x × (t ≡ set x)) (Others v t))
 known_is value set false others Others more = more
@@ -93,11 +94,14 @@ module _ {S X : Type 0} (take : Take S DecodeError) (Does : S → Field → S �
 
       again : Again struct_at (IsStruct Does none Makes)
       again t r x is =
-          let fields = fields_again wire take Does (λ s f u v d. (field_is s f.code f.id).again f.text v u d) is.fields none is.gathered t r is.spelled (path_gathers Does is.fields none is.gathered is.gathers) in
+          let fields = fields_again wire take Does
+          (λ s f u v d. (field_is s f.code f.id).again f.text v u d) is.fields none is.gathered t r is.spelled
+          (path_gathers Does is.fields none is.gathered is.gathers) in
           let whole = makes is.gathered x is.makes in
           rw (fields, whole) refl
 
 -- a required slot that is filled
-pub required_found : {A B : Type 0} (o : Option A) (part : Part) (i : ℕ) (f : A → Result B DecodeError) (y : B) → (required o part i >>= f) ≡ Ok y → (x : A) × (o ≡ Some x) × (f x ≡ Ok y)
+pub required_found : {A B : Type 0} (o : Option A) (part : Part) (i : ℕ) (f : A → Result B DecodeError) (y : B) → (required o part i >>= f) ≡ Ok y → (x : A)
+    × (o ≡ Some x) × (f x ≡ Ok y)
 required_found None part i f y e = absurd cc
 required_found (Some x) part i f y e = (x, refl, e)

@@ -53,7 +53,8 @@ made_found read Spells found make w y r e =
     }
 
 -- a value mapped to another
-pub mapped : {A B : Type 0} {read : Reading A} {Spells : List ℕ → A → Type 0} → Agrees read Spells → (f : A → B) → Agrees (λ w. read w >>= λ x. Ok (f x.0, x.1)) (λ t y. (x : A) × Spells t x × (y ≡ f x))
+pub mapped : {A B : Type 0} {read : Reading A} {Spells : List ℕ → A → Type 0} → Agrees read Spells → (f : A → B)
+    → Agrees (λ w. read w >>= λ x. Ok (f x.0, x.1)) (λ t y. (x : A) × Spells t x × (y ≡ f x))
 mapped {read = read} {Spells = Spells} value f = record {
   found = λ w y r e. (
       let b = made_found read Spells value.found (λ x. decoded (f x)) w y r e in
@@ -137,7 +138,8 @@ kind_numbered : (n : ℤ) (k : RefKind) → kind_of_number n ≡ Ok k → n ≡ 
 unfolding kind_of_number
 kind_numbered n x = by (int_eq n (pos 0)) refl (int_eq n (pos 1)) refl
   where
-    by : (p : Bool) → int_eq n (pos 0) ≡ p → (q : Bool) → int_eq n (pos 1) ≡ q → cond p (decoded ChildOf) (cond q (decoded FollowsFrom) (Err BadEnum)) ≡ decoded x → n ≡ kind_number x
+    by : (p : Bool) → int_eq n (pos 0) ≡ p → (q : Bool) → int_eq n (pos 1) ≡ q
+        → cond p (decoded ChildOf) (cond q (decoded FollowsFrom) (Err BadEnum)) ≡ decoded x → n ≡ kind_number x
     by true p q q-is h = one_of_table kind_number n ChildOf x ((Decides-int_eq n (pos 0)).0 p) h
     by false p true q h = one_of_table kind_number n FollowsFrom x ((Decides-int_eq n (pos 1)).0 q) h
     by false p false q h = absurd cc
@@ -158,8 +160,10 @@ type_numbered n x = by (int_eq n (pos 0)) refl (int_eq n (pos 1)) refl (int_eq n
     is : (m : ℕ) → int_eq n (pos m) ≡ true → n ≡ pos m
     is m e = (Decides-int_eq n (pos m)).0 e
 
-    by : (a : Bool) → int_eq n (pos 0) ≡ a → (b : Bool) → int_eq n (pos 1) ≡ b → (c : Bool) → int_eq n (pos 2) ≡ c → (d : Bool) → int_eq n (pos 3) ≡ d → (f : Bool) → int_eq n (pos 4) ≡ f
-        → cond a (decoded types.Text) (cond b (decoded types.Double) (cond c (decoded types.Bool) (cond d (decoded types.Long) (cond f (decoded types.Binary) (Err BadEnum))))) ≡ decoded x → n ≡ type_number x
+    by : (a : Bool) → int_eq n (pos 0) ≡ a → (b : Bool) → int_eq n (pos 1) ≡ b → (c : Bool) → int_eq n (pos 2) ≡ c → (d : Bool) → int_eq n (pos 3) ≡ d
+        → (f : Bool) → int_eq n (pos 4) ≡ f
+        → cond a (decoded types.Text) (cond b (decoded types.Double)
+        (cond c (decoded types.Bool) (cond d (decoded types.Long) (cond f (decoded types.Binary) (Err BadEnum))))) ≡ decoded x → n ≡ type_number x
     by true a _ _ _ _ _ _ _ _ h = one_of_table type_number n types.Text x (is 0 a) h
     by false _ true b _ _ _ _ _ _ h = one_of_table type_number n types.Double x (is 1 b) h
     by false _ false _ true c _ _ _ _ h = one_of_table type_number n types.Bool x (is 2 c) h

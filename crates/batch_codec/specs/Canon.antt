@@ -94,13 +94,16 @@ canon_process p = fields_text (process_fields p)
 
 -- the ids and the operation; then the references; flags and times; tags and logs
 abbrev pub span_front : Span → List Field
-span_front s = id_field (pos 1) s.trace.low ∷ id_field (pos 2) s.trace.high ∷ id_field (pos 3) s.id.0 ∷ id_field (pos 4) s.parent.0 ∷ text_field (pos 5) s.operation ∷ []
+span_front s =
+    id_field (pos 1) s.trace.low ∷ id_field (pos 2) s.trace.high ∷ id_field (pos 3) s.id.0 ∷ id_field (pos 4) s.parent.0 ∷ text_field (pos 5) s.operation ∷ []
 
 abbrev pub span_middle : Span → List Field
 span_middle s = i32_field (pos 7) s.flags ∷ i64_field (pos 8) s.start ∷ i64_field (pos 9) s.duration ∷ []
 
 abbrev pub span_fields : Span → List Field
-span_fields s = span_front s ++ (list_if_any (pos 6) canon_reference s.references ++ (span_middle s ++ (list_if_any (pos 10) canon_tag s.tags ++ list_if_any (pos 11) canon_log s.logs)))
+span_fields s =
+    span_front s ++ (list_if_any (pos 6) canon_reference s.references
+    ++ (span_middle s ++ (list_if_any (pos 10) canon_tag s.tags ++ list_if_any (pos 11) canon_log s.logs)))
 
 unfoldable pub canon_span : Span → List ℕ
 canon_span s = fields_text (span_fields s)

@@ -82,7 +82,8 @@ Gives (Ok x) read = read ≡ Ok x
 Gives (Err e) read = Fails e read
 
 -- if each fault of a part is the fault of the whole reading, a call that fails by the part fails by the whole
-pub Fails-whole : {A B : Type 0} (e : DecodeError) (part : Result A DecodeError) (whole : Result B DecodeError) → ((f : DecodeError) → part ≡ Err f → whole ≡ Err f) → Fails e part → Fails e whole
+pub Fails-whole : {A B : Type 0} (e : DecodeError) (part : Result A DecodeError) (whole : Result B DecodeError)
+    → ((f : DecodeError) → part ≡ Err f → whole ≡ Err f) → Fails e part → Fails e whole
 Fails-whole Memory part whole same h = tt
 Fails-whole (Wire x) part whole same h = same (Wire x) h
 Fails-whole (Missing p i) part whole same h = same (Missing p i) h

@@ -33,7 +33,20 @@ abbrev pub no_process : ProcessSlots
 no_process = record { service = None; tags = [] }
 
 abbrev pub no_span : SpanSlots
-no_span = record { trace_low = None; trace_high = None; id = None; parent = None; operation = None; references = []; flags = None; start = None; duration = None; tags = []; logs = [] }
+no_span =
+    record {
+      trace_low = None;
+      trace_high = None;
+      id = None;
+      parent = None;
+      operation = None;
+      references = [];
+      flags = None;
+      start = None;
+      duration = None;
+      tags = [];
+      logs = [];
+    }
 
 abbrev pub no_batch : BatchSlots
 no_batch = record { process = None; spans = None; seq_no = None }

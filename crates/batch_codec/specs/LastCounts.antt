@@ -10,7 +10,8 @@ use Rattle.batch_codec.specs.declared.process.ProcessSlots.{ProcessSlots}
 use Rattle.batch_codec.specs.declared.span.SpanSlots.{SpanSlots}
 use Rattle.batch_codec.specs.declared.batch.BatchSlots.{BatchSlots}
 use Rattle.batch_codec.specs.EmptySlots.{no_tag, no_log, no_reference, no_process, no_span, no_batch}
-use Rattle.batch_codec.specs.Batches.{IsText, IsId, IsTagType, IsRefKind, IsStructList, MakesTag, whole_log, whole_reference, whole_process, whole_span, whole_batch, IsTag, IsLog, IsReference, IsProcess, IsSpan, IsBatch}
+use Rattle.batch_codec.specs.Batches.{IsText, IsId, IsTagType, IsRefKind, IsStructList, MakesTag, whole_log, whole_reference, whole_process, whole_span}
+use Rattle.batch_codec.specs.Batches.{whole_batch, IsTag, IsLog, IsReference, IsProcess, IsSpan, IsBatch}
 
 -- the field has one of these types and ids
 abbrev pub is_known : List (ℕ × ℤ) → Field → Bool
@@ -22,7 +23,8 @@ abbrev pub OthersAreValues : List (ℕ × ℤ) → List Field → Type 0
 OthersAreValues known fs = AllByRecursion (λ f. is_known known f ≡ false → IsValue 64 f.code f.text) fs
 
 -- w divides into fields: the last ones of each known type and id yield x, and the others are values
-pub record LastCounts {S X : Type 0} (none : S) (known : List (ℕ × ℤ)) (LastOf : S → List Field → S → Type 0) (Makes : S → X → Type 0) (w : List ℕ) (x : X) : Type 0 where
+pub record LastCounts {S X : Type 0} (none : S) (known : List (ℕ × ℤ)) (LastOf : S → List Field → S → Type 0) (Makes : S → X → Type 0) (w : List ℕ)
+    (x : X) : Type 0 where
   pub fields : List Field
   pub spelled : IsFields fields w
   pub left : S
@@ -31,7 +33,8 @@ pub record LastCounts {S X : Type 0} (none : S) (known : List (ℕ × ℤ)) (Las
   pub others : OthersAreValues known fields
 
 -- The bytes that spell a value are exactly those that divide so; they do in one way, with one value.
-pub record IsByLast {S X : Type 0} (Spells : List ℕ → X → Type 0) (none : S) (known : List (ℕ × ℤ)) (LastOf : S → List Field → S → Type 0) (Makes : S → X → Type 0) : Type 0 where
+pub record IsByLast {S X : Type 0} (Spells : List ℕ → X → Type 0) (none : S) (known : List (ℕ × ℤ)) (LastOf : S → List Field → S → Type 0)
+    (Makes : S → X → Type 0) : Type 0 where
   pub same : (w : List ℕ) (x : X) → Spells w x ↔ LastCounts none known LastOf Makes w x
   pub one : (w : List ℕ) (x y : X) (a : LastCounts none known LastOf Makes w x) (b : LastCounts none known LastOf Makes w y) → (a.fields ≡ b.fields) × (x ≡ y)
 
@@ -50,7 +53,9 @@ abbrev pub known_of_process : List (ℕ × ℤ)
 known_of_process = (11, pos 1) ∷ (15, pos 2) ∷ []
 
 abbrev pub known_of_span : List (ℕ × ℤ)
-known_of_span = (10, pos 1) ∷ (10, pos 2) ∷ (10, pos 3) ∷ (10, pos 4) ∷ (11, pos 5) ∷ (15, pos 6) ∷ (8, pos 7) ∷ (10, pos 8) ∷ (10, pos 9) ∷ (15, pos 10) ∷ (15, pos 11) ∷ []
+known_of_span =
+    (10, pos 1) ∷ (10, pos 2) ∷ (10, pos 3) ∷ (10, pos 4) ∷ (11, pos 5) ∷ (15, pos 6) ∷ (8, pos 7) ∷ (10, pos 8) ∷ (10, pos 9) ∷ (15, pos 10) ∷ (15, pos 11)
+    ∷ []
 
 abbrev pub known_of_batch : List (ℕ × ℤ)
 known_of_batch = (12, pos 1) ∷ (15, pos 2) ∷ (10, pos 3) ∷ []

@@ -14,3 +14,5 @@ pub mod LastCounts
 pub mod Canon
 pub mod CanonBatches
 pub mod Proper
+pub mod HexFaultTexts
+pub mod HexSpelling

@@ -14,12 +14,16 @@
 //!   reference kinds, and [`required`]: crates that decode in another way use them. Such crates use tags and
 //!   processes in their contracts only, and the others in their code too.
 //! * `writer`: [`encode`] writes the one spelling of a batch.
+//! * `hex_text`: batches as hexadecimal text, two digits of either case for each byte: [`decode_hex`] returns
+//!   the batch that such a text encodes, or why it encodes none. `hex_fault`: why.
 //! * `laws`: facts about the definitions.
 #![tactic(auto)]
 
 mod batch;
 mod fault;
 mod fields;
+mod hex_fault;
+mod hex_text;
 mod items;
 pub mod laws;
 mod log;
@@ -33,6 +37,8 @@ mod writer;
 pub use batch::{BatchSlots, decode};
 pub use fault::{DecodeError, Decoded, Part};
 pub use fields::required;
+pub use hex_fault::HexFault;
+pub use hex_text::decode_hex;
 pub use items::room;
 pub use log::{LogSlots, MIN_LOG_BYTES};
 pub use process::ProcessSlots;

@@ -5,7 +5,9 @@ ghost use Rattle.std.proofs.Common.{SFits};
 ghost use Rattle.batch_codec.specs.BatchReading.{decoded};
 ghost use Rattle.batch_codec.specs.Batches.{IsBatch, type_number, kind_number};
 ghost use Rattle.batch_codec.specs.CanonBatches.{WritesBatch};
-ghost use Rattle.batch_codec.specs.Canon.{Encodes, fits_length, front_text, text_field, i32_field, i64_field, id_field, double_field, list_field, list_fits, list_if_any, value_type, value_field, value_fits, span_front, span_middle, span_fields, span_fits, canon_process, process_fits, number_if_any, canon, batch_fits};
+ghost use Rattle.batch_codec.specs.Canon.{Encodes, fits_length, front_text, text_field, i32_field, i64_field, id_field, double_field, list_field, list_fits};
+ghost use Rattle.batch_codec.specs.Canon.{list_if_any, value_type, value_field, value_fits, span_front, span_middle, span_fields, span_fits, canon_process};
+ghost use Rattle.batch_codec.specs.Canon.{process_fits, number_if_any, canon, batch_fits};
 ghost use Rattle.batch_codec.specs.Proper.{AreProper, IsProperValue, IsProperFront, IsProperMiddle, IsProperSpan, IsProperProcess, IsProperNumber, IsProper};
 
 use crate::fault::{DecodeError, Decoded};

@@ -31,18 +31,22 @@ pub comes-faults : {X : Type 0} (a b : List ℕ → Result X DecodeError) (p q :
 comes-faults a b p q e f g = λ n. comes-refuses f (g n)
 
 -- a fault that a value has
-pub ends-faults : {A X : Type 0} (a : Reading A) (then : A × List ℕ → Result X DecodeError) (x : A) (p q : List ℕ) (e : DecodeError) → (e ≡ Wire Truncated → ⊥) → ((rest : List ℕ) → then (x, rest) ≡ Err e) → Comes a (λ w. Ok (x, w)) p q → Faults (λ w. a w >>= then) p e
+pub ends-faults : {A X : Type 0} (a : Reading A) (then : A × List ℕ → Result X DecodeError) (x : A) (p q : List ℕ) (e : DecodeError) → (e ≡ Wire Truncated → ⊥)
+    → ((rest : List ℕ) → then (x, rest) ≡ Err e) → Comes a (λ w. Ok (x, w)) p q → Faults (λ w. a w >>= then) p e
 ends-faults a then x p q e apart same g = λ n. record { same = λ rest. (comes-inside then g).same rest ∙ same (q ++ rest); no_want = apart }
 
 -- a value from which another is made
-pub ends-comes : {A X : Type 0} (a : Reading A) (then : A × List ℕ → Result (X × List ℕ) DecodeError) (x : A) (y : X) (p q : List ℕ) → ((rest : List ℕ) → then (x, rest) ≡ Ok (y, rest)) → Comes a (λ w. Ok (x, w)) p q → Comes (λ w. a w >>= then) (λ w. Ok (y, w)) p q
+pub ends-comes : {A X : Type 0} (a : Reading A) (then : A × List ℕ → Result (X × List ℕ) DecodeError) (x : A) (y : X) (p q : List ℕ)
+    → ((rest : List ℕ) → then (x, rest) ≡ Ok (y, rest)) → Comes a (λ w. Ok (x, w)) p q → Comes (λ w. a w >>= then) (λ w. Ok (y, w)) p q
 ends-comes a then x y p q same g = comes-trans (comes-inside then g) (record { same = λ rest. same (q ++ rest) })
 
 -- the result is a fault, or a value
-pub arrived-faults : {A : Type 0} (a : Reading A) (end : Result A DecodeError) (e : DecodeError) (p q : List ℕ) → end ≡ Err e → (end ≡ Err (Wire Truncated) → ⊥) → Comes a (ended end) p q → Faults a p e
+pub arrived-faults : {A : Type 0} (a : Reading A) (end : Result A DecodeError) (e : DecodeError) (p q : List ℕ) → end ≡ Err e → (end ≡ Err (Wire Truncated) → ⊥)
+    → Comes a (ended end) p q → Faults a p e
 arrived-faults a end e p q is never g = λ n. record { same = λ rest. g.same rest ∙ rw is refl; no_want = λ h. never (is ∙ ap (λ d. Err d) h) }
 
-pub arrived-whole : {A : Type 0} (a : Reading A) (end : Result A DecodeError) (x : A) (p q : List ℕ) → end ≡ Ok x → Comes a (ended end) p q → Comes a (λ w. Ok (x, w)) p q
+pub arrived-whole : {A : Type 0} (a : Reading A) (end : Result A DecodeError) (x : A) (p q : List ℕ) → end ≡ Ok x → Comes a (ended end) p q
+    → Comes a (λ w. Ok (x, w)) p q
 arrived-whole a end x p q is g = comes-trans g (record { same = λ rest. rw is refl })
 
 -- ---- before the first byte
@@ -62,11 +66,13 @@ module _ {A X : Type 0} (reads a : Reading A) (same : (w : List ℕ) → a w ≡
   inside : (w : List ℕ) → (a w >>= then) ≡ (reads w >>= then)
   inside w = ap (λ r. r >>= then) (same w)
 
-  pub fresh-waits : (b : Reading A) (p q : List ℕ) → NeedsMore (Wire Truncated) a b p q → NeedsMore (Wire Truncated) (λ w. reads w >>= then) (λ w. b w >>= then) p q
+  pub fresh-waits : (b : Reading A) (p q : List ℕ) → NeedsMore (Wire Truncated) a b p q
+      → NeedsMore (Wire Truncated) (λ w. reads w >>= then) (λ w. b w >>= then) p q
   fresh-waits b p q g = same-waits (λ w. a w >>= then) (λ w. reads w >>= then) inside (λ w. b w >>= then) p q (waits-inside then g)
 
 -- a call that continued, after other bytes
-pub continues-to-after : {X : Type 0} (x : X) (a b c : Reading X) (p w v : List ℕ) (r : Result Bool DecodeError) → Comes a b p w → ContinuesTo x b c w v r → ContinuesTo x a c p v r
+pub continues-to-after : {X : Type 0} (x : X) (a b c : Reading X) (p w v : List ℕ) (r : Result Bool DecodeError) → Comes a b p w → ContinuesTo x b c w v r
+    → ContinuesTo x a c p v r
 continues-to-after x a b c p w v (Ok true) f g = comes-trans f g
 continues-to-after x a b c p w v (Ok false) f g = comes-waits f g
 continues-to-after x a b c p w v (Err e) f g = comes-faults a b p w e f g

@@ -10,13 +10,15 @@ use Rattle.batch_feeder.specs.Feeding.{HasNoFault, HasRefused, Taken, Refuses}
 use Rattle.batch_feeder.proofs.FeederSteps.{none-refused, fails-unless, gives-same}
 
 module _ {V : Type 0} (f : V → List ℕ) (a d : List ℕ → Result Batch DecodeError) where
-  pub pieces-end : (vs : List V) (i : ℕ) (r : Result Batch DecodeError) → length vs ≤ i → ((w : List ℕ) → a (flat_map f (drop i vs) ++ w) ≡ d (flat_map f vs ++ w)) → r ≡ a [] → Gives r (d (flat_map f vs))
+  pub pieces-end : (vs : List V) (i : ℕ) (r : Result Batch DecodeError) → length vs ≤ i
+      → ((w : List ℕ) → a (flat_map f (drop i vs) ++ w) ≡ d (flat_map f vs ++ w)) → r ≡ a [] → Gives r (d (flat_map f vs))
   pieces-end vs i r le inv is =
       let none : drop i vs ≡ [] = drop_of_length-le vs le in
       let e : a [] ≡ d (flat_map f vs) = (let h = rw none at (inv []) in rw (append-nil (flat_map f vs)) at h) in
       gives-same r (d (flat_map f vs)) (is ∙ e)
 
-  pub pieces-refuse : (vs : List V) (i : ℕ) (x : V) (p : List ℕ) (e : DecodeError) → i < length vs → x ≡ get_or vs i x → p ≡ f x → ((w : List ℕ) → a (flat_map f (drop i vs) ++ w) ≡ d (flat_map f vs ++ w)) → Faults a p e → Fails e (d (flat_map f vs))
+  pub pieces-refuse : (vs : List V) (i : ℕ) (x : V) (p : List ℕ) (e : DecodeError) → i < length vs → x ≡ get_or vs i x → p ≡ f x
+      → ((w : List ℕ) → a (flat_map f (drop i vs) ++ w) ≡ d (flat_map f vs ++ w)) → Faults a p e → Fails e (d (flat_map f vs))
   pieces-refuse vs i x p e lt is same inv g =
       let split : drop i vs ≡ x ∷ drop (suc i) vs = drop-cons vs i x lt ∙ ap (λ y. y ∷ drop (suc i) vs) (sym is) in
       let h : a (p ++ flat_map f (drop (suc i) vs)) ≡ d (flat_map f vs) = (let k = rw split at (inv []) in rw same (rw append-nil at (rw append-nil at k))) in
@@ -29,7 +31,8 @@ some-bytes [] h = absurd cc
 some-bytes (b ∷ p) h = omega arith
 
 module _ (old now : List ℕ → Result Batch DecodeError) (p : List ℕ) (i : ℕ) (same : (w : List ℕ) → old (p ++ w) ≡ now (drop i p ++ w)) where
-  pub bytes-refuse : (next : List ℕ → Result Batch DecodeError) (d : ℕ) (e : DecodeError) → i < length p → ((before : DecodeError) → HasRefused old before → HasRefused now before) → Refuses now next (get_or p i d ∷ []) e → Refuses old next p e
+  pub bytes-refuse : (next : List ℕ → Result Batch DecodeError) (d : ℕ) (e : DecodeError) → i < length p
+      → ((before : DecodeError) → HasRefused old before → HasRefused now before) → Refuses now next (get_or p i d ∷ []) e → Refuses old next p e
   bytes-refuse next d e lt still g =
       let split : drop i p ≡ get_or p i d ∷ drop (suc i) p = drop-cons p i d lt in
       record {
@@ -38,8 +41,10 @@ module _ (old now : List ℕ → Result Batch DecodeError) (p : List ℕ) (i : �
         stays = g.stays;
       }
 
-  pub bytes-more : (next : List ℕ → Result Batch DecodeError) (j d : ℕ) → i < length p → j ≡ suc i → ((before : DecodeError) → HasRefused old before → HasRefused now before)
-      → Taken now next (get_or p i d ∷ []) → ((w : List ℕ) → old (p ++ w) ≡ next (drop j p ++ w)) × (0 < j → HasNoFault (next [])) × ((before : DecodeError) → HasRefused old before → HasRefused next before)
+  pub bytes-more : (next : List ℕ → Result Batch DecodeError) (j d : ℕ) → i < length p → j ≡ suc i
+      → ((before : DecodeError) → HasRefused old before → HasRefused now before)
+      → Taken now next (get_or p i d ∷ []) → ((w : List ℕ) → old (p ++ w) ≡ next (drop j p ++ w)) × (0 < j → HasNoFault (next []))
+      × ((before : DecodeError) → HasRefused old before → HasRefused next before)
   bytes-more next j d lt is still g =
       let split : drop i p ≡ get_or p i d ∷ drop (suc i) p = drop-cons p i d lt in
       rw is (

@@ -93,10 +93,14 @@ module _ (now : State) (s : BatchSlots) (step : Step BatchFieldPart) (is : now �
       let k : is_short (reads s step []) ≡ true = rw is at h in
       rw (is, short-is (reads s step []) k) refl
 
-  pub reading-faults : IsSettled now → (p : List ℕ) (e : DecodeError) → Faults (reads s step) p e → Faults (answers_of now) p e × (e ≢ Wire Truncated) × Repeats (answers_of now) e
-  reading-faults h p e g = (reading-inside p e g, faults-apart (reads s step) p e g, none-repeats (answers_of now) [] e (short-sound (answers_of now []) (reading-ends h)))
+  pub reading-faults : IsSettled now → (p : List ℕ) (e : DecodeError) → Faults (reads s step) p e → Faults (answers_of now) p e × (e ≢ Wire Truncated)
+      × Repeats (answers_of now) e
+  reading-faults h p e g =
+      (reading-inside p e g, faults-apart (reads s step) p e g, none-repeats (answers_of now) [] e (short-sound (answers_of now []) (reading-ends h)))
 
-  pub reading-waits : (t : BatchSlots) (next : Step BatchFieldPart) (p v : List ℕ) → NeedsMore (Wire Truncated) (reads s step) (reads t next) p v → Taken (answers_of now) (answers_of (state.Reading (record { slots = t; step = next }))) p × IsSettled (state.Reading (record { slots = t; step = next }))
+  pub reading-waits : (t : BatchSlots) (next : Step BatchFieldPart) (p v : List ℕ) → NeedsMore (Wire Truncated) (reads s step) (reads t next) p v
+      → Taken (answers_of now) (answers_of (state.Reading (record { slots = t; step = next }))) p
+      × IsSettled (state.Reading (record { slots = t; step = next }))
   unfolding answers_of settled
   reading-waits t next p v g =
       let k : NeedsMore (Wire Truncated) (λ w. reads s step w >>= at_end) (λ w. reads t next w >>= at_end) p v = waits-inside at_end g in
@@ -114,12 +118,16 @@ whole-comes now b p is = rw is (record { same = λ rest. refl })
 
 some_left : (w : List ℕ) → (w ≡ [] → ⊥) → (rest : List ℕ) → (b : Batch) → at_end (b, w ++ rest) ≡ Err Trailing
 some_left [] n rest b = absurd (n refl)
-some_left (c ∷ w) n rest b = let some : eqb (length (c ∷ (w ++ rest))) 0 ≡ false = ne_eqb (length (c ∷ (w ++ rest))) 0 (λ e. absurd (omega arith)) in rw some refl
+some_left (c ∷ w) n rest b =
+    let some : eqb (length (c ∷ (w ++ rest))) 0 ≡ false = ne_eqb (length (c ∷ (w ++ rest))) 0 (λ e. absurd (omega arith)) in
+    rw some refl
 
 -- after the batch
-pub ends : (now next : State) (b : Batch) (p v : List ℕ) (r : Result (Unit {0}) DecodeError) → next ≡ state.Whole b → Comes (answers_of now) (λ w. at_end (b, w)) p v → Ends v r → Advances now next p r
+pub ends : (now next : State) (b : Batch) (p v : List ℕ) (r : Result (Unit {0}) DecodeError) → next ≡ state.Whole b
+    → Comes (answers_of now) (λ w. at_end (b, w)) p v → Ends v r → Advances now next p r
 unfolding answers_of settled
-ends now next b p v (Ok x) is g none = rw is (record { same = λ rest. rw none at (g.same rest); sound = whole (rw append-nil at (rw none at (g.same []))) }, refl)
+ends now next b p v (Ok x) is g none =
+    rw is (record { same = λ rest. rw none at (g.same rest); sound = whole (rw append-nil at (rw none at (g.same []))) }, refl)
   where
     whole : answers_of now p ≡ Ok b → HasNoFault (answers_of now p)
     whole h = rw h tt
@@ -139,7 +147,8 @@ pub refused-answers : (now : State) (e : DecodeError) (rest : List ℕ) → now 
 unfolding answers_of
 refused-answers now e rest is = rw is refl
 
-pub refused-faults : (now : State) (e : DecodeError) (p : List ℕ) → now ≡ state.Refused e → IsSettled now → Faults (answers_of now) p e × (e ≢ Wire Truncated) × Repeats (answers_of now) e
+pub refused-faults : (now : State) (e : DecodeError) (p : List ℕ) → now ≡ state.Refused e → IsSettled now → Faults (answers_of now) p e × (e ≢ Wire Truncated)
+    × Repeats (answers_of now) e
 unfolding answers_of settled
 refused-faults now e p is h =
     rw is (λ n. record { same = λ rest. refl; no_want = apart (rw is at h) }, apart (rw is at h), refused-repeats (answers_of (state.Refused e)) [] e refl)

@@ -12,12 +12,16 @@ use Rattle.batch_feeder.specs.Fields.{Opens}
 use Rattle.batch_feeder.specs.Enlisting.{Enlists}
 use Rattle.batch_feeder.proofs.CallSteps.{faults-inside}
 
-waits-same : {T : Type 0} (a b c : Reading T) (p q : List ℕ) → ((w : List ℕ) → c w ≡ b w) → NeedsMore (Wire Truncated) a b p q → NeedsMore (Wire Truncated) a c p q
+waits-same : {T : Type 0} (a b c : Reading T) (p q : List ℕ) → ((w : List ℕ) → c w ≡ b w) → NeedsMore (Wire Truncated) a b p q
+    → NeedsMore (Wire Truncated) a c p q
 waits-same a b c p q same g = record { comes = record { same = λ rest. g.comes.same rest ∙ sym (same (q ++ rest)) }; want = same [] ∙ g.want; spent = g.spent }
 
-module _ {A P S V T : Type 0} (holding : A → S) (set : S → T) (reads : Reading A) (resumes : P → Reading A) (holds : P → V → Type 0) (continues : V → Reading T) where
+module _ {A P S V T : Type 0} (holding : A → S) (set : S → T) (reads : Reading A) (resumes : P → Reading A) (holds : P → V → Type 0)
+    (continues : V → Reading T) where
   pub enlisted : (before after : S) (next : Option (Step V)) (w v : List ℕ) (r : Result Bool DecodeError)
-      → Enlists holding reads resumes holds before after next w v r → ((p : P) (v : V) → holds p v → (w : List ℕ) → continues v w ≡ (resumes p w >>= λ x. Ok (set (holding x.0), x.1))) → Opens (λ u. reads u >>= λ x. Ok (set (holding x.0), x.1)) continues (set after) next w v r
+      → Enlists holding reads resumes holds before after next w v r
+      → ((p : P) (v : V) → holds p v → (w : List ℕ) → continues v w ≡ (resumes p w >>= λ x. Ok (set (holding x.0), x.1)))
+      → Opens (λ u. reads u >>= λ x. Ok (set (holding x.0), x.1)) continues (set after) next w v r
   enlisted before after next w v (Ok true) g on = rw g.1 (comes-inside (λ x. Ok (set (holding x.0), x.1)) g.2)
   enlisted before after next w v (Ok false) g on = (g.1, g.3, waits-same _ _ _ w v (on g.0 g.1 g.2) (waits-inside (λ x. Ok (set (holding x.0), x.1)) g.4))
   enlisted before after next w v (Err e) g on = faults-inside (λ x. Ok (set (holding x.0), x.1)) reads w e g

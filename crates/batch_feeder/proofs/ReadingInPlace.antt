@@ -1,5 +1,6 @@
 -- Reading without copying, in a piece that others may follow.
-use Rattle.std.proofs.Common.{◌≡◌, ℕ, ℤ, List, ◌++◌, take, drop, [], ◌∷◌, cond, eqb, w16, Option, Some, None, Result, Ok, Err, Bool, true, false, refl, ap, sym, ◌∙◌, append_assoc, append-nil}
+use Rattle.std.proofs.Common.{◌≡◌, ℕ, ℤ, List, ◌++◌, take, drop, [], ◌∷◌, cond, eqb, w16, Option, Some, None, Result, Ok, Err, Bool, true, false, refl, ap, sym}
+use Rattle.std.proofs.Common.{◌∙◌, append_assoc, append-nil}
 use Rattle.std.specs.Option.{is_some}
 use Rattle.std.proofs.lemmas.List.{take-append-drop}
 use Rattle.thrift_binary.specs.declared.fault.WireError.{WireError}
@@ -32,7 +33,9 @@ module _ {A E : Type 0} (short : E) (read : List ℕ → Result (A × List ℕ) 
   fault-refuses w e is apart =
       let (n, within, before, same) = faults_have_places short read safe w e is apart in
       record {
-        same = λ rest. ap (λ (u : List ℕ). read (u ++ rest)) (sym (take-append-drop n w)) ∙ ap read (append_assoc (take n w) (drop n w) rest) ∙ same (drop n w ++ rest);
+        same =
+            λ rest. ap (λ (u : List ℕ). read (u ++ rest)) (sym (take-append-drop n w)) ∙ ap read (append_assoc (take n w) (drop n w) rest)
+            ∙ same (drop n w ++ rest);
         no_want = apart;
       }
 
@@ -58,20 +61,28 @@ module _ {S : Type 0} (take : Take S DecodeError) (safe : (s : S) (c : ℕ) (i :
   reads-stop s w v is = comes-trans (at_head s w) (comes-inside (behind s) (comes-lift wire (whole-comes Truncated field_at field_cut w v None is)))
 
   -- a head, before its value
-  pub reads-head : (s : S) (c : ℕ) (i : ℤ) (w v : List ℕ) → field_at w ≡ Ok (Some (c, i), v) → Comes (fields_at wire take s) (fields_value wire take (take s c i)) w v
-  reads-head s c i w v is = comes-trans (at_head s w) (comes-inside (behind s) (comes-lift wire (whole-comes Truncated field_at field_cut w v (Some (c, i)) is)))
+  pub reads-head : (s : S) (c : ℕ) (i : ℤ) (w v : List ℕ) → field_at w ≡ Ok (Some (c, i), v)
+      → Comes (fields_at wire take s) (fields_value wire take (take s c i)) w v
+  reads-head s c i w v is =
+      comes-trans (at_head s w) (comes-inside (behind s) (comes-lift wire (whole-comes Truncated field_at field_cut w v (Some (c, i)) is)))
 
   -- a fault of a head
   pub reads-fault : (s : S) (w : List ℕ) (e : WireError) → field_at w ≡ Err e → (Wire e ≡ Wire Truncated → ⊥) → Faults (fields_at wire take s) w (Wire e)
-  reads-fault s w e is apart = λ n. comes-refuses (at_head s w) (refuses-inside (behind s) (refuses-lift wire (one_wire e Truncated) (fault-refuses Truncated field_at field_cut w e is (λ h. apart (ap wire h)))))
+  reads-fault s w e is apart =
+      λ n. comes-refuses (at_head s w)
+      (refuses-inside (behind s) (refuses-lift wire (one_wire e Truncated) (fault-refuses Truncated field_at field_cut w e is (λ h. apart (ap wire h)))))
 
   -- a complete value, after its head
-  pub reads-value : (s t : S) (c : ℕ) (i : ℤ) (w v : List ℕ) → take s c i w ≡ Ok (t, v) → Comes (fields_value wire take (take s c i)) (fields_at wire take t) w v
+  pub reads-value : (s t : S) (c : ℕ) (i : ℤ) (w v : List ℕ) → take s c i w ≡ Ok (t, v)
+      → Comes (fields_value wire take (take s c i)) (fields_at wire take t) w v
   reads-value s t c i w v is = comes-inside (λ x. fields_at wire take x.0 x.1) (whole-comes (Wire Truncated) (take s c i) (safe s c i) w v t is)
 
   -- a fault of a value
-  pub reads-bad : (s : S) (c : ℕ) (i : ℤ) (w : List ℕ) (e : DecodeError) → Fails e (take s c i w) → (e ≡ Wire Truncated → ⊥) → Faults (fields_value wire take (take s c i)) w e
-  reads-bad s c i w e g apart = λ n. refuses-inside (λ x. fields_at wire take x.0 x.1) (fault-refuses (Wire Truncated) (take s c i) (safe s c i) w e (fails-is e (take s c i w) n g) apart)
+  pub reads-bad : (s : S) (c : ℕ) (i : ℤ) (w : List ℕ) (e : DecodeError) → Fails e (take s c i w) → (e ≡ Wire Truncated → ⊥)
+      → Faults (fields_value wire take (take s c i)) w e
+  reads-bad s c i w e g apart =
+      λ n. refuses-inside (λ x. fields_at wire take x.0 x.1)
+      (fault-refuses (Wire Truncated) (take s c i) (safe s c i) w e (fails-is e (take s c i w) n g) apart)
 
 abbrev code_in : Option (ℕ × ℤ) → ℕ
 code_in (Some f) = f.0
@@ -91,7 +102,8 @@ unfolding field_at
 field-code [] v c i is = absurd cc
 field-code (b ∷ u) v c i is = at (eqb b 0) is
   where
-    coded : (k : Bool) → is_code b ≡ k → (z : ℤ × List ℕ) → ◌≡◌ {A = Read (Option (ℕ × ℤ))} (cond k (Ok (Some (b, z.0), z.1)) (Err BadType)) (Ok (Some (c, i), v)) → is_code c ≡ true
+    coded : (k : Bool) → is_code b ≡ k → (z : ℤ × List ℕ)
+        → ◌≡◌ {A = Read (Option (ℕ × ℤ))} (cond k (Ok (Some (b, z.0), z.1)) (Err BadType)) (Ok (Some (c, i), v)) → is_code c ≡ true
     coded true e z h = let same : b ≡ c = ap code_of h in ap is_code (sym same) ∙ e
     coded false e z h = absurd cc
 
@@ -104,7 +116,9 @@ field-code (b ∷ u) v c i is = at (eqb b 0) is
     at false h = behind_id (signed_at w16 2 u) h
 
 -- a head that the bytes are too few for
-pub head-short : (h k : FieldHead) (w v : List ℕ) (o : Option (Option (ℕ × ℤ))) → ((u : List ℕ) → head_from h u ≡ field_at u) → field_at w ≡ Err Truncated → Reaches Truncated (λ x. x) (head_from h) (head_from k) w v o → NeedsMore Truncated (head_from h) (head_from k) w v
+pub head-short : (h k : FieldHead) (w v : List ℕ) (o : Option (Option (ℕ × ℤ))) → ((u : List ℕ) → head_from h u ≡ field_at u) → field_at w ≡ Err Truncated
+    → Reaches Truncated (λ x. x) (head_from h) (head_from k) w v o → NeedsMore Truncated (head_from h) (head_from k) w v
 head-short h k w v None fresh few g = g
 head-short h k w v (Some x) fresh few g =
-    absurd (let e : ◌≡◌ {A = Result (Option (ℕ × ℤ) × List ℕ) WireError} (Ok (x, v ++ [])) (Err Truncated) = sym (g.same []) ∙ fresh (w ++ []) ∙ ap field_at (append-nil w) ∙ few in cc)
+    absurd (let e : ◌≡◌ {A = Result (Option (ℕ × ℤ) × List ℕ) WireError} (Ok (x, v ++ [])) (Err Truncated) = sym (g.same []) ∙ fresh (w ++ [])
+    ∙ ap field_at (append-nil w) ∙ few in cc)

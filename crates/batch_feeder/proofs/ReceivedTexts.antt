@@ -13,11 +13,15 @@ use Rattle.batch_feeder.specs.Continuing.{Faults}
 use Rattle.batch_feeder.specs.Values.{checked_text}
 use Rattle.batch_feeder.proofs.CallSteps.{ends-comes, ends-faults}
 
-pub text-whole : (a : List ℕ → Read (List ℕ)) (t p q : List ℕ) → is_utf8 t ≡ true → Comes a (λ w. Ok (t, w)) p q → Comes (λ w. lift wire (a w) >>= checked_text) (λ w. Ok (t, w)) p q
+pub text-whole : (a : List ℕ → Read (List ℕ)) (t p q : List ℕ) → is_utf8 t ≡ true → Comes a (λ w. Ok (t, w)) p q
+    → Comes (λ w. lift wire (a w) >>= checked_text) (λ w. Ok (t, w)) p q
 text-whole a t p q is g = ends-comes (λ w. lift wire (a w)) checked_text t t p q (λ rest. rw is refl) (comes-lift wire g)
 
-pub text-bad : (a : List ℕ → Read (List ℕ)) (t p q : List ℕ) → is_utf8 t ≡ false → Comes a (λ w. Ok (t, w)) p q → Faults (λ w. lift wire (a w) >>= checked_text) p (Wire BadText)
-text-bad a t p q isnt g = ends-faults (λ w. lift wire (a w)) checked_text t p q (Wire BadText) (λ h. absurd (let k : Wire BadText ≡ Wire Truncated = h in cc)) (λ rest. rw isnt refl) (comes-lift wire g)
+pub text-bad : (a : List ℕ → Read (List ℕ)) (t p q : List ℕ) → is_utf8 t ≡ false → Comes a (λ w. Ok (t, w)) p q
+    → Faults (λ w. lift wire (a w) >>= checked_text) p (Wire BadText)
+text-bad a t p q isnt g =
+    ends-faults (λ w. lift wire (a w)) checked_text t p q (Wire BadText) (λ h. absurd (let k : Wire BadText ≡ Wire Truncated = h in cc))
+    (λ rest. rw isnt refl) (comes-lift wire g)
 
 pub not_text : (t : List ℕ) → ¬ IsUtf8 t → is_utf8 t ≡ false
 not_text t n = false_from_ne_true (is_utf8 t) (λ y. n (IsUtf8-from_is_utf8 t y))

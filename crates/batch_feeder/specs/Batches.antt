@@ -22,6 +22,9 @@ shared_part p = struct_from take_process process_continues process_from p.proces
 
 abbrev pub batch_continues : BatchSlots → BatchFieldPart → Reading BatchSlots
 batch_continues s (held.Process p) w = shared_part p w >>= λ x. Ok (record s { process = Some x.0 }, x.1)
-batch_continues s (held.Spans p) w = list_from (struct_at take_span no_span span_from) (λ q. struct_from take_span span_continues span_from q.slots q.step) p.items.items p.left p.head p.one w >>= λ x. Ok (record s { spans = Some x.0 }, x.1)
+batch_continues s (held.Spans p) w =
+    list_from (struct_at take_span no_span span_from)
+    (λ q. struct_from take_span span_continues span_from q.slots q.step) p.items.items p.left p.head p.one w >>=
+    λ x. Ok (record s { spans = Some x.0 }, x.1)
 batch_continues s (held.SeqNo p) w = i64_at (p.bytes ++ w) >>= λ x. Ok (record s { seq_no = Some x.0 }, x.1)
 batch_continues s (held.Skip p) w = skip_part s p w

@@ -14,5 +14,7 @@ use Rattle.batch_feeder.specs.Tags.{tag_continues}
 
 abbrev pub log_continues : LogSlots → LogFieldPart → Reading LogSlots
 log_continues s (held.At p) w = i64_at (p.bytes ++ w) >>= λ x. Ok (record s { at = Some x.0 }, x.1)
-log_continues s (held.Fields p) w = list_from (struct_at take_tag no_tag tag_from) (λ q. struct_from take_tag tag_continues tag_from q.slots q.step) p.items.items p.left p.head p.one w >>= λ x. Ok (record s { fields = Some x.0 }, x.1)
+log_continues s (held.Fields p) w =
+    list_from (struct_at take_tag no_tag tag_from) (λ q. struct_from take_tag tag_continues tag_from q.slots q.step) p.items.items p.left p.head p.one w >>=
+    λ x. Ok (record s { fields = Some x.0 }, x.1)
 log_continues s (held.Skip p) w = skip_part s p w

@@ -14,5 +14,7 @@ use Rattle.batch_feeder.specs.Tags.{tag_continues}
 
 abbrev pub process_continues : ProcessSlots → ProcessFieldPart → Reading ProcessSlots
 process_continues s (held.Service p) w = text_part p w >>= λ x. Ok (record s { service = Some x.0 }, x.1)
-process_continues s (held.Tags p) w = list_from (struct_at take_tag no_tag tag_from) (λ q. struct_from take_tag tag_continues tag_from q.slots q.step) p.items.items p.left p.head p.one w >>= λ x. Ok (record s { tags = x.0 }, x.1)
+process_continues s (held.Tags p) w =
+    list_from (struct_at take_tag no_tag tag_from) (λ q. struct_from take_tag tag_continues tag_from q.slots q.step) p.items.items p.left p.head p.one w >>=
+    λ x. Ok (record s { tags = x.0 }, x.1)
 process_continues s (held.Skip p) w = skip_part s p w

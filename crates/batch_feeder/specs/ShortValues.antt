@@ -1,13 +1,15 @@
 -- Laws that the impls of this crate name, and their lemmas. They are in specs/, since a clause can't name its own crate's proofs/.
 -- Reading a value from fewer bytes than every value of its type has yields too few bytes.
-use Rattle.std.proofs.Common.{◌≡◌, ℕ, ◌<◌, eqb, ltb, cond, ◌&&◌, ◌||◌, List, [], ◌∷◌, length, drop, Result, Ok, Err, Bool, true, false, refl, ap, sym, ◌∙◌, arith}
+use Rattle.std.proofs.Common.{◌≡◌, ℕ, ◌<◌, eqb, ltb, cond, ◌&&◌, ◌||◌, List, [], ◌∷◌, length, drop, Result, Ok, Err, Bool, true, false, refl, ap, sym, ◌∙◌}
+use Rattle.std.proofs.Common.{arith}
 use Rattle.std.proofs.lemmas.Bool.{ltb-true, lt-ltb, eqb-true, eqb-false, ne_eqb}
 use Rattle.thrift_binary.specs.declared.fault.WireError.TheVariants.{Truncated, BadType}
 use Rattle.thrift_binary.specs.Reading.{Read, ◌>>=◌, string_at, size_at, list_at, map_at}
 use Rattle.thrift_binary.specs.Reading as wires
 use Rattle.thrift_binary.specs.Fields.{Take, fields_in, fields_at}
 use Rattle.thrift_binary.specs.Lists.{list_of}
-use Rattle.thrift_binary.specs.Skipping.{Skip, past, text, struct, items, pairs, container, width, leaf, is_container, value_at, skip_at, value_at-leaf, value_at-inside}
+use Rattle.thrift_binary.specs.Skipping.{Skip, past, text, struct, items, pairs, container, width, leaf, is_container, value_at, skip_at, value_at-leaf}
+use Rattle.thrift_binary.specs.Skipping.{value_at-inside}
 use Rattle.batch_codec.specs.declared.fault.DecodeError.{DecodeError}
 use Rattle.batch_codec.specs.declared.fault.DecodeError.TheVariants.{Wire}
 use Rattle.batch_codec.specs.Decoding.{Reading, wire, skipped, bool_at, double_at, i32_at, i64_at, id_at, text_at, binary_at}
@@ -115,11 +117,14 @@ pub list_short : {A : Type 0} (read : Reading A) → Short 15 (list_of wire 12 r
 unfolding least_bytes list_of
 list_short read w h = rw (few_of_list w h) refl
 
-pub struct_short : {S X : Type 0} (take : Take S DecodeError) (none : S) (from : S → Result X DecodeError) → Short 12 (λ w. fields_at wire take none w >>= λ y. from y.0 >>= λ z. Ok (z, y.1))
+pub struct_short : {S X : Type 0} (take : Take S DecodeError) (none : S) (from : S → Result X DecodeError)
+    → Short 12 (λ w. fields_at wire take none w >>= λ y. from y.0 >>= λ z. Ok (z, y.1))
 unfolding least_bytes fields_at fields_in
 struct_short take start from w h = rw (none w h) refl
 
-pub known_short : {A S : Type 0} (code : ℕ) (read : Reading A) → Short code read → (set : A → S) (c : ℕ) (b : Bool) (w : List ℕ) (others : Result (S × List ℕ) DecodeError) → least_bytes c w ≡ Err Truncated → others ≡ Err (Wire Truncated) → cond (eqb c code && b) (read w >>= λ x. Ok (set x.0, x.1)) others ≡ Err (Wire Truncated)
+pub known_short : {A S : Type 0} (code : ℕ) (read : Reading A) → Short code read
+    → (set : A → S) (c : ℕ) (b : Bool) (w : List ℕ) (others : Result (S × List ℕ) DecodeError) → least_bytes c w ≡ Err Truncated → others ≡ Err (Wire Truncated)
+    → cond (eqb c code && b) (read w >>= λ x. Ok (set x.0, x.1)) others ≡ Err (Wire Truncated)
 known_short {S = S} code read short set c b w others h more = by (eqb c code) refl b
   where
     known : c ≡ code → ◌≡◌ {A = Result (S × List ℕ) DecodeError} (read w >>= λ x. Ok (set x.0, x.1)) (Err (Wire Truncated))
@@ -165,7 +170,8 @@ container_short value c w inside h = at (eqb c 12) refl (eqb c 13) refl
     at false n2 false n3 = rw (n2, n3, head n2 n3 (eqb c 14) refl) refl
 
 -- the number of bytes of a value that is no container
-width_is : (a b d e f : Bool) → ◌≡◌ {A = ℕ} (cond (a || b || false) 1 (cond d 2 (cond (e || false) 4 (cond (false || false) 5 (cond false 6 (cond f 8 0)))))) (cond (a || b) 1 (cond d 2 (cond e 4 (cond f 8 0))))
+width_is : (a b d e f : Bool) → ◌≡◌ {A = ℕ} (cond (a || b || false) 1 (cond d 2 (cond (e || false) 4 (cond (false || false) 5 (cond false 6 (cond f 8 0))))))
+    (cond (a || b) 1 (cond d 2 (cond e 4 (cond f 8 0))))
 width_is true b d e f = refl
 width_is false true d e f = refl
 width_is false false true e f = refl
@@ -188,7 +194,8 @@ leaf_short c w outside h = at (eqb c 11) refl h
     same : eqb c 11 ≡ false → least c ≡ width c
     same isnt = rw (isnt, apart 12 refl, apart 13 refl, apart 14 refl, apart 15 refl) (width_is (eqb c 2) (eqb c 3) (eqb c 6) (eqb c 8) (eqb c 4 || eqb c 10))
 
-    at : (b : Bool) → eqb c 11 ≡ b → cond b (text w) (past (least c) w) ≡ Err Truncated → cond b (text w) (cond (ltb 0 (width c)) (past (width c) w) (Err BadType)) ≡ Err Truncated
+    at : (b : Bool) → eqb c 11 ≡ b → cond b (text w) (past (least c) w) ≡ Err Truncated
+        → cond b (text w) (cond (ltb 0 (width c)) (past (width c) w) (Err BadType)) ≡ Err Truncated
     at true is k = k
     at false isnt k = past_some (width c) w (sym (ap (λ n. past n w) (same isnt)) ∙ k)
 

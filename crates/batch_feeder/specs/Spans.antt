@@ -22,10 +22,17 @@ span_continues s (held.TraceHigh p) w = id_at (p.bytes ++ w) >>= λ x. Ok (recor
 span_continues s (held.Id p) w = id_at (p.bytes ++ w) >>= λ x. Ok (record s { id = Some x.0 }, x.1)
 span_continues s (held.Parent p) w = id_at (p.bytes ++ w) >>= λ x. Ok (record s { parent = Some x.0 }, x.1)
 span_continues s (held.Operation p) w = text_part p w >>= λ x. Ok (record s { operation = Some x.0 }, x.1)
-span_continues s (held.References p) w = list_from (struct_at take_reference no_reference reference_from) (λ q. struct_from take_reference reference_continues reference_from q.slots q.step) p.items.items p.left p.head p.one w >>= λ x. Ok (record s { references = x.0 }, x.1)
+span_continues s (held.References p) w =
+    list_from (struct_at take_reference no_reference reference_from)
+    (λ q. struct_from take_reference reference_continues reference_from q.slots q.step) p.items.items p.left p.head p.one w >>=
+    λ x. Ok (record s { references = x.0 }, x.1)
 span_continues s (held.Flags p) w = i32_at (p.bytes ++ w) >>= λ x. Ok (record s { flags = Some x.0 }, x.1)
 span_continues s (held.Start p) w = i64_at (p.bytes ++ w) >>= λ x. Ok (record s { start = Some x.0 }, x.1)
 span_continues s (held.Duration p) w = i64_at (p.bytes ++ w) >>= λ x. Ok (record s { duration = Some x.0 }, x.1)
-span_continues s (held.Tags p) w = list_from (struct_at take_tag no_tag tag_from) (λ q. struct_from take_tag tag_continues tag_from q.slots q.step) p.items.items p.left p.head p.one w >>= λ x. Ok (record s { tags = x.0 }, x.1)
-span_continues s (held.Logs p) w = list_from (struct_at take_log no_log log_from) (λ q. struct_from take_log log_continues log_from q.slots q.step) p.items.items p.left p.head p.one w >>= λ x. Ok (record s { logs = x.0 }, x.1)
+span_continues s (held.Tags p) w =
+    list_from (struct_at take_tag no_tag tag_from) (λ q. struct_from take_tag tag_continues tag_from q.slots q.step) p.items.items p.left p.head p.one w >>=
+    λ x. Ok (record s { tags = x.0 }, x.1)
+span_continues s (held.Logs p) w =
+    list_from (struct_at take_log no_log log_from) (λ q. struct_from take_log log_continues log_from q.slots q.step) p.items.items p.left p.head p.one w >>=
+    λ x. Ok (record s { logs = x.0 }, x.1)
 span_continues s (held.Skip p) w = skip_part s p w

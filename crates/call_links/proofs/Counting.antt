@@ -16,8 +16,10 @@ use Rattle.trace_model.specs.Taking.{Taken}
 use Rattle.trace_model.proofs.NameLaws.{then_eq, is_eq-reverse}
 use Rattle.trace_model.proofs.Rising.{has, sorted_set-rises, sorted_set-has}
 use Rattle.call_links.specs.declared.tally.Tally.{Tally}
-use Rattle.call_links.specs.Seen.{SeenCall, NumberedCall, numbered_call, text_in, StandsFor, AreCallsNumberedBy, texts_called, numbers_called, calls_in_trace, calls_in_traces}
-use Rattle.call_links.specs.Tallies.{Numbers, Texts, Tallies, number_cmp, same_numbers, times, tally_seen, tallies_seen, so_far, with_call, with_trace, tallied, texts_for, tally_of}
+use Rattle.call_links.specs.Seen.{SeenCall, NumberedCall, numbered_call, text_in, StandsFor, AreCallsNumberedBy, texts_called, numbers_called, calls_in_trace}
+use Rattle.call_links.specs.Seen.{calls_in_traces}
+use Rattle.call_links.specs.Tallies.{Numbers, Texts, Tallies, number_cmp, same_numbers, times, tally_seen, tallies_seen, so_far, with_call, with_trace, tallied}
+use Rattle.call_links.specs.Tallies.{texts_for, tally_of}
 use Rattle.call_links.proofs.Pairs.{insert_through, insert_paired, lookup_paired, paired_is}
 
 pub number_total : IsTotalOrder number_cmp
@@ -36,10 +38,13 @@ count_push p cs c = sum_by-append (λ x. cond (p x) 1 0) cs (c ∷ []) ∙ ap (�
 
 none_counted : (c : Numbers) (cs : List Numbers) → has number_cmp c cs ≡ false → times cs c ≡ 0
 none_counted c [] e = refl
-none_counted c (k ∷ cs) e = sum_by-cons (λ x. cond (same_numbers c x) 1 0) k cs ∙ elim (is_eq (number_cmp c k)) as (λ b. is_eq (number_cmp c k) ≡ b → (b || has number_cmp c cs) ≡ false → cond (same_numbers c k) 1 0 + times cs c ≡ 0) [
-  | true ↦ λ q h. absurd (false≢true (sym h))
-  | false ↦ λ q h. ap (λ b. cond b 1 0 + times cs c) (same_is c k ∙ q) ∙ zero-add (times cs c) ∙ none_counted c cs h
-] refl e
+none_counted c (k ∷ cs) e =
+    sum_by-cons (λ x. cond (same_numbers c x) 1 0) k cs
+    ∙ elim (is_eq (number_cmp c k)) as (λ b. is_eq (number_cmp c k) ≡ b → (b || has number_cmp c cs) ≡ false
+    → cond (same_numbers c k) 1 0 + times cs c ≡ 0) [
+      | true ↦ λ q h. absurd (false≢true (sym h))
+      | false ↦ λ q h. ap (λ b. cond b 1 0 + times cs c) (same_is c k ∙ q) ∙ zero-add (times cs c) ∙ none_counted c cs h
+    ] refl e
 
 flip : (c k : Numbers) → same_numbers k c ≡ is_eq (number_cmp c k)
 flip c k = same_is k c ∙ ap is_eq (number_total.antisymm k c) ∙ is_eq-reverse (number_cmp c k)
@@ -55,19 +60,26 @@ or_none true n t h = refl
 or_none false n t h = sym (h refl)
 
 -- the count of a call so far, by the table
-so_far_seen : (es : List (Numbers × Tally)) (k : Numbers) → so_far (tallies_seen es) k ≡ unwrap_or (option_map (λ (t : Tally). t.calls) (lookup (is_at (number_cmp k)) es)) 0
+so_far_seen : (es : List (Numbers × Tally)) (k : Numbers)
+    → so_far (tallies_seen es) k ≡ unwrap_or (option_map (λ (t : Tally). t.calls) (lookup (is_at (number_cmp k)) es)) 0
 so_far_seen [] k = refl
-so_far_seen (e ∷ es) k = elim (is_eq (number_cmp k e.0)) as (λ b. unwrap_or (option_map (λ (t : Texts × ℕ). t.1) (cond b (Some (tally_seen e).1) (lookup (is_at (number_cmp k)) (tallies_seen es)))) 0 ≡ unwrap_or (option_map (λ (t : Tally). t.calls) (cond b (Some e.1) (lookup (is_at (number_cmp k)) es))) 0) [
-  | true ↦ refl
-  | false ↦ so_far_seen es k
-]
+so_far_seen (e ∷ es) k =
+    elim (is_eq (number_cmp k e.0)) as (λ b.
+    unwrap_or (option_map (λ (t : Texts × ℕ). t.1) (cond b (Some (tally_seen e).1) (lookup (is_at (number_cmp k)) (tallies_seen es)))) 0
+    ≡ unwrap_or (option_map (λ (t : Tally). t.calls) (cond b (Some e.1) (lookup (is_at (number_cmp k)) es))) 0) [
+      | true ↦ refl
+      | false ↦ so_far_seen es k
+    ]
 
 -- one tally inserted
-pub tally_put : (es : List (Numbers × Tally)) (k : Numbers) (t : Tally) → tallies_seen (insert_entry number_cmp es k t) ≡ insert_entry number_cmp (tallies_seen es) k (tally_seen (k, t)).1
+pub tally_put : (es : List (Numbers × Tally)) (k : Numbers) (t : Tally)
+    → tallies_seen (insert_entry number_cmp es k t) ≡ insert_entry number_cmp (tallies_seen es) k (tally_seen (k, t)).1
 tally_put es k t = insert_through number_cmp (λ n. n) (λ (t : Tally). ((text_in t.caller.span, text_in t.callee.span), t.calls)) es k t
 
-pub call_put : (es : List (Numbers × Tally)) (c : SeenCall) (calls : ℕ) → calls ≡ unwrap_or (option_map (λ (t : Tally). t.calls) (lookup (is_at (number_cmp (numbers_called (numbered_call c)))) es)) 0 + 1
-    → tallies_seen (insert_entry number_cmp es (numbers_called (numbered_call c)) (record { caller = c.0.now; callee = c.1.now; calls = calls })) ≡ with_call (tallies_seen es) (numbered_call c)
+pub call_put : (es : List (Numbers × Tally)) (c : SeenCall) (calls : ℕ)
+    → calls ≡ unwrap_or (option_map (λ (t : Tally). t.calls) (lookup (is_at (number_cmp (numbers_called (numbered_call c)))) es)) 0 + 1
+    → tallies_seen (insert_entry number_cmp es (numbers_called (numbered_call c)) (record { caller = c.0.now; callee = c.1.now; calls = calls }))
+    ≡ with_call (tallies_seen es) (numbered_call c)
 call_put es c calls e =
     let k = numbers_called (numbered_call c) in
     tally_put es k (record { caller = c.0.now; callee = c.1.now; calls = calls })
@@ -81,7 +93,8 @@ module _ (text : ℕ → List ℕ) (number : List ℕ → ℕ) where
   -- the count of a call so far
   counted_so_far : (ns : List Numbers) (c : Numbers) → so_far (tally_of text ns) c ≡ times ns c
   counted_so_far ns c =
-      ap (λ l. unwrap_or (option_map (λ (x : Texts × ℕ). x.1) (lookup (is_at (number_cmp c)) l)) 0) (paired_is number_total number_exact (values ns) (sorted_set number_cmp ns))
+      ap (λ l. unwrap_or (option_map (λ (x : Texts × ℕ). x.1) (lookup (is_at (number_cmp c)) l)) 0)
+      (paired_is number_total number_exact (values ns) (sorted_set number_cmp ns))
       ∙ ap (λ o. unwrap_or (option_map (λ (x : Texts × ℕ). x.1) o) 0) (lookup_paired number_total number_exact (values ns) c (sorted_set number_cmp ns))
       ∙ ap (λ b. unwrap_or (option_map (λ (x : Texts × ℕ). x.1) (cond b (Some (values ns c)) None)) 0) (sorted_set-has number_total c ns)
       ∙ or_none (has number_cmp c ns) (times ns c) (texts_for text c) (none_counted c ns)
@@ -89,7 +102,8 @@ module _ (text : ℕ → List ℕ) (number : List ℕ → ℕ) where
   texts_are : (c : NumberedCall) → StandsFor text number c.0 × StandsFor text number c.1 → texts_for text (numbers_called c) ≡ texts_called c
   texts_are c p = λ i. (p.0.1 i, p.1.1 i)
 
-  tally_next : (ns : List Numbers) (c : NumberedCall) → StandsFor text number c.0 × StandsFor text number c.1 → with_call (tally_of text ns) c ≡ tally_of text (ns ++ numbers_called c ∷ [])
+  tally_next : (ns : List Numbers) (c : NumberedCall) → StandsFor text number c.0 × StandsFor text number c.1
+      → with_call (tally_of text ns) c ≡ tally_of text (ns ++ numbers_called c ∷ [])
   tally_next ns c p =
       let k = numbers_called c in
       let ks = sorted_set number_cmp ns in
@@ -99,11 +113,13 @@ module _ (text : ℕ → List ℕ) (number : List ℕ → ℕ) where
       sym (
       ap (λ l. map {B = Numbers × (Texts × ℕ)} (λ k. (k, values (ns ++ numbers_called c ∷ []) k)) l) (fold_push (insert_once number_cmp) [] ns k)
       ∙ paired_is number_total number_exact (values (ns ++ k ∷ [])) (insert_once number_cmp ks k)
-      ∙ insert_paired number_total number_exact (values ns) (values (ns ++ k ∷ [])) k (texts_called c, so_far (tally_of text ns) k + 1) (λ q e. ap (λ n. (texts_for text q, n)) (one_more ns k q e)) value ks (sorted_set-rises number_total ns)
+      ∙ insert_paired number_total number_exact (values ns) (values (ns ++ k ∷ [])) k (texts_called c, so_far (tally_of text ns) k + 1)
+      (λ q e. ap (λ n. (texts_for text q, n)) (one_more ns k q e)) value ks (sorted_set-rises number_total ns)
       ∙ ap (λ l. insert_entry number_cmp l k (texts_called c, so_far (tally_of text ns) k + 1)) (sym (paired_is number_total number_exact (values ns) ks))
       )
 
-  tally_from : (ns : List Numbers) (cs : List NumberedCall) → AreCallsNumberedBy text number cs → fold with_call (tally_of text ns) cs ≡ tally_of text (ns ++ map numbers_called cs)
+  tally_from : (ns : List Numbers) (cs : List NumberedCall) → AreCallsNumberedBy text number cs
+      → fold with_call (tally_of text ns) cs ≡ tally_of text (ns ++ map numbers_called cs)
   tally_from ns [] a = ap (tally_of text) (sym (append-nil ns))
   tally_from ns (c ∷ cs) a =
       ap (λ es. fold with_call es cs) (tally_next ns c a.0) ∙ tally_from (ns ++ numbers_called c ∷ []) cs a.1
@@ -114,5 +130,6 @@ module _ (text : ℕ → List ℕ) (number : List ℕ → ℕ) where
   traces_from es (t ∷ ts) = traces_from (with_trace es t) ts ∙ sym (fold-append with_call es (calls_in_trace t) (calls_in_traces ts))
 
   -- the calls of traces
-  pub tallied_is : (ts : List (List Taken)) → AreCallsNumberedBy text number (calls_in_traces ts) → tallied ts ≡ tally_of text (map numbers_called (calls_in_traces ts))
+  pub tallied_is : (ts : List (List Taken)) → AreCallsNumberedBy text number (calls_in_traces ts)
+      → tallied ts ≡ tally_of text (map numbers_called (calls_in_traces ts))
   tallied_is ts a = traces_from [] ts ∙ tally_from [] (calls_in_traces ts) a

@@ -22,12 +22,18 @@ use Rattle.call_links.specs.Seen.{NumberedService, service_in, service_seen, ser
 
 -- ---- a span as its entry keeps it
 id_stays : (s : Span) → (with_parent s).id ≡ s.id
-id_stays s = elim (needs_no_reference s) as (λ b. (if b then s else record s { references = parent_reference s ∷ s.references }).id ≡ s.id) [ true ↦ refl | false ↦ refl ]
+id_stays s =
+    elim (needs_no_reference s) as (λ b. (if b then s else record s { references = parent_reference s ∷ s.references }).id ≡ s.id) [
+      | true ↦ refl
+      | false ↦
+          refl
+    ]
 
 pub id_kept : (s : Seen) (o : Option Placed) → Some (placed_by_its_entry s) ≡ o → Some s.span.now.id.0 ≡ option_map (λ (p : Placed). p.span.id.0) o
 id_kept s o e = ap (λ (id : SpanId). Some id.0) (sym (id_stays s.span.now)) ∙ ap (option_map (λ (p : Placed). p.span.id.0)) e
 
-pub parent_kept : (s : Seen) (o : Option Placed) → Some (placed_by_its_entry s) ≡ o → Some (parent s.span.now).0 ≡ option_map (λ (p : Placed). (parent p.span).0) o
+pub parent_kept : (s : Seen) (o : Option Placed) → Some (placed_by_its_entry s) ≡ o
+    → Some (parent s.span.now).0 ≡ option_map (λ (p : Placed). (parent p.span).0) o
 parent_kept s o e = ap (λ (id : SpanId). Some id.0) (sym (same_parent s.span.now)) ∙ ap (option_map (λ (p : Placed). (parent p.span).0)) e
 
 pub name_kept : (s : Seen) (o : Option Placed) → Some (placed_by_its_entry s) ≡ o → s.process.now.service ≡ text_in o
@@ -38,23 +44,29 @@ own_id : (q id : ℕ) (o : Option Placed) → Some id ≡ option_map (λ (p : Pl
 own_id q id None e = absurd cc
 own_id q id (Some p) e = let same : p.span.id.0 ≡ id = cc e in ap (λ n. n == q) same
 
-service_push : (q : ℕ) (ss : List Taken) (s : Taken) → service_of q (ss ++ s ∷ []) ≡ option_or (service_of q ss) (cond (has_number q s.span) (Some (service_in s)) None)
-service_push q ss s = ap (option_map service_in) (find-append (λ (t : Taken). has_number q t.span) ss (s ∷ [])) ∙ entry_map service_in (find (λ (t : Taken). has_number q t.span) ss) (has_number q s.span) s
+service_push : (q : ℕ) (ss : List Taken) (s : Taken)
+    → service_of q (ss ++ s ∷ []) ≡ option_or (service_of q ss) (cond (has_number q s.span) (Some (service_in s)) None)
+service_push q ss s =
+    ap (option_map service_in) (find-append (λ (t : Taken). has_number q t.span) ss (s ∷ []))
+    ∙ entry_map service_in (find (λ (t : Taken). has_number q t.span) ss) (has_number q s.span) s
 
 one_more : (xs : List Taken) (i : ℕ) (x : Taken) → i < length xs → x ≡ get_or xs i x → take (i + 1) xs ≡ take i xs ++ x ∷ []
 one_more xs i x l e = take_more xs i x l ∙ ap (λ y. take i xs ++ y ∷ []) (sym e)
 
-service_more : (q id : ℕ) (xs : List Taken) (i : ℕ) (x : Taken) (before : Option NumberedService) → i < length xs → x ≡ get_or xs i x → Some id ≡ option_map (λ (p : Placed). p.span.id.0) x.span
+service_more : (q id : ℕ) (xs : List Taken) (i : ℕ) (x : Taken) (before : Option NumberedService) → i < length xs → x ≡ get_or xs i x
+    → Some id ≡ option_map (λ (p : Placed). p.span.id.0) x.span
     → before ≡ service_of q (take i xs) → option_or before (cond (id == q) (Some (service_in x)) None) ≡ service_of q (take (i + 1) xs)
 service_more q id xs i x before l e own inv =
-    (λ k. option_or (inv k) (cond (sym (own_id q id x.span own) k) (Some (service_in x)) None)) ∙ sym (ap (service_of q) (one_more xs i x l e) ∙ service_push q (take i xs) x)
+    (λ k. option_or (inv k) (cond (sym (own_id q id x.span own) k) (Some (service_in x)) None))
+    ∙ sym (ap (service_of q) (one_more xs i x l e) ∙ service_push q (take i xs) x)
 
 -- the services of a table, by the ids
 abbrev services_by : (ℕ → Option (Bor Taken)) → ℕ → Option NumberedService
 services_by g id = option_map service_seen (g id)
 
 -- the table with one more span, whose id it did not have
-pub services_entered : (q id : ℕ) (g : ℕ → Option (Bor Taken)) (o : Option (Bor Taken)) (v : Bor Taken) (xs : List Taken) (i : ℕ) (x : Taken) → i < length xs → x ≡ get_or xs i x
+pub services_entered : (q id : ℕ) (g : ℕ → Option (Bor Taken)) (o : Option (Bor Taken)) (v : Bor Taken) (xs : List Taken) (i : ℕ) (x : Taken) → i < length xs
+    → x ≡ get_or xs i x
     → Some id ≡ option_map (λ (p : Placed). p.span.id.0) x.span → ((id : ℕ) → services_by g id ≡ service_of id (take i xs)) → is_some (g id) ≡ false
     → o ≡ cond (is_eq (nat_cmp id q)) (Some v) (g q) → v.now ≡ x → option_map service_seen o ≡ service_of q (take (i + 1) xs)
 services_entered q id g o v xs i x l e own inv none put same =
@@ -68,10 +80,12 @@ pub services_kept : (q id : ℕ) (g : ℕ → Option (Bor Taken)) (xs : List Tak
     → Some id ≡ option_map (λ (p : Placed). p.span.id.0) x.span → ((id : ℕ) → services_by g id ≡ service_of id (take i xs)) → is_some (g id) ≡ true
     → services_by g q ≡ service_of q (take (i + 1) xs)
 services_kept q id g xs i x l e own inv some =
-    kept (services_by g) id q (service_in x) (id == q) (eqb-true id q) (is_some-map service_seen (g id) ∙ some) ∙ service_more q id xs i x (services_by g q) l e own (inv q)
+    kept (services_by g) id q (service_in x) (id == q) (eqb-true id q) (is_some-map service_seen (g id) ∙ some)
+    ∙ service_more q id xs i x (services_by g q) l e own (inv q)
 
 -- the first span with an id that is put back leaves the table as it was
-pub put_back : (q id : ℕ) (g : ℕ → Option (Bor Taken)) (o p : Option (Bor Taken)) (v before : Bor Taken) → o ≡ cond (is_eq (nat_cmp id q)) (Some v) (g q) → p ≡ cond (is_eq (nat_cmp id q)) (Some before) o
+pub put_back : (q id : ℕ) (g : ℕ → Option (Bor Taken)) (o p : Option (Bor Taken)) (v before : Bor Taken) → o ≡ cond (is_eq (nat_cmp id q)) (Some v) (g q)
+    → p ≡ cond (is_eq (nat_cmp id q)) (Some before) o
     → Some before ≡ g id → p ≡ g q
 put_back q id g o p v before put again had =
     again ∙ ap (cond (is_eq (nat_cmp id q)) (Some before)) put

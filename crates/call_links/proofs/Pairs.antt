@@ -19,13 +19,19 @@ abbrev pub with_values : {K V : Type 0} → (K → V) → List K → List (K × 
 with_values {K} {V} f ks = map {B = K × V} (λ k. (k, f k)) ks
 
 -- ---- entries whose keys and values are mapped
-pub insert_through : {K L V W : Type 0} (cmp : L → L → Ordering) (f : K → L) (p : V → W) (es : List (K × V)) (k : K) (v : V) → map {B = L × W} (λ e. (f e.0, p e.1)) (insert_entry (λ a b. cmp (f a) (f b)) es k v) ≡ insert_entry cmp (map {B = L × W} (λ e. (f e.0, p e.1)) es) (f k) (p v)
+pub insert_through : {K L V W : Type 0} (cmp : L → L → Ordering) (f : K → L) (p : V → W) (es : List (K × V)) (k : K) (v : V)
+    → map {B = L × W} (λ e. (f e.0, p e.1)) (insert_entry (λ a b. cmp (f a) (f b)) es k v)
+    ≡ insert_entry cmp (map {B = L × W} (λ e. (f e.0, p e.1)) es) (f k) (p v)
 insert_through cmp f p [] k v = refl
-insert_through {K} {L} {V} {W} cmp f p (e ∷ es) k v = elim (cmp (f k) (f e.0)) as (λ r. map {B = L × W} (λ e. (f e.0, p e.1)) (match_ordering r ((k, v) ∷ e ∷ es) ((e.0, v) ∷ es) (e ∷ insert_entry (λ a b. cmp (f a) (f b)) es k v)) ≡ match_ordering r ((f k, p v) ∷ (f e.0, p e.1) ∷ map {B = L × W} (λ e. (f e.0, p e.1)) es) ((f e.0, p v) ∷ map {B = L × W} (λ e. (f e.0, p e.1)) es) ((f e.0, p e.1) ∷ insert_entry cmp (map {B = L × W} (λ e. (f e.0, p e.1)) es) (f k) (p v))) [
-  | Less ↦ refl
-  | Equal ↦ refl
-  | Greater ↦ ap (λ l. (f e.0, p e.1) ∷ l) (insert_through cmp f p es k v)
-]
+insert_through {K} {L} {V} {W} cmp f p (e ∷ es) k v =
+    elim (cmp (f k) (f e.0)) as (λ r. map {B = L × W}
+    (λ e. (f e.0, p e.1)) (match_ordering r ((k, v) ∷ e ∷ es) ((e.0, v) ∷ es) (e ∷ insert_entry (λ a b. cmp (f a) (f b)) es k v))
+    ≡ match_ordering r ((f k, p v) ∷ (f e.0, p e.1) ∷ map {B = L × W} (λ e. (f e.0, p e.1)) es) ((f e.0, p v) ∷ map {B = L × W} (λ e. (f e.0, p e.1)) es)
+    ((f e.0, p e.1) ∷ insert_entry cmp (map {B = L × W} (λ e. (f e.0, p e.1)) es) (f k) (p v))) [
+      | Less ↦ refl
+      | Equal ↦ refl
+      | Greater ↦ ap (λ l. (f e.0, p e.1) ∷ l) (insert_through cmp f p es k v)
+    ]
 
 -- ---- a list of pairs in order, under any total order that tells keys apart
 module _ {K : Type 0} {cmp : K → K → Ordering} (o : IsTotalOrder cmp) (exact : (x y : K) → cmp x y ≡ Equal → x ≡ y) where
@@ -51,38 +57,46 @@ module _ {K V : Type 0} {cmp : K → K → Ordering} (o : IsTotalOrder cmp) (exa
   same_where_apart f g c h (k ∷ ks) a = λ i. (k, h k a.0 i) ∷ same_where_apart f g c h ks a.1 i
 
   -- one more key, if only its own value changes
-  pub insert_paired : (f g : K → V) (c : K) (v : V) → ((k : K) → is_eq (cmp c k) ≡ false → g k ≡ f k) → g c ≡ v → (ks : List K) → IsStrictlySortedBy cmp ks → paired g (insert_once cmp ks c) ≡ insert_entry cmp (paired f ks) c v
+  pub insert_paired : (f g : K → V) (c : K) (v : V) → ((k : K) → is_eq (cmp c k) ≡ false → g k ≡ f k) → g c ≡ v → (ks : List K) → IsStrictlySortedBy cmp ks
+      → paired g (insert_once cmp ks c) ≡ insert_entry cmp (paired f ks) c v
   unfolding IsStrictlySortedBy
   insert_paired f g c v h e [] r = λ i. (c, e i) ∷ []
-  insert_paired f g c v h e (k ∷ ks) r = elim (cmp c k) as (λ a. cmp c k ≡ a → paired g (placed_by a (insert_once cmp ks) c k ks) ≡ match_ordering a ((c, v) ∷ (k, f k) ∷ paired f ks) ((k, v) ∷ paired f ks) ((k, f k) ∷ insert_entry cmp (paired f ks) c v)) [
-    | Less ↦ λ l. λ i. (c, e i) ∷ (k, h k (ap is_eq l) i) ∷ same_where_apart f g c h ks (apart_below o exact c k ks l r.0) i
-    | Equal ↦ λ q.
-        let same : k ≡ c = sym (exact c k q) in
-        let rest : Apart o exact c ks = apart_equal o exact c k ks q r.0 in
-        λ i. (k, (ap g same ∙ e) i) ∷ same_where_apart f g c h ks rest i
-    | Greater ↦ λ q. λ i. (k, h k (ap is_eq q) i) ∷ insert_paired f g c v h e ks r.1 i
-  ] refl
+  insert_paired f g c v h e (k ∷ ks) r =
+      elim (cmp c k) as (λ a. cmp c k ≡ a
+      → paired g (placed_by a (insert_once cmp ks) c k ks)
+      ≡ match_ordering a ((c, v) ∷ (k, f k) ∷ paired f ks) ((k, v) ∷ paired f ks) ((k, f k) ∷ insert_entry cmp (paired f ks) c v)) [
+        | Less ↦ λ l. λ i. (c, e i) ∷ (k, h k (ap is_eq l) i) ∷ same_where_apart f g c h ks (apart_below o exact c k ks l r.0) i
+        | Equal ↦ λ q.
+            let same : k ≡ c = sym (exact c k q) in
+            let rest : Apart o exact c ks = apart_equal o exact c k ks q r.0 in
+            λ i. (k, (ap g same ∙ e) i) ∷ same_where_apart f g c h ks rest i
+        | Greater ↦ λ q. λ i. (k, h k (ap is_eq q) i) ∷ insert_paired f g c v h e ks r.1 i
+      ] refl
 
   -- what a key finds
   pub lookup_paired : (f : K → V) (c : K) (ks : List K) → lookup (is_at (cmp c)) (paired f ks) ≡ cond (has cmp c ks) (Some (f c)) None
   lookup_paired f c [] = refl
-  lookup_paired f c (k ∷ ks) = elim (cmp c k) as (λ a. cmp c k ≡ a → cond (is_eq a) (Some (f k)) (lookup (is_at (cmp c)) (paired f ks)) ≡ cond (is_eq a || has cmp c ks) (Some (f c)) None) [
-    | Less ↦ λ q. lookup_paired f c ks
-    | Equal ↦ λ q. ap (λ x. Some (f x)) (sym (exact c k q))
-    | Greater ↦ λ q. lookup_paired f c ks
-  ] refl
+  lookup_paired f c (k ∷ ks) =
+      elim (cmp c k) as (λ a. cmp c k ≡ a
+      → cond (is_eq a) (Some (f k)) (lookup (is_at (cmp c)) (paired f ks)) ≡ cond (is_eq a || has cmp c ks) (Some (f c)) None) [
+        | Less ↦ λ q. lookup_paired f c ks
+        | Equal ↦ λ q. ap (λ x. Some (f x)) (sym (exact c k q))
+        | Greater ↦ λ q. lookup_paired f c ks
+      ] refl
 
   pub paired_is : (f : K → V) (ks : List K) → map {B = K × V} (λ k. (k, f k)) ks ≡ paired f ks
   paired_is f [] = refl
   paired_is f (k ∷ ks) = ap (λ l. (k, f k) ∷ l) (paired_is f ks)
 
-  pub insert_mapped_pairs : (f : K → V) (c : K) (ks : List K) → IsStrictlySortedBy cmp ks → map {B = K × V} (λ k. (k, f k)) (insert_once cmp ks c) ≡ insert_entry cmp (map {B = K × V} (λ k. (k, f k)) ks) c (f c)
+  pub insert_mapped_pairs : (f : K → V) (c : K) (ks : List K) → IsStrictlySortedBy cmp ks
+      → map {B = K × V} (λ k. (k, f k)) (insert_once cmp ks c) ≡ insert_entry cmp (map {B = K × V} (λ k. (k, f k)) ks) c (f c)
   insert_mapped_pairs f c ks r =
       paired_is f (insert_once cmp ks c) ∙ insert_paired f f c (f c) (λ k _. refl) refl ks r
       ∙ ap (λ l. insert_entry cmp l c (f c)) (sym (paired_is f ks))
 
   -- pairs whose values follow from their keys, inserted one by one
-  put_from : (f : K → V) (ks base : List K) → IsStrictlySortedBy cmp base → fold (put cmp) (with_values f base) (with_values f ks) ≡ with_values f (fold (insert_once cmp) base ks)
+  put_from : (f : K → V) (ks base : List K) → IsStrictlySortedBy cmp base
+      → fold (put cmp) (with_values f base) (with_values f ks) ≡ with_values f (fold (insert_once cmp) base ks)
   put_from f [] base r = refl
   put_from f (k ∷ ks) base r =
       ap (λ l. fold (put cmp) l (with_values f ks)) (sym (insert_mapped_pairs f k base r)) ∙ put_from f ks (insert_once cmp base k) (rises_insert o base k r)

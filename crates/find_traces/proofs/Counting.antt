@@ -1,5 +1,6 @@
 -- Keys that are counted: if as many different ones were found as there are, each of them was found.
-use Rattle.std.proofs.Common.{◌≡◌, ℕ, ◌+◌, ◌≤◌, Bool, true, false, true≢false, ◌||◌, ◌&&◌, cond, List, [], ◌∷◌, ◌++◌, length, refl, sym, ap, ◌∙◌, arith, length-append, eqb-true, eq-eqb}
+use Rattle.std.proofs.Common.{◌≡◌, ℕ, ◌+◌, ◌≤◌, Bool, true, false, true≢false, ◌||◌, ◌&&◌, cond, List, [], ◌∷◌, ◌++◌, length, refl, sym, ap, ◌∙◌, arith}
+use Rattle.std.proofs.Common.{length-append, eqb-true, eq-eqb}
 use Rattle.std.specs.Prelude.{not, ◌==◌}
 use Rattle.std.specs.Cmp.{IsEquivalence}
 use Rattle.std.specs.List.{AllByRecursion, IsDistinct, list_all}
@@ -32,11 +33,13 @@ module _ {K : Type 0} {eq : K → K → Bool} (laws : IsEquivalence eq) where
   apart x [] h = tt
   apart x (y ∷ ys) h = by (eq x y) refl h (apart x ys)
     where
-      by : (b : Bool) → eq x y ≡ b → (b || is_member eq ys x) ≡ false → (is_member eq ys x ≡ false → AllByRecursion (λ y. eq x y ≡ false) ys) → (eq x y ≡ false) × AllByRecursion (λ y. eq x y ≡ false) ys
+      by : (b : Bool) → eq x y ≡ b → (b || is_member eq ys x) ≡ false → (is_member eq ys x ≡ false → AllByRecursion (λ y. eq x y ≡ false) ys) → (eq x y ≡ false)
+          × AllByRecursion (λ y. eq x y ≡ false) ys
       by true t g more = absurd (true≢false g)
       by false t g more = (t, more g)
 
-  distinct_both : (xs ys : List K) → IsDistinct eq xs → IsDistinct eq ys → ((q : K) → is_member eq xs q ≡ true → is_member eq ys q ≡ false) → IsDistinct eq (xs ++ ys)
+  distinct_both : (xs ys : List K) → IsDistinct eq xs → IsDistinct eq ys → ((q : K) → is_member eq xs q ≡ true → is_member eq ys q ≡ false)
+      → IsDistinct eq (xs ++ ys)
   unfolding IsDistinct
   distinct_both [] ys d e h = e
   distinct_both (x ∷ xs) ys d e h = (
@@ -64,13 +67,15 @@ module _ {K : Type 0} {eq : K → K → Bool} (laws : IsEquivalence eq) where
   pub few : (xs ns : List K) → IsDistinct eq ns → ((q : K) → is_member eq ns q ≡ true → is_member eq xs q ≡ true) → length ns ≤ distinct_count eq xs
   few xs ns d within = length-le_from_is_member laws ns (unique_keys eq xs) d (λ q m. member_unique xs q ∙ within q m)
 
-  either : (xs ns : List K) (a q : K) → ((q : K) → is_member eq ns q ≡ true → is_member eq xs q ≡ true) → is_member eq xs a ≡ true → (m e : Bool) → is_member eq ns q ≡ m → eq q a ≡ e → (m || (e || false)) ≡ true → is_member eq xs q ≡ true
+  either : (xs ns : List K) (a q : K) → ((q : K) → is_member eq ns q ≡ true → is_member eq xs q ≡ true) → is_member eq xs a ≡ true → (m e : Bool)
+      → is_member eq ns q ≡ m → eq q a ≡ e → (m || (e || false)) ≡ true → is_member eq xs q ≡ true
   either xs ns a q within there true e p s h = within q p
   either xs ns a q within there false true p s h = list_any_congr laws q a xs s ∙ there
   either xs ns a q within there false false p s h = absurd (true≢false (sym h))
 
   -- without one item of the list they are fewer
-  pub fewer : (xs ns : List K) (a : K) → IsDistinct eq ns → ((q : K) → is_member eq ns q ≡ true → is_member eq xs q ≡ true) → is_member eq ns a ≡ false → is_member eq xs a ≡ true → length ns + 1 ≤ distinct_count eq xs
+  pub fewer : (xs ns : List K) (a : K) → IsDistinct eq ns → ((q : K) → is_member eq ns q ≡ true → is_member eq xs q ≡ true) → is_member eq ns a ≡ false
+      → is_member eq xs a ≡ true → length ns + 1 ≤ distinct_count eq xs
   fewer xs ns a d within absent there =
       let long = few xs (ns ++ a ∷ []) (IsDistinct-push laws ns a d absent)
       (λ q m. either xs ns a q within there (is_member eq ns q) (eq q a) refl refl (sym (list_any-append (eq q) ns (a ∷ [])) ∙ m)) in
@@ -82,7 +87,8 @@ module _ {K : Type 0} {eq : K → K → Bool} (laws : IsEquivalence eq) where
   lacking f [] h = absurd (true≢false h)
   lacking f (x ∷ xs) h = by (f x) refl h (lacking f xs)
     where
-      by : (b : Bool) → f x ≡ b → (b && list_all f xs) ≡ false → (list_all f xs ≡ false → (y : K) × (is_member eq xs y ≡ true) × (f y ≡ false)) → (y : K) × (is_member eq (x ∷ xs) y ≡ true) × (f y ≡ false)
+      by : (b : Bool) → f x ≡ b → (b && list_all f xs) ≡ false → (list_all f xs ≡ false → (y : K) × (is_member eq xs y ≡ true) × (f y ≡ false)) → (y : K)
+          × (is_member eq (x ∷ xs) y ≡ true) × (f y ≡ false)
       by false e g more = (x, ap (λ b. b || is_member eq xs x) (laws.refl x), e)
       by true e g more = let rest = more g in (rest.0, or_right (eq rest.0 x) (is_member eq xs rest.0) rest.1, rest.2)
 
@@ -95,7 +101,8 @@ module _ {K : Type 0} {eq : K → K → Bool} (laws : IsEquivalence eq) where
       by false e g more = more g
 
   -- if none is left, each of the list passes
-  pub none_left : (f s p : K → Bool) → ((q : K) → f q ≡ (s q || p q)) → (xs met : List K) → IsDistinct eq met → ((q : K) → is_member eq met q ≡ (is_member eq xs q && p q))
+  pub none_left : (f s p : K → Bool) → ((q : K) → f q ≡ (s q || p q)) → (xs met : List K) → IsDistinct eq met
+      → ((q : K) → is_member eq met q ≡ (is_member eq xs q && p q))
       → length met ≡ distinct_count eq xs → true ≡ list_all f xs
   none_left f s p either_is xs met d met_is count = by (list_all f xs) refl
     where
@@ -141,7 +148,8 @@ module _ {K : Type 0} {eq : K → K → Bool} (laws : IsEquivalence eq) where
     too_few : list_all f xs ≡ false → length own + length met + 1 ≤ distinct_count eq xs
     too_few h =
         let gap = lacking f xs h in
-        let less = fewer xs (own ++ met) gap.0 both within (is_met gap.0 ∙ ap (λ b. is_member eq xs gap.0 && b) gap.2 ∙ and-false (is_member eq xs gap.0)) gap.1 in
+        let less = fewer xs (own ++ met) gap.0 both within (is_met gap.0 ∙ ap (λ b. is_member eq xs gap.0 && b) gap.2 ∙ and-false (is_member eq xs gap.0))
+        gap.1 in
         let sum = length-append own met in
         omega arith
 

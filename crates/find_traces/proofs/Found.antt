@@ -22,12 +22,15 @@ abbrev trace : ℕ × List Placed → List Placed
 trace e = e.1
 
 pub map_cut : {X Y : Type 0} (f : X → Y) (n : ℕ) (xs : List X) → map f (cut n xs) ≡ cut n (map f xs)
-map_cut f n xs = elim (n == 0) as (λ b. map f (if b then xs else take n xs) ≡ (if b then map f xs else take n (map f xs))) [ true ↦ refl | false ↦ sym (take-map f n xs) ]
+map_cut f n xs =
+    elim (n == 0) as (λ b. map f (if b then xs else take n xs) ≡ (if b then map f xs else take n (map f xs))) [ true ↦ refl | false ↦ sym (take-map f n xs) ]
 
 -- the places of the sorted and cut hits
-pub places_of_hits : (q : Find) (ts : List (List Placed)) → map reverse_key_place (cut q.limit (map reverse_key_of (ranked_by_start start_of (hits q ts)))) ≡ places_found q ts
+pub places_of_hits : (q : Find) (ts : List (List Placed))
+    → map reverse_key_place (cut q.limit (map reverse_key_of (ranked_by_start start_of (hits q ts)))) ≡ places_found q ts
 places_of_hits q ts =
-    ap (map reverse_key_place) (sym (map_cut reverse_key_of q.limit (ranked_by_start start_of (hits q ts)))) ∙ map-map reverse_key_place reverse_key_of (cut q.limit (ranked_by_start start_of (hits q ts)))
+    ap (map reverse_key_place) (sym (map_cut reverse_key_of q.limit (ranked_by_start start_of (hits q ts))))
+    ∙ map-map reverse_key_place reverse_key_of (cut q.limit (ranked_by_start start_of (hits q ts)))
 
 -- ---- each number leads back to its trace
 abbrev pub Leads : List (List Placed) → List (ℕ × List Placed) → Type 0
@@ -43,17 +46,21 @@ all_lead ts =
 hits_lead : (q : Find) (ts : List (List Placed)) → All (λ (e : ℕ × List Placed). trace_at ts e.0 ≡ e.1) (cut q.limit (ranked_by_start start_of (hits q ts)))
 hits_lead q ts =
     all_cut P q.limit (ranked_by_start start_of (hits q ts))
-    (All-permutation P (hits q ts) (ranked_by_start start_of (hits q ts)) (ranked-permutation start_of (hits q ts)) (All-filter (is_hit q) P (enumerate_from 0 ts) (all_lead ts)))
+    (All-permutation P (hits q ts) (ranked_by_start start_of (hits q ts)) (ranked-permutation start_of (hits q ts))
+    (All-filter (is_hit q) P (enumerate_from 0 ts) (all_lead ts)))
   where
     P : ℕ × List Placed → Type 0
     P e = trace_at ts e.0 ≡ e.1
 
 hits_match : (q : Find) (n : ℕ) (ts : List (List Placed)) → map trace (filter (is_hit q) (enumerate_from n ts)) ≡ matching q ts
 hits_match q n [] = refl
-hits_match q n (t ∷ ts) = elim (list_any (matches q) t) as (λ b. map trace (cond b ((n, t) ∷ filter (is_hit q) (enumerate_from (n + 1) ts)) (filter (is_hit q) (enumerate_from (n + 1) ts))) ≡ cond b (t ∷ matching q ts) (matching q ts)) [
-  | true ↦ ap (λ l. t ∷ l) (hits_match q (n + 1) ts)
-  | false ↦ hits_match q (n + 1) ts
-]
+hits_match q n (t ∷ ts) =
+    elim (list_any (matches q) t) as (λ b.
+    map trace (cond b ((n, t) ∷ filter (is_hit q) (enumerate_from (n + 1) ts)) (filter (is_hit q) (enumerate_from (n + 1) ts)))
+    ≡ cond b (t ∷ matching q ts) (matching q ts)) [
+      | true ↦ ap (λ l. t ∷ l) (hits_match q (n + 1) ts)
+      | false ↦ hits_match q (n + 1) ts
+    ]
 
 pub traces_found : (q : Find) (ts : List (List Placed)) → map (trace_at ts) (places_found q ts) ≡ found_in q ts
 traces_found q ts =
@@ -72,23 +79,32 @@ ids_found q ts ns e = ids_through ts ns ∙ ap ids_of e
 -- ---- one more trace
 numbered_push : {X : Type 0} (n : ℕ) (xs : List X) (x : X) → enumerate_from n (xs ++ x ∷ []) ≡ enumerate_from n xs ++ (n + length xs, x) ∷ []
 numbered_push n [] x = let e : n ≡ n + 0 = omega arith in ap (λ m. (m, x) ∷ []) e
-numbered_push n (y ∷ ys) x = let e : (n + 1) + length ys ≡ n + length (y ∷ ys) = omega arith in ap (λ l. (n, y) ∷ l) (numbered_push (n + 1) ys x ∙ ap (λ m. enumerate_from (n + 1) ys ++ (m, x) ∷ []) e)
+numbered_push n (y ∷ ys) x =
+    let e : (n + 1) + length ys ≡ n + length (y ∷ ys) = omega arith in
+    ap (λ l. (n, y) ∷ l) (numbered_push (n + 1) ys x ∙ ap (λ m. enumerate_from (n + 1) ys ++ (m, x) ∷ []) e)
 
 -- the traces after one more is read
 numbered_read : (ts : List (List Placed)) (i : ℕ) → i < length ts → enumerate_from 0 (take (i + 1) ts) ≡ enumerate_from 0 (take i ts) ++ (i, trace_at ts i) ∷ []
 numbered_read ts i h =
     let count : 0 + length (take i ts) ≡ i = omega (arith, length-take-le i ts (let l : i ≤ length ts = omega arith in l)) in
-    ap (enumerate_from 0) (take_more ts i [] h) ∙ numbered_push 0 (take i ts) (trace_at ts i) ∙ ap (λ n. enumerate_from 0 (take i ts) ++ (n, trace_at ts i) ∷ []) count
+    ap (enumerate_from 0) (take_more ts i [] h) ∙ numbered_push 0 (take i ts) (trace_at ts i)
+    ∙ ap (λ n. enumerate_from 0 (take i ts) ++ (n, trace_at ts i) ∷ []) count
 
-pub made_read : {K : Type 0} (f : ℕ × List Placed → K) (ts : List (List Placed)) (i : ℕ) → i < length ts → map f (enumerate_from 0 (take (i + 1) ts)) ≡ map f (enumerate_from 0 (take i ts)) ++ f (i, trace_at ts i) ∷ []
+pub made_read : {K : Type 0} (f : ℕ × List Placed → K) (ts : List (List Placed)) (i : ℕ) → i < length ts
+    → map f (enumerate_from 0 (take (i + 1) ts)) ≡ map f (enumerate_from 0 (take i ts)) ++ f (i, trace_at ts i) ∷ []
 made_read f ts i h = ap (map f) (numbered_read ts i h) ∙ map_push f (enumerate_from 0 (take i ts)) (i, trace_at ts i)
 
-hits_read : (q : Find) (ts : List (List Placed)) (i : ℕ) → i < length ts → hits q (take (i + 1) ts) ≡ hits q (take i ts) ++ cond (list_any (matches q) (trace_at ts i)) ((i, trace_at ts i) ∷ []) []
+hits_read : (q : Find) (ts : List (List Placed)) (i : ℕ) → i < length ts
+    → hits q (take (i + 1) ts) ≡ hits q (take i ts) ++ cond (list_any (matches q) (trace_at ts i)) ((i, trace_at ts i) ∷ []) []
 hits_read q ts i h = ap (filter (is_hit q)) (numbered_read ts i h) ∙ filter-append (is_hit q) (enumerate_from 0 (take i ts)) ((i, trace_at ts i) ∷ [])
 
-pub hits_hit : (q : Find) (ts : List (List Placed)) (i : ℕ) → i < length ts → list_any (matches q) (trace_at ts i) ≡ true → map reverse_key_of (hits q (take (i + 1) ts)) ≡ map reverse_key_of (hits q (take i ts)) ++ reverse_key_of (i, trace_at ts i) ∷ []
+pub hits_hit : (q : Find) (ts : List (List Placed)) (i : ℕ) → i < length ts → list_any (matches q) (trace_at ts i) ≡ true
+    → map reverse_key_of (hits q (take (i + 1) ts)) ≡ map reverse_key_of (hits q (take i ts)) ++ reverse_key_of (i, trace_at ts i) ∷ []
 hits_hit q ts i h m =
-    ap (map reverse_key_of) (hits_read q ts i h ∙ ap (λ b. hits q (take i ts) ++ cond b ((i, trace_at ts i) ∷ []) []) m) ∙ map_push reverse_key_of (hits q (take i ts)) (i, trace_at ts i)
+    ap (map reverse_key_of) (hits_read q ts i h ∙ ap (λ b. hits q (take i ts) ++ cond b ((i, trace_at ts i) ∷ []) []) m)
+    ∙ map_push reverse_key_of (hits q (take i ts)) (i, trace_at ts i)
 
-pub hits_miss : (q : Find) (ts : List (List Placed)) (i : ℕ) → i < length ts → list_any (matches q) (trace_at ts i) ≡ false → map reverse_key_of (hits q (take (i + 1) ts)) ≡ map reverse_key_of (hits q (take i ts))
-hits_miss q ts i h m = ap (map reverse_key_of) (hits_read q ts i h ∙ ap (λ b. hits q (take i ts) ++ cond b ((i, trace_at ts i) ∷ []) []) m ∙ append-nil (hits q (take i ts)))
+pub hits_miss : (q : Find) (ts : List (List Placed)) (i : ℕ) → i < length ts → list_any (matches q) (trace_at ts i) ≡ false
+    → map reverse_key_of (hits q (take (i + 1) ts)) ≡ map reverse_key_of (hits q (take i ts))
+hits_miss q ts i h m =
+    ap (map reverse_key_of) (hits_read q ts i h ∙ ap (λ b. hits q (take i ts) ++ cond b ((i, trace_at ts i) ∷ []) []) m ∙ append-nil (hits q (take i ts)))

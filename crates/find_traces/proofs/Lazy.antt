@@ -17,7 +17,8 @@ use Rattle.find_traces.proofs.Order.{ranked_rises, strict_map}
 use Rattle.find_traces.proofs.Found.{Leads, all_lead, map_cut}
 use Rattle.find_traces.proofs.Walking.{answer}
 
-filter_through : {X Y : Type 0} (f : X → Y) (p : Y → Bool) (q : X → Bool) (xs : List X) → All (λ x. p (f x) ≡ q x) xs → filter p (map f xs) ≡ map f (filter q xs)
+filter_through : {X Y : Type 0} (f : X → Y) (p : Y → Bool) (q : X → Bool) (xs : List X) → All (λ x. p (f x) ≡ q x) xs
+    → filter p (map f xs) ≡ map f (filter q xs)
 filter_through f p q [] h = refl
 filter_through f p q (x ∷ xs) h =
     let rest = filter_through f p q xs (All-tail (λ x. p (f x) ≡ q x) x xs h) in
@@ -28,8 +29,11 @@ filter_through f p q (x ∷ xs) h =
     ])
 
 -- judging by place is judging the trace
-ranked_judged : (q : Find) (ts : List (List Placed)) (es : List (ℕ × List Placed)) → Leads ts es → All (λ (e : ℕ × List Placed). found_at q ts e.0 ≡ is_hit q e) (ranked_by_start start_of es)
-ranked_judged q ts es lead = λ k d h. ap (list_any (matches q)) (All-permutation (λ (e : ℕ × List Placed). trace_at ts e.0 ≡ e.1) es (ranked_by_start start_of es) (ranked-permutation start_of es) lead k d h)
+ranked_judged : (q : Find) (ts : List (List Placed)) (es : List (ℕ × List Placed)) → Leads ts es
+    → All (λ (e : ℕ × List Placed). found_at q ts e.0 ≡ is_hit q e) (ranked_by_start start_of es)
+ranked_judged q ts es lead =
+    λ k d h. ap (list_any (matches q))
+    (All-permutation (λ (e : ℕ × List Placed). trace_at ts e.0 ≡ e.1) es (ranked_by_start start_of es) (ranked-permutation start_of es) lead k d h)
 
 abbrev pub ranking : List (List Placed) → List Key
 ranking ts = map key_of (ranked_by_start start_of (enumerate_from 0 ts))
@@ -38,10 +42,12 @@ pub ranking_rises : (ts : List (List Placed)) → IsStrictlySortedBy best_cmp (r
 ranking_rises ts = strict_map key_of best_cmp (ranked_by_start start_of (enumerate_from 0 ts)) (ranked_rises start_of ts)
 
 -- what has the keys of all has the ranking
-pub ranking_moved : (ts : List (List Placed)) (keys left : List Key) → keys ≡ map key_of (enumerate_from 0 ts) → IsPermutation keys left → IsPermutation (ranking ts) left
+pub ranking_moved : (ts : List (List Placed)) (keys left : List Key) → keys ≡ map key_of (enumerate_from 0 ts) → IsPermutation keys left
+    → IsPermutation (ranking ts) left
 ranking_moved ts keys left same moved =
     let all : List (ℕ × List Placed) = enumerate_from 0 ts in
-    IsPermutation-trans _ _ _ (IsPermutation-map key_of _ _ (IsPermutation-sym _ _ (ranked-permutation start_of all))) (subst (λ (l : List Key). IsPermutation l left) same moved)
+    IsPermutation-trans _ _ _ (IsPermutation-map key_of _ _ (IsPermutation-sym _ _ (ranked-permutation start_of all)))
+    (subst (λ (l : List Key). IsPermutation l left) same moved)
 
 -- the ranking, judged one by one
 pub ranking_found : (q : Find) (ts : List (List Placed)) → answer (key_judged q ts) key_place q.limit (ranking ts) ≡ places_found q ts

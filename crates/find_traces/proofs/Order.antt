@@ -54,12 +54,13 @@ module _ {X : Type 0} (start : ℕ × X → ℤ) where
   earlier x y e = ap (λ b. ordering_then (cond b Less (cond (int_lt (start x) (start y)) Greater Equal)) (nat_cmp y.0 x.0)) e
 
   later : (x y : ℕ × X) → int_lt (start y) (start x) ≡ false → x.0 < y.0 → rank_cmp y x ≡ Less
-  later x y e h = elim (int_lt (start x) (start y)) as (λ b. ordering_then (cond b Less (cond (int_lt (start y) (start x)) Greater Equal)) (nat_cmp x.0 y.0) ≡ Less) [
-    | true ↦ refl
-    | false ↦
-        ap (λ b. ordering_then (cond b Greater Equal) (nat_cmp x.0 y.0)) e
-        ∙ ap (λ b. cond b Less (cond (x.0 == y.0) Equal Greater)) (lt-ltb x.0 y.0 h)
-  ]
+  later x y e h =
+      elim (int_lt (start x) (start y)) as (λ b. ordering_then (cond b Less (cond (int_lt (start y) (start x)) Greater Equal)) (nat_cmp x.0 y.0) ≡ Less) [
+        | true ↦ refl
+        | false ↦
+            ap (λ b. ordering_then (cond b Greater Equal) (nat_cmp x.0 y.0)) e
+            ∙ ap (λ b. cond b Less (cond (x.0 == y.0) Equal Greater)) (lt-ltb x.0 y.0 h)
+      ]
 
   below_put : (y x : ℕ × X) (es : List (ℕ × X)) → rank_cmp y x ≡ Less → Below rank_cmp y es → Below rank_cmp y (put_by_start start x es)
   below_put y x [] e h = (e, tt)
@@ -71,17 +72,21 @@ module _ {X : Type 0} (start : ℕ × X → ℤ) where
   strict_put : (x : ℕ × X) (es : List (ℕ × X)) → After x es → IsStrictlySortedBy rank_cmp es → IsStrictlySortedBy rank_cmp (put_by_start start x es)
   unfolding IsStrictlySortedBy
   strict_put x [] a h = (tt, tt)
-  strict_put x (y ∷ es) a h = elim (int_lt (start y) (start x)) as (λ b. int_lt (start y) (start x) ≡ b → IsStrictlySortedBy rank_cmp (if b then x ∷ y ∷ es else y ∷ put_by_start start x es)) [
-    | true ↦ λ e. ((earlier x y e, below_chain rank_total x y es (earlier x y e) h.0), h)
-    | false ↦ λ e. (below_put y x es (later x y e a.0) h.0, strict_put x es a.1 h.1)
-  ] refl
+  strict_put x (y ∷ es) a h =
+      elim (int_lt (start y) (start x)) as (λ b. int_lt (start y) (start x) ≡ b
+      → IsStrictlySortedBy rank_cmp (if b then x ∷ y ∷ es else y ∷ put_by_start start x es)) [
+        | true ↦ λ e. ((earlier x y e, below_chain rank_total x y es (earlier x y e) h.0), h)
+        | false ↦ λ e. (below_put y x es (later x y e a.0) h.0, strict_put x es a.1 h.1)
+      ] refl
 
   strict_ranked : (es : List (ℕ × X)) → PlacesRise es → IsStrictlySortedBy rank_cmp (ranked_by_start start es)
   unfolding IsStrictlySortedBy
   strict_ranked [] r = tt
   strict_ranked (x ∷ es) r =
       strict_put x (ranked_by_start start es)
-      (recursion_from_All (λ (e : ℕ × X). x.0 < e.0) _ (All-permutation (λ (e : ℕ × X). x.0 < e.0) es (ranked_by_start start es) (ranked-permutation start es) (All-from_recursion (λ (e : ℕ × X). x.0 < e.0) es r.0)))
+      (recursion_from_All (λ (e : ℕ × X). x.0 < e.0) _
+      (All-permutation (λ (e : ℕ × X). x.0 < e.0) es (ranked_by_start start es) (ranked-permutation start es)
+      (All-from_recursion (λ (e : ℕ × X). x.0 < e.0) es r.0)))
       (strict_ranked es r.1)
 
   -- the places of what is numbered are ascending

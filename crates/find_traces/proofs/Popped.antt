@@ -50,7 +50,8 @@ module _ {K : Type 0} {cmp : K → K → Ordering} (o : IsTotalOrder cmp) (exact
   apart q x [] e h = refl
   apart q x (z ∷ zs) e h = ap (λ r. is_eq r || has cmp q zs) (o.congr q x z e) ∙ ap (λ b. b || has cmp q zs) h.0 ∙ apart q x zs e h.1
 
-  next_of : (rest left : List K) (x : K) → IsStrictlySortedBy cmp rest → IsDistinct (eq_by_cmp cmp) (x ∷ left) → ((q : K) → has cmp q (x ∷ left) ≡ has cmp q rest)
+  next_of : (rest left : List K) (x : K) → IsStrictlySortedBy cmp rest → IsDistinct (eq_by_cmp cmp) (x ∷ left)
+      → ((q : K) → has cmp q (x ∷ left) ≡ has cmp q rest)
       → AllByRecursion (λ z. is_lt (cmp z x) ≡ false) left → Next cmp rest left x
   unfolding IsStrictlySortedBy IsDistinct
   next_of [] left x r d same least = absurd (false≢true (sym (same x) ∙ present o exact x left))
@@ -65,7 +66,9 @@ module _ {K : Type 0} {cmp : K → K → Ordering} (o : IsTotalOrder cmp) (exact
           leaves = record {
             rises = r.1;
             distinct = d.1;
-            same = tails o exact x left ys (λ q e. apart q x left e d.0) (λ q e. not_below o exact q x ys e moved) (λ q. same q ∙ ap (λ z. has cmp q (z ∷ ys)) (sym first));
+            same =
+                tails o exact x left ys (λ q e. apart q x left e d.0) (λ q e. not_below o exact q x ys e moved)
+                (λ q. same q ∙ ap (λ z. has cmp q (z ∷ ys)) (sym first));
           };
         }
     | Greater ↦ λ g.
@@ -73,7 +76,8 @@ module _ {K : Type 0} {cmp : K → K → Ordering} (o : IsTotalOrder cmp) (exact
         absurd (false≢true (sym (none_before x y left before least) ∙ ap (λ r. is_eq r || has cmp y left) (sym before) ∙ same y ∙ present o exact y ys))
   ] refl
 
-  pub popped : (rest old left : List K) (x : K) → Leaves cmp rest old → IsPermutation old (x ∷ left) → AllByRecursion (λ z. is_lt (cmp z x) ≡ false) left → Next cmp rest left x
+  pub popped : (rest old left : List K) (x : K) → Leaves cmp rest old → IsPermutation old (x ∷ left) → AllByRecursion (λ z. is_lt (cmp z x) ≡ false) left
+      → Next cmp rest left x
   popped rest old left x h moved least =
       next_of rest left x h.rises (IsDistinct-IsPermutation (eq_by_cmp cmp) (flips o exact) old (x ∷ left) moved h.distinct)
       (λ q. sym (list_any-IsPermutation (eq_by_cmp cmp q) old (x ∷ left) moved) ∙ h.same q) least

@@ -31,7 +31,8 @@ module _ {K : Type 0} {cmp : K → K → Ordering} (o : IsTotalOrder cmp) (exact
   strictly [] s d = tt
   strictly (x ∷ xs) s d = (
     recursion_from_All (λ y. cmp x y ≡ Less) xs (λ k e h.
-        let far : is_lt (cmp (get_or (x ∷ xs) (suc k) e) (get_or (x ∷ xs) 0 e)) ≡ false = sorted_far (λ a b. is_lt (cmp a b)) (ranks_by o (λ y. y)) (x ∷ xs) s 0 (suc k) e (omega arith) (omega arith) in
+        let far : is_lt (cmp (get_or (x ∷ xs) (suc k) e) (get_or (x ∷ xs) 0 e)) ≡ false =
+        sorted_far (λ a b. is_lt (cmp a b)) (ranks_by o (λ y. y)) (x ∷ xs) s 0 (suc k) e (omega arith) (omega arith) in
         let apart : is_eq (cmp x (get_or xs k e)) ≡ false = All-from_recursion (λ y. eq_by_cmp cmp x y ≡ false) xs d.0 k e h in
         less (cmp x (get_or xs k e)) (ap is_lt (sym (o.antisymm (get_or xs k e) x)) ∙ far) apart),
     strictly xs (tail_sorted x xs s) d.1,

@@ -20,8 +20,10 @@ hits_rise q ts =
     subst (λ (l : List (ℕ × List Placed)). IsStrictlySortedBy (rank_cmp start_of) l) (ranked-filter start_of (is_hit q) (enumerate_from 0 ts))
     (IsStrictlySortedBy-filter (rank_cmp start_of) (is_hit q) (ranked_by_start start_of (enumerate_from 0 ts)) (ranked_rises start_of ts))
 
-pub sorted_hits : (q : Find) (ts : List (List Placed)) (ys : List (Reverse Key)) → IsPermutation (map reverse_key_of (hits q ts)) ys → IsSorted reverse_key_cmp ys → ys ≡ map reverse_key_of (ranked_by_start start_of (hits q ts))
+pub sorted_hits : (q : Find) (ts : List (List Placed)) (ys : List (Reverse Key)) → IsPermutation (map reverse_key_of (hits q ts)) ys
+    → IsSorted reverse_key_cmp ys → ys ≡ map reverse_key_of (ranked_by_start start_of (hits q ts))
 sorted_hits q ts ys moved sorted =
     let found : List (ℕ × List Placed) = hits q ts in
-    sorted_is reverse_total reverse_exact (map reverse_key_of (ranked_by_start start_of found)) ys (strict_map reverse_key_of reverse_key_cmp (ranked_by_start start_of found) (hits_rise q ts))
+    sorted_is reverse_total reverse_exact (map reverse_key_of (ranked_by_start start_of found)) ys
+    (strict_map reverse_key_of reverse_key_cmp (ranked_by_start start_of found) (hits_rise q ts))
     (IsPermutation-trans _ _ _ (IsPermutation-map reverse_key_of _ _ (IsPermutation-sym _ _ (ranked-permutation start_of found))) moved) sorted

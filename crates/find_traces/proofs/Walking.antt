@@ -17,16 +17,20 @@ take_full : {X : Type 0} (n : ℕ) (xs ys : List X) → n ≤ length (take n xs)
 take_full n xs ys h = take-append-le n xs ys (let m = length-take n xs in omega arith)
 
 pub cut_push : {X : Type 0} (n : ℕ) (xs : List X) (x : X) → is_full n (length (cut n xs)) ≡ false → cut n (xs ++ x ∷ []) ≡ cut n xs ++ x ∷ []
-cut_push n xs x e = elim (n == 0) as (λ b. (not b && nat_le n (length (if b then xs else take n xs))) ≡ false → (if b then xs ++ x ∷ [] else take n (xs ++ x ∷ [])) ≡ (if b then xs else take n xs) ++ x ∷ []) [
-  | true ↦ λ f. refl
-  | false ↦ λ f. take_push n xs x (leb-false n (length (take n xs)) f)
-] e
+cut_push n xs x e =
+    elim (n == 0) as (λ b. (not b && nat_le n (length (if b then xs else take n xs))) ≡ false
+    → (if b then xs ++ x ∷ [] else take n (xs ++ x ∷ [])) ≡ (if b then xs else take n xs) ++ x ∷ []) [
+      | true ↦ λ f. refl
+      | false ↦ λ f. take_push n xs x (leb-false n (length (take n xs)) f)
+    ] e
 
 pub cut_full : {X : Type 0} (n : ℕ) (xs ys : List X) → is_full n (length (cut n xs)) ≡ true → cut n (xs ++ ys) ≡ cut n xs
-cut_full n xs ys e = elim (n == 0) as (λ b. (not b && nat_le n (length (if b then xs else take n xs))) ≡ true → (if b then xs ++ ys else take n (xs ++ ys)) ≡ (if b then xs else take n xs)) [
-  | true ↦ λ f. absurd (false≢true f)
-  | false ↦ λ f. take_full n xs ys (leb-true n (length (take n xs)) f)
-] e
+cut_full n xs ys e =
+    elim (n == 0) as (λ b. (not b && nat_le n (length (if b then xs else take n xs))) ≡ true
+    → (if b then xs ++ ys else take n (xs ++ ys)) ≡ (if b then xs else take n xs)) [
+      | true ↦ λ f. absurd (false≢true f)
+      | false ↦ λ f. take_full n xs ys (leb-true n (length (take n xs)) f)
+    ] e
 
 module _ {K : Type 0} (p : K → Bool) (place : K → ℕ) (limit : ℕ) where
   -- the answer of a walk over xs
@@ -43,7 +47,8 @@ module _ {K : Type 0} (p : K → Bool) (place : K → ℕ) (limit : ℕ) where
       ∙ map_push place (cut limit (filter p xs)) x
 
   pub answer_miss : (xs : List K) (x : K) → p x ≡ false → answer (xs ++ x ∷ []) ≡ answer xs
-  answer_miss xs x e = ap (λ l. map place (cut limit l)) (filter-append p xs (x ∷ []) ∙ ap (λ b. filter p xs ++ cond b (x ∷ []) []) e ∙ append-nil (filter p xs))
+  answer_miss xs x e =
+      ap (λ l. map place (cut limit l)) (filter-append p xs (x ∷ []) ∙ ap (λ b. filter p xs ++ cond b (x ∷ []) []) e ∙ append-nil (filter p xs))
 
   pub answer_full : (xs ys : List K) → is_full limit (length (answer xs)) ≡ true → answer (xs ++ ys) ≡ answer xs
   answer_full xs ys full =

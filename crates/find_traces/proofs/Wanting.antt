@@ -1,5 +1,6 @@
 -- Pairs that a search requests and that tags have.
-use Rattle.std.proofs.Common.{◌≡◌, ℕ, ◌+◌, ◌*◌, ◌<◌, ◌≤◌, Bool, true, false, true≢false, ◌||◌, ◌&&◌, cond, List, [], ◌∷◌, ◌++◌, length, get_or, take, refl, sym, ap, ◌∙◌, inl, inr, arith, Some, None}
+use Rattle.std.proofs.Common.{◌≡◌, ℕ, ◌+◌, ◌*◌, ◌<◌, ◌≤◌, Bool, true, false, true≢false, ◌||◌, ◌&&◌, cond, List, [], ◌∷◌, ◌++◌, length, get_or, take, refl, sym}
+use Rattle.std.proofs.Common.{ap, ◌∙◌, inl, inr, arith, Some, None}
 use Rattle.std.specs.Prelude.{◌%◌, ◌^◌, not, flat_map, if◌then◌else◌, ◌==◌}
 use Rattle.std.specs.Int.{bit_at}
 use Rattle.std.specs.Int.Bits.{bit_or}
@@ -56,9 +57,11 @@ one_more false true m e = refl
 one_more false false m e = refl
 
 -- ---- one more key, length or pair is inserted
-pub put_more : {K : Type 0} {same : K → K → Bool} → IsEquivalence same → (f : List ℕ × List ℕ → K) (n o : List K) (xs : List (List ℕ × List ℕ)) (i : ℕ) (x : List ℕ × List ℕ) (y : K)
+pub put_more : {K : Type 0} {same : K → K → Bool} → IsEquivalence same
+    → (f : List ℕ × List ℕ → K) (n o : List K) (xs : List (List ℕ × List ℕ)) (i : ℕ) (x : List ℕ × List ℕ) (y : K)
     → i < length xs → x ≡ get_or xs i x → y ≡ f x → (k : K) → list_any (same k) n ≡ cond (same y k) true (list_any (same k) o)
-    → list_any (same k) o ≡ list_any (λ (a : List ℕ × List ℕ). same k (f a)) (take i xs) → list_any (same k) n ≡ list_any (λ (a : List ℕ × List ℕ). same k (f a)) (take (i + 1) xs)
+    → list_any (same k) o ≡ list_any (λ (a : List ℕ × List ℕ). same k (f a)) (take i xs)
+    → list_any (same k) n ≡ list_any (λ (a : List ℕ × List ℕ). same k (f a)) (take (i + 1) xs)
 put_more {same = same} laws f n o xs i x y le is put_is k put before =
     put ∙ put_last (same y k) (list_any (same k) o)
     ∙ (λ j. before j || (laws.symm y k ∙ ap (same k) (put_is ∙ ap f is)) j)
@@ -66,14 +69,18 @@ put_more {same = same} laws f n o xs i x y le is put_is k put before =
 
 -- ---- what is requested
 -- a pair that differs from each pair that fails a test is not among pairs that all fail it
-no_part : (p : List ℕ × List ℕ → Bool) (a : List ℕ × List ℕ) → ((x : List ℕ × List ℕ) → p x ≡ false → same_pair a x ≡ false) → (xs : List (List ℕ × List ℕ)) → list_any p xs ≡ false → list_any (same_pair a) xs ≡ false
+no_part : (p : List ℕ × List ℕ → Bool) (a : List ℕ × List ℕ) → ((x : List ℕ × List ℕ) → p x ≡ false → same_pair a x ≡ false) → (xs : List (List ℕ × List ℕ))
+    → list_any p xs ≡ false → list_any (same_pair a) xs ≡ false
 no_part p a apart [] h = refl
 no_part p a apart (x ∷ xs) h =
     let parts = or_parts (p x) (list_any p xs) h in
     or_from (same_pair a x) (list_any (same_pair a) xs) (apart x parts.0) (no_part p a apart xs parts.1)
 
-pub no_key : (xs : List (List ℕ × List ℕ)) (k t : List ℕ) → list_any (λ (a : List ℕ × List ℕ). eq_by_cmp text_cmp k a.0) xs ≡ false → list_any (same_pair (k, t)) xs ≡ false
-no_key xs k t = no_part (λ a. eq_by_cmp text_cmp k a.0) (k, t) (λ x e. then_eq (text_cmp k x.0) (text_cmp t x.1) ∙ and_left (is_eq (text_cmp k x.0)) (is_eq (text_cmp t x.1)) e) xs
+pub no_key : (xs : List (List ℕ × List ℕ)) (k t : List ℕ) → list_any (λ (a : List ℕ × List ℕ). eq_by_cmp text_cmp k a.0) xs ≡ false
+    → list_any (same_pair (k, t)) xs ≡ false
+no_key xs k t =
+    no_part (λ a. eq_by_cmp text_cmp k a.0) (k, t)
+    (λ x e. then_eq (text_cmp k x.0) (text_cmp t x.1) ∙ and_left (is_eq (text_cmp k x.0)) (is_eq (text_cmp t x.1)) e) xs
 
 -- ---- the length of a value's text
 pub hex_length : (bytes : List ℕ) → 2 * length bytes ≡ length (hex_text bytes)
@@ -85,7 +92,8 @@ flag_length true = refl
 flag_length false = refl
 
 -- ---- bits for the lengths of keys
-pub bits_put : (xs : List (List ℕ × List ℕ)) (i : ℕ) (x : List ℕ × List ℕ) → i < length xs → x ≡ get_or xs i x → with_key (key_bits (take i xs)) x ≡ key_bits (take (i + 1) xs)
+pub bits_put : (xs : List (List ℕ × List ℕ)) (i : ℕ) (x : List ℕ × List ℕ) → i < length xs → x ≡ get_or xs i x
+    → with_key (key_bits (take i xs)) x ≡ key_bits (take (i + 1) xs)
 bits_put xs i x le is = ap (with_key (key_bits (take i xs))) is ∙ sym (fold_more with_key 0 xs i x le)
 
 bit_still : (b : ℕ) (xs : List (List ℕ × List ℕ)) (k : ℕ) → bit_at b k ≡ 1 → bit_at (fold with_key b xs) k ≡ 1
@@ -95,7 +103,8 @@ bit_still b (x ∷ xs) k e = bit_still (with_key b x) xs k (bit_at_or b (2 ^ (le
 pub bit_own : (b k : ℕ) → bit_at (bit_or b (2 ^ k)) k ≡ 1
 bit_own b k = bit_at_or b (2 ^ k) k ∙ omega (arith, bit_at-pow_same k, bit_at-lt b k)
 
-any_bit : (b : ℕ) (xs : List (List ℕ × List ℕ)) (k : List ℕ) → list_any (λ (a : List ℕ × List ℕ). eq_by_cmp text_cmp k a.0) xs ≡ true → bit_at (fold with_key b xs) (length k % 64) ≡ 1
+any_bit : (b : ℕ) (xs : List (List ℕ × List ℕ)) (k : List ℕ) → list_any (λ (a : List ℕ × List ℕ). eq_by_cmp text_cmp k a.0) xs ≡ true
+    → bit_at (fold with_key b xs) (length k % 64) ≡ 1
 any_bit b [] k h = absurd (true≢false (sym h))
 any_bit b (x ∷ xs) k h = elim (or_cases (eq_by_cmp text_cmp k x.0) (list_any (λ (a : List ℕ × List ℕ). eq_by_cmp text_cmp k a.0) xs) h) [
   | inl e ↦
@@ -114,9 +123,11 @@ other_length s t h = false_from_ne_true (is_eq (text_cmp s t)) (λ e.
     let same : s ≡ t = (bytes_decides s t).0 (texts_ties s t ∙ e) in
     both_ways (eq_by_cmp nat_cmp (length s) (length t)) h (ap (λ y. eq_by_cmp nat_cmp (length s) (length y)) (sym same) ∙ length_laws.refl (length s)))
 
-pub no_length : (xs : List (List ℕ × List ℕ)) (k t : List ℕ) → list_any (λ (a : List ℕ × List ℕ). eq_by_cmp nat_cmp (length t) (length a.1)) xs ≡ false → list_any (same_pair (k, t)) xs ≡ false
+pub no_length : (xs : List (List ℕ × List ℕ)) (k t : List ℕ) → list_any (λ (a : List ℕ × List ℕ). eq_by_cmp nat_cmp (length t) (length a.1)) xs ≡ false
+    → list_any (same_pair (k, t)) xs ≡ false
 no_length xs k t =
-    no_part (λ a. eq_by_cmp nat_cmp (length t) (length a.1)) (k, t) (λ x e. then_eq (text_cmp k x.0) (text_cmp t x.1) ∙ and_right (is_eq (text_cmp k x.0)) (is_eq (text_cmp t x.1)) (other_length t x.1 e)) xs
+    no_part (λ a. eq_by_cmp nat_cmp (length t) (length a.1)) (k, t)
+    (λ x e. then_eq (text_cmp k x.0) (text_cmp t x.1) ∙ and_right (is_eq (text_cmp k x.0)) (is_eq (text_cmp t x.1)) (other_length t x.1 e)) xs
 
 pub asked_some : (q : Find) (x p : List ℕ × List ℕ) → if_requested q x ≡ Some p → (asks q x ≡ true) × (p ≡ x)
 asked_some q x p h = by (asks q x) refl h
@@ -136,7 +147,8 @@ asked_none q x h = by (asks q x) refl h
 wants_alike : (q : Find) (others : List (List ℕ × List ℕ)) (a x : List ℕ × List ℕ) → same_pair a x ≡ true → wants q others a ≡ wants q others x
 wants_alike q others a x e = λ i. list_any_congr pair_laws a x q.tags e i && not (list_any_congr pair_laws a x others e i)
 
-pub wants_new : (q : Find) (others : List (List ℕ × List ℕ)) (x p : List ℕ × List ℕ) → asks q x ≡ true → p ≡ x → is_in others p ≡ false → wants q others x ≡ true
+pub wants_new : (q : Find) (others : List (List ℕ × List ℕ)) (x p : List ℕ × List ℕ) → asks q x ≡ true → p ≡ x → is_in others p ≡ false
+    → wants q others x ≡ true
 wants_new q others x p asked is absent = λ i. asked i && not ((ap (is_in others) (sym is) ∙ absent) i)
 
 pub wants_old : (q : Find) (others : List (List ℕ × List ℕ)) (x p : List ℕ × List ℕ) → p ≡ x → is_in others p ≡ true → wants q others x ≡ false
@@ -162,12 +174,14 @@ met_same q others o x w a = sym (or-false (is_in o a)) ∙ ap (λ b. is_in o a |
     by false e = sym (and-false (wants q others a))
 
 pub tag_more : (q : Find) (others n o first : List (List ℕ × List ℕ)) (ts : List Tag) (i : ℕ) (t : Tag) → i < length ts → t ≡ get_or ts i t
-    → (a : List ℕ × List ℕ) → is_in n a ≡ (is_in o a || (wants q others a && same_pair a (pair_of t))) → is_in o a ≡ (is_in first a || (wants q others a && has_pair (take i ts) a))
+    → (a : List ℕ × List ℕ) → is_in n a ≡ (is_in o a || (wants q others a && same_pair a (pair_of t)))
+    → is_in o a ≡ (is_in first a || (wants q others a && has_pair (take i ts) a))
     → is_in n a ≡ (is_in first a || (wants q others a && has_pair (take (i + 1) ts) a))
 tag_more q others n o first ts i t le is a put before =
     put ∙ ap (λ b. b || (wants q others a && same_pair a (pair_of t))) before
     ∙ one_more (is_in first a) (wants q others a) (has_pair (take i ts) a) (same_pair a (pair_of t))
-    ∙ ap (λ b. is_in first a || (wants q others a && b)) (ap (λ y. has_pair (take i ts) a || same_pair a (pair_of y)) is ∙ sym (list_any_more (λ (y : Tag). same_pair a (pair_of y)) ts i t le))
+    ∙ ap (λ b. is_in first a || (wants q others a && b))
+    (ap (λ y. has_pair (take i ts) a || same_pair a (pair_of y)) is ∙ sym (list_any_more (λ (y : Tag). same_pair a (pair_of y)) ts i t le))
 
 abbrev pub fields_of : List Log → List Tag
 fields_of ls = flat_map (λ (l : Log). l.fields) ls
@@ -176,7 +190,8 @@ fields_last : (ls : List Log) (l : Log) → fields_of (ls ++ l ∷ []) ≡ field
 fields_last ls l = sym (flat_map_more (λ (x : Log). x.fields) [] ls l)
 
 pub log_more : (q : Find) (others n o first : List (List ℕ × List ℕ)) (ls : List Log) (i : ℕ) (l : Log) → i < length ls → l ≡ get_or ls i l
-    → (a : List ℕ × List ℕ) → is_in n a ≡ (is_in o a || (wants q others a && has_pair l.fields a)) → is_in o a ≡ (is_in first a || (wants q others a && has_pair (fields_of (take i ls)) a))
+    → (a : List ℕ × List ℕ) → is_in n a ≡ (is_in o a || (wants q others a && has_pair l.fields a))
+    → is_in o a ≡ (is_in first a || (wants q others a && has_pair (fields_of (take i ls)) a))
     → is_in n a ≡ (is_in first a || (wants q others a && has_pair (fields_of (take (i + 1) ls)) a))
 log_more q others n o first ls i l le is a put before =
     put ∙ ap (λ b. b || (wants q others a && has_pair l.fields a)) before
@@ -187,7 +202,8 @@ log_more q others n o first ls i l le is a put before =
 
 -- ---- the tags of a span
 tag_matches-same : (a : List ℕ × List ℕ) (t : Tag) → tag_matches a t ≡ same_pair a (pair_of t)
-tag_matches-same a t = (λ i. texts_ties a.0 t.key i && texts_ties a.1 (tag_text t.value) i) ∙ sym (then_eq (text_cmp a.0 t.key) (text_cmp a.1 (tag_text t.value)))
+tag_matches-same a t =
+    (λ i. texts_ties a.0 t.key i && texts_ties a.1 (tag_text t.value) i) ∙ sym (then_eq (text_cmp a.0 t.key) (text_cmp a.1 (tag_text t.value)))
 
 any_has_pair : (a : List ℕ × List ℕ) (ts : List Tag) → list_any (tag_matches a) ts ≡ has_pair ts a
 any_has_pair a [] = refl
@@ -227,8 +243,11 @@ module _ (q : Find) (o : Process) (s : Span) where
   pub none_asked : (met : List (List ℕ × List ℕ)) (left : ℕ) → IsJudged q o met left → left ≡ 0 → true ≡ list_all (has_tag here) q.tags
   none_asked met left j none =
       let count = j.count in
-      none_left pair_laws (has_tag here) (λ a. has_pair s.tags a || has_pair (fields_of s.logs) a) (has_pair o.tags) has_tag-pairs q.tags met (distinct_pairs met j.rising) j.asked (omega arith)
+      none_left pair_laws (has_tag here)
+      (λ a. has_pair s.tags a || has_pair (fields_of s.logs) a) (has_pair o.tags) has_tag-pairs q.tags met (distinct_pairs met j.rising) j.asked
+      (omega arith)
 
 -- ---- the tags of a process
-pub met_few : (q : Find) (o : Process) (met : List (List ℕ × List ℕ)) → IsStrictlySortedBy pair_cmp met → ((a : List ℕ × List ℕ) → is_in met a ≡ (asks q a && has_pair o.tags a)) → length met ≤ requested_count q
+pub met_few : (q : Find) (o : Process) (met : List (List ℕ × List ℕ)) → IsStrictlySortedBy pair_cmp met
+    → ((a : List ℕ × List ℕ) → is_in met a ≡ (asks q a && has_pair o.tags a)) → length met ≤ requested_count q
 met_few q o met rising is = few pair_laws q.tags met (distinct_pairs met rising) (λ a m. (and_parts (asks q a) (has_pair o.tags a) (sym (is a) ∙ m)).0)

@@ -29,7 +29,8 @@ awaits_after bytes after h behind takes =
 
 pub not_there : (bytes text rest : List ℕ) (h : RequestHead) (body : List ℕ) → AwaitsRequest bytes → Spells text h body → bytes ≡ text ++ rest → ⊥
 not_there bytes text rest h body awaits spells e =
-    let takes : TakesHead bytes h (spells.after ++ rest) = subst (λ (l : List ℕ). TakesHead l h (spells.after ++ rest)) (sym e) (request_stays text h body rest spells) in
+    let takes : TakesHead bytes h (spells.after ++ rest) =
+    subst (λ (l : List ℕ). TakesHead l h (spells.after ++ rest)) (sym e) (request_stays text h body rest spells) in
     elim awaits [
       | inl head ↦ head.none h (spells.after ++ rest) takes
       | inr behind ↦ body_is_not_there (body_length h) spells.after body rest spells.body_is (awaits_after bytes (spells.after ++ rest) h behind takes)
@@ -37,7 +38,8 @@ not_there bytes text rest h body awaits spells e =
 
 pub not_too_large : (bytes : List ℕ) → AwaitsRequest bytes → IsMalformed ⊥ bytes bad_request.TooLarge → ⊥
 not_too_large bytes (inl head) reported = head.none reported.head reported.after reported.takes
-not_too_large bytes (inr behind) reported = body_is_not_large (body_length reported.head) reported.after reported.breaks (awaits_after bytes reported.after reported.head behind reported.takes)
+not_too_large bytes (inr behind) reported =
+    body_is_not_large (body_length reported.head) reported.after reported.breaks (awaits_after bytes reported.after reported.head behind reported.takes)
 
 pub not_hopeless : (lines rest : List ℕ) → AwaitsRequest (lines ++ rest) → EndsLine lines → NeverHasRequest lines → ⊥
 not_hopeless lines rest (inl head) ends never = head.may lines rest refl ends never

@@ -1,13 +1,14 @@
 -- What is awaited after a part of a chunked body, and what can't come there.
-use Rattle.std.proofs.Common.{All, ◌≡◌, ℕ, ◌+◌, ◌-◌, ◌≤◌, ◌<◌, Bool, true, false, List, [], ◌∷◌, ◌++◌, length, take, drop, replicate, refl, sym, ap, ◌∙◌, subst, arith, inl, inr, append_assoc, append-nil, length-append}
+use Rattle.std.proofs.Common.{All, ◌≡◌, ℕ, ◌+◌, ◌-◌, ◌≤◌, ◌<◌, Bool, true, false, List, [], ◌∷◌, ◌++◌, length, take, drop, replicate, refl, sym, ap, ◌∙◌, subst}
+use Rattle.std.proofs.Common.{arith, inl, inr, append_assoc, append-nil, length-append}
 use Rattle.std.proofs.lemmas.Bool.Decides.{nat_tests}
 use Rattle.std.proofs.lemmas.List.{flat_map_more, take-append-drop, length-take-le, length-replicate, length-drop}
 use Rattle.std.proofs.lemmas.List.Elements.{All-append, All-cons, All-nil}
 use Rattle.httparse.specs.Ascii.{crlf_bytes}
-use Rattle.chunked_bodies.specs.Chunks.{IsSizeLine, IsSomeSizeLine, IsTrailer, IsContent, IsDecided, Chunk, IsChunk, texts, contents, HasNone, NeverHas, Lacks}
-use Rattle.chunked_bodies.proofs.Once.{same_cut}
-use Rattle.chunked_bodies.proofs.Sizes.{zero_line, zero_line_is}
-use Rattle.chunked_bodies.proofs.After.{lacks_after, after_chunks, no_line, no_content, no_trailer}
+use Rattle.http_requests.specs.Chunks.{IsSizeLine, IsSomeSizeLine, IsTrailer, IsContent, IsDecided, Chunk, IsChunk, texts, contents, HasNone, NeverHas, Lacks}
+use Rattle.http_requests.proofs.ChunkOnce.{same_cut}
+use Rattle.http_requests.proofs.ChunkSizes.{zero_line, zero_line_is}
+use Rattle.http_requests.proofs.ChunkAfter.{lacks_after, after_chunks, no_line, no_content, no_trailer}
 use Rattle.http_requests.specs.declared.asked.TheConstants.{MAX_BODY_BYTES}
 use Rattle.http_requests.specs.Requests.{AwaitsChunks, HasBody, PassesMost}
 use Rattle.http_requests.specs.Bodies.{AwaitsLine, AwaitsRest, IsLineEnd, begins_line_end, may_begin_line_end}
@@ -70,7 +71,8 @@ module _ (size count : ℕ) (got : List ℕ) (lacking : length got + count ≡ s
       let back = drop n is.content in
       let long : length got ≡ length front = sym (length-take-le n is.content (omega (arith, is.size_is, lacking))) in
       let whole : text ++ rest ≡ front ++ ((back ++ crlf_bytes) ++ rest) =
-      ap (λ l. l ++ rest) (is.text_is ∙ ap (λ l. l ++ crlf_bytes) (sym (take-append-drop n is.content)) ∙ append_assoc front back crlf_bytes) ∙ append_assoc front (back ++ crlf_bytes) rest in
+      ap (λ l. l ++ rest) (is.text_is ∙ ap (λ l. l ++ crlf_bytes) (sym (take-append-drop n is.content)) ∙ append_assoc front back crlf_bytes)
+      ∙ append_assoc front (back ++ crlf_bytes) rest in
       let parts = same_cut got front h ((back ++ crlf_bytes) ++ rest) long (e ∙ whole) in
       none (back ++ crlf_bytes) rest (record { content = back; size_is = omega (arith, is.size_is, lacking, length-drop n is.content); text_is = refl }) parts.1
 
@@ -107,13 +109,25 @@ module _ (chunks : List Chunk) (left : ℕ) (each : All IsChunk chunks) (sum : M
   module _ (line : List ℕ) (size : ℕ) (line_is : IsSizeLine line size) where
     -- what can't go on after the line can't go on
     after_line : (h : List ℕ) → HasNone (IsDecided left) (line ++ h) → HasNone (IsDecided MAX_BODY_BYTES) ((texts chunks ++ line) ++ h)
-    after_line h none = subst (HasNone (IsDecided MAX_BODY_BYTES)) (sym (append_assoc (texts chunks) line h)) (after_chunks chunks left MAX_BODY_BYTES (line ++ h) each sum none)
+    after_line h none =
+        subst (HasNone (IsDecided MAX_BODY_BYTES)) (sym (append_assoc (texts chunks) line h))
+        (after_chunks chunks left MAX_BODY_BYTES (line ++ h) each sum none)
 
     pub passes : (h : List ℕ) → left < size → PassesMost Chunked ((texts chunks ++ line) ++ h)
     passes h large = record {
       text = texts chunks ++ line;
       rest = h;
-      is = record { chunks = chunks; line = line; size = size; each = each; line_is = line_is; text_is = refl; small = omega (arith, sum); large = omega (arith, sum, large) };
+      is =
+          record {
+            chunks = chunks;
+            line = line;
+            size = size;
+            each = each;
+            line_is = line_is;
+            text_is = refl;
+            small = omega (arith, sum);
+            large = omega (arith, sum, large);
+          };
       cut = refl;
     }
 
@@ -125,13 +139,16 @@ module _ (chunks : List Chunk) (left : ℕ) (each : All IsChunk chunks) (sum : M
       chunk_of content = record { text = line ++ (content ++ crlf_bytes); content = content }
 
       chunk_is : (content : List ℕ) → length content ≡ size → IsChunk (chunk_of content)
-      chunk_is content size_is = record { line = line; line_is = subst (IsSizeLine line) (sym size_is) line_is; some = omega (arith, some, size_is); text_is = refl }
+      chunk_is content size_is =
+          record { line = line; line_is = subst (IsSizeLine line) (sym size_is) line_is; some = omega (arith, some, size_is); text_is = refl }
 
       pub each_with : (content : List ℕ) → length content ≡ size → All IsChunk (chunks ++ chunk_of content ∷ [])
-      each_with content size_is = All-append IsChunk chunks (chunk_of content ∷ []) each (All-cons IsChunk (chunk_of content) [] (chunk_is content size_is) (All-nil IsChunk))
+      each_with content size_is =
+          All-append IsChunk chunks (chunk_of content ∷ []) each (All-cons IsChunk (chunk_of content) [] (chunk_is content size_is) (All-nil IsChunk))
 
       pub sum_with : (content : List ℕ) → length content ≡ size → length (contents (chunks ++ chunk_of content ∷ [])) ≡ length (contents chunks) + size
-      sum_with content size_is = omega (arith, size_is, ap length (flat_map_more (λ (x : Chunk). x.content) [] chunks (chunk_of content)), length-append (contents chunks) content)
+      sum_with content size_is =
+          omega (arith, size_is, ap length (flat_map_more (λ (x : Chunk). x.content) [] chunks (chunk_of content)), length-append (contents chunks) content)
 
       pub texts_with : (content : List ℕ) → (texts chunks ++ line) ++ (content ++ crlf_bytes) ≡ texts (chunks ++ chunk_of content ∷ [])
       texts_with content = append_assoc (texts chunks) line (content ++ crlf_bytes) ∙ flat_map_more (λ (x : Chunk). x.text) [] chunks (chunk_of content)
@@ -156,7 +173,8 @@ module _ (chunks : List Chunk) (left : ℕ) (each : All IsChunk chunks) (sum : M
                   small = omega (arith, sum, fits, sum_with content awaits.may.size_is);
                 }))
                 (sym (append_assoc lines rest (awaits.more ++ zero_line)) ∙ ap (λ l. l ++ (awaits.more ++ zero_line)) (sym e)
-                ∙ sym (append_assoc ((texts chunks ++ line) ++ h) awaits.more zero_line) ∙ ap (λ l. l ++ zero_line) whole ∙ sym (append-nil (more ++ zero_line)));
+                ∙ sym (append_assoc ((texts chunks ++ line) ++ h) awaits.more zero_line) ∙ ap (λ l. l ++ zero_line) whole
+                ∙ sym (append-nil (more ++ zero_line)));
           }
 
       pub no_more_content : (h : List ℕ) → NeverHas (IsContent size) h → Lacks ⊥ (IsDecided MAX_BODY_BYTES) ((texts chunks ++ line) ++ h)

@@ -1,5 +1,6 @@
 -- Where a list is cut.
-use Rattle.std.proofs.Common.{◌≡◌, ℕ, ◌+◌, ◌-◌, ◌<◌, ◌≤◌, ◌==◌, ◌||◌, Bool, true, false, List, [], ◌∷◌, length, get_or, take, drop, nat_lt, Some, None, unwrap_or, if◌then◌else◌, refl, sym, ap, arith, rules}
+use Rattle.std.proofs.Common.{◌≡◌, ℕ, ◌+◌, ◌-◌, ◌<◌, ◌≤◌, ◌==◌, ◌||◌, Bool, true, false, List, [], ◌∷◌, length, get_or, take, drop, nat_lt, Some, None}
+use Rattle.std.proofs.Common.{unwrap_or, if◌then◌else◌, refl, sym, ap, arith, rules}
 use Rattle.std.proofs.lemmas.Bool.Decides.{nat_tests}
 use Rattle.std.proofs.lemmas.List.Sums.{position_or_len_is, fails_before_first}
 use Rattle.std.proofs.lemmas.List.Splits.{slice_split_none, slice_split_first}
@@ -45,7 +46,8 @@ some_only true x y e = (refl, ap (λ o. unwrap_or o x) e)
 some_only false x y e = absurd (none-some y e)
 
 -- a list that is cut has the token where the first item is the token, or the rest has it
-pub more_items : (token list item more : List ℕ) → cut_at 44 list ≡ Some (item, more) → has_token token list ≡ (same_name (trim_ows item) token || has_token token more)
+pub more_items : (token list item more : List ℕ) → cut_at 44 list ≡ Some (item, more)
+    → has_token token list ≡ (same_name (trim_ows item) token || has_token token more)
 more_items token list item more is =
     let p = some_only _ _ _ is in
     let inside : position_or_len (λ b. b == 44) list < length list = let t = p.0 in search (rules, nat_tests) in

@@ -3,7 +3,7 @@ use Rattle.std.proofs.Common.{◌≡◌, ℕ, ◌==◌, ◌||◌, ◌<◌, false
 use Rattle.std.proofs.lemmas.List.{take_all}
 use Rattle.std.proofs.lemmas.List.Folds.{list_any-append}
 use Rattle.httparse.specs.Grammar.{is_token_byte, is_uri_byte, print_blank, print_request, HasNoRequest, NeverHasRequest, MayBecomeRequest, EndsInTarget}
-use Rattle.chunked_bodies.proofs.Sizes.{quiet}
+use Rattle.http_requests.proofs.ChunkSizes.{quiet}
 use Rattle.http_requests.specs.declared.head.TheConstants.{MAX_HEAD_BYTES}
 use Rattle.http_requests.specs.Heads.{EndsLine, AwaitsHead}
 use Rattle.http_requests.specs.LineLaws.{has_feed, cut_before}
@@ -32,7 +32,8 @@ may_go_on bytes (inl (more, h, reads)) lines rest e ends never =
     never (rest ++ more) h [] (reads.0, sym (append_assoc lines rest more) ∙ ap (λ l. l ++ more) (sym e) ∙ reads.1)
 may_go_on bytes (inr target) lines rest e ends never = target_may bytes lines rest target e ends never
 
-pub awaits_head : (bytes prefix : List ℕ) → prefix ≡ take MAX_HEAD_BYTES bytes → length bytes < MAX_HEAD_BYTES → HasNoRequest prefix → MayBecomeRequest prefix → AwaitsHead bytes
+pub awaits_head : (bytes prefix : List ℕ) → prefix ≡ take MAX_HEAD_BYTES bytes → length bytes < MAX_HEAD_BYTES → HasNoRequest prefix → MayBecomeRequest prefix
+    → AwaitsHead bytes
 awaits_head bytes prefix f short none may =
     let same : prefix ≡ bytes = f ∙ take_all MAX_HEAD_BYTES bytes (omega (arith, short)) in
     record { none = more_when_short bytes prefix f short none; short = short; may = subst HasNoReason same (may_go_on prefix may) }

@@ -6,8 +6,8 @@ use Rattle.httparse.specs.Spans.{RequestOverflows}
 use Rattle.httparse.specs.declared.Error.{Error}
 use Rattle.httparse.specs.declared.Status.{Status}
 use Rattle.httparse.specs.declared.spans.RequestSpans.{RequestSpans}
-use Rattle.chunked_bodies.specs.Looks.{LooksBy}
-use Rattle.chunked_bodies.specs.declared.looks.Look.TheVariants.{Never}
+use Rattle.http_requests.specs.ChunkLooks.{LooksBy}
+use Rattle.http_requests.specs.declared.chunked.looks.Look.TheVariants.{Never}
 use Rattle.http_requests.specs.declared.head.TheConstants.{MAX_HEAD_BYTES, MAX_FIELDS}
 use Rattle.http_requests.specs.Heads.{NeverHasHead}
 use Rattle.http_requests.proofs.Prefixes.{never_when_full, never_in_room}

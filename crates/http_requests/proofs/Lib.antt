@@ -11,3 +11,8 @@ pub mod Awaiting
 pub mod Rooms
 pub mod Awaited
 pub mod Found
+pub mod ChunkPrefixes
+pub mod ChunkOnce
+pub mod ChunkAfter
+pub mod ChunkSizes
+pub mod ChunkFound

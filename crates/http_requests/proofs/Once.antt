@@ -1,12 +1,13 @@
 -- Bytes start with a request in at most one way.
-use Rattle.std.proofs.Common.{false, ◌≡◌, ℕ, ◌<◌, List, [], ◌++◌, length, codes, IsTrue, refl, sym, ap, ◌∙◌, subst, arith, inl, inr, append_assoc, append-nil, length-append}
+use Rattle.std.proofs.Common.{false, ◌≡◌, ℕ, ◌<◌, List, [], ◌++◌, length, codes, IsTrue, refl, sym, ap, ◌∙◌, subst, arith, inl, inr, append_assoc, append-nil}
+use Rattle.std.proofs.Common.{length-append}
 use Rattle.std.proofs.lemmas.List.Elements.{All-nil, All-from_recursion}
 use Rattle.std.proofs.lemmas.Str.{IsUtf8-from_ascii}
 use Rattle.std.proofs.lemmas.Str.Ascii.{IsAscii-cons, IsAscii-nil}
 use Rattle.httparse.specs.Grammar.{LineEnd, LineEnd.{crlf}, RequestHead, IsRequestHead, is_token_byte, is_uri_byte, print_blank, print_request}
 use Rattle.httparse.proofs.GrammarLemmas.{request_unique, ReadsRequest-append, print_request-append}
-use Rattle.chunked_bodies.specs.Chunks.{IsDecided, HasNone}
-use Rattle.chunked_bodies.proofs.Once.{same_cut, body_once, body_is_not_large, never_longer}
+use Rattle.http_requests.specs.Chunks.{IsDecided, HasNone}
+use Rattle.http_requests.proofs.ChunkOnce.{same_cut, body_once, body_is_not_large, never_longer}
 use Rattle.http_requests.specs.declared.asked.TheConstants.{MAX_BODY_BYTES}
 use Rattle.http_requests.specs.Asked.{body_length}
 use Rattle.http_requests.specs.Heads.{TakesHead, HasNoHead}
@@ -32,7 +33,8 @@ head_is_some bytes h rest takes =
 -- ---- requests
 
 -- what a head says follows is one body, with one rest
-one_body : (size : BodyLength) (text other body more rest left : List ℕ) → HasBody size text body → HasBody size other more → text ++ rest ≡ other ++ left → (text ≡ other) × (body ≡ more) × (rest ≡ left)
+one_body : (size : BodyLength) (text other body more rest left : List ℕ) → HasBody size text body → HasBody size other more → text ++ rest ≡ other ++ left
+    → (text ≡ other) × (body ≡ more) × (rest ≡ left)
 one_body (Bytes n) text other body more rest left one two e =
     let same = same_cut text other rest left (ap length one.0 ∙ one.1 ∙ sym two.1 ∙ sym (ap length two.0)) e in
     (same.0, sym one.0 ∙ same.0 ∙ two.0, same.1)
@@ -46,10 +48,12 @@ request_stays text h body rest spells = head_stays text h spells.after rest spel
 pub request_is_some : (text : List ℕ) (h : RequestHead) (body : List ℕ) → Spells text h body → 0 < length text
 request_is_some text h body spells = head_is_some text h spells.after spells.takes
 
-pub request_once : (text other : List ℕ) (h k : RequestHead) (body more rest left : List ℕ) → Spells text h body → Spells other k more → text ++ rest ≡ other ++ left
+pub request_once : (text other : List ℕ) (h k : RequestHead) (body more rest left : List ℕ) → Spells text h body → Spells other k more
+    → text ++ rest ≡ other ++ left
     → (text ≡ other) × (h ≡ k) × (body ≡ more) × (rest ≡ left)
 request_once text other h k body more rest left one two e =
-    let second : TakesHead (text ++ rest) k (two.after ++ left) = subst (λ (l : List ℕ). TakesHead l k (two.after ++ left)) (sym e) (request_stays other k more left two) in
+    let second : TakesHead (text ++ rest) k (two.after ++ left) =
+    subst (λ (l : List ℕ). TakesHead l k (two.after ++ left)) (sym e) (request_stays other k more left two) in
     let heads = head_once (text ++ rest) h k (one.after ++ rest) (two.after ++ left) (request_stays text h body rest one) second in
     let there : HasBody (body_length h) two.after more = subst (λ (x : RequestHead). HasBody (body_length x) two.after more) (sym heads.0) two.body_is in
     let parts = one_body (body_length h) one.after two.after body more rest left one.body_is there heads.1 in
@@ -65,14 +69,16 @@ Breaks bytes b = IsMalformed (Unit {0}) bytes b
 nothing_more : (xs left : List ℕ) → left ≡ [] → xs ++ left ≡ xs
 nothing_more xs left none = ap (λ (l : List ℕ). xs ++ l) none ∙ append-nil xs
 
-body_breaks_all : (size : BodyLength) (after left : List ℕ) (b : BadRequest) → BodyBreaks (left ≡ []) b size after → BodyBreaks (Unit {0}) b size (after ++ left)
+body_breaks_all : (size : BodyLength) (after left : List ℕ) (b : BadRequest) → BodyBreaks (left ≡ []) b size after
+    → BodyBreaks (Unit {0}) b size (after ++ left)
 body_breaks_all (Bytes n) after left Body malformed = (subst (λ (l : List ℕ). length l < n) (sym (nothing_more after left malformed.1)) malformed.0, tt)
 body_breaks_all Chunked after left Body (inl never) = inl (never_longer (IsDecided MAX_BODY_BYTES) after left never)
 body_breaks_all Chunked after left Body (inr ended) = inr (tt, subst (HasNone (IsDecided MAX_BODY_BYTES)) (sym (nothing_more after left ended.0)) ended.1)
 body_breaks_all Unreadable after left Body malformed = tt
 body_breaks_all TooLarge after left Body malformed = absurd malformed
 body_breaks_all (Bytes n) after left bad_request.TooLarge malformed = absurd malformed
-body_breaks_all Chunked after left bad_request.TooLarge b = record { text = b.text; rest = b.rest ++ left; is = b.is; cut = ap (λ l. l ++ left) b.cut ∙ append_assoc b.text b.rest left }
+body_breaks_all Chunked after left bad_request.TooLarge b =
+    record { text = b.text; rest = b.rest ++ left; is = b.is; cut = ap (λ l. l ++ left) b.cut ∙ append_assoc b.text b.rest left }
 body_breaks_all Unreadable after left bad_request.TooLarge malformed = absurd malformed
 body_breaks_all TooLarge after left bad_request.TooLarge malformed = tt
 body_breaks_all size after left Head malformed = absurd malformed
@@ -107,7 +113,8 @@ body_no_bad_request Chunked text body rest Body is (inr ended) = ended.1 text re
 body_no_bad_request Unreadable text body rest b is malformed = absurd is
 body_no_bad_request TooLarge text body rest b is malformed = absurd is
 body_no_bad_request (Bytes n) text body rest bad_request.TooLarge is malformed = absurd malformed
-body_no_bad_request Chunked text body rest bad_request.TooLarge is malformed = body_is_not_large MAX_BODY_BYTES text malformed.text body rest malformed.rest is malformed.is malformed.cut
+body_no_bad_request Chunked text body rest bad_request.TooLarge is malformed =
+    body_is_not_large MAX_BODY_BYTES text malformed.text body rest malformed.rest is malformed.is malformed.cut
 body_no_bad_request (Bytes n) text body rest Head is malformed = absurd malformed
 body_no_bad_request Chunked text body rest Head is malformed = absurd malformed
 
@@ -127,7 +134,8 @@ no_request text rest h body bad_request.TooLarge spells reported = no_request_af
 -- a body that can't be read isn't too large
 body_not_both : (size : BodyLength) (after : List ℕ) → IsUnreadable (Unit {0}) size after → PassesMost size after → ⊥
 body_not_both (Bytes n) after one other = absurd other
-body_not_both Chunked after (inl never) other = never [] other.text (other.rest ++ []) (inr other.is) (ap (λ l. l ++ []) other.cut ∙ append_assoc other.text other.rest [])
+body_not_both Chunked after (inl never) other =
+    never [] other.text (other.rest ++ []) (inr other.is) (ap (λ l. l ++ []) other.cut ∙ append_assoc other.text other.rest [])
 body_not_both Chunked after (inr ended) other = ended.1 other.text other.rest (inr other.is) other.cut
 body_not_both Unreadable after one other = absurd other
 body_not_both TooLarge after one other = absurd one
@@ -136,7 +144,8 @@ not_both : (bytes : List ℕ) → Breaks bytes Body → Breaks bytes bad_request
 not_both bytes one other =
     let same = head_once bytes one.head other.head one.after other.after one.takes other.takes in
     let malformed : IsUnreadable (Unit {0}) (body_length other.head) other.after =
-    subst (λ (x : RequestHead). IsUnreadable (Unit {0}) (body_length x) other.after) same.0 (subst (IsUnreadable (Unit {0}) (body_length one.head)) same.1 one.breaks) in
+    subst (λ (x : RequestHead). IsUnreadable (Unit {0}) (body_length x) other.after) same.0
+    (subst (IsUnreadable (Unit {0}) (body_length one.head)) same.1 one.breaks) in
     body_not_both (body_length other.head) other.after malformed other.breaks
 
 pub one_bad_request : (bytes : List ℕ) (b c : BadRequest) → Breaks bytes b → Breaks bytes c → b ≡ c
@@ -205,6 +214,7 @@ pub piece_no_request : (text rest piece left : List ℕ) (h : RequestHead) (body
 piece_no_request text rest piece left h body b spells e malformed =
     no_request text rest h body b spells (subst (λ (l : List ℕ). Breaks l b) e (breaks_all piece left b malformed))
 
-pub piece_one_bad_request : (piece left part behind : List ℕ) (b c : BadRequest) → piece ++ left ≡ part ++ behind → IsMalformed (left ≡ []) piece b → IsMalformed (behind ≡ []) part c → b ≡ c
+pub piece_one_bad_request : (piece left part behind : List ℕ) (b c : BadRequest) → piece ++ left ≡ part ++ behind → IsMalformed (left ≡ []) piece b
+    → IsMalformed (behind ≡ []) part c → b ≡ c
 piece_one_bad_request piece left part behind b c e one other =
     one_bad_request (part ++ behind) b c (subst (λ (l : List ℕ). Breaks l b) e (breaks_all piece left b one)) (breaks_all part behind c other)

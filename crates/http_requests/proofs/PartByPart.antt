@@ -17,12 +17,15 @@ use Rattle.http_requests.proofs.Readings.{nothing_yet, with_text, read_after, st
 use Rattle.http_requests.proofs.Parts.{awaits_body, ended_breaks, breaks_anyway}
 
 module _ {S R : Type 0} (takes : Takings S) (source : Source R) where
-  pub begins_body : TakesNothing S takes → (s : R) (r : ReadBuffer) (before : S) (size : BodyLength) (reader : BodyReader) → IsPart size [] [] reader → TakesPart takes source s s r r before before size reader
-  begins_body nothing s r before size reader part = record { text = []; content = []; part = part; reads = nothing_yet source (AwaitsBody size) s r; put = nothing before }
+  pub begins_body : TakesNothing S takes → (s : R) (r : ReadBuffer) (before : S) (size : BodyLength) (reader : BodyReader) → IsPart size [] [] reader
+      → TakesPart takes source s s r r before before size reader
+  begins_body nothing s r before size reader part =
+      record { text = []; content = []; part = part; reads = nothing_yet source (AwaitsBody size) s r; put = nothing before }
 
   module _ (joined : TakesJoined S takes) (s t : R) (old here new : ReadBuffer) (before now after : S) (size : BodyLength) (was is : BodyReader)
       (so : TakesPart takes source s t old here before now size was) where
-    pub more_body : TakesOn takes here new now after was (λ of text content. Comes of text content new.held is More) → TakesPart takes source s t old new before after size is
+    pub more_body : TakesOn takes here new now after was (λ of text content. Comes of text content new.held is More)
+        → TakesPart takes source s t old new before after size is
     more_body on = record {
       text = so.text ++ on.text;
       content = so.content ++ on.content;
@@ -31,7 +34,8 @@ module _ {S R : Type 0} (takes : Takings S) (source : Source R) where
       put = joined before now after so.content on.content so.put on.put;
     }
 
-    pub whole_body : TakesOn takes here new now after was (λ of text content. Comes of text content new.held is Whole) → TakesBody takes source s t old new before after size
+    pub whole_body : TakesOn takes here new now after was (λ of text content. Comes of text content new.held is Whole)
+        → TakesBody takes source s t old new before after size
     whole_body on = record {
       text = so.text ++ on.text;
       body = so.content ++ on.content;
@@ -40,7 +44,8 @@ module _ {S R : Type 0} (takes : Takings S) (source : Source R) where
       put = joined before now after so.content on.content so.put on.put;
     }
 
-    pub malformed_body : (why : BadRequest) → TakesOn takes here new now after was (λ of text content. Comes of text content new.held is (Malformed why)) → BreaksBody source s t old new size why
+    pub malformed_body : (why : BadRequest) → TakesOn takes here new now after was (λ of text content. Comes of text content new.held is (Malformed why))
+        → BreaksBody source s t old new size why
     malformed_body why on = record {
       text = so.text ++ on.text;
       reads = with_text source (AwaitsBody size) s t old here new so.text on.text so.reads on.cut;
@@ -50,17 +55,25 @@ module _ {S R : Type 0} (takes : Takings S) (source : Source R) where
   module _ (s m t : R) (old here new : ReadBuffer) (before after : S) (size : BodyLength) (reader : BodyReader)
       (so : TakesPart takes source s m old here before after size reader) (awaits : AwaitsMore reader here.held) where
     pub ended_body : IsAtEnd (source.remaining m) → BreaksBody source s m old here size bad_request.Body
-    ended_body at_end = record { text = so.text; reads = so.reads; breaks = ended_breaks _ size (so.text ++ here.held) (awaits_body size so.text so.content here.held reader so.part awaits) at_end }
+    ended_body at_end =
+        record {
+          text = so.text;
+          reads = so.reads;
+          breaks = ended_breaks _ size (so.text ++ here.held) (awaits_body size so.text so.content here.held reader so.part awaits) at_end;
+        }
 
-    pub body_read_on : ReadsOn (source.remaining m) (source.remaining t) here new → IsRead source.gives m t here new → TakesPart takes source s t old new before after size reader
+    pub body_read_on : ReadsOn (source.remaining m) (source.remaining t) here new → IsRead source.gives m t here new
+        → TakesPart takes source s t old new before after size reader
     body_read_on on read = record {
       text = so.text;
       content = so.content;
       part = so.part;
-      reads = read_after source (AwaitsBody size) s m t old here new so.text so.reads (awaits_body size so.text so.content here.held reader so.part awaits) on read;
+      reads =
+          read_after source (AwaitsBody size) s m t old here new so.text so.reads (awaits_body size so.text so.content here.held reader so.part awaits) on read;
       put = so.put;
     }
 
     pub body_stops_there : (failed : Bool) (why : ReadError) → ReadFails source m t failed here why → StopsWhile source (AwaitsBody size) s t failed old why
     body_stops_there failed why last =
-        stops_reading source (AwaitsBody size) s m t failed old here so.text why so.reads (awaits_body size so.text so.content here.held reader so.part awaits) last
+        stops_reading source (AwaitsBody size) s m t failed old here so.text why so.reads (awaits_body size so.text so.content here.held reader so.part awaits)
+        last

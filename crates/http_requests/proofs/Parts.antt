@@ -1,9 +1,10 @@
 -- How a part of a body that was taken comes to more of it.
-use Rattle.std.proofs.Common.{All, ◌≡◌, ℕ, ◌+◌, ◌-◌, ◌≤◌, ◌<◌, min, Bool, true, false, List, [], ◌∷◌, ◌++◌, length, take, drop, Option, Some, None, refl, sym, ap, ◌∙◌, subst, arith, inl, inr, append_assoc, append-nil, length-append}
+use Rattle.std.proofs.Common.{All, ◌≡◌, ℕ, ◌+◌, ◌-◌, ◌≤◌, ◌<◌, min, Bool, true, false, List, [], ◌∷◌, ◌++◌, length, take, drop, Option, Some, None, refl, sym}
+use Rattle.std.proofs.Common.{ap, ◌∙◌, subst, arith, inl, inr, append_assoc, append-nil, length-append}
 use Rattle.std.proofs.lemmas.List.{flat_map_more, take-append-drop, take_all, length-take-le, length-drop}
 use Rattle.std.proofs.Math.Seq.{take-append_seam}
 use Rattle.httparse.specs.Ascii.{crlf_bytes}
-use Rattle.chunked_bodies.specs.Chunks.{IsSizeLine, IsSomeSizeLine, IsTrailer, IsContent, IsDecided, Chunk, texts, contents, HasNone, NeverHas}
+use Rattle.http_requests.specs.Chunks.{IsSizeLine, IsSomeSizeLine, IsTrailer, IsContent, IsDecided, Chunk, texts, contents, HasNone, NeverHas}
 use Rattle.session_devices.specs.Takings.{Takings, TakesNothing, TakesJoined}
 use Rattle.http_requests.specs.declared.asked.TheConstants.{MAX_BODY_BYTES}
 use Rattle.http_requests.specs.declared.asked.BodyLength.{BodyLength}
@@ -17,11 +18,13 @@ use Rattle.http_requests.specs.Requests.{HasBody, BodyBreaks, AwaitsBody}
 use Rattle.http_requests.specs.Receiving.{ReadBuffer, put_back}
 use Rattle.http_requests.specs.Bodies.{AwaitsLine, IsLineEnd}
 use Rattle.http_requests.specs.InParts.{WithChunks, WithData, WithLastLine, IsPartAt, IsPart, HasLookedAt, HasLooked, AwaitsAt, AwaitsMore, TakesOn, TakesText}
-use Rattle.http_requests.proofs.Chunking.{shorter, none_after, awaited_after, line_awaited, no_size, passes, each_with, sum_with, texts_with, content_awaited, no_more_content, trailer_awaited, no_trailer_comes, chunks_whole}
+use Rattle.http_requests.proofs.Chunking.{shorter, none_after, awaited_after, line_awaited, no_size, passes, each_with, sum_with, texts_with, content_awaited}
+use Rattle.http_requests.proofs.Chunking.{no_more_content, trailer_awaited, no_trailer_comes, chunks_whole}
 
 -- ---- a size line
 
-pub line_then_data : (of : BodyLength) (front fed line : List ℕ) (left size : ℕ) → IsPartAt of front fed left SizeLine → IsSizeLine line size → 0 < size → size ≤ left
+pub line_then_data : (of : BodyLength) (front fed line : List ℕ) (left size : ℕ) → IsPartAt of front fed left SizeLine → IsSizeLine line size → 0 < size
+    → size ≤ left
     → IsPartAt of (front ++ line) (fed ++ []) (left - size) (Data size)
 line_then_data Chunked front fed line left size so is some fits = record {
   chunks = so.chunks;
@@ -58,12 +61,14 @@ line_then_trailer TooLarge front fed line left so is = absurd so
 pub line_passes : (of : BodyLength) (front fed line held : List ℕ) (left size : ℕ) → IsPartAt of front fed left SizeLine → IsSizeLine line size → left < size
     → BodyBreaks ⊥ bad_request.TooLarge of ((front ++ line) ++ held)
 line_passes Chunked front fed line held left size so is large =
-    subst (λ (l : List ℕ). BodyBreaks ⊥ bad_request.TooLarge Chunked ((l ++ line) ++ held)) (sym so.text_is) (passes so.chunks left so.each so.sum line size is held large)
+    subst (λ (l : List ℕ). BodyBreaks ⊥ bad_request.TooLarge Chunked ((l ++ line) ++ held)) (sym so.text_is)
+    (passes so.chunks left so.each so.sum line size is held large)
 line_passes (Bytes n) front fed line held left size so is large = absurd so
 line_passes Unreadable front fed line held left size so is large = absurd so
 line_passes TooLarge front fed line held left size so is large = absurd so
 
-pub no_line_comes : (of : BodyLength) (front fed held : List ℕ) (left : ℕ) → IsPartAt of front fed left SizeLine → NeverHas IsSomeSizeLine held → BodyBreaks ⊥ bad_request.Body of (front ++ held)
+pub no_line_comes : (of : BodyLength) (front fed held : List ℕ) (left : ℕ) → IsPartAt of front fed left SizeLine → NeverHas IsSomeSizeLine held
+    → BodyBreaks ⊥ bad_request.Body of (front ++ held)
 no_line_comes Chunked front fed held left so never =
     subst (λ (l : List ℕ). BodyBreaks ⊥ bad_request.Body Chunked (l ++ held)) (sym so.text_is) (no_size so.chunks left so.each so.sum held never)
 no_line_comes (Bytes n) front fed held left so never = absurd so
@@ -91,7 +96,8 @@ data_then (Bytes n) front fed piece left count rest so long = absurd so
 data_then Unreadable front fed piece left count rest so long = absurd so
 data_then TooLarge front fed piece left count rest so long = absurd so
 
-pub end_then_line : (of : BodyLength) (front fed line : List ℕ) (left : ℕ) → IsPartAt of front fed left (Data 0) → IsLineEnd line → IsPartAt of (front ++ line) (fed ++ []) left SizeLine
+pub end_then_line : (of : BodyLength) (front fed line : List ℕ) (left : ℕ) → IsPartAt of front fed left (Data 0) → IsLineEnd line
+    → IsPartAt of (front ++ line) (fed ++ []) left SizeLine
 end_then_line Chunked front fed line left so is =
     let fits : so.size ≤ so.size + left = omega arith in
     let long : length so.got ≡ so.size = omega (arith, so.lacking) in
@@ -99,7 +105,9 @@ end_then_line Chunked front fed line left so is =
     record {
       chunks = so.chunks ++ one ∷ [];
       each = each_with so.chunks (so.size + left) so.each so.sum so.line so.size so.line_is so.some fits so.got long;
-      text_is = ap (λ l. l ++ line) so.text_is ∙ ap (λ l. ((texts so.chunks ++ so.line) ++ so.got) ++ l) is ∙ append_assoc (texts so.chunks ++ so.line) so.got crlf_bytes
+      text_is =
+          ap (λ l. l ++ line) so.text_is ∙ ap (λ l. ((texts so.chunks ++ so.line) ++ so.got) ++ l) is
+          ∙ append_assoc (texts so.chunks ++ so.line) so.got crlf_bytes
           ∙ texts_with so.chunks (so.size + left) so.each so.sum so.line so.size so.line_is so.some fits so.got;
       content_is = append-nil fed ∙ so.content_is ∙ flat_map_more (λ (x : Chunk). x.content) [] so.chunks one;
       sum = omega (arith, so.sum, sum_with so.chunks (so.size + left) so.each so.sum so.line so.size so.line_is so.some fits so.got long);
@@ -115,13 +123,15 @@ never_content held never more text rest is e = never more text rest (is.text_is 
     is_nothing [] e = refl
     is_nothing (x ∷ xs) e = absurd (omega (arith, e))
 
-pub no_end_comes : (of : BodyLength) (front fed held : List ℕ) (left : ℕ) → IsPartAt of front fed left (Data 0) → NeverHas IsLineEnd held → BodyBreaks ⊥ bad_request.Body of (front ++ held)
+pub no_end_comes : (of : BodyLength) (front fed held : List ℕ) (left : ℕ) → IsPartAt of front fed left (Data 0) → NeverHas IsLineEnd held
+    → BodyBreaks ⊥ bad_request.Body of (front ++ held)
 no_end_comes Chunked front fed held left so never =
     let fits : so.size ≤ so.size + left = omega arith in
     let nothing = never_content held never in
     let behind : NeverHas (IsContent so.size) (so.got ++ held) =
     λ more. subst (HasNone (IsContent so.size)) (sym (append_assoc so.got held more)) (none_after so.size 0 so.got so.lacking (held ++ more) (nothing more)) in
-    subst (λ (l : List ℕ). BodyBreaks ⊥ bad_request.Body Chunked l) (sym (append_assoc (texts so.chunks ++ so.line) so.got held) ∙ ap (λ l. l ++ held) (sym so.text_is))
+    subst (λ (l : List ℕ). BodyBreaks ⊥ bad_request.Body Chunked l)
+    (sym (append_assoc (texts so.chunks ++ so.line) so.got held) ∙ ap (λ l. l ++ held) (sym so.text_is))
     (no_more_content so.chunks (so.size + left) so.each so.sum so.line so.size so.line_is so.some fits (so.got ++ held) behind)
 no_end_comes (Bytes n) front fed held left so never = absurd so
 no_end_comes Unreadable front fed held left so never = absurd so
@@ -132,15 +142,18 @@ no_end_comes TooLarge front fed held left so never = absurd so
 abbrev rest_of : List Chunk → ℕ
 rest_of chunks = MAX_BODY_BYTES - length (contents chunks)
 
-pub trailer_ends : (of : BodyLength) (front fed text : List ℕ) (left seen : ℕ) → IsPartAt of front fed left (Trailer seen) → IsTrailer text → HasBody of (front ++ text) (fed ++ [])
+pub trailer_ends : (of : BodyLength) (front fed text : List ℕ) (left seen : ℕ) → IsPartAt of front fed left (Trailer seen) → IsTrailer text
+    → HasBody of (front ++ text) (fed ++ [])
 trailer_ends Chunked front fed text left seen so is =
     let whole = chunks_whole so.chunks (rest_of so.chunks) so.each (omega (arith, so.small)) so.line so.line_is text is in
-    subst (HasBody Chunked (front ++ text)) (sym (append-nil fed ∙ so.content_is)) (subst (λ (l : List ℕ). HasBody Chunked (l ++ text) (contents so.chunks)) (sym so.text_is) whole)
+    subst (HasBody Chunked (front ++ text)) (sym (append-nil fed ∙ so.content_is))
+    (subst (λ (l : List ℕ). HasBody Chunked (l ++ text) (contents so.chunks)) (sym so.text_is) whole)
 trailer_ends (Bytes n) front fed text left seen so is = absurd so
 trailer_ends Unreadable front fed text left seen so is = absurd so
 trailer_ends TooLarge front fed text left seen so is = absurd so
 
-pub no_trailer_then : (of : BodyLength) (front fed held : List ℕ) (left seen : ℕ) → IsPartAt of front fed left (Trailer seen) → NeverHas IsTrailer held → BodyBreaks ⊥ bad_request.Body of (front ++ held)
+pub no_trailer_then : (of : BodyLength) (front fed held : List ℕ) (left seen : ℕ) → IsPartAt of front fed left (Trailer seen) → NeverHas IsTrailer held
+    → BodyBreaks ⊥ bad_request.Body of (front ++ held)
 no_trailer_then Chunked front fed held left seen so never =
     subst (λ (l : List ℕ). BodyBreaks ⊥ bad_request.Body Chunked (l ++ held)) (sym so.text_is)
     (no_trailer_comes so.chunks (rest_of so.chunks) so.each (omega (arith, so.small)) so.line so.line_is held never)
@@ -148,7 +161,8 @@ no_trailer_then (Bytes n) front fed held left seen so never = absurd so
 no_trailer_then Unreadable front fed held left seen so never = absurd so
 no_trailer_then TooLarge front fed held left seen so never = absurd so
 
-pub trailer_seen : (of : BodyLength) (front fed : List ℕ) (left seen more : ℕ) → IsPartAt of front fed left (Trailer seen) → IsPartAt of front fed left (Trailer more)
+pub trailer_seen : (of : BodyLength) (front fed : List ℕ) (left seen more : ℕ) → IsPartAt of front fed left (Trailer seen)
+    → IsPartAt of front fed left (Trailer more)
 trailer_seen Chunked front fed left seen more so = so
 trailer_seen (Bytes n) front fed left seen more so = absurd so
 trailer_seen Unreadable front fed left seen more so = absurd so
@@ -163,13 +177,15 @@ length_then Chunked front fed piece left count rest so long = absurd so
 length_then Unreadable front fed piece left count rest so long = absurd so
 length_then TooLarge front fed piece left count rest so long = absurd so
 
-pub length_ends : (of : BodyLength) (front fed piece : List ℕ) (left count : ℕ) → IsPartAt of front fed left (Length count) → length piece ≡ count → HasBody of (front ++ piece) (fed ++ piece)
+pub length_ends : (of : BodyLength) (front fed piece : List ℕ) (left count : ℕ) → IsPartAt of front fed left (Length count) → length piece ≡ count
+    → HasBody of (front ++ piece) (fed ++ piece)
 length_ends (Bytes n) front fed piece left count so long = (ap (λ l. l ++ piece) so.0, omega (arith, so.1, long, length-append fed piece))
 length_ends Chunked front fed piece left count so long = absurd so
 length_ends Unreadable front fed piece left count so long = absurd so
 length_ends TooLarge front fed piece left count so long = absurd so
 
-pub refused_breaks : (of : BodyLength) (why : BadRequest) (front fed held : List ℕ) (left : ℕ) → IsPartAt of front fed left (Refused why) → BodyBreaks ⊥ why of (front ++ held)
+pub refused_breaks : (of : BodyLength) (why : BadRequest) (front fed held : List ℕ) (left : ℕ) → IsPartAt of front fed left (Refused why)
+    → BodyBreaks ⊥ why of (front ++ held)
 refused_breaks Unreadable bad_request.Body front fed held left so = tt
 refused_breaks TooLarge bad_request.TooLarge front fed held left so = tt
 refused_breaks Unreadable bad_request.Head front fed held left so = absurd so
@@ -181,13 +197,16 @@ refused_breaks Chunked why front fed held left so = absurd so
 
 -- ---- what is awaited after a part
 
-data_awaited : (front fed held : List ℕ) (left count : ℕ) → IsPartAt Chunked front fed left (Data count) → AwaitsAt (Data count) held → AwaitsBody Chunked (front ++ held)
+data_awaited : (front fed held : List ℕ) (left count : ℕ) → IsPartAt Chunked front fed left (Data count) → AwaitsAt (Data count) held
+    → AwaitsBody Chunked (front ++ held)
 data_awaited front fed held left count so awaits =
     let fits : so.size ≤ so.size + left = omega arith in
     subst (AwaitsBody Chunked) (sym (append_assoc (texts so.chunks ++ so.line) so.got held) ∙ ap (λ l. l ++ held) (sym so.text_is))
-    (content_awaited so.chunks (so.size + left) so.each so.sum so.line so.size so.line_is so.some fits (so.got ++ held) (awaited_after so.size count so.got so.lacking held awaits))
+    (content_awaited so.chunks (so.size + left) so.each so.sum so.line so.size so.line_is so.some fits (so.got ++ held)
+    (awaited_after so.size count so.got so.lacking held awaits))
 
-awaits_at : (of : BodyLength) (front fed held : List ℕ) (left : ℕ) (stage : Stage) → IsPartAt of front fed left stage → AwaitsAt stage held → AwaitsBody of (front ++ held)
+awaits_at : (of : BodyLength) (front fed held : List ℕ) (left : ℕ) (stage : Stage) → IsPartAt of front fed left stage → AwaitsAt stage held
+    → AwaitsBody of (front ++ held)
 awaits_at (Bytes n) front fed held left (Length count) so short = omega (arith, so.1, short, ap length so.0, length-append front held)
 awaits_at Chunked front fed held left SizeLine so awaits =
     subst (λ (l : List ℕ). AwaitsBody Chunked (l ++ held)) (sym so.text_is) (line_awaited so.chunks left so.each so.sum held awaits)
@@ -212,7 +231,8 @@ awaits_at TooLarge front fed held left (Data count) so awaits = absurd so
 awaits_at TooLarge front fed held left (Trailer seen) so awaits = absurd so
 awaits_at TooLarge front fed held left (Refused why) so awaits = absurd awaits
 
-pub awaits_body : (of : BodyLength) (front fed held : List ℕ) (reader : BodyReader) → IsPart of front fed reader → AwaitsMore reader held → AwaitsBody of (front ++ held)
+pub awaits_body : (of : BodyLength) (front fed held : List ℕ) (reader : BodyReader) → IsPart of front fed reader → AwaitsMore reader held
+    → AwaitsBody of (front ++ held)
 awaits_body of front fed held reader so awaits = awaits_at of front fed held reader.left reader.stage so awaits
 
 -- the bytes looked at are seen among more
@@ -251,7 +271,8 @@ cut_of : (old : ReadBuffer) (count : ℕ) → old ≡ put_back (take count old.h
 cut_of old count = ap (λ (l : List ℕ). record old { held = l }) (sym (take-append-drop count old.held))
 
 -- so many bytes were taken, and no data are in them
-pub text_taken : (old new : ReadBuffer) (was : BodyReader) (Come : BodyLength → List ℕ → List ℕ → Type 0) (count : ℕ) → new ≡ record old { held = drop count old.held }
+pub text_taken : (old new : ReadBuffer) (was : BodyReader) (Come : BodyLength → List ℕ → List ℕ → Type 0) (count : ℕ)
+    → new ≡ record old { held = drop count old.held }
     → ((of : BodyLength) (front fed : List ℕ) → IsPart of front fed was → Come of (front ++ take count old.held) (fed ++ [])) → TakesText old new was Come
 text_taken old new was Come count is come =
     record { text = take count old.held; content = []; cut = cut_of old count ∙ ap (put_back (take count old.held)) (sym is); put = refl; come = come }
@@ -264,7 +285,9 @@ none_taken old was Come come = record {
   content = [];
   cut = refl;
   put = refl;
-  come = λ of front fed part. subst (λ (l : List ℕ). Come of l (fed ++ [])) (sym (append-nil front)) (subst (Come of front) (sym (append-nil fed)) (come of front fed part));
+  come =
+      λ of front fed part. subst (λ (l : List ℕ). Come of l (fed ++ [])) (sym (append-nil front))
+      (subst (Come of front) (sym (append-nil fed)) (come of front fed part));
 }
 
 module _ {S : Type 0} (takes : Takings S) where
@@ -274,13 +297,29 @@ module _ {S : Type 0} (takes : Takings S) where
       → ((of : BodyLength) (front fed : List ℕ) → IsPart of front fed was → Come of (front ++ take count old.held) (fed ++ take count old.held))
       → TakesOn takes old new before after was Come
   data_taken old new before after was Come count put is come =
-      record { text = take count old.held; content = take count old.held; cut = cut_of old count ∙ ap (put_back (take count old.held)) (sym is); put = put; come = come }
+      record {
+        text = take count old.held;
+        content = take count old.held;
+        cut = cut_of old count ∙ ap (put_back (take count old.held)) (sym is);
+        put = put;
+        come = come;
+      }
 
-  pub with_sink : TakesNothing S takes → (old new : ReadBuffer) (s : S) (was : BodyReader) (Come : BodyLength → List ℕ → List ℕ → Type 0) → TakesText old new was Come → TakesOn takes old new s s was Come
-  with_sink nothing old new s was Come taken = record { text = taken.text; content = taken.content; cut = taken.cut; put = subst (λ (l : List ℕ). takes s l s) (sym taken.put) (nothing s); come = taken.come }
+  pub with_sink : TakesNothing S takes → (old new : ReadBuffer) (s : S) (was : BodyReader) (Come : BodyLength → List ℕ → List ℕ → Type 0)
+      → TakesText old new was Come → TakesOn takes old new s s was Come
+  with_sink nothing old new s was Come taken =
+      record {
+        text = taken.text;
+        content = taken.content;
+        cut = taken.cut;
+        put = subst (λ (l : List ℕ). takes s l s) (sym taken.put) (nothing s);
+        come = taken.come;
+      }
 
-  pub taken_in_turn : TakesJoined S takes → (old mid new : ReadBuffer) (before now after : S) (was then : BodyReader) (Come : BodyLength → List ℕ → List ℕ → Type 0)
-      → TakesOn takes old mid before now was (λ of text content. IsPart of text content then) → TakesOn takes mid new now after then Come → TakesOn takes old new before after was Come
+  pub taken_in_turn : TakesJoined S takes
+      → (old mid new : ReadBuffer) (before now after : S) (was then : BodyReader) (Come : BodyLength → List ℕ → List ℕ → Type 0)
+      → TakesOn takes old mid before now was (λ of text content. IsPart of text content then) → TakesOn takes mid new now after then Come
+      → TakesOn takes old new before after was Come
   taken_in_turn joined old mid new before now after was then Come first second = record {
     text = first.text ++ second.text;
     content = first.content ++ second.content;
@@ -293,17 +332,20 @@ module _ {S : Type 0} (takes : Takings S) where
   }
 
 -- the part of a reader whose stage is known
-pub at_stage : (of : BodyLength) (front fed : List ℕ) (reader : BodyReader) (stage : Stage) → reader.stage ≡ stage → IsPart of front fed reader → IsPartAt of front fed reader.left stage
+pub at_stage : (of : BodyLength) (front fed : List ℕ) (reader : BodyReader) (stage : Stage) → reader.stage ≡ stage → IsPart of front fed reader
+    → IsPartAt of front fed reader.left stage
 at_stage of front fed reader stage is part = subst (λ (s : Stage). IsPartAt of front fed reader.left s) is part
 
 -- a text that begins the bytes and isn't empty is taken
-pub fewer_held : (old new : ReadBuffer) (Is : List ℕ → Type 0) (count : ℕ) → HasNone Is [] → Is (take count old.held) → count ≤ length old.held → new ≡ record old { held = drop count old.held }
+pub fewer_held : (old new : ReadBuffer) (Is : List ℕ → Type 0) (count : ℕ) → HasNone Is [] → Is (take count old.held) → count ≤ length old.held
+    → new ≡ record old { held = drop count old.held }
     → length new.held < length old.held
 fewer_held old new Is count none is fits new_is = by (take count old.held) refl
   where
     by : (text : List ℕ) → text ≡ take count old.held → length new.held < length old.held
     by [] e = absurd (none [] [] (subst Is (sym e) is) refl)
-    by (x ∷ xs) e = omega (arith, fits, ap length e, length-take-le count old.held fits, ap (λ (b : ReadBuffer). length b.held) new_is, length-drop count old.held)
+    by (x ∷ xs) e =
+        omega (arith, fits, ap length e, length-take-le count old.held fits, ap (λ (b : ReadBuffer). length b.held) new_is, length-drop count old.held)
 
 pub some_put : (most : ℕ) (held : List ℕ) (count : ℕ) → count ≡ min (length held) most → length (take count held) ≡ count
 some_put most held count is = length-take-le count held (omega (arith, is))

@@ -1,5 +1,6 @@
 -- A head at the start of bytes, and the body after it.
-use Rattle.std.proofs.Common.{◌≡◌, ℕ, ◌+◌, ◌-◌, ◌==◌, ◌||◌, ◌≤◌, Bool, List, ◌++◌, [], length, take, drop, slice_range, refl, sym, ap, ◌∙◌, subst, arith, inl, inr, append_assoc, length-append}
+use Rattle.std.proofs.Common.{◌≡◌, ℕ, ◌+◌, ◌-◌, ◌==◌, ◌||◌, ◌≤◌, Bool, List, ◌++◌, [], length, take, drop, slice_range, refl, sym, ap, ◌∙◌, subst, arith, inl}
+use Rattle.std.proofs.Common.{inr, append_assoc, length-append}
 use Rattle.std.specs.Io.KnownBytes.{IsAtEnd}
 use Rattle.std.proofs.lemmas.List.{drop-append-le, take-append-le, take-append-drop, length-drop}
 use Rattle.std.proofs.Math.Seq.{take-append_seam}
@@ -23,7 +24,8 @@ use Rattle.http_requests.specs.declared.asked.BadRequest.TheVariants as bad_requ
 use Rattle.http_requests.specs.declared.asked.Request.{Request}
 
 -- a part of the start, whatever follows that
-pub slice_of_prefix : (prefix more : List ℕ) (start end : ℕ) → start ≤ end → end ≤ length prefix → slice_range (prefix ++ more) start end ≡ slice_range prefix start end
+pub slice_of_prefix : (prefix more : List ℕ) (start end : ℕ) → start ≤ end → end ≤ length prefix
+    → slice_range (prefix ++ more) start end ≡ slice_range prefix start end
 slice_of_prefix prefix more start end ordered inside =
     ap (take (end - start)) (drop-append-le start prefix more (omega arith))
     ∙ take-append-le (end - start) (drop start prefix) more (omega (arith, length-drop start prefix))
@@ -42,7 +44,8 @@ same_asked h m t b c em et eb ec = rw (em, sym et, eb, ec) refl
 -- the head at the start, which is taken
 pub head_cut : (bytes : List ℕ) (len : ℕ) (h : RequestHead) → TakesHead bytes h (drop len bytes) → len ≤ length bytes → take len bytes ≡ print_request h
 head_cut bytes len h takes fits =
-    let whole : length bytes ≡ length (print_request h) + length (drop len bytes) = ap length takes.reads.1 ∙ length-append (print_request h) (drop len bytes) in
+    let whole : length bytes ≡ length (print_request h) + length (drop len bytes) =
+    ap length takes.reads.1 ∙ length-append (print_request h) (drop len bytes) in
     let is : len ≡ length (print_request h) = omega (arith, whole, fits, length-drop len bytes) in
     ap (take len) takes.reads.1 ∙ ap (λ k. take k (print_request h ++ drop len bytes)) is ∙ take-append_seam (print_request h) (drop len bytes)
 
@@ -51,7 +54,13 @@ pub finds_head : {R : Type 0} (source : Source R) (s t : R) (old here : ReadBuff
 finds_head source s t old here bytes len r size reads framed are =
     let frames : Frames here.held len r size = subst (λ (l : List ℕ). Frames l len r size) are framed in
     record {
-      is = record { head = frames.head; is = frames.takes.reads.0; bytes_are = head_cut here.held len frames.head frames.takes frames.fits; describes = frames.describes };
+      is =
+          record {
+            head = frames.head;
+            is = frames.takes.reads.0;
+            bytes_are = head_cut here.held len frames.head frames.takes frames.fits;
+            describes = frames.describes;
+          };
       takes = frames.takes;
       inside = frames.fits;
       size_is = frames.size_is;
@@ -59,7 +68,8 @@ finds_head source s t old here bytes len r size reads framed are =
     }
 
 -- a request is awaited where a head is
-pub awaits_more : {R : Type 0} (source : Source R) (s t : R) (old new : ReadBuffer) → ReadsOnWhile source AwaitsHead s t old new → ReadsOnWhile source AwaitsRequest s t old new
+pub awaits_more : {R : Type 0} (source : Source R) (s t : R) (old new : ReadBuffer) → ReadsOnWhile source AwaitsHead s t old new
+    → ReadsOnWhile source AwaitsRequest s t old new
 awaits_more source s t old new reads = widened source AwaitsRequest AwaitsHead s t old new (λ h awaits. inl awaits) reads
 
 -- ---- the body after the head, which was taken
@@ -74,18 +84,21 @@ module _ {R : Type 0} (source : Source R) (s m t : R) (old here behind new : Rea
 
   pub head_read : ReadsOnWhile source AwaitsRequest s m old (put_back bytes behind)
   head_read = subst (λ (b : ReadBuffer). ReadsOnWhile source AwaitsRequest s m old (put_back bytes b)) (sym after_is)
-      (prefix_taken source AwaitsRequest s m old here bytes (drop len here.held) (awaits_more source s m old here found.reads) (sym (take-append-drop len here.held)))
+      (prefix_taken source AwaitsRequest s m old here bytes (drop len here.held) (awaits_more source s m old here found.reads)
+      (sym (take-append-drop len here.held)))
 
   -- the body is awaited after the head
   body_awaited : (h : List ℕ) → AwaitsBody size h → AwaitsRequest (bytes ++ h)
   body_awaited h awaits =
       inr (record { head = (found.is).head; after = h; takes = head_then h; awaits = subst (λ (z : BodyLength). AwaitsBody z h) found.size_is awaits })
 
-  after_head : (text : List ℕ) → ReadsOnWhile source (AwaitsBody size) m t behind (put_back text new) → ReadsOnWhile source AwaitsRequest s t old (put_back (bytes ++ text) new)
+  after_head : (text : List ℕ) → ReadsOnWhile source (AwaitsBody size) m t behind (put_back text new)
+      → ReadsOnWhile source AwaitsRequest s t old (put_back (bytes ++ text) new)
   after_head text second = prefixes_join source AwaitsRequest (AwaitsBody size) s m t old behind new bytes text body_awaited head_read second
 
   -- no more could be read of the body
-  pub body_stops : (failed : Bool) (why : ReadError) → StopsWhile source (AwaitsBody size) m t failed behind why → StopsWhile source AwaitsRequest s t failed old why
+  pub body_stops : (failed : Bool) (why : ReadError) → StopsWhile source (AwaitsBody size) m t failed behind why
+      → StopsWhile source AwaitsRequest s t failed old why
   body_stops failed why stops = stops_after source AwaitsRequest (AwaitsBody size) s m t failed old behind bytes why body_awaited head_read stops
 
   pub takes_request : {S : Type 0} (takes : Takings S) (before after : S) (body : TakesBody takes source m t behind new before after size)
@@ -93,14 +106,21 @@ module _ {R : Type 0} (source : Source R) (s m t : R) (old here behind new : Rea
   takes_request takes before after body = record {
     text = bytes ++ body.text;
     reads = after_head body.text body.reads;
-    spells = record { after = body.text; takes = head_then body.text; body_is = subst (λ (z : BodyLength). HasBody z body.text body.body) found.size_is body.body_is };
+    spells =
+        record {
+          after = body.text;
+          takes = head_then body.text;
+          body_is = subst (λ (z : BodyLength). HasBody z body.text body.body) found.size_is body.body_is;
+        };
   }
 
-  breaks_after : (why : BadRequest) (b : BreaksBody source m t behind new size why) → BreaksAfter (IsAtEnd (source.remaining t)) ((bytes ++ b.text) ++ new.held) why
+  breaks_after : (why : BadRequest) (b : BreaksBody source m t behind new size why)
+      → BreaksAfter (IsAtEnd (source.remaining t)) ((bytes ++ b.text) ++ new.held) why
   breaks_after why b = record {
     head = (found.is).head;
     after = b.text ++ new.held;
-    takes = subst (λ (l : List ℕ). TakesHead l (found.is).head (b.text ++ new.held)) (sym (append_assoc bytes b.text new.held)) (head_then (b.text ++ new.held));
+    takes =
+        subst (λ (l : List ℕ). TakesHead l (found.is).head (b.text ++ new.held)) (sym (append_assoc bytes b.text new.held)) (head_then (b.text ++ new.held));
     breaks = subst (λ (z : BodyLength). BodyBreaks (IsAtEnd (source.remaining t)) why z (b.text ++ new.held)) found.size_is b.breaks;
   }
 
@@ -113,5 +133,6 @@ module _ {R : Type 0} (source : Source R) (s m t : R) (old here behind new : Rea
   finds_bad_request why b = record { text = bytes ++ b.text; reads = after_head b.text b.reads; malformed = breaks why b }
 
 -- no head is no request
-pub none_is_bad_request : {R : Type 0} (source : Source R) (s t : R) (old new : ReadBuffer) → FindsNone source s t old new → FindsBadRequest source s t old new bad_request.Head
+pub none_is_bad_request : {R : Type 0} (source : Source R) (s t : R) (old new : ReadBuffer) → FindsNone source s t old new
+    → FindsBadRequest source s t old new bad_request.Head
 none_is_bad_request source s t old new none = record { text = []; reads = awaits_more source s t old new none.reads; malformed = none.malformed }

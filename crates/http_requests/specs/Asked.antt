@@ -1,7 +1,7 @@
 -- What a head asks of a session.
 use Rattle.std.specs.Prelude.{ℕ, ◌==◌, ◌&&◌, ◌||◌, ◌≤◌, Bool, false, List, [], ◌∷◌, map, if◌then◌else◌, nat_le, codes}
 use Rattle.std.specs.List.{before_first}
-use Rattle.decimal_digits.specs.Digits.{is_digits, number_of}
+use Rattle.jaeger_model.specs.Decimal.{is_digits, number_of}
 use Rattle.jaeger_model.specs.Texts.{same_text}
 use Rattle.httparse.specs.Grammar.{RequestHead, trim_ows}
 use Rattle.httparse.specs.Spans.{name_and_value}

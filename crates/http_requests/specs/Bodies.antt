@@ -2,8 +2,8 @@
 use Rattle.std.specs.Prelude.{◌≡◌, ℕ, ◌+◌, ◌<◌, ◌≤◌, ◌==◌, ◌&&◌, Bool, true, false, List, [], ◌∷◌, ◌++◌, length, take, All, Result, Ok, Err}
 use Rattle.std.specs.Io.KnownBytes.{IsAtEnd}
 use Rattle.httparse.specs.Ascii.{crlf_bytes}
-use Rattle.chunked_bodies.specs.Chunks.{IsSomeSizeLine, IsContent, Chunk, IsChunk, texts, contents, HasNone, Lacks}
-use Rattle.chunked_bodies.specs.Looks.{EndsNoLine}
+use Rattle.http_requests.specs.Chunks.{IsSomeSizeLine, IsContent, Chunk, IsChunk, texts, contents, HasNone, Lacks}
+use Rattle.http_requests.specs.ChunkLooks.{EndsNoLine}
 use Rattle.http_requests.specs.declared.asked.TheConstants.{MAX_BODY_BYTES}
 use Rattle.http_requests.specs.Requests.{HasBody, BodyBreaks, IsShorter, AwaitsBody}
 use Rattle.http_requests.specs.Waiting.{Source}
@@ -47,7 +47,8 @@ pub record AwaitsRest (Is : List ℕ → Type 0) (bytes : List ℕ) : Type 0 whe
 -- ---- bodies
 
 -- the body that the head announces was taken and pushed into the sink; each read for it was made while more was awaited
-pub record TakesBody {S R : Type 0} (takes : Takings S) (source : Source R) (s t : R) (old new : ReadBuffer) (before after : S) (size : BodyLength) : Type 0 where
+pub record TakesBody {S R : Type 0} (takes : Takings S) (source : Source R) (s t : R) (old new : ReadBuffer) (before after : S)
+    (size : BodyLength) : Type 0 where
   pub text : List ℕ
   pub body : List ℕ
   pub body_is : HasBody size text body

@@ -1,8 +1,8 @@
 -- A request that was received in part: what is known about it between two looks at the bytes received.
 use Rattle.std.specs.Prelude.{◌≡◌, ℕ, ◌+◌, ◌<◌, ◌≤◌, List, [], ◌++◌, length, take, All, Option, Some, None}
-use Rattle.chunked_bodies.specs.Chunks.{IsSizeLine, IsContent, IsTrailer, Chunk, IsChunk, texts, contents, HasNone}
-use Rattle.chunked_bodies.specs.declared.looks.Look.{Look}
-use Rattle.chunked_bodies.specs.declared.looks.Look.TheVariants as look
+use Rattle.http_requests.specs.Chunks.{IsSizeLine, IsContent, IsTrailer, Chunk, IsChunk, texts, contents, HasNone}
+use Rattle.http_requests.specs.declared.chunked.looks.Look.{Look}
+use Rattle.http_requests.specs.declared.chunked.looks.Look.TheVariants as look
 use Rattle.session_devices.specs.Takings.{Takings}
 use Rattle.http_requests.specs.declared.asked.TheConstants.{MAX_BODY_BYTES}
 use Rattle.http_requests.specs.declared.asked.BodyLength.{BodyLength}
@@ -124,7 +124,8 @@ LeavesOr reader held (Some look) = Leaves reader held look
 
 -- A text was taken from the bytes received, and the data in it were pushed into the sink. Whatever part the reader had
 -- taken before, that part with this text is as `Come` says.
-pub record TakesOn {S : Type 0} (takes : Takings S) (old new : ReadBuffer) (before after : S) (was : BodyReader) (Come : BodyLength → List ℕ → List ℕ → Type 0) : Type 0 where
+pub record TakesOn {S : Type 0} (takes : Takings S) (old new : ReadBuffer) (before after : S) (was : BodyReader)
+    (Come : BodyLength → List ℕ → List ℕ → Type 0) : Type 0 where
   pub text : List ℕ
   pub content : List ℕ
   pub cut : old ≡ put_back text new
@@ -136,7 +137,8 @@ abbrev pub TakesText : ReadBuffer → ReadBuffer → BodyReader → (BodyLength 
 TakesText old new was Come = TakesOn {S = Unit {0}} (λ s content t. content ≡ []) old new tt tt was Come
 
 -- a part of a body was taken, and its data were pushed into the sink; each read for it was made while more was awaited
-pub record TakesPart {S R : Type 0} (takes : Takings S) (source : Source R) (s t : R) (old new : ReadBuffer) (before after : S) (size : BodyLength) (reader : BodyReader) : Type 0 where
+pub record TakesPart {S R : Type 0} (takes : Takings S) (source : Source R) (s t : R) (old new : ReadBuffer) (before after : S) (size : BodyLength)
+    (reader : BodyReader) : Type 0 where
   pub text : List ℕ
   pub content : List ℕ
   pub part : IsPart size text content reader

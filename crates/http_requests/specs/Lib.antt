@@ -12,3 +12,5 @@ pub mod Bodies
 pub mod InParts
 pub mod LineEnds
 pub mod LineLaws
+pub mod Chunks
+pub mod ChunkLooks

@@ -1,15 +1,17 @@
 -- What ends with a line comes with the end of one: until a line has ended it is awaited still.
-use Rattle.std.proofs.Common.{◌≡◌, ℕ, ◌==◌, ◌||◌, nat_le, ◌<◌, Bool, true, false, List, [], ◌∷◌, ◌++◌, length, take, drop, refl, sym, ap, ◌∙◌, subst, arith, append_assoc, append-nil, length-append}
+use Rattle.std.proofs.Common.{◌≡◌, ℕ, ◌==◌, ◌||◌, nat_le, ◌<◌, Bool, true, false, List, [], ◌∷◌, ◌++◌, length, take, drop, refl, sym, ap, ◌∙◌, subst, arith}
+use Rattle.std.proofs.Common.{append_assoc, append-nil, length-append}
 use Rattle.std.specs.List.{list_any, flat_map}
 use Rattle.std.proofs.lemmas.Bool.Decides.{nat_tests}
 use Rattle.std.proofs.lemmas.List.{take-append-drop}
 use Rattle.std.proofs.lemmas.List.Folds.{list_any-append}
 use Rattle.std.proofs.Math.Bool.{or-true}
 use Rattle.httparse.specs.Ascii.{crlf_bytes}
-use Rattle.httparse.specs.Grammar.{LineEnd.{crlf, lf}, LineEnd, ChunkLine, print_chunk_line, print_extension, Field, RequestHead, print_end, print_field, print_section, print_blank, print_version, print_request}
+use Rattle.httparse.specs.Grammar.{LineEnd.{crlf, lf}, LineEnd, ChunkLine, print_chunk_line, print_extension, Field, RequestHead, print_end, print_field}
+use Rattle.httparse.specs.Grammar.{print_section, print_blank, print_version, print_request}
 use Rattle.httparse.proofs.GrammarLemmas.{print_request-append}
-use Rattle.chunked_bodies.specs.Chunks.{IsSomeSizeLine, IsTrailer, HasNone}
-use Rattle.chunked_bodies.specs.declared.trailer.TheConstants.{MAX_TRAILER_BYTES}
+use Rattle.http_requests.specs.Chunks.{IsSomeSizeLine, IsTrailer, HasNone}
+use Rattle.http_requests.specs.declared.chunked.trailer.TheConstants.{MAX_TRAILER_BYTES}
 use Rattle.http_requests.specs.declared.head.TheConstants.{MAX_HEAD_BYTES}
 use Rattle.http_requests.specs.Heads.{EndsLine, AwaitsHead}
 use Rattle.http_requests.specs.LineEnds.{is_due}
@@ -19,7 +21,8 @@ abbrev pub has_feed : List ℕ → Bool
 has_feed bytes = list_any (λ b. b == 10) bytes
 
 -- a prefix that ends with a line ends where no line ended later
-ends_before : (seen part front rest : List ℕ) → seen ++ part ≡ front ++ 10 ∷ rest → has_feed part ≡ false → (left : List ℕ) × (seen ≡ (front ++ 10 ∷ []) ++ left)
+ends_before : (seen part front rest : List ℕ) → seen ++ part ≡ front ++ 10 ∷ rest → has_feed part ≡ false → (left : List ℕ)
+    × (seen ≡ (front ++ 10 ∷ []) ++ left)
 ends_before [] part front rest e none = absurd (cc (sym none ∙ ap has_feed e ∙ has_one front rest))
   where
     has_one : (front rest : List ℕ) → has_feed (front ++ 10 ∷ rest) ≡ true
@@ -45,7 +48,8 @@ section_ends [] last = end_feeds last
 section_ends (f ∷ fs) last =
     let later = section_ends fs last in (
       print_field f ++ later.0,
-      append_assoc (print_field f) (flat_map print_field fs) (print_end last) ∙ ap (λ l. print_field f ++ l) later.1 ∙ sym (append_assoc (print_field f) later.0 (10 ∷ [])),
+      append_assoc (print_field f) (flat_map print_field fs) (print_end last) ∙ ap (λ l. print_field f ++ l) later.1
+          ∙ sym (append_assoc (print_field f) later.0 (10 ∷ [])),
     )
 
 after_ends : (front text : List ℕ) → EndsLine text → EndsLine (front ++ text)
@@ -56,7 +60,8 @@ cons_ends x text ends = (x ∷ ends.0, ap (λ l. x ∷ l) ends.1)
 
 head_ends : (h : RequestHead) → EndsLine (print_request h)
 head_ends h =
-    let last : EndsLine (print_section h.fields h.last ++ []) = subst EndsLine (sym (append-nil (print_section h.fields h.last))) (section_ends h.fields h.last) in
+    let last : EndsLine (print_section h.fields h.last ++ []) =
+    subst EndsLine (sym (append-nil (print_section h.fields h.last))) (section_ends h.fields h.last) in
     let version = after_ends (print_version h.minor) _ (after_ends (print_end h.line_end) _ last) in
     let line = after_ends h.method _ (cons_ends 32 _ (after_ends h.target _ (cons_ends 32 _ version))) in
     subst EndsLine (sym (print_request-append h []) ∙ append-nil (print_request h)) (after_ends (print_blank h.blank) _ line)
@@ -66,12 +71,14 @@ trailer_ends text is = subst EndsLine (sym is.text_is) (section_ends is.fields i
 
 -- ---- what was seen, and more in which no line ends
 
-pub cut_before : (seen part lines rest : List ℕ) → EndsLine lines → seen ++ part ≡ lines ++ rest → has_feed part ≡ false → (left : List ℕ) × (seen ≡ lines ++ left)
+pub cut_before : (seen part lines rest : List ℕ) → EndsLine lines → seen ++ part ≡ lines ++ rest → has_feed part ≡ false → (left : List ℕ)
+    × (seen ≡ lines ++ left)
 cut_before seen part lines rest ends e none =
     let cut = ends_before seen part ends.0 rest (e ∙ ap (λ l. l ++ rest) ends.1 ∙ append_assoc ends.0 (10 ∷ []) rest) none in
     (cut.0, cut.1 ∙ ap (λ l. l ++ cut.0) (sym ends.1))
 
-none_longer : (Is : List ℕ → Type 0) (seen part : List ℕ) → ((text : List ℕ) → Is text → EndsLine text) → HasNone Is seen → has_feed part ≡ false → HasNone Is (seen ++ part)
+none_longer : (Is : List ℕ → Type 0) (seen part : List ℕ) → ((text : List ℕ) → Is text → EndsLine text) → HasNone Is seen → has_feed part ≡ false
+    → HasNone Is (seen ++ part)
 none_longer Is seen part ends none new text rest is e =
     let cut = cut_before seen part text rest (ends text is) e new in
     none text cut.0 is cut.1
@@ -89,7 +96,8 @@ head_longer seen part awaits new short = record {
 not_due : (bytes : List ℕ) (seen most : ℕ) → is_due bytes seen most ≡ false → (length bytes < most) × (has_feed (drop seen bytes) ≡ false)
 not_due bytes seen most not = by (nat_le most (length bytes)) refl not
   where
-    by : (full : Bool) → full ≡ nat_le most (length bytes) → (full || has_feed (drop seen bytes)) ≡ false → (length bytes < most) × (has_feed (drop seen bytes) ≡ false)
+    by : (full : Bool) → full ≡ nat_le most (length bytes) → (full || has_feed (drop seen bytes)) ≡ false → (length bytes < most)
+        × (has_feed (drop seen bytes) ≡ false)
     by true is e = absurd (cc e)
     by false is e = (grind (arith, nat_tests, is), e)
 

@@ -1,7 +1,7 @@
 -- The text of a request, and why bytes are malformed.
 use Rattle.std.specs.Prelude.{◌≡◌, ℕ, ◌<◌, ◌≤◌, ◌⊎◌, List, ◌++◌, length, slice_range}
 use Rattle.httparse.specs.Grammar.{RequestHead, IsRequestHead, print_request}
-use Rattle.chunked_bodies.specs.Chunks.{IsBody, IsTooLarge, IsDecided, IsSized, BeginsWith, HasNone, NeverHas, Lacks}
+use Rattle.http_requests.specs.Chunks.{IsBody, IsTooLarge, IsDecided, IsSized, BeginsWith, HasNone, NeverHas, Lacks}
 use Rattle.http_requests.specs.declared.asked.TheConstants.{MAX_BODY_BYTES}
 use Rattle.http_requests.specs.Heads.{TakesHead, HasNoHead, NeverHasHead, EndsLine, AwaitsHead}
 use Rattle.http_requests.specs.Asked.{asked_by, body_length}
@@ -91,7 +91,12 @@ AwaitsRequest bytes = AwaitsHead bytes ⊎ AwaitsAfter bytes
 
 -- what was reported about a head; the target is a part of its text
 pub record Describes (head : RequestHead) (r : Request) : Type 0 where
-  pub asked : asked_by head ≡ record { method = r.method; target = slice_range (print_request head) r.target.start r.target.end; has_batch_type = r.has_batch_type; closes = r.closes }
+  pub asked : asked_by head ≡ record {
+    method = r.method;
+    target = slice_range (print_request head) r.target.start r.target.end;
+    has_batch_type = r.has_batch_type;
+    closes = r.closes;
+  }
   pub ordered : r.target.start ≤ r.target.end
   pub inside : r.target.end ≤ length (print_request head)
 

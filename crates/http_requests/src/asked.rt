@@ -4,11 +4,11 @@ ghost use Rattle.http_requests.specs.Fields.{values_of};
 ghost use Rattle.http_requests.specs.Framing.{Frames};
 ghost use Rattle.http_requests.specs.Heads.{IsWholeHead};
 
+use crate::chunked::prefix_of;
 use crate::fields::{Fields, Values, cut, is_named, trimmed};
 use crate::head::MAX_HEAD_BYTES;
-use chunked_bodies::prefix_of;
-use decimal_digits::{is_number, value_of};
 use httparse::spans::{HeaderSpan, RequestSpans, Span};
+use jaeger_model::decimal::{is_number, value_of};
 
 /// The limit of a body's data, in bytes: a limit of the session.
 pub(crate) const MAX_BODY_BYTES: u64 = 4_194_304;

@@ -1,17 +1,17 @@
 //! A body that is read piece by piece: its state between two reads.
 
 ghost use Rattle.std.specs.Prelude.{◌≡◌, ◌<◌, ℕ, List, [], length, take, drop, min, IfNone};
-ghost use Rattle.chunked_bodies.specs.Chunks.{IsTrailer, HasNone, NeverHas};
+ghost use Rattle.http_requests.specs.Chunks.{IsTrailer, HasNone, NeverHas};
 ghost use Rattle.http_requests.specs.Searching.{LooksFor};
 ghost use Rattle.http_requests.specs.Bodies.{AwaitsRest, IsLineEnd, Begins, begins_line_end, may_begin_line_end};
 ghost use Rattle.http_requests.specs.InParts.{IsPart, HasLooked, Comes, ComesOr, Leaves, LeavesOr, TakesOn, TakesText};
 ghost use Rattle.http_requests.specs.declared.body_reader.Stage.TheVariants as stage;
 
 use crate::asked::{BadRequest, BodyLength, MAX_BODY_BYTES};
+use crate::chunked::{Look, MAX_TRAILER_BYTES, look_for_size, look_for_trailer};
 use crate::read_buffer::ReadBuffer;
 use crate::searching::{Search, look_when_due};
 use crate::sink::Sink;
-use chunked_bodies::{Look, MAX_TRAILER_BYTES, look_for_size, look_for_trailer};
 
 /// What became of a body with the bytes received so far.
 #[derive(Clone, Copy, Debug, PartialEq, Eq)]

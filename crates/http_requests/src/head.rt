@@ -1,7 +1,7 @@
 ghost use Rattle.http_requests.specs.Heads.{AwaitsHead};
 
+use crate::chunked::{Look, look_by, prefix_of};
 use crate::searching::Search;
-use chunked_bodies::{Look, look_by, prefix_of};
 use httparse::spans::{EMPTY_HEADER_SPAN, HeaderSpan, RequestSpans, parse_request};
 
 /// The length limit of a head, with its empty line. RFC 9112 sets none; this is a limit of the session.

@@ -21,12 +21,14 @@
 //! * `searching`: the search for such a text.
 //! * `reading`: reads the head of the next request.
 //! * `sink`: takes the pieces of a body.
+//! * `chunked`: parses the size lines and the trailer of a chunked body.
 //! * `laws`: laws of what bytes start with.
 #![tactic(auto)]
 
 mod asked;
 mod bodies;
 mod body_reader;
+pub mod chunked;
 mod fields;
 mod head;
 pub mod laws;
@@ -40,7 +42,7 @@ mod sink;
 pub use asked::{BadRequest, BodyLength, Method, Request};
 pub use bodies::read_body;
 pub use body_reader::{BodyLook, BodyReader};
-pub use chunked_bodies::Look;
+pub use chunked::Look;
 pub use read_buffer::{MAX_READS, ReadBuffer, ReadError};
 pub use reading::{HeadWait, Next, next_head};
 pub use room::{PIECE, SpareRoom};

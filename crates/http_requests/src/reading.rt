@@ -7,10 +7,10 @@ ghost use Rattle.http_requests.specs.Waiting.{source_of};
 ghost use Rattle.http_requests.specs.Receiving.{KnowsItsEnd, StopsWhile, Finds, SameUnlessReading};
 
 use crate::asked::{BodyLength, Request, frame};
+use crate::chunked::Look;
 use crate::head::HeadSearch;
 use crate::read_buffer::{ReadBuffer, ReadError};
 use crate::searching::look_when_due;
-use chunked_bodies::Look;
 use session_devices::Input;
 
 /// What the bytes received start with, after reading as far as necessary.

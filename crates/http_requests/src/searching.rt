@@ -2,8 +2,8 @@ ghost use Rattle.std.specs.Prelude.{◌≡◌, ◌≤◌, ℕ, List, [], false, 
 ghost use Rattle.http_requests.specs.LineEnds.{is_due};
 ghost use Rattle.http_requests.specs.Searching.{LooksFor};
 
+use crate::chunked::Look;
 use crate::line_ends::is_due;
-use chunked_bodies::Look;
 
 /// A search for a text at the start of the bytes received.
 pub(crate) trait Search {

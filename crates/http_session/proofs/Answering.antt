@@ -20,13 +20,15 @@ some_text : (old here : ReadBuffer) (v : Verdict) (asked : Bool) (found : Receiv
 some_text old here v asked found = request_is_some found.text found.head found.body found.spells
 
 -- fewer bytes are left after a request, and as many reads
-pub fewer_left : (old here : ReadBuffer) (v : Verdict) (asked : Bool) (found : ReceivesOne old here v asked) → PIECE * here.left + length here.held < PIECE * old.left + length old.held
+pub fewer_left : (old here : ReadBuffer) (v : Verdict) (asked : Bool) (found : ReceivesOne old here v asked)
+    → PIECE * here.left + length here.held < PIECE * old.left + length old.held
 fewer_left old here v asked found =
     let held : length old.held ≡ length (found.text ++ here.held) = ap (λ (b : ReadBuffer). length b.held) found.cut in
     let left : old.left ≡ here.left = ap (λ (b : ReadBuffer). b.left) found.cut in
     rw left (omega (arith, some_text old here v asked found, held, length-append found.text here.held))
 
-module _ {S C : Type 0} (submits : Submits S) (reads : Reads S) (line : Line C) (two : IsTwoWay line) (c0 c2 : C) (s t : S) (old here : ReadBuffer) (answered : ℕ)
+module _ {S C : Type 0} (submits : Submits S) (reads : Reads S) (line : Line C) (two : IsTwoWay line) (c0 c2 : C) (s t : S) (old here : ReadBuffer)
+    (answered : ℕ)
     (v : Verdict) (asked : Bool) (so : SoFar submits reads line c0 c2 s t old answered) (found : ReceivesOne old here v asked) where
   -- with the request's text put back
   abbrev pub whole : ReadBuffer
@@ -57,11 +59,13 @@ module _ {S C : Type 0} (submits : Submits S) (reads : Reads S) (line : Line C) 
         (subst (λ (b : Bool). Appends (line.contents c2) (line.contents c3) (response_of reply b)) close_is wrote)
         (subst (λ (b : Bool). line.takes c2 (response_of reply b) c3) close_is took)
 
-    pub answered_not : (partial_write : PartialWrite) → WritesResponse (line.contents c2) (line.contents c3) false (line.out_failed c3) (response_of reply close) (Err partial_write)
+    pub answered_not : (partial_write : PartialWrite)
+        → WritesResponse (line.contents c2) (line.contents c3) false (line.out_failed c3) (response_of reply close) (Err partial_write)
         → line.takes c2 (take partial_write.written (response_of reply close)) c3 → line.in_failed c2 ≡ false
         → (takes_no_memory reply ≡ true → partial_write.cause ≢ Memory)
         → FailsOver submits reads line c0 c3 s u (record { answered = answered; written = partial_write.written; cause = partial_write.cause })
     answered_not partial_write said took in_works spared =
         fails_due submits reads line two c0 c2 c3 s t u whole here.held answered turn partial_write so_whole is_turn refl step
-        (subst (λ (b : Bool). WritesResponse (line.contents c2) (line.contents c3) false (line.out_failed c3) (response_of reply b) (Err partial_write)) close_is said)
+        (subst (λ (b : Bool). WritesResponse (line.contents c2) (line.contents c3) false (line.out_failed c3) (response_of reply b) (Err partial_write))
+        close_is said)
         (subst (λ (b : Bool). line.takes c2 (take partial_write.written (response_of reply b)) c3) close_is took) in_works spared

@@ -1,5 +1,6 @@
 -- A request that was heard: its head, and then its body.
-use Rattle.std.proofs.Common.{◌≡◌, ℕ, ◌≤◌, ◌<◌, Bool, true, List, [], ◌++◌, length, take, drop, Option, Some, None, refl, sym, ap, ◌∙◌, subst, arith, inl, inr, append_assoc, append-nil, length-append}
+use Rattle.std.proofs.Common.{◌≡◌, ℕ, ◌≤◌, ◌<◌, Bool, true, List, [], ◌++◌, length, take, drop, Option, Some, None, refl, sym, ap, ◌∙◌, subst, arith, inl, inr}
+use Rattle.std.proofs.Common.{append_assoc, append-nil, length-append}
 use Rattle.std.proofs.lemmas.List.{take-append-drop, take_all}
 use Rattle.std.proofs.Math.Seq.{take-append_seam}
 use Rattle.httparse.specs.Grammar.{RequestHead, print_request}
@@ -26,7 +27,8 @@ use Rattle.http_session.specs.Verdicts.{Judges, JudgesBatch, asked_of}
 use Rattle.http_session.specs.Questions.{Decides, Asks, JudgesRead}
 use Rattle.http_session.specs.Fed.{Follows}
 use Rattle.http_session.specs.FedLaws.{follows_joined}
-use Rattle.http_session.specs.Incoming.{JudgesBy, Carries, IsPartOf, HasReceived, HasLookedBy, WaitsAfter, ReceivesOne, ReceivesBadRequest, ReceivesPart, ReceivesWhole, ReceivesOf, FinishesAs, before_a_request}
+use Rattle.http_session.specs.Incoming.{JudgesBy, Carries, IsPartOf, HasReceived, HasLookedBy, WaitsAfter, ReceivesOne, ReceivesBadRequest, ReceivesPart}
+use Rattle.http_session.specs.Incoming.{ReceivesWhole, ReceivesOf, FinishesAs, before_a_request}
 use Rattle.http_session.specs.declared.question.Question.{Question}
 use Rattle.http_session.specs.declared.question.Question.TheVariants as question
 use Rattle.http_session.specs.declared.verdict.Verdict.{Verdict}
@@ -47,20 +49,25 @@ pub settled_carries : (v : Verdict) (content : List ℕ) → Carries (Settled v)
 settled_carries v content (question.Settled w) before judged = judged
 settled_carries v content question.Batch before judged = judged
 
-pub batch_carries : (b d : BatchBody) (content : List ℕ) → Follows (answers b.feeder.value) content (answers d.feeder.value) → Carries (Batch b) content (Batch d)
+pub batch_carries : (b d : BatchBody) (content : List ℕ) → Follows (answers b.feeder.value) content (answers d.feeder.value)
+    → Carries (Batch b) content (Batch d)
 batch_carries b d content follows (question.Settled w) before judged = absurd judged
-batch_carries b d content follows question.Batch before judged = follows_joined decoded (answers b.feeder.value) (answers d.feeder.value) before content judged follows
+batch_carries b d content follows question.Batch before judged =
+    follows_joined decoded (answers b.feeder.value) (answers d.feeder.value) before content judged follows
 
 -- the same was taken, and put into another sink
-pub put_as : {S T : Type 0} (takes : Takings S) (other : Takings T) (old new : ReadBuffer) (s t : S) (x y : T) (was : BodyReader) (Come : BodyLength → List ℕ → List ℕ → Type 0)
+pub put_as : {S T : Type 0} (takes : Takings S) (other : Takings T) (old new : ReadBuffer) (s t : S) (x y : T) (was : BodyReader)
+    (Come : BodyLength → List ℕ → List ℕ → Type 0)
     → ((content : List ℕ) → takes s content t → other x content y) → TakesOn takes old new s t was Come → TakesOn other old new x y was Come
-put_as takes other old new s t x y was Come puts on = record { text = on.text; content = on.content; cut = on.cut; put = puts on.content on.put; come = on.come }
+put_as takes other old new s t x y was Come puts on =
+    record { text = on.text; content = on.content; cut = on.cut; put = puts on.content on.put; come = on.come }
 
 pub settled_decides : (v : Verdict) (q : Question) (body : List ℕ) → JudgesBy q (Settled v) body → Decides q body v
 settled_decides v (question.Settled w) body judged = judged
 settled_decides v question.Batch body judged = subst (JudgesBatch true body) (sym judged) refl
 
-pub batch_decides : (b : BatchBody) (v : Verdict) → JudgesRead (answers b.feeder.value []) v → (q : Question) (body : List ℕ) → JudgesBy q (Batch b) body → Decides q body v
+pub batch_decides : (b : BatchBody) (v : Verdict) → JudgesRead (answers b.feeder.value []) v → (q : Question) (body : List ℕ) → JudgesBy q (Batch b) body
+    → Decides q body v
 batch_decides b v judges (question.Settled w) body judged = absurd judged
 batch_decides b v judges question.Batch body judged = batch_verdict decoded (answers b.feeder.value) body (λ w. refl) v judged judges
 
@@ -71,7 +78,8 @@ head_of bytes len r size frames =
     record { head = frames.head; is = frames.takes.reads.0; bytes_are = head_cut bytes len frames.head frames.takes frames.fits; describes = frames.describes }
 
 -- the head of a request, before its body
-pub begins_request : (bytes : List ℕ) (len : ℕ) (r : Request) (size : BodyLength) (q : Question) (request : PartialRequest) (frames : Frames bytes len r size) → Asks (asked_of (take len bytes) r) q
+pub begins_request : (bytes : List ℕ) (len : ℕ) (r : Request) (size : BodyLength) (q : Question) (request : PartialRequest) (frames : Frames bytes len r size)
+    → Asks (asked_of (take len bytes) r) q
     → IsPart size [] [] request.reader → JudgesBy q request.sink [] → request.closes ≡ r.closes → IsPartOf request (take len bytes)
 unfolding head_of
 begins_request bytes len r size q request frames asks part judged closes =
@@ -108,7 +116,8 @@ module _ (request : PartialRequest) (text : List ℕ) (so : IsPartOf request tex
     awaits = awaits_body (body_length so.head) so.taken so.content held request.reader so.part awaits;
   })
 
-  breaks_as : (AtEnd : Type 0) (why : BadRequest) (held : List ℕ) → BodyBreaks AtEnd why (body_length so.head) (so.taken ++ held) → BreaksAfter AtEnd (text ++ held) why
+  breaks_as : (AtEnd : Type 0) (why : BadRequest) (held : List ℕ) → BodyBreaks AtEnd why (body_length so.head) (so.taken ++ held)
+      → BreaksAfter AtEnd (text ++ held) why
   breaks_as AtEnd why held breaks = record {
     head = so.head;
     after = so.taken ++ held;
@@ -116,7 +125,8 @@ module _ (request : PartialRequest) (text : List ℕ) (so : IsPartOf request tex
     breaks = breaks;
   }
 
-  malformed_as : (AtEnd : Type 0) (why : BadRequest) (held : List ℕ) → BodyBreaks AtEnd why (body_length so.head) (so.taken ++ held) → IsMalformed AtEnd (text ++ held) why
+  malformed_as : (AtEnd : Type 0) (why : BadRequest) (held : List ℕ) → BodyBreaks AtEnd why (body_length so.head) (so.taken ++ held)
+      → IsMalformed AtEnd (text ++ held) why
   malformed_as AtEnd bad_request.Head held breaks = absurd breaks
   malformed_as AtEnd bad_request.Body held breaks = breaks_as AtEnd bad_request.Body held breaks
   malformed_as AtEnd bad_request.TooLarge held breaks = breaks_as AtEnd bad_request.TooLarge held breaks
@@ -134,7 +144,8 @@ module _ (request : PartialRequest) (text : List ℕ) (so : IsPartOf request tex
     text = text;
     cut = refl;
     malformed = malformed_as (new.ended ≡ true) bad_request.Body new.held
-        (ended_breaks (new.ended ≡ true) (body_length so.head) (so.taken ++ new.held) (awaits_body (body_length so.head) so.taken so.content new.held request.reader so.part awaits) ended);
+        (ended_breaks (new.ended ≡ true) (body_length so.head) (so.taken ++ new.held)
+        (awaits_body (body_length so.head) so.taken so.content new.held request.reader so.part awaits) ended);
   }
 
 -- a text was taken after it
@@ -145,7 +156,9 @@ module _ (was is : PartialRequest) (text : List ℕ) (old new : ReadBuffer) (so 
   text_after : (more : List ℕ) → text ++ more ≡ print_request so.head ++ (so.taken ++ more)
   text_after more = ap (λ l. l ++ more) so.text_is ∙ append_assoc (print_request so.head) so.taken more
 
-  pub part_more : is.closes ≡ was.closes → (on : TakesOn Carries old new was.sink is.sink was.reader (λ size text content. Comes size text content new.held is.reader look.More)) → IsPartOf is (text ++ on.text)
+  pub part_more : is.closes ≡ was.closes
+      → (on : TakesOn Carries old new was.sink is.sink was.reader (λ size text content. Comes size text content new.held is.reader look.More))
+      → IsPartOf is (text ++ on.text)
   part_more closes on = record {
     head = so.head;
     taken = so.taken ++ on.text;
@@ -159,19 +172,23 @@ module _ (was is : PartialRequest) (text : List ℕ) (old new : ReadBuffer) (so 
     closes_is = closes ∙ so.closes_is;
   }
 
-  pub receives_more : is.closes ≡ was.closes → TakesOn Carries old new was.sink is.sink was.reader (λ size text content. Comes size text content new.held is.reader look.More)
+  pub receives_more : is.closes ≡ was.closes
+      → TakesOn Carries old new was.sink is.sink was.reader (λ size text content. Comes size text content new.held is.reader look.More)
       → ReceivesPart (put_back text old) new (Body is)
   receives_more closes on = record { text = text ++ on.text; cut = cut_after on.text on.cut; incoming = part_more closes on }
 
   -- the input ended after it
-  pub receives_end_inside : is.closes ≡ was.closes → TakesOn Carries old new was.sink is.sink was.reader (λ size text content. Comes size text content new.held is.reader look.More)
+  pub receives_end_inside : is.closes ≡ was.closes
+      → TakesOn Carries old new was.sink is.sink was.reader (λ size text content. Comes size text content new.held is.reader look.More)
       → AwaitsMore is.reader new.held → new.ended ≡ true → ReceivesBadRequest (put_back text old) new bad_request.Body
   unfolding ends_inside part_more
   receives_end_inside closes on awaits ended =
       let inside = ends_inside is (text ++ on.text) (part_more closes on) new awaits ended in
       record { text = text ++ on.text; cut = cut_after on.text on.cut; malformed = inside.malformed }
 
-  pub receives_malformed : (why : BadRequest) → TakesOn Carries old new was.sink is.sink was.reader (λ size text content. Comes size text content new.held is.reader (look.Malformed why)) → ReceivesBadRequest (put_back text old) new why
+  pub receives_malformed : (why : BadRequest)
+      → TakesOn Carries old new was.sink is.sink was.reader (λ size text content. Comes size text content new.held is.reader (look.Malformed why))
+      → ReceivesBadRequest (put_back text old) new why
   receives_malformed why on =
       let breaks = on.come (body_length so.head) so.taken so.content so.part in
       let after : (so.taken ++ on.text) ++ new.held ≡ so.taken ++ (on.text ++ new.held) = append_assoc so.taken on.text new.held in
@@ -180,10 +197,12 @@ module _ (was is : PartialRequest) (text : List ℕ) (old new : ReadBuffer) (so 
         cut = cut_after on.text on.cut;
         malformed = subst (λ (l : List ℕ). IsMalformed (new.ended ≡ true) l why) (sym (append_assoc text on.text new.held))
             (malformed_as was text so (new.ended ≡ true) why (on.text ++ new.held)
-            (subst (BodyBreaks (new.ended ≡ true) why (body_length so.head)) after (breaks_anyway (new.ended ≡ true) why (body_length so.head) ((so.taken ++ on.text) ++ new.held) breaks)));
+            (subst (BodyBreaks (new.ended ≡ true) why (body_length so.head)) after
+            (breaks_anyway (new.ended ≡ true) why (body_length so.head) ((so.taken ++ on.text) ++ new.held) breaks)));
       }
 
-  pub receives_whole : is.closes ≡ was.closes → TakesOn Carries old new was.sink is.sink was.reader (λ size text content. Comes size text content new.held is.reader look.Whole)
+  pub receives_whole : is.closes ≡ was.closes
+      → TakesOn Carries old new was.sink is.sink was.reader (λ size text content. Comes size text content new.held is.reader look.Whole)
       → ReceivesWhole (put_back text old) new is
   receives_whole closes on = record {
     text = text ++ on.text;
@@ -202,7 +221,8 @@ module _ (was is : PartialRequest) (text : List ℕ) (old new : ReadBuffer) (so 
   }
 
 -- the verdict on it
-finished_as : (old new : ReadBuffer) (request : PartialRequest) (incoming : Incoming) → ReceivesWhole old new request → FinishesAs (Body request) incoming → ReceivesOf old new before_a_request (Some incoming)
+finished_as : (old new : ReadBuffer) (request : PartialRequest) (incoming : Incoming) → ReceivesWhole old new request → FinishesAs (Body request) incoming
+    → ReceivesOf old new before_a_request (Some incoming)
 finished_as old new request (One v closes) whole finishes = (
   record {
     text = whole.text;
@@ -218,10 +238,12 @@ finished_as old new request (One v closes) whole finishes = (
 finished_as old new request Clean whole finishes = absurd finishes
 finished_as old new request (Malformed why) whole finishes = absurd finishes
 
-pub receives_finished : (old new : ReadBuffer) (request : PartialRequest) (stage next : Stage) (incoming : Incoming) → stage ≡ Body request → next ≡ before_a_request → ReceivesWhole old new request
+pub receives_finished : (old new : ReadBuffer) (request : PartialRequest) (stage next : Stage) (incoming : Incoming) → stage ≡ Body request
+    → next ≡ before_a_request → ReceivesWhole old new request
     → FinishesAs stage incoming → ReceivesOf old new next (Some incoming)
 receives_finished old new request stage next incoming is next_is whole finishes =
-    subst (λ (s : Stage). ReceivesOf old new s (Some incoming)) (sym next_is) (finished_as old new request incoming whole (subst (λ (s : Stage). FinishesAs s incoming) is finishes))
+    subst (λ (s : Stage). ReceivesOf old new s (Some incoming)) (sym next_is)
+    (finished_as old new request incoming whole (subst (λ (s : Stage). FinishesAs s incoming) is finishes))
 
 -- ---- a session that waits
 

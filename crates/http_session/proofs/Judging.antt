@@ -19,7 +19,8 @@ module _ (a : Asked) (target path : List ℕ) (path_is : path ≡ path_of target
     at : (body : List ℕ) (v : Verdict) → JudgesMethod a body v e part → Judges a body v
     at body v next = inr (record { endpoint = e; part = part; path = subst (IsPath e part) the_path has; next = next })
 
-    pub asks_query : (form : List ℕ) (v : Verdict) → form ≡ form_of target → a.method ≡ Get → JudgesQuery (query_at e part (pairs_of form)) v → Asks a (Settled v)
+    pub asks_query : (form : List ℕ) (v : Verdict) → form ≡ form_of target → a.method ≡ Get → JudgesQuery (query_at e part (pairs_of form)) v
+        → Asks a (Settled v)
     asks_query form v form_is get follows body w is =
         let there : JudgesQuery (query_at e part (pairs_of (form_of a.target))) v =
         subst (λ (f : List ℕ). JudgesQuery (query_at e part (pairs_of f)) v) (form_is ∙ ap form_of target_is) follows in

@@ -1,13 +1,14 @@
 -- One piece of a session: what it has come to, wherever it began, and also where others used the store since the piece
 -- before.
-use Rattle.std.proofs.Common.{◌≡◌, ◌≢◌, ℕ, ◌+◌, ◌||◌, Bool, true, false, List, [], ◌++◌, length, take, Option, Some, None, Result, Ok, Err, refl, sym, ap, ◌∙◌, subst, arith, inl, inr, length-append}
+use Rattle.std.proofs.Common.{◌≡◌, ◌≢◌, ℕ, ◌+◌, ◌||◌, Bool, true, false, List, [], ◌++◌, length, take, Option, Some, None, Result, Ok, Err, refl, sym, ap, ◌∙◌}
+use Rattle.std.proofs.Common.{subst, arith, inl, inr, length-append}
 use Rattle.std.specs.Io.KnownBytes.{Appends, IsAtEnd}
 use Rattle.jaeger_model.specs.declared.batch.Batch.{Batch}
 use Rattle.trace_model.specs.declared.limits.Limits.{Limits}
 use Rattle.trace_model.specs.declared.query.Query.{Query}
 use Rattle.trace_model.specs.declared.answer.Answer.{Answer}
 use Rattle.trace_model.specs.declared.refusal.Refusal.{Refusal}
-use Rattle.store_backend.specs.Knowing.{History, Keeps, SubmitKnows, ReadKnows}
+use Rattle.trace_model.specs.Knowing.{History, Keeps, SubmitKnows, ReadKnows}
 use Rattle.http_requests.specs.declared.read_buffer.ReadError.{ReadError}
 use Rattle.http_requests.specs.declared.asked.BadRequest.{BadRequest}
 use Rattle.http_requests.specs.declared.read_buffer.ReadError.TheVariants as why
@@ -22,7 +23,8 @@ use Rattle.http_session.specs.Replies.{closes, takes_no_memory, response_of}
 use Rattle.http_session.specs.Sessions.{Submits, Reads, Step, WritesResponse, cause_by}
 use Rattle.http_session.specs.InOrder.{Line, IsTwoWay, EndsOver, FailsOver}
 use Rattle.http_session.specs.Between.{Store, store_of, EndsServed, FailsServed}
-use Rattle.http_session.specs.Pieces.{AsksOnce, AnswersSoFar, StaysUnderway, OutlastsWrites, ForgetsNothing, SubmitsSome, ReadsSome, no_requests_yet, CanContinue, AwaitsMore, shared, Underway, ComesTo, UnderwayAmong, GoesOn}
+use Rattle.http_session.specs.Pieces.{AsksOnce, AnswersSoFar, StaysUnderway, OutlastsWrites, ForgetsNothing, SubmitsSome, ReadsSome, no_requests_yet}
+use Rattle.http_session.specs.Pieces.{CanContinue, AwaitsMore, shared, Underway, ComesTo, UnderwayAmong, GoesOn}
 use Rattle.http_session.specs.declared.pieces.Session.{Session}
 use Rattle.http_session.specs.declared.receiving.Stage.{Stage}
 use Rattle.http_session.specs.declared.verdict.Verdict.{Verdict}
@@ -87,11 +89,15 @@ module _ {S : Type 0} (store : Store S) where
     shared_promises = record { submit_knows = later_submit_knows; read_knows = later_read_knows }
 
     -- its answers are those of one growing history
-    pub ends_served : {C : Type 0} (line : Line C) (c0 c1 : C) (s t : S) (ended : Ended) → EndsOver store.submits store.reads line c0 c1 s t ended → EndsServed store line c0 c1 s t ended
-    ends_served line c0 c1 s t ended over = (over, related_all store.limits store.knows store.submits store.reads promises.submit_knows promises.read_knows s t _ over.0.run)
+    pub ends_served : {C : Type 0} (line : Line C) (c0 c1 : C) (s t : S) (ended : Ended) → EndsOver store.submits store.reads line c0 c1 s t ended
+        → EndsServed store line c0 c1 s t ended
+    ends_served line c0 c1 s t ended over =
+        (over, related_all store.limits store.knows store.submits store.reads promises.submit_knows promises.read_knows s t _ over.0.run)
 
-    pub fails_served : {C : Type 0} (line : Line C) (c0 c1 : C) (s t : S) (error : SessionError) → FailsOver store.submits store.reads line c0 c1 s t error → FailsServed store line c0 c1 s t error
-    fails_served line c0 c1 s t error over = (over, related_all store.limits store.knows store.submits store.reads promises.submit_knows promises.read_knows s t _ over.0.run)
+    pub fails_served : {C : Type 0} (line : Line C) (c0 c1 : C) (s t : S) (error : SessionError) → FailsOver store.submits store.reads line c0 c1 s t error
+        → FailsServed store line c0 c1 s t error
+    fails_served line c0 c1 s t error over =
+        (over, related_all store.limits store.knows store.submits store.reads promises.submit_knows promises.read_knows s t _ over.0.run)
 
 -- ---- what one piece does
 
@@ -107,7 +113,8 @@ module _ {S C : Type 0} (store : Store S) (promises : Promises store) (line : Li
 
   -- the store makes a step
   asked : (c2 : C) (u : S) (v : Verdict) (reply : Reply) (result : Result (Option Ended) SessionError) → Step store.submits store.reads t v reply u
-      → ((other : Store S) → Promises other → (c0 : C) (s m n : S) → Step other.submits other.reads m v reply n → Underway other line c0 c1 s m old → ComesTo other line c0 c2 s n new result)
+      → ((other : Store S) → Promises other → (c0 : C) (s m n : S) → Step other.submits other.reads m v reply n → Underway other line c0 c1 s m old
+      → ComesTo other line c0 c2 s n new result)
       → GoesOn store line c1 c2 t u old new result
   asked c2 u v reply result step each = record {
     alone = λ c0 s so. each store promises c0 s t u step so;
@@ -117,7 +124,8 @@ module _ {S C : Type 0} (store : Store S) (promises : Promises store) (line : Li
   }
 
   -- memory ran out for a query
-  pub receives_no_query : line.in_failed c1 ≡ false → line.out_failed c1 ≡ false → ((text : List ℕ) → HasReceived old.stage text → BeginsWithQuery (text ++ old.received.held))
+  pub receives_no_query : line.in_failed c1 ≡ false → line.out_failed c1 ≡ false
+      → ((text : List ℕ) → HasReceived old.stage text → BeginsWithQuery (text ++ old.received.held))
       → GoesOn store line c1 c1 t t old new (Err (record { answered = old.answered; written = 0; cause = Memory }))
   receives_no_query in_works out_works none =
       unasked c1 (Err (record { answered = old.answered; written = 0; cause = Memory }))
@@ -125,7 +133,9 @@ module _ {S C : Type 0} (store : Store S) (promises : Promises store) (line : Li
       let here = put_back so.text old.received in
       let nothing : ReceivesNothing line.source c1 c1 (line.in_failed c1) here why.Memory =
       inr (record { here = here; reads = nothing_yet line.source AwaitsRequest c1 here; query = none so.text so.incoming }) in
-      fails_served other kept line c0 c1 s m _ (fails_reading other.submits other.reads line two (Unit {0}) c0 c1 c1 s m here old.answered false why.Memory so.so_far nothing in_works refl out_works))
+      fails_served other kept line c0 c1 s m _
+      (fails_reading other.submits other.reads line two (Unit {0})
+      c0 c1 c1 s m here old.answered false why.Memory so.so_far nothing in_works refl out_works))
 
   -- no more could be read
   pub receives_nothing : (A : Type 0) (c2 : C) (before : Bool) (stop : ReadError)
@@ -136,7 +146,8 @@ module _ {S C : Type 0} (store : Store S) (promises : Promises store) (line : Li
       unasked c2 (Err (record { answered = old.answered; written = 0; cause = cause_by stop }))
       (λ other kept c0 s m so.
       fails_served other kept line c0 c2 s m _
-      (fails_stopped other.submits other.reads line two A c0 c1 c2 s m (put_back so.text old.received) old.answered before stop so.so_far (stops so.text so.incoming) same was out))
+      (fails_stopped other.submits other.reads line two A c0 c1 c2 s m (put_back so.text old.received) old.answered before stop so.so_far
+      (stops so.text so.incoming) same was out))
 
   pub receives_end : (here : ReadBuffer) → ((text : List ℕ) → HasReceived old.stage text → ReceivesEnd (put_back text old.received) here)
       → GoesOn store line c1 c1 t t old new (Ok (Some (record { answered = old.answered; clean = true })))
@@ -145,9 +156,11 @@ module _ {S C : Type 0} (store : Store S) (promises : Promises store) (line : Li
       (λ other kept c0 s m so.
       let end = found so.text so.incoming in
       let here_so = subst (λ (b : ReadBuffer). SoFar other.submits other.reads line c0 c1 s m b old.answered) end.same so.so_far in
-      ends_served other kept line c0 c1 s m _ (ends_clean other.submits other.reads line two c0 c1 s m here old.answered here_so (here_so.end end.ended, end.nothing)))
+      ends_served other kept line c0 c1 s m _
+      (ends_clean other.submits other.reads line two c0 c1 s m here old.answered here_so (here_so.end end.ended, end.nothing)))
 
-  pub parts : (c2 : C) (here : ReadBuffer) (b : BadRequest) → ((text : List ℕ) → HasReceived old.stage text → ReceivesBadRequest (put_back text old.received) here b)
+  pub parts : (c2 : C) (here : ReadBuffer) (b : BadRequest)
+      → ((text : List ℕ) → HasReceived old.stage text → ReceivesBadRequest (put_back text old.received) here b)
       → Appends (line.contents c1) (line.contents c2) (response_of (Malformed b) true) → line.takes c1 (response_of (Malformed b) true) c2
       → GoesOn store line c1 c2 t t old new (Ok (Some (record { answered = old.answered + 1; clean = false })))
   parts c2 here b found wrote took =
@@ -155,9 +168,12 @@ module _ {S C : Type 0} (store : Store S) (promises : Promises store) (line : Li
       (λ other kept c0 s m so.
       let bad_request = found so.text so.incoming in
       let here_so = subst (λ (r : ReadBuffer). SoFar other.submits other.reads line c0 c1 s m r old.answered) bad_request.cut so.so_far in
-      ends_served other kept line c0 c2 s m _ (ends_malformed other.submits other.reads line two c0 c1 c2 s m _ old.answered b here_so (malformed_if _ _ b _ here_so.end bad_request.malformed) wrote took))
+      ends_served other kept line c0 c2 s m _
+      (ends_malformed other.submits other.reads line two c0 c1 c2 s m _ old.answered b here_so (malformed_if _ _ b _ here_so.end bad_request.malformed)
+      wrote took))
 
-  pub parts_not : (c2 : C) (here : ReadBuffer) (b : BadRequest) (partial_write : PartialWrite) → ((text : List ℕ) → HasReceived old.stage text → ReceivesBadRequest (put_back text old.received) here b)
+  pub parts_not : (c2 : C) (here : ReadBuffer) (b : BadRequest) (partial_write : PartialWrite)
+      → ((text : List ℕ) → HasReceived old.stage text → ReceivesBadRequest (put_back text old.received) here b)
       → WritesResponse (line.contents c1) (line.contents c2) false (line.out_failed c2) (response_of (Malformed b) true) (Err partial_write)
       → line.takes c1 (take partial_write.written (response_of (Malformed b) true)) c2 → line.in_failed c1 ≡ false
       → GoesOn store line c1 c2 t t old new (Err (record { answered = old.answered; written = partial_write.written; cause = partial_write.cause }))
@@ -166,7 +182,9 @@ module _ {S C : Type 0} (store : Store S) (promises : Promises store) (line : Li
       (λ other kept c0 s m so.
       let bad_request = found so.text so.incoming in
       let here_so = subst (λ (r : ReadBuffer). SoFar other.submits other.reads line c0 c1 s m r old.answered) bad_request.cut so.so_far in
-      fails_served other kept line c0 c2 s m _ (fails_malformed other.submits other.reads line two c0 c1 c2 s m _ old.answered b partial_write here_so (malformed_if _ _ b _ here_so.end bad_request.malformed) said took works))
+      fails_served other kept line c0 c2 s m _
+      (fails_malformed other.submits other.reads line two c0 c1 c2 s m _ old.answered b partial_write here_so
+      (malformed_if _ _ b _ here_so.end bad_request.malformed) said took works))
 
   module _ (c2 : C) (u : S) (here : ReadBuffer) (v : Verdict) (ask : Bool) (reply : Reply) (close : Bool)
       (found : (text : List ℕ) → HasReceived old.stage text → ReceivesOne (put_back text old.received) here v ask)
@@ -177,9 +195,11 @@ module _ {S C : Type 0} (store : Store S) (promises : Promises store) (line : Li
         asked c2 u v reply (Ok (Some (record { answered = old.answered + 1; clean = false }))) step
         (λ other kept c0 s m n one so.
         ends_served other kept line c0 c2 s n _
-        (answered_last other.submits other.reads line two c0 c1 s m (put_back so.text old.received) here old.answered v ask so.so_far (found so.text so.incoming) c2 n reply close one close_is wrote took leaves))
+        (answered_last other.submits other.reads line two c0 c1 s m (put_back so.text old.received) here old.answered v ask so.so_far
+        (found so.text so.incoming) c2 n reply close one close_is wrote took leaves))
 
-    pub answers_not : (partial_write : PartialWrite) → WritesResponse (line.contents c1) (line.contents c2) false (line.out_failed c2) (response_of reply close) (Err partial_write)
+    pub answers_not : (partial_write : PartialWrite)
+        → WritesResponse (line.contents c1) (line.contents c2) false (line.out_failed c2) (response_of reply close) (Err partial_write)
         → line.takes c1 (take partial_write.written (response_of reply close)) c2 → line.in_failed c1 ≡ false
         → (takes_no_memory reply ≡ true → partial_write.cause ≢ Memory)
         → GoesOn store line c1 c2 t u old new (Err (record { answered = old.answered; written = partial_write.written; cause = partial_write.cause }))
@@ -187,10 +207,12 @@ module _ {S C : Type 0} (store : Store S) (promises : Promises store) (line : Li
         asked c2 u v reply (Err (record { answered = old.answered; written = partial_write.written; cause = partial_write.cause })) step
         (λ other kept c0 s m n one so.
         fails_served other kept line c0 c2 s n _
-        (answered_not other.submits other.reads line two c0 c1 s m (put_back so.text old.received) here old.answered v ask so.so_far (found so.text so.incoming) c2 n reply close one close_is partial_write said took works spared))
+        (answered_not other.submits other.reads line two c0 c1 s m (put_back so.text old.received) here old.answered v ask so.so_far (found so.text so.incoming)
+        c2 n reply close one close_is partial_write said took works spared))
 
 -- a response was written, and the session stays open
-module _ {S C : Type 0} (store : Store S) (promises : Promises store) (line : Line C) (two : IsTwoWay line) (c1 c2 : C) (t u : S) (old : Session) (here : ReadBuffer) (v : Verdict) (ask : Bool) (reply : Reply)
+module _ {S C : Type 0} (store : Store S) (promises : Promises store) (line : Line C) (two : IsTwoWay line) (c1 c2 : C) (t u : S) (old : Session)
+    (here : ReadBuffer) (v : Verdict) (ask : Bool) (reply : Reply)
     (close : Bool) (found : (text : List ℕ) → HasReceived old.stage text → ReceivesOne (put_back text old.received) here v ask) where
   pub answers_open : Step store.submits store.reads t v reply u → close ≡ (ask || closes reply)
       → Appends (line.contents c1) (line.contents c2) (response_of reply close) → line.takes c1 (response_of reply close) c2 → close ≡ false
@@ -200,7 +222,9 @@ module _ {S C : Type 0} (store : Store S) (promises : Promises store) (line : Li
       (λ other kept c0 s m n one so. record {
         text = [];
         incoming = refl;
-        so_far = answered_open other.submits other.reads line two c0 c1 s m (put_back so.text old.received) here old.answered v ask so.so_far (found so.text so.incoming) c2 n reply close one close_is wrote took stays;
+        so_far =
+            answered_open other.submits other.reads line two c0 c1 s m (put_back so.text old.received) here old.answered v ask so.so_far
+            (found so.text so.incoming) c2 n reply close one close_is wrote took stays;
       })
 
   -- and it can be gone on with
@@ -218,7 +242,8 @@ module _ {S C : Type 0} (store : Store S) (promises : Promises store) (line : Li
 
 -- ---- a pause inside a request
 
-module _ {S C : Type 0} (store : Store S) (promises : Promises store) (line : Line C) (two : IsTwoWay line) (c1 : C) (t : S) (old : Session) (here : ReadBuffer) (stage : Stage)
+module _ {S C : Type 0} (store : Store S) (promises : Promises store) (line : Line C) (two : IsTwoWay line) (c1 : C) (t : S) (old : Session) (here : ReadBuffer)
+    (stage : Stage)
     (found : (text : List ℕ) → HasReceived old.stage text → ReceivesPart (put_back text old.received) here stage) where
   abbrev paused : Session
   paused = record { received = here; stage = stage; answered = old.answered }
@@ -227,7 +252,11 @@ module _ {S C : Type 0} (store : Store S) (promises : Promises store) (line : Li
   pauses = unasked store promises line two c1 t old paused c1 (Ok None)
       (λ other kept c0 s m so.
       let part = found so.text so.incoming in
-      record { text = part.text; incoming = part.incoming; so_far = subst (λ (b : ReadBuffer). SoFar other.submits other.reads line c0 c1 s m b old.answered) part.cut so.so_far })
+      record {
+        text = part.text;
+        incoming = part.incoming;
+        so_far = subst (λ (b : ReadBuffer). SoFar other.submits other.reads line c0 c1 s m b old.answered) part.cut so.so_far;
+      })
 
   pub paused_continues : WaitsAfter stage here.held → CanContinue (line.source.remaining c1) old → CanContinue (line.source.remaining c1) paused
   paused_continues waits can =
@@ -248,21 +277,25 @@ awaits_more session waits open_still =
 
 -- ---- one read
 
-module _ {S C : Type 0} (store : Store S) (promises : Promises store) (line : Line C) (two : IsTwoWay line) (c1 c2 : C) (t : S) (old : Session) (new : ReadBuffer) (awaits : AwaitsMore old)
+module _ {S C : Type 0} (store : Store S) (promises : Promises store) (line : Line C) (two : IsTwoWay line) (c1 c2 : C) (t : S) (old : Session)
+    (new : ReadBuffer) (awaits : AwaitsMore old)
     (on : ReadsOn (line.source.remaining c1) (line.source.remaining c2) old.received new) (read : IsRead line.source.gives c1 c2 old.received new) where
   abbrev with_more : Session
   with_more = record old { received = new }
 
   read_with : (text : List ℕ) → HasReceived old.stage text → ReadsOnWhile line.source AwaitsRequest c1 c2 (put_back text old.received) (put_back text new)
   read_with text incoming =
-      read_after line.source AwaitsRequest c1 c1 c2 (put_back text old.received) old.received new text (nothing_yet line.source AwaitsRequest c1 (put_back text old.received)) (awaits.awaits text incoming) on read
+      read_after line.source AwaitsRequest c1 c1 c2 (put_back text old.received) old.received new text
+      (nothing_yet line.source AwaitsRequest c1 (put_back text old.received)) (awaits.awaits text incoming) on read
 
   pub goes_on_reading : GoesOn store line c1 c2 t t old with_more (Ok None)
   goes_on_reading = unasked store promises line two c1 t old with_more c2 (Ok None)
       (λ other kept c0 s m so. record {
         text = so.text;
         incoming = so.incoming;
-        so_far = reads_on other.submits other.reads line two c0 c1 c2 s m (put_back so.text old.received) (put_back so.text new) old.answered so.so_far (read_with so.text so.incoming);
+        so_far =
+            reads_on other.submits other.reads line two c0 c1 c2 s m (put_back so.text old.received) (put_back so.text new) old.answered so.so_far
+            (read_with so.text so.incoming);
       })
 
   pub read_continues : CanContinue (line.source.remaining c1) old → CanContinue (line.source.remaining c2) with_more
@@ -277,19 +310,22 @@ module _ {S C : Type 0} (store : Store S) (promises : Promises store) (line : Li
       }
 
   -- the devices that worked work still
-  pub works_read : line.in_failed c2 ≡ line.in_failed c1 → (line.in_failed c1 ≡ false) × (line.out_failed c1 ≡ false) → (text : List ℕ) → HasReceived old.stage text
+  pub works_read : line.in_failed c2 ≡ line.in_failed c1 → (line.in_failed c1 ≡ false) × (line.out_failed c1 ≡ false) → (text : List ℕ)
+      → HasReceived old.stage text
       → (line.in_failed c2 ≡ false) × (line.out_failed c2 ≡ false)
   works_read same works text incoming = works_received line two c1 c2 (put_back text old.received) (put_back text new) (read_with text incoming) same works
 
 -- a read that gave nothing
-pub stops_with : {C : Type 0} (line : Line C) (c1 c2 : C) (old : Session) (stop : ReadError) → AwaitsMore old → ReadFails line.source c1 c2 (line.in_failed c2) old.received stop
+pub stops_with : {C : Type 0} (line : Line C) (c1 c2 : C) (old : Session) (stop : ReadError) → AwaitsMore old
+    → ReadFails line.source c1 c2 (line.in_failed c2) old.received stop
     → (text : List ℕ) → HasReceived old.stage text → StopsWhile line.source AwaitsRequest c1 c2 (line.in_failed c2) (put_back text old.received) stop
 stops_with line c1 c2 old stop awaits last text incoming =
     stops_reading line.source AwaitsRequest c1 c1 c2 (line.in_failed c2) (put_back text old.received) old.received text stop
     (nothing_yet line.source AwaitsRequest c1 (put_back text old.received)) (awaits.awaits text incoming) last
 
 -- one piece and then another
-pub goes_on_then : {S C : Type 0} (store : Store S) (line : Line C) (c1 c2 c3 : C) (t u w : S) (old mid new : Session) (result : Result (Option Ended) SessionError)
+pub goes_on_then : {S C : Type 0} (store : Store S) (line : Line C) (c1 c2 c3 : C) (t u w : S) (old mid new : Session)
+    (result : Result (Option Ended) SessionError)
     → GoesOn store line c1 c2 t u old mid (Ok None) → GoesOn store line c2 c3 u w mid new result → GoesOn store line c1 c3 t w old new result
 goes_on_then store line c1 c2 c3 t u w old mid new result first second =
     record { alone = λ c0 s so. second.alone c0 s (first.alone c0 s so); among = λ c0 s under. second.among c0 s (first.among c0 s under) }
@@ -345,7 +381,9 @@ module _ {S C : Type 0} (store : Store S) (promises : Promises store) (line : Li
     record {
       text = under.1.text;
       incoming = under.1.incoming;
-      so_far = stays (shared store).submits (shared store).reads line two c0 c1 c2 s under.0 (put_back under.1.text session.received) session.answered under.1.so_far took kept;
+      so_far =
+          stays (shared store).submits (shared store).reads line two c0 c1 c2 s under.0 (put_back under.1.text session.received)
+          session.answered under.1.so_far took kept;
     },
     under.2,
   )
@@ -353,7 +391,8 @@ module _ {S C : Type 0} (store : Store S) (promises : Promises store) (line : Li
   pub answers_of_one_history : AnswersSoFar store line
   answers_of_one_history c0 c1 s t session under =
       let kept = shared_promises store promises in
-      related_all store.limits store.knows (shared store).submits (shared store).reads kept.submit_knows kept.read_knows s under.0 under.1.so_far.opens under.1.so_far.run
+      related_all store.limits store.knows (shared store).submits
+      (shared store).reads kept.submit_knows kept.read_knows s under.0 under.1.so_far.opens under.1.so_far.run
 
 -- nothing was done yet
 pub goes_nowhere : {S C : Type 0} (store : Store S) (line : Line C) (c : C) (t : S) (session : Session) → GoesOn store line c c t t session session (Ok None)

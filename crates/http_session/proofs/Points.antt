@@ -1,5 +1,6 @@
 -- A run over a store that keeps its promise is related to one growing history.
-use Rattle.std.proofs.Common.{◌≡◌, ℕ, List, [], ◌∷◌, ◌++◌, All, Option, Some, None, IfSome, MatchOption, Result, Ok, Err, refl, sym, ap, ◌∙◌, subst, append_assoc}
+use Rattle.std.proofs.Common.{◌≡◌, ℕ, List, [], ◌∷◌, ◌++◌, All, Option, Some, None, IfSome, MatchOption, Result, Ok, Err, refl, sym, ap, ◌∙◌, subst}
+use Rattle.std.proofs.Common.{append_assoc}
 use Rattle.std.proofs.lemmas.List.Elements.{All-weaker, All-cons, All-nil}
 use Rattle.jaeger_model.specs.declared.batch.Batch.{Batch}
 use Rattle.trace_model.specs.declared.limits.Limits.{Limits}
@@ -8,7 +9,7 @@ use Rattle.trace_model.specs.declared.answer.Answer.{Answer}
 use Rattle.trace_model.specs.declared.refusal.Refusal.{Refusal}
 use Rattle.trace_model.specs.Histories.{IsLegal}
 use Rattle.trace_model.specs.Answers.{answer}
-use Rattle.store_backend.specs.Knowing.{History, IsPrefixOf, HasAt, Keeps, Places, AnswersAt, SubmitKnows, ReadKnows}
+use Rattle.trace_model.specs.Knowing.{History, IsPrefixOf, HasAt, Keeps, Places, AnswersAt, SubmitKnows, ReadKnows}
 use Rattle.http_session.specs.Sessions.{Exchange, Submits, Reads, Step, Run}
 use Rattle.http_session.specs.Related.{Seen, IsPoint, Gets, Related, nothing_seen}
 use Rattle.http_session.specs.declared.verdict.Verdict.{Verdict}
@@ -51,18 +52,26 @@ module _ {S : Type 0} (limits : S → Limits) (knows : S → History → Type 0)
     placed = All-weaker (Placed s) (Placed t) (λ pair p. (p.0, p.1, keeps.knowledge p.0 p.2)) seen.accepted holds.placed;
   }
 
-  behind : (knew : History → Type 0) (s : S) (o : Option History) (h : History) → ((l : History) → knew l → knows s l) → IfSome o (λ l. knows s l) → ((l : History) → knows s l → IsPrefixOf l h)
+  behind : (knew : History → Type 0) (s : S) (o : Option History) (h : History) → ((l : History) → knew l → knows s l) → IfSome o (λ l. knows s l)
+      → ((l : History) → knows s l → IsPrefixOf l h)
       → MatchOption o ((l : History) → knew l → IsPrefixOf l h) (λ before. IsPrefixOf before h)
   behind knew s None h old last all = λ l k. all l (old l k)
   behind knew s (Some before) h old last all = all before last
 
-  accepted : (under : Limits) (knew : History → Type 0) (s t : S) (seen : Seen) (b : Batch) (place : ℕ) → Holds under knew s seen → Keeps limits knows s t → Places limits knows b place t
+  accepted : (under : Limits) (knew : History → Type 0) (s t : S) (seen : Seen) (b : Batch) (place : ℕ) → Holds under knew s seen → Keeps limits knows s t
+      → Places limits knows b place t
       → Holds under knew t (record seen { accepted = (b, place) ∷ seen.accepted })
   accepted under knew s t seen b place holds keeps places =
       let now = kept under knew s t seen holds keeps in
-      record { same = now.same; old = now.old; last = now.last; placed = All-cons (Placed t) (b, place) seen.accepted (places.history, places.has, places.known) now.placed }
+      record {
+        same = now.same;
+        old = now.old;
+        last = now.last;
+        placed = All-cons (Placed t) (b, place) seen.accepted (places.history, places.has, places.known) now.placed;
+      }
 
-  pointed : (under : Limits) (knew : History → Type 0) (s t : S) (seen : Seen) (q : Query) (a : Answer) → Holds under knew s seen → Keeps limits knows s t → AnswersAt limits knows s q a t
+  pointed : (under : Limits) (knew : History → Type 0) (s t : S) (seen : Seen) (q : Query) (a : Answer) → Holds under knew s seen → Keeps limits knows s t
+      → AnswersAt limits knows s q a t
       → (next : Seen) × Gets knew under seen (Ask q) (Answered a) next × Holds under knew t next
   pointed under knew s t seen q a holds keeps at =
       let now = kept under knew s t seen holds keeps in
@@ -71,12 +80,15 @@ module _ {S : Type 0} (limits : S → Limits) (knows : S → History → Type 0)
       let point : IsPoint knew under seen h = record {
         legal = subst (λ (l : Limits). IsLegal l h) now.same at.legal;
         behind = behind knew s seen.point h holds.old holds.last at.behind;
-        has = All-weaker (Placed s) (λ (pair : Batch × ℕ). HasAt h pair.1 pair.0) (λ pair p. still_has p.0 h pair.1 pair.0 p.1 (at.behind p.0 p.2)) seen.accepted holds.placed;
+        has =
+            All-weaker (Placed s) (λ (pair : Batch × ℕ). HasAt h pair.1 pair.0)
+            (λ pair p. still_has p.0 h pair.1 pair.0 p.1 (at.behind p.0 p.2)) seen.accepted holds.placed;
       } in
       let determined : a ≡ answer under h q = at.answer_is ∙ ap (λ (l : Limits). answer l h q) now.same in
       (next, (h, point, determined, refl), record { same = now.same; old = now.old; last = at.known; placed = now.placed })
 
-  goes : (under : Limits) (knew : History → Type 0) (s t : S) (seen : Seen) (verdict : Verdict) (reply : Reply) → Holds under knew s seen → Step submits reads s verdict reply t
+  goes : (under : Limits) (knew : History → Type 0) (s t : S) (seen : Seen) (verdict : Verdict) (reply : Reply) → Holds under knew s seen
+      → Step submits reads s verdict reply t
       → (next : Seen) × Gets knew under seen verdict reply next × Holds under knew t next
   goes under knew s t seen (Submit b) Accepted holds step =
       let (keeps, places) = submit_knows s b (Ok step.0) t step.1 in
@@ -89,7 +101,8 @@ module _ {S : Type 0} (limits : S → Limits) (knows : S → History → Type 0)
   goes under knew s t seen (Reject error) (Error said) holds step = (seen, (step.0, refl), subst (λ (x : S). Holds under knew x seen) (sym step.1) holds)
   goes under knew s t seen _ _ holds step = absurd step
 
-  related : (under : Limits) (knew : History → Type 0) (s t : S) (seen : Seen) (xs : List Exchange) → Holds under knew s seen → Run submits reads s xs t → Related knew under seen xs
+  related : (under : Limits) (knew : History → Type 0) (s t : S) (seen : Seen) (xs : List Exchange) → Holds under knew s seen → Run submits reads s xs t
+      → Related knew under seen xs
   related under knew s t seen [] holds run = tt
   related under knew s t seen (x ∷ xs) holds run =
       let on = goes under knew s run.0 seen x.verdict x.reply holds run.1 in

@@ -1,5 +1,6 @@
 -- How one turn of a session carries what is known of it on.
-use Rattle.std.proofs.Common.{◌≡◌, ◌≢◌, ℕ, ◌+◌, ◌<◌, ◌⊎◌, Bool, true, false, if◌then◌else◌, List, [], ◌∷◌, ◌++◌, length, take, Option, Err, refl, sym, ap, ◌∙◌, subst, arith, inl, inr, append_assoc, append-nil, length-append, rules}
+use Rattle.std.proofs.Common.{◌≡◌, ◌≢◌, ℕ, ◌+◌, ◌<◌, ◌⊎◌, Bool, true, false, if◌then◌else◌, List, [], ◌∷◌, ◌++◌, length, take, Option, Err, refl, sym, ap, ◌∙◌}
+use Rattle.std.proofs.Common.{subst, arith, inl, inr, append_assoc, append-nil, length-append, rules}
 use Rattle.std.specs.Io.KnownBytes.{Appends, Consumes, IsAtEnd, Keeps as KeepsBytes}
 use Rattle.std.proofs.KnownBytes.{Consumes-trans, Consumes-kept, Appends-trans, Appends-kept, Consumes-nil, Appends-nil}
 use Rattle.std.proofs.lemmas.List.{flat_map_more}
@@ -16,7 +17,9 @@ use Rattle.http_requests.proofs.Awaiting.{uncounted}
 use Rattle.http_requests.specs.LineLaws.{no_bytes_await}
 use Rattle.http_session.specs.Incoming.{ReceivesNothing}
 use Rattle.http_session.specs.Replies.{response_of, takes_no_memory}
-use Rattle.http_session.specs.Sessions.{Exchange, IsExchange, IsOpen, texts, response_to, responses, Submits, Reads, Step, Run, Ending, clean, closing, malformed, last_of, IsEnding, malformed_response, malformed_responses, is_clean, Due, none_yet, due, due_malformed, exchange_due, NothingWasDue, IsDue, bytes_due, is_spared, IsCause, WritesResponse, cause_by}
+use Rattle.http_session.specs.Sessions.{Exchange, IsExchange, IsOpen, texts, response_to, responses, Submits, Reads, Step, Run, Ending, clean, closing}
+use Rattle.http_session.specs.Sessions.{malformed, last_of, IsEnding, malformed_response, malformed_responses, is_clean, Due, none_yet, due, due_malformed}
+use Rattle.http_session.specs.Sessions.{exchange_due, NothingWasDue, IsDue, bytes_due, is_spared, IsCause, WritesResponse, cause_by}
 use Rattle.http_session.specs.InOrder.{Line, line_of, IsTwoWay, pieces, EndsOver, FailsOver}
 use Rattle.http_session.specs.Underway.{SoFar}
 use Rattle.http_session.specs.declared.reply.Reply.TheVariants.{Malformed}
@@ -41,14 +44,17 @@ split_all : (taken held : List ℕ) (xs : List Exchange) → taken ≡ texts xs 
 split_all taken held xs split = split ∙ ap (λ (l : List Exchange). texts l ++ held) (sym (append-nil xs))
 
 -- and where one does, which what is held begins with
-split_more : (taken held rest : List ℕ) (xs : List Exchange) (x : Exchange) → taken ≡ texts xs ++ held → held ≡ x.text ++ rest → taken ≡ texts (xs ++ x ∷ []) ++ rest
-split_more taken held rest xs x split cut = split ∙ ap (λ l. texts xs ++ l) cut ∙ sym (append_assoc (texts xs) x.text rest) ∙ ap (λ l. l ++ rest) (flat_map_more (λ (y : Exchange). y.text) [] xs x)
+split_more : (taken held rest : List ℕ) (xs : List Exchange) (x : Exchange) → taken ≡ texts xs ++ held → held ≡ x.text ++ rest
+    → taken ≡ texts (xs ++ x ∷ []) ++ rest
+split_more taken held rest xs x split cut =
+    split ∙ ap (λ l. texts xs ++ l) cut ∙ sym (append_assoc (texts xs) x.text rest) ∙ ap (λ l. l ++ rest) (flat_map_more (λ (y : Exchange). y.text) [] xs x)
 
 -- before the first byte the first request is awaited
 pub nothing_was_due : NothingWasDue Memory []
 nothing_was_due = inl (inl no_bytes_await)
 
-still_consumed : {C : Type 0} (source : Source C) (s m t : C) (failed : Bool) (bytes : List ℕ) → Consumes (source.remaining s) (source.remaining m) bytes → (t ≡ m) ⊎ FailsToRead source m t failed
+still_consumed : {C : Type 0} (source : Source C) (s m t : C) (failed : Bool) (bytes : List ℕ) → Consumes (source.remaining s) (source.remaining m) bytes
+    → (t ≡ m) ⊎ FailsToRead source m t failed
     → Consumes (source.remaining s) (source.remaining t) bytes
 still_consumed source s m t failed bytes read (inl same) = subst (λ (x : _). Consumes (source.remaining s) (source.remaining x) bytes) (sym same) read
 still_consumed source s m t failed bytes read (inr fails) = Consumes-kept (source.remaining s) (source.remaining m) (source.remaining t) bytes read fails.1
@@ -60,13 +66,15 @@ two_way reads_leave writes_leave = record { reads_leave = reads_leave; writes_le
 
 module _ {C : Type 0} (line : Line C) (two : IsTwoWay line) where
   -- reads change nothing of the output
-  output_kept : (c1 c2 : C) (old new : ReadBuffer) → ReadsOnWhile line.source AwaitsRequest c1 c2 old new → (line.contents c2 ≡ line.contents c1) × (line.out_failed c2 ≡ line.out_failed c1)
+  output_kept : (c1 c2 : C) (old new : ReadBuffer) → ReadsOnWhile line.source AwaitsRequest c1 c2 old new → (line.contents c2 ≡ line.contents c1)
+      × (line.out_failed c2 ≡ line.out_failed c1)
   output_kept c1 c2 old new more =
       let alone = uncounted line.source.gives AwaitsRequest c1 c2 old.left new.left old.held new.held more.waits in
       reads_left line.source.gives line.contents line.out_failed two.reads_leave AwaitsRequest alone.0.pieces c1 c2 old.held new.held alone.0.each
 
   -- nor does one that failed
-  output_still : (c1 c2 : C) (failed : Bool) → (c2 ≡ c1) ⊎ FailsToRead line.source c1 c2 failed → (line.contents c2 ≡ line.contents c1) × (line.out_failed c2 ≡ line.out_failed c1)
+  output_still : (c1 c2 : C) (failed : Bool) → (c2 ≡ c1) ⊎ FailsToRead line.source c1 c2 failed → (line.contents c2 ≡ line.contents c1)
+      × (line.out_failed c2 ≡ line.out_failed c1)
   output_still c1 c2 failed (inl same) = (ap line.contents same, ap line.out_failed same)
   output_still c1 c2 failed (inr fails) = two.reads_leave c1 c2 [] fails.2
 
@@ -108,7 +116,8 @@ module _ {S C : Type 0} (submits : Submits S) (reads : Reads S) (line : Line C) 
       let held : length new.held ≡ length old.held + length on.more = ap length on.held ∙ length-append old.held on.more in
       let split : so.taken ++ on.more ≡ texts so.opens ++ new.held =
       ap (λ l. l ++ on.more) so.split ∙ append_assoc (texts so.opens) old.held on.more ∙ ap (λ l. texts so.opens ++ l) (sym on.held) in
-      let answers = read_more line.source.gives line.takes c0 c1 c2 so.opens so.taken old.held new.held (so.taken ++ on.more) so.answers so.split alone.0 split in
+      let answers = read_more line.source.gives line.takes c0 c1 c2 so.opens so.taken old.held new.held (so.taken ++ on.more)
+      so.answers so.split alone.0 split in
       record {
         taken = so.taken ++ on.more;
         opens = so.opens;
@@ -118,7 +127,8 @@ module _ {S C : Type 0} (submits : Submits S) (reads : Reads S) (line : Line C) 
         split = split;
         each = so.each;
         run = so.run;
-        written = subst (λ (o : Option (List ℕ)). Appends (line.contents c0) o (responses so.opens)) (sym (output_kept line two c1 c2 old new more).0) so.written;
+        written =
+            subst (λ (o : Option (List ℕ)). Appends (line.contents c0) o (responses so.opens)) (sym (output_kept line two c1 c2 old new more).0) so.written;
         count = so.count;
         least = omega (arith, so.least, on.least, long);
         most = omega (arith, so.most, on.most, held);
@@ -134,7 +144,8 @@ module _ {S C : Type 0} (submits : Submits S) (reads : Reads S) (line : Line C) 
       let sizes : length old.held ≡ length x.text + length rest = ap length cut ∙ length-append x.text rest in
       let same = (two.writes_leave c1 c2 (response_to x) took).0 in
       let before = said_before line.source.gives line.takes c0 c1 so.opens (x ∷ []) so.taken (responses so.opens) so.answers in
-      let said = said_on line.source.gives line.takes c0 c1 c2 (so.opens ++ x ∷ []) so.taken (responses so.opens) (response_to x) (responses (so.opens ++ x ∷ [])) before.0 took (responses_more so.opens x) in
+      let said = said_on line.source.gives line.takes c0 c1 c2 (so.opens ++ x ∷ []) so.taken (responses so.opens) (response_to x)
+      (responses (so.opens ++ x ∷ [])) before.0 took (responses_more so.opens x) in
       record {
         taken = so.taken;
         opens = so.opens ++ x ∷ [];
@@ -154,10 +165,12 @@ module _ {S C : Type 0} (submits : Submits S) (reads : Reads S) (line : Line C) 
 
   -- the connection went on without taking anything, and what was written stays
   pub stays : (c0 c1 c2 : C) (s t : S) (received : ReadBuffer) (answered : ℕ)
-      → SoFar submits reads line c0 c1 s t received answered → line.takes c1 [] c2 → KeepsBytes (line.contents c1) (line.contents c2) → SoFar submits reads line c0 c2 s t received answered
+      → SoFar submits reads line c0 c1 s t received answered → line.takes c1 [] c2 → KeepsBytes (line.contents c1) (line.contents c2)
+      → SoFar submits reads line c0 c2 s t received answered
   stays c0 c1 c2 s t received answered so took kept =
       let same = (two.writes_leave c1 c2 [] took).0 in
-      let said = said_on line.source.gives line.takes c0 c1 c2 so.opens so.taken (responses so.opens) [] (responses so.opens) so.answers took (sym (append-nil (responses so.opens))) in
+      let said = said_on line.source.gives line.takes c0 c1 c2 so.opens so.taken (responses so.opens) [] (responses so.opens) so.answers took
+      (sym (append-nil (responses so.opens))) in
       record {
         taken = so.taken;
         opens = so.opens;
@@ -177,7 +190,8 @@ module _ {S C : Type 0} (submits : Submits S) (reads : Reads S) (line : Line C) 
   -- ---- a session that ends
 
   pub ends_clean : (c0 c1 : C) (s t : S) (old : ReadBuffer) (answered : ℕ)
-      → SoFar submits reads line c0 c1 s t old answered → IsAtEnd (line.source.remaining c1) × (old.held ≡ []) → EndsOver submits reads line c0 c1 s t (record { answered = answered; clean = true })
+      → SoFar submits reads line c0 c1 s t old answered → IsAtEnd (line.source.remaining c1) × (old.held ≡ [])
+      → EndsOver submits reads line c0 c1 s t (record { answered = answered; clean = true })
   ends_clean c0 c1 s t old answered so found =
       let same : responses (so.opens ++ []) ++ [] ≡ responses so.opens = append-nil (responses (so.opens ++ [])) ∙ ap responses (append-nil so.opens) in (
         record {
@@ -222,7 +236,8 @@ module _ {S C : Type 0} (submits : Submits S) (reads : Reads S) (line : Line C) 
           count = omega (arith, so.count, one, length-append so.opens (last_of ending));
           clean_is = unclean;
         },
-        (said_on line.source.gives line.takes c0 c1 c2 so.opens so.taken (responses so.opens) said (responses (so.opens ++ last_of ending) ++ malformed_response ending) so.answers took all).0,
+        (said_on line.source.gives line.takes c0 c1 c2 so.opens so.taken (responses so.opens) said
+            (responses (so.opens ++ last_of ending) ++ malformed_response ending) so.answers took all).0,
       )
 
   pub ends_malformed : (c0 c1 c2 : C) (s t : S) (old : ReadBuffer) (answered : ℕ) (b : BadRequest)
@@ -230,7 +245,8 @@ module _ {S C : Type 0} (submits : Submits S) (reads : Reads S) (line : Line C) 
       → Appends (line.contents c1) (line.contents c2) (response_of (Malformed b) true) → line.takes c1 (response_of (Malformed b) true) c2
       → EndsOver submits reads line c0 c2 s t (record { answered = answered + 1; clean = false })
   ends_malformed c0 c1 c2 s t old answered b so is wrote took =
-      ends_saying c0 c1 c2 s t t old answered (malformed b) old.held (response_of (Malformed b) true) so (split_all so.taken old.held so.opens so.split) is (run_all submits reads s t so.opens so.run)
+      ends_saying c0 c1 c2 s t t old answered (malformed b) old.held (response_of (Malformed b) true) so (split_all so.taken old.held so.opens so.split) is
+      (run_all submits reads s t so.opens so.run)
       (ap (λ (l : List Exchange). responses l ++ response_of (Malformed b) true) (append-nil so.opens)) refl refl wrote took
 
   pub ends_closing : (c0 c1 c2 : C) (s t u : S) (old : ReadBuffer) (rest : List ℕ) (answered : ℕ) (x : Exchange)
@@ -238,7 +254,8 @@ module _ {S C : Type 0} (submits : Submits S) (reads : Reads S) (line : Line C) 
       → Step submits reads t x.verdict x.reply u → Appends (line.contents c1) (line.contents c2) (response_to x) → line.takes c1 (response_to x) c2
       → EndsOver submits reads line c0 c2 s u (record { answered = answered + 1; clean = false })
   ends_closing c0 c1 c2 s t u old rest answered x so is closes_is cut step wrote took =
-      ends_saying c0 c1 c2 s t u old answered (closing x) rest (response_to x) so (split_more so.taken old.held rest so.opens x so.split cut) (is, closes_is) (run_more submits reads s t u so.opens x so.run step)
+      ends_saying c0 c1 c2 s t u old answered (closing x) rest (response_to x) so (split_more so.taken old.held rest so.opens x so.split cut) (is, closes_is)
+      (run_more submits reads s t u so.opens x so.run step)
       (append-nil (responses (so.opens ++ x ∷ [])) ∙ responses_more so.opens x) refl refl wrote took
 
   -- ---- a session that fails
@@ -271,7 +288,9 @@ module _ {S C : Type 0} (submits : Submits S) (reads : Reads S) (line : Line C) 
         },
         record {
           before = c1;
-          answers = said_as line.source.gives line.takes c0 c1 so.opens so.taken (responses so.opens) (responses so.opens ++ []) so.answers (append-nil (responses so.opens));
+          answers =
+              said_as line.source.gives line.takes c0 c1 so.opens so.taken (responses so.opens) (responses so.opens ++ []) so.answers
+              (append-nil (responses so.opens));
           count = refl;
           last = last;
         },
@@ -284,8 +303,10 @@ module _ {S C : Type 0} (submits : Submits S) (reads : Reads S) (line : Line C) 
       → FailsOver submits reads line c0 c2 s t (record { answered = answered; written = 0; cause = cause_by stop })
   fails_stopped A c0 c1 c2 s t old answered before why.Reading so stops same was out =
       let all = reads_on c0 c1 stops.before s t old stops.here answered so stops.reads in
-      let last : (c2 ≡ stops.before) ⊎ FailsToRead line.source stops.before c2 (line.in_failed c2) = elim stops.last [ inl over ↦ inl over.0 | inr failed ↦ inr failed ] in
-      let works : line.out_failed c2 ≡ false = (output_still line two stops.before c2 (line.in_failed c2) last).1 ∙ (output_kept line two c1 stops.before old stops.here stops.reads).1 ∙ out in
+      let last : (c2 ≡ stops.before) ⊎ FailsToRead line.source stops.before c2 (line.in_failed c2) =
+      elim stops.last [ inl over ↦ inl over.0 | inr failed ↦ inr failed ] in
+      let works : line.out_failed c2 ≡ false =
+      (output_still line two stops.before c2 (line.in_failed c2) last).1 ∙ (output_kept line two c1 stops.before old stops.here stops.reads).1 ∙ out in
       fails_none c0 stops.before c2 s t stops.here answered Reading all stops.awaits last
       (λ made sum. (
         elim stops.last [
@@ -309,21 +330,25 @@ module _ {S C : Type 0} (submits : Submits S) (reads : Reads S) (line : Line C) 
       fails_stopped A c0 c1 c2 s t old answered before why.Memory so stops same was out
   fails_reading A c0 c1 c2 s t old answered before why.Memory so (inr none) same was out =
       let all = reads_on c0 c1 c2 s t old none.here answered so none.reads in
-      fails_none c0 c2 c2 s t none.here answered Memory all (inr none.query) (inl refl) (λ made sum. (same ∙ was, (output_kept line two c1 c2 old none.here none.reads).1 ∙ out))
+      fails_none c0 c2 c2 s t none.here answered Memory all (inr none.query) (inl refl)
+      (λ made sum. (same ∙ was, (output_kept line two c1 c2 old none.here none.reads).1 ∙ out))
 
   -- there was no memory before the first request
   pub fails_to_begin : (c : C) (s : S) → line.in_failed c ≡ false → line.out_failed c ≡ false
       → FailsOver submits reads line c c s s (record { answered = 0; written = 0; cause = Memory })
   fails_to_begin c s in_works out_works =
-      fails_none c c c s s (record { held = []; left = MAX_READS; ended = false }) 0 Memory (begins c s) nothing_was_due (inl refl) (λ made sum. (in_works, out_works))
+      fails_none c c c s s (record { held = []; left = MAX_READS; ended = false }) 0 Memory (begins c s) nothing_was_due (inl refl)
+      (λ made sum. (in_works, out_works))
 
-  cause_of_partial_write : (cause : SessionErrorKind) (written : ℕ) (in_failed out_failed : Bool) (taken : List ℕ) (made : ℕ) → in_failed ≡ false → cause ≢ Reading → (cause ≡ Writing → out_failed ≡ true)
+  cause_of_partial_write : (cause : SessionErrorKind) (written : ℕ) (in_failed out_failed : Bool) (taken : List ℕ) (made : ℕ) → in_failed ≡ false
+      → cause ≢ Reading → (cause ≡ Writing → out_failed ≡ true)
       → (cause ≡ Memory → (out_failed ≡ false) × (written ≡ 0)) → IsCause cause in_failed out_failed taken made
   cause_of_partial_write Reading written in_failed out_failed taken made i r w m = absurd (r refl)
   cause_of_partial_write Writing written in_failed out_failed taken made i r w m = (w refl, i)
   cause_of_partial_write Memory written in_failed out_failed taken made i r w m = (i, (m refl).0)
 
-  unwritten_of_partial_write : (cause : SessionErrorKind) (written : ℕ) (out_failed : Bool) → cause ≢ Reading → (cause ≡ Memory → (out_failed ≡ false) × (written ≡ 0))
+  unwritten_of_partial_write : (cause : SessionErrorKind) (written : ℕ) (out_failed : Bool) → cause ≢ Reading
+      → (cause ≡ Memory → (out_failed ≡ false) × (written ≡ 0))
       → cause ≢ Writing → written ≡ 0
   unwritten_of_partial_write Reading written out_failed r m n = absurd (r refl)
   unwritten_of_partial_write Writing written out_failed r m n = absurd (n refl)
@@ -341,7 +366,8 @@ module _ {S C : Type 0} (submits : Submits S) (reads : Reads S) (line : Line C) 
       let part = take partial_write.written (bytes_due next) in
       let same = two.writes_leave c1 c2 part took in
       let made = length (pieces so.answers.acts) in
-      let answers = said_on line.source.gives line.takes c0 c1 c2 so.opens so.taken (responses so.opens) part (responses so.opens ++ part) so.answers took refl in (
+      let answers = said_on line.source.gives line.takes c0 c1 c2 so.opens so.taken (responses so.opens) part (responses so.opens ++ part)
+      so.answers took refl in (
         record {
           taken = so.taken;
           opens = so.opens;
@@ -356,7 +382,9 @@ module _ {S C : Type 0} (submits : Submits S) (reads : Reads S) (line : Line C) 
           written = Appends-trans (line.contents c0) (line.contents c1) (line.contents c2) (responses so.opens) part so.written said.1;
           count = so.count;
           made = made;
-          cause = cause_of_partial_write partial_write.cause partial_write.written (line.in_failed c2) (line.out_failed c2) so.taken made (same.1 ∙ in_works) said.2 said.3 said.4;
+          cause =
+              cause_of_partial_write partial_write.cause partial_write.written (line.in_failed c2) (line.out_failed c2) so.taken made (same.1 ∙ in_works)
+              said.2 said.3 said.4;
           unwritten = unwritten_of_partial_write partial_write.cause partial_write.written (line.out_failed c2) said.2 said.4;
           spared = spared;
         },
@@ -365,12 +393,14 @@ module _ {S C : Type 0} (submits : Submits S) (reads : Reads S) (line : Line C) 
 
   pub fails_due : (c0 c1 c2 : C) (s t u : S) (old : ReadBuffer) (rest : List ℕ) (answered : ℕ) (x : Exchange) (partial_write : PartialWrite)
       → SoFar submits reads line c0 c1 s t old answered → IsExchange x → old.held ≡ x.text ++ rest
-      → Step submits reads t x.verdict x.reply u → WritesResponse (line.contents c1) (line.contents c2) false (line.out_failed c2) (response_to x) (Err partial_write)
+      → Step submits reads t x.verdict x.reply u
+      → WritesResponse (line.contents c1) (line.contents c2) false (line.out_failed c2) (response_to x) (Err partial_write)
       → line.takes c1 (take partial_write.written (response_to x)) c2 → line.in_failed c1 ≡ false
       → (takes_no_memory x.reply ≡ true → partial_write.cause ≢ Memory)
       → FailsOver submits reads line c0 c2 s u (record { answered = answered; written = partial_write.written; cause = partial_write.cause })
   fails_due c0 c1 c2 s t u old rest answered x partial_write so is cut step said took in_works spared =
-      fails_saying c0 c1 c2 s t u old answered (due x) rest partial_write so (split_more so.taken old.held rest so.opens x so.split cut) (is, said.2) (run_more submits reads s t u so.opens x so.run step) said took in_works spared
+      fails_saying c0 c1 c2 s t u old answered (due x) rest partial_write so (split_more so.taken old.held rest so.opens x so.split cut) (is, said.2)
+      (run_more submits reads s t u so.opens x so.run step) said took in_works spared
 
   pub fails_malformed : (c0 c1 c2 : C) (s t : S) (old : ReadBuffer) (answered : ℕ) (b : BadRequest) (partial_write : PartialWrite)
       → SoFar submits reads line c0 c1 s t old answered → IsMalformed (IsAtEnd (line.source.remaining c1)) old.held b
@@ -378,5 +408,6 @@ module _ {S C : Type 0} (submits : Submits S) (reads : Reads S) (line : Line C) 
       → line.takes c1 (take partial_write.written (response_of (Malformed b) true)) c2 → line.in_failed c1 ≡ false
       → FailsOver submits reads line c0 c2 s t (record { answered = answered; written = partial_write.written; cause = partial_write.cause })
   fails_malformed c0 c1 c2 s t old answered b partial_write so is said took in_works =
-      fails_saying c0 c1 c2 s t t old answered (due_malformed b) old.held partial_write so (split_all so.taken old.held so.opens so.split) (is, said.2) (run_all submits reads s t so.opens so.run) said took in_works
+      fails_saying c0 c1 c2 s t t old answered (due_malformed b) old.held partial_write so (split_all so.taken old.held so.opens so.split) (is, said.2)
+      (run_all submits reads s t so.opens so.run) said took in_works
       (λ e. absurd (cc e))

@@ -1,7 +1,7 @@
 -- Sessions between an input and an output, and over a connection, in terms of what is known about these and the store.
 use Rattle.std.specs.Prelude.{ℕ, Bool, List, ◌++◌, Option}
 use Rattle.trace_model.specs.declared.limits.Limits.{Limits}
-use Rattle.store_backend.specs.Knowing.{History}
+use Rattle.trace_model.specs.Knowing.{History}
 use Rattle.http_requests.specs.Waiting.{Gives, Source, source_of}
 use Rattle.http_session.specs.Sessions.{Submits, Reads, Exchange, EndsAs, FailsAs, last_of, exchange_due}
 use Rattle.http_session.specs.InTurn.{ReadsInTurn, ReadsInTurnUpTo}
@@ -35,14 +35,16 @@ devices_of remaining gives in_failed contents out_failed =
 -- for its exchanges, and that it read only while the next request was awaited.
 abbrev pub EndsWith : {S R W : Type 0} → Submits S → Reads S → (List Exchange → Type 0) → Devices R W → R → R → W → W → S → S → Ended → Type 0
 EndsWith submits reads WritesResponse devices in0 in1 out0 out1 s t ended =
-    (ends : EndsAs submits reads (devices.source.remaining in0) (devices.source.remaining in1) (devices.contents out0) (devices.contents out1) s t ended.answered ended.clean)
+    (ends : EndsAs submits reads (devices.source.remaining in0) (devices.source.remaining in1) (devices.contents out0) (devices.contents out1)
+    s t ended.answered ended.clean)
     × WritesResponse (ends.opens ++ last_of ends.ending)
     × ReadsInTurn devices.source.gives in0 in1 ends.opens ends.taken
 
 -- like EndsWith, for a session that failed
 abbrev pub FailsWith : {S R W : Type 0} → Submits S → Reads S → (List Exchange → Type 0) → Devices R W → R → R → W → W → S → S → SessionError → Type 0
 FailsWith submits reads WritesResponse devices in0 in1 out0 out1 s t error =
-    (fails : FailsAs submits reads (devices.source.remaining in0) (devices.source.remaining in1) (devices.contents out0) (devices.contents out1) s t (devices.in_failed in1) (devices.out_failed out1) error)
+    (fails : FailsAs submits reads (devices.source.remaining in0) (devices.source.remaining in1) (devices.contents out0) (devices.contents out1) s t
+    (devices.in_failed in1) (devices.out_failed out1) error)
     × WritesResponse (fails.opens ++ exchange_due fails.next)
     × ReadsInTurnUpTo devices.source in0 in1 (devices.in_failed in1) fails.opens fails.taken fails.made
 

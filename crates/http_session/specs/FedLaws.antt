@@ -18,6 +18,8 @@ follows_nothing f = inl (λ rest. refl)
 
 pub follows_joined : (f g h : List ℕ → Result Batch DecodeError) (front back : List ℕ) → Follows f front g → Follows g back h → Follows f (front ++ back) h
 follows_joined f g h front back (inr none) (inr again) = inr (again.0, none.1)
-follows_joined f g h front back (inl one) (inr none) = inr (none.0, λ before refused. none.1 before (record { all = λ rest. sym (one rest) ∙ refused.all (front ++ rest); no_want = refused.no_want }))
+follows_joined f g h front back (inl one) (inr none) =
+    inr (none.0, λ before refused. none.1 before (record { all = λ rest. sym (one rest) ∙ refused.all (front ++ rest); no_want = refused.no_want }))
 follows_joined f g h front back (inl one) (inl two) = inl (λ rest. ap f (append_assoc front back rest) ∙ one (back ++ rest) ∙ two rest)
-follows_joined f g h front back (inr none) (inl two) = inr (record { all = λ rest. sym (two rest) ∙ none.0.all (back ++ rest); no_want = none.0.no_want }, none.1)
+follows_joined f g h front back (inr none) (inl two) =
+    inr (record { all = λ rest. sym (two rest) ∙ none.0.all (back ++ rest); no_want = none.0.no_want }, none.1)

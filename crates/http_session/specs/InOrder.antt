@@ -62,7 +62,8 @@ pub record AwaitsAnswered (opens : List Exchange) (received written : List ℕ) 
 -- awaited one were written.
 pub record AnswersInTurn {C : Type 0} (gives : Gives C) (takes : Takings C) (s t : C) (opens : List Exchange) (received written : List ℕ) : Type 0 where
   pub acts : List Act
-  pub each : ActsWhile gives takes (AwaitsAnswered opens) (record { state = s; received = []; written = [] }) (record { state = t; received = received; written = written }) acts
+  pub each : ActsWhile gives takes (AwaitsAnswered opens) (record { state = s; received = []; written = [] })
+      (record { state = t; received = received; written = written }) acts
 
 -- Like AnswersInTurn, for a session that failed. The count is of the reads that returned bytes or found the end. One
 -- more, the last one, may have failed.
@@ -83,5 +84,6 @@ EndsOver submits reads line c0 c1 s t ended =
 -- a session over a connection that failed
 abbrev pub FailsOver : {S C : Type 0} → Submits S → Reads S → Line C → C → C → S → S → SessionError → Type 0
 FailsOver submits reads line c0 c1 s t error =
-    (fails : FailsAs submits reads (line.source.remaining c0) (line.source.remaining c1) (line.contents c0) (line.contents c1) s t (line.in_failed c1) (line.out_failed c1) error)
+    (fails : FailsAs submits reads (line.source.remaining c0) (line.source.remaining c1) (line.contents c0) (line.contents c1) s t (line.in_failed c1)
+    (line.out_failed c1) error)
     × AnswersInTurnUpTo line c0 c1 fails.opens fails.taken (responses fails.opens ++ take error.written (bytes_due fails.next)) fails.made

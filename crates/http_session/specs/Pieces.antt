@@ -9,7 +9,7 @@ use Rattle.jaeger_model.specs.declared.batch.Batch.{Batch}
 use Rattle.trace_model.specs.declared.query.Query.{Query}
 use Rattle.trace_model.specs.declared.answer.Answer.{Answer}
 use Rattle.trace_model.specs.declared.refusal.Refusal.{Refusal}
-use Rattle.store_backend.specs.Knowing.{Keeps}
+use Rattle.trace_model.specs.Knowing.{Keeps}
 use Rattle.http_session.specs.Sessions.{Submits, Reads, Step}
 use Rattle.http_session.specs.InOrder.{Line}
 use Rattle.http_session.specs.Underway.{SoFar}
@@ -139,7 +139,8 @@ StaysUnderway {S = S} {C = C} store line Does =
 -- connection writes the waiting part of a response.
 abbrev pub OutlastsWrites : {S C : Type 0} → Store S → Line C → Type 0
 OutlastsWrites {S = S} {C = C} store line =
-    (c0 c1 c2 : C) (s t : S) (session : Session) → UnderwayAmong store line c0 c1 s t session → line.takes c1 [] c2 → KeepsBytes (line.contents c1) (line.contents c2)
+    (c0 c1 c2 : C) (s t : S) (session : Session) → UnderwayAmong store line c0 c1 s t session → line.takes c1 [] c2
+    → KeepsBytes (line.contents c1) (line.contents c2)
     → UnderwayAmong store line c0 c2 s t session
 
 -- ---- one piece
@@ -150,6 +151,7 @@ ComesToAmong {S = S} store line c0 c1 s t session result =
     (m : S) × ComesTo (shared store) line c0 c1 s m session result × Keeps store.limits store.knows m t
 
 -- What one piece does: from wherever the session began, this is what became of it.
-pub record GoesOn {S C : Type 0} (store : Store S) (line : Line C) (c1 c2 : C) (t u : S) (old new : Session) (result : Result (Option Ended) SessionError) : Type 0 where
+pub record GoesOn {S C : Type 0} (store : Store S) (line : Line C) (c1 c2 : C) (t u : S) (old new : Session)
+    (result : Result (Option Ended) SessionError) : Type 0 where
   pub alone : (c0 : C) (s : S) → Underway store line c0 c1 s t old → ComesTo store line c0 c2 s u new result
   pub among : (c0 : C) (s : S) → UnderwayAmong store line c0 c1 s t old → ComesToAmong store line c0 c2 s u new result

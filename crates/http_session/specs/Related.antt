@@ -4,7 +4,7 @@ use Rattle.jaeger_model.specs.declared.batch.Batch.{Batch}
 use Rattle.trace_model.specs.declared.limits.Limits.{Limits}
 use Rattle.trace_model.specs.Histories.{IsLegal}
 use Rattle.trace_model.specs.Answers.{answer}
-use Rattle.store_backend.specs.Knowing.{History, IsPrefixOf, HasAt}
+use Rattle.trace_model.specs.Knowing.{History, IsPrefixOf, HasAt}
 use Rattle.http_session.specs.Sessions.{Exchange}
 use Rattle.http_session.specs.declared.verdict.Verdict.{Verdict}
 use Rattle.http_session.specs.declared.verdict.Verdict.TheVariants.{Submit, Ask, Reject}

@@ -110,7 +110,8 @@ is_clean (malformed b) = false
 
 -- A session ended. The bytes read are the requests and a rest, and the bytes written are their responses, and a last
 -- one if the rest was malformed.
-pub record EndsAs {S : Type 0} (submits : Submits S) (reads : Reads S) (in0 in1 out0 out1 : Option (List ℕ)) (s t : S) (answered : ℕ) (clean : Bool) : Type 0 where
+pub record EndsAs {S : Type 0} (submits : Submits S) (reads : Reads S) (in0 in1 out0 out1 : Option (List ℕ)) (s t : S) (answered : ℕ)
+    (clean : Bool) : Type 0 where
   pub taken : List ℕ
   pub opens : List Exchange
   pub ending : Ending
@@ -172,7 +173,8 @@ IsCause Memory in_failed out_failed taken made = (in_failed ≡ false) × (out_f
 -- A session failed: the earlier responses were written completely, the next one as far as is reported. The store has
 -- made the step of the exchange that is due, so an accepted batch stays accepted. A response that needs no memory isn't
 -- held back when memory runs out.
-pub record FailsAs {S : Type 0} (submits : Submits S) (reads : Reads S) (in0 in1 out0 out1 : Option (List ℕ)) (s t : S) (in_failed out_failed : Bool) (error : SessionError) : Type 0 where
+pub record FailsAs {S : Type 0} (submits : Submits S) (reads : Reads S) (in0 in1 out0 out1 : Option (List ℕ)) (s t : S) (in_failed out_failed : Bool)
+    (error : SessionError) : Type 0 where
   pub taken : List ℕ
   pub opens : List Exchange
   pub next : Due

@@ -8,7 +8,8 @@ use Rattle.http_session.specs.Sessions.{Exchange, IsOpen, texts, responses, Subm
 use Rattle.http_session.specs.InOrder.{Line, AnswersInTurn, pieces}
 
 -- the exchanges so far
-pub record SoFar {S C : Type 0} (submits : Submits S) (reads : Reads S) (line : Line C) (c0 c1 : C) (s t : S) (received : ReadBuffer) (answered : ℕ) : Type 0 where
+pub record SoFar {S C : Type 0} (submits : Submits S) (reads : Reads S) (line : Line C) (c0 c1 : C) (s t : S) (received : ReadBuffer)
+    (answered : ℕ) : Type 0 where
   pub taken : List ℕ
   pub opens : List Exchange
   pub read : Consumes (line.source.remaining c0) (line.source.remaining c1) taken

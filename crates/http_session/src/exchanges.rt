@@ -19,7 +19,7 @@ use query_http::{Endpoint, endpoints};
 use session_devices::{Input, Join, Output};
 use std::alloc::Global;
 use std::mem::drop;
-use store_backend::Backend;
+use trace_model::Backend;
 
 /// How a session ended.
 #[derive(Clone, Copy, Debug, PartialEq, Eq)]

@@ -2,10 +2,11 @@
 
 ghost use Rattle.http_session.specs.InOrder.{line_of};
 ghost use Rattle.http_session.specs.Between.{store_of};
-ghost use Rattle.http_session.specs.Pieces.{no_requests_yet, CanContinue, Underway, UnderwayAmong, AnswersSoFar, StaysUnderway, OutlastsWrites, SubmitsSome, ReadsSome, AsksOnce, ForgetsNothing};
+ghost use Rattle.http_session.specs.Pieces.{no_requests_yet, CanContinue, Underway, UnderwayAmong, AnswersSoFar, StaysUnderway, OutlastsWrites, SubmitsSome};
+ghost use Rattle.http_session.specs.Pieces.{ReadsSome, AsksOnce, ForgetsNothing};
 
 use session_devices::Connection;
-use store_backend::Backend;
+use trace_model::Backend;
 
 /// A new session is underway from the present state of its connection and its store.
 pub fn a_new_session_is_underway<T, C: Connection, B: Backend<T>>(connection: &C, backend: &B)

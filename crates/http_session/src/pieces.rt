@@ -16,7 +16,7 @@ use http_requests::{ReadBuffer, SpareRoom};
 use matchit::Router;
 use query_http::Endpoint;
 use std::alloc::{AllocError, Global};
-use store_backend::Backend;
+use trace_model::Backend;
 
 /// A session that can pause: the bytes received and not yet taken, what it awaits, and the number of responses written.
 /// Of a request that was received in part it keeps the decoded part. The connection and the store are not part of it,

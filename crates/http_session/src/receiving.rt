@@ -9,7 +9,8 @@ ghost use Rattle.http_requests.specs.Receiving.{put_back};
 ghost use Rattle.http_session.specs.Verdicts.{BeginsWithQuery};
 ghost use Rattle.http_session.specs.Questions.{JudgesRead, Decides};
 ghost use Rattle.http_session.specs.declared.question.Question.{Question as QuestionValue};
-ghost use Rattle.http_session.specs.Incoming.{before_a_request, JudgesBy, Carries, IsPartOf, HasReceived, HasLookedBy, IsBody, PartComes, LeavesPart, FinishesAs, ReceivesOf, LeavesWaiting};
+ghost use Rattle.http_session.specs.Incoming.{before_a_request, JudgesBy, Carries, IsPartOf, HasReceived, HasLookedBy, IsBody, PartComes, LeavesPart};
+ghost use Rattle.http_session.specs.Incoming.{FinishesAs, ReceivesOf, LeavesWaiting};
 
 use crate::question::{Question, question_of};
 use crate::verdict::{ErrorReply, Verdict};

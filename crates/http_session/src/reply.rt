@@ -4,7 +4,8 @@ ghost use Rattle.query_http.specs.Responses.{response};
 ghost use Rattle.query_http.specs.Statuses.{code_of};
 ghost use Rattle.query_json.specs.Parts.{to_come};
 ghost use Rattle.query_json.specs.Trees.{answer_tree};
-ghost use Rattle.http_session.specs.Replies.{status_of, allow_of, closes, takes_no_memory, response_of, error_message, error_status, refusal_status, refusal_message, bad_request_status, bad_request_message, error_body};
+ghost use Rattle.http_session.specs.Replies.{status_of, allow_of, closes, takes_no_memory, response_of, error_message, error_status, refusal_status};
+ghost use Rattle.http_session.specs.Replies.{refusal_message, bad_request_status, bad_request_message, error_body};
 ghost use Rattle.http_session.specs.declared.reply.Reply.TheVariants as reply;
 
 use crate::fixed::{accepted, internal_error, out_of_memory};

@@ -13,7 +13,8 @@ use Rattle.read_side.specs.Keepers.{Lists, accepted, TurnsAway}
 use Rattle.intake.specs.Seats.{IsUnacknowledged}
 use Rattle.intake.specs.Denials.{IsLeftOut, IsDenied}
 
-left-out : (limits : Limits) (list : List Entry) (e : Entry) (r : Result Admission Refusal) → admission limits list e ≡ r → IsSaid limits list e r → IsLeftOut limits list e (unwrap_or (result_err r) NoMemory)
+left-out : (limits : Limits) (list : List Entry) (e : Entry) (r : Result Admission Refusal) → admission limits list e ≡ r → IsSaid limits list e r
+    → IsLeftOut limits list e (unwrap_or (result_err r) NoMemory)
 left-out limits list e (Ok a) is s = (a, is)
 left-out limits list e (Err (Stale last)) is s = ap result_err is
 left-out limits list e (Err (JournalFull batches spans)) is s = ap result_err is
@@ -23,7 +24,8 @@ left-out limits list e (Err why) is s = absurd s
 pub turned-away : (limits : Limits) (k : Lists) (e : Entry) (why : Refusal) (m : Lists) → TurnsAway limits k e why m → IsLeftOut limits (accepted k) e why
 turned-away limits k e why m t = ⊎_elim
     (λ p. subst (IsLeftOut limits (accepted k) e) (sym p.0) (p.1.0, p.1.1))
-    (λ q. subst (IsLeftOut limits (accepted k) e) (sym q.1) (left-out limits (accepted k) e (admission limits (accepted k) e) refl (admission_says limits (accepted k) e)))
+    (λ q. subst (IsLeftOut limits (accepted k) e) (sym q.1)
+    (left-out limits (accepted k) e (admission limits (accepted k) e) refl (admission_says limits (accepted k) e)))
     t
 
 left-unacknowledged : (limits : Limits) (list : List Entry) (e : Entry) (why : Refusal) → IsLeftOut limits list e why → IsUnacknowledged why

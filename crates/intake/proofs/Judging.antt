@@ -1,5 +1,6 @@
 -- The lists after one entry is judged.
-use Rattle.std.proofs.Common.{◌≡◌, ℕ, zero, suc, ◌+◌, ◌-◌, Bool, if◌then◌else◌, List, [], ◌∷◌, ◌++◌, length, refl, subst, sym, ap, ◌∙◌, ⊎_elim, arith, append_assoc, Some, slice_get, inl, inr, Result, Ok, Err}
+use Rattle.std.proofs.Common.{◌≡◌, ℕ, zero, suc, ◌+◌, ◌-◌, Bool, if◌then◌else◌, List, [], ◌∷◌, ◌++◌, length, refl, subst, sym, ap, ◌∙◌, ⊎_elim, arith}
+use Rattle.std.proofs.Common.{append_assoc, Some, slice_get, inl, inr, Result, Ok, Err}
 use Rattle.std.specs.Prelude.{◌&&◌, not}
 use Rattle.std.specs.Option.{unwrap_or}
 use Rattle.std.specs.Result.{result_err}
@@ -21,7 +22,8 @@ use Rattle.intake.specs.Books.{is_accepted, AnsweredIfPlaced}
 use Rattle.read_side.proofs.Admitting.{last_stands, entry_stands}
 
 -- a keeper refuses an entry, without accepting it, with one of four refusals
-pub one-of-four : (P : Refusal → Type 0) (limits : Limits) (k : Lists) (e : Entry) → P NoMemory → ((last : ℕ) → P (Stale last)) → ((batches spans : ℕ) → P (JournalFull batches spans)) → ((place : ℕ) → P (Conflict place)) → P (unwrap_or (refusal_after limits k e) NoMemory)
+pub one-of-four : (P : Refusal → Type 0) (limits : Limits) (k : Lists) (e : Entry) → P NoMemory → ((last : ℕ) → P (Stale last))
+    → ((batches spans : ℕ) → P (JournalFull batches spans)) → ((place : ℕ) → P (Conflict place)) → P (unwrap_or (refusal_after limits k e) NoMemory)
 one-of-four P limits k e memory stale full conflict = go (admission_after limits k e) (admission_says limits (accepted k) e)
   where
     go : (r : Result Admission Refusal) → IsSaid limits (accepted k) e r → P (unwrap_or (result_err r) NoMemory)
@@ -37,7 +39,8 @@ said limits k j a is = subst (IsSaid limits (accepted k) j) is (admission_says l
 
 -- ---- what the accepted list gains
 -- it gains the entry if no earlier one answers for it
-accepted-after : (limits : Limits) (k : Lists) (j : Entry) (a : Admission) → IsSaid limits (accepted k) j (Ok a) → accepted (after_admission k j a) ≡ accepted k ++ (if not (is_sent (accepted k) j) then j ∷ [] else [])
+accepted-after : (limits : Limits) (k : Lists) (j : Entry) (a : Admission) → IsSaid limits (accepted k) j (Ok a)
+    → accepted (after_admission k j a) ≡ accepted k ++ (if not (is_sent (accepted k) j) then j ∷ [] else [])
 accepted-after limits k j Added s =
     let P : Bool → Type 0 = λ b. accepted (after_admission k j Added) ≡ accepted k ++ (if not b then j ∷ [] else []) in
     subst P (sym s.unsent) (sym (append_assoc k.published k.pending (j ∷ [])))
@@ -46,7 +49,8 @@ accepted-after limits k j (Resent place) s =
     subst P (sym s.sent) (sym (append-nil (accepted k)))
 
 -- the accepted list grows by the entry if it was accepted and was not there before
-pub judged-accepted : (limits : Limits) (k : Lists) (j : Entry) (r : Result ℕ Refusal) (m : Lists) → Answers limits k j r m → accepted m ≡ accepted k ++ (if is_accepted r && not (is_sent (accepted k) j) then j ∷ [] else [])
+pub judged-accepted : (limits : Limits) (k : Lists) (j : Entry) (r : Result ℕ Refusal) (m : Lists) → Answers limits k j r m
+    → accepted m ≡ accepted k ++ (if is_accepted r && not (is_sent (accepted k) j) then j ∷ [] else [])
 judged-accepted limits k j (Ok place) m g =
     ap accepted g.2 ∙ (append-nil (accepted (after_admission k j g.0)) ∙ accepted-after limits k j g.0 (said limits k j g.0 g.1))
 judged-accepted limits k j (Err why) m g = ⊎_elim
@@ -66,7 +70,8 @@ snoc_get (x ∷ xs) j zero e = absurd (omega (arith, e))
 snoc_get (x ∷ xs) j (suc n) e = snoc_get xs j n (omega (arith, e))
 
 -- an accepted entry has an entry that answers for it in the accepted list afterwards
-answered-after : (limits : Limits) (k : Lists) (j : Entry) (a : Admission) → IsSaid limits (accepted k) j (Ok a) → AnsweredAt (accepted (after_admission k j a)) (place_of (accepted k) a) j
+answered-after : (limits : Limits) (k : Lists) (j : Entry) (a : Admission) → IsSaid limits (accepted k) j (Ok a)
+    → AnsweredAt (accepted (after_admission k j a)) (place_of (accepted k) a) j
 answered-after limits k j Added s =
     let P : List Entry → Type 0 = λ z. StandsAt z (length (accepted k) + 1) j in
     (j, subst P (append_assoc k.published k.pending (j ∷ [])) (last_stands (accepted k) j), inl refl)
@@ -77,7 +82,8 @@ pub answered-on : (list more : List Entry) (place : ℕ) (j : Entry) → IsPrefi
 answered-on list more place j p s = (s.0, (s.1.0, prefix_get list more (place - 1) s.0 p s.1.1), s.2)
 
 -- an entry answers for each acknowledged one at its place of each later list
-pub judged-answered : (limits : Limits) (k : Lists) (j : Entry) (r : Result ℕ Refusal) (m : Lists) (list : List Entry) → Answers limits k j r m → IsPrefix m.published list → AnsweredIfPlaced list j r
+pub judged-answered : (limits : Limits) (k : Lists) (j : Entry) (r : Result ℕ Refusal) (m : Lists) (list : List Entry) → Answers limits k j r m
+    → IsPrefix m.published list → AnsweredIfPlaced list j r
 judged-answered limits k j (Err why) m list g p = tt
 judged-answered limits k j (Ok place) m list g p =
     let a = g.0 in

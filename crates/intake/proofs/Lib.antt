@@ -5,6 +5,7 @@ pub mod Accounting
 pub mod Ends
 pub mod Runs
 pub mod Seating
-pub mod Places
 pub mod Taking
 pub mod Numbers
+pub mod LiveSeats
+pub mod LiveTurning

@@ -1,5 +1,6 @@
 -- The number of jobs of each seat that were taken.
-use Rattle.std.proofs.Common.{◌≡◌, ◌≢◌, ℕ, zero, suc, ◌==◌, ◌<◌, ◌≤◌, ◌||◌, Bool, true, false, List, [], ◌∷◌, ◌++◌, length, set, replicate, refl, subst, sym, ap, ◌∙◌, arith, length-append, ne_eqb}
+use Rattle.std.proofs.Common.{◌≡◌, ◌≢◌, ℕ, zero, suc, ◌==◌, ◌<◌, ◌≤◌, ◌||◌, Bool, true, false, List, [], ◌∷◌, ◌++◌, length, set, replicate, refl, subst, sym}
+use Rattle.std.proofs.Common.{ap, ◌∙◌, arith, length-append, ne_eqb}
 use Rattle.std.specs.Prelude.{slice_index}
 use Rattle.std.proofs.lemmas.List.{append-nil, get_or-set_same, get_or-set_other, length-set}
 use Rattle.std.proofs.lemmas.Bool.{leb-true, leb-false}
@@ -26,7 +27,8 @@ none_taken made jobs numbers none is size = record {
 }
 
 -- one more was taken, and its number is stored
-pub one_taken : (made : ℕ) (jobs : List Entry) (numbers : List ℕ) (j : Entry) → AreLast made jobs numbers → j.seat < made → AllCountUp (jobs ++ j ∷ []) → AreLast made (jobs ++ j ∷ []) (set numbers j.seat j.number)
+pub one_taken : (made : ℕ) (jobs : List Entry) (numbers : List ℕ) (j : Entry) → AreLast made jobs numbers → j.seat < made → AllCountUp (jobs ++ j ∷ [])
+    → AreLast made (jobs ++ j ∷ []) (set numbers j.seat j.number)
 one_taken made jobs numbers j l within counts = record {
   one_for_each = same_size ∙ l.one_for_each;
   counted = counts;
@@ -62,7 +64,8 @@ one_taken made jobs numbers j l within counts = record {
         get_or-set_other numbers j.seat s j.number 0 apart ∙ (l.each s ∙ ap length (sym (others s (λ same. apart (sym same))))))
 
 -- the job was taken if that many of the seat were
-pub has_so_many : (made : ℕ) (jobs : List Entry) (numbers : List ℕ) (s n k : ℕ) → AreLast made jobs numbers → k ≡ length (jobs_of s jobs) → leb n k ≡ ((n == 0) || has_job s n jobs)
+pub has_so_many : (made : ℕ) (jobs : List Entry) (numbers : List ℕ) (s n k : ℕ) → AreLast made jobs numbers → k ≡ length (jobs_of s jobs)
+    → leb n k ≡ ((n == 0) || has_job s n jobs)
 has_so_many made jobs numbers s n k l is = go (leb n k) refl (n == 0) refl (has_job s n jobs) refl
   where
     count : CountUp 1 (jobs_of s jobs)

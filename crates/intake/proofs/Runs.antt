@@ -19,23 +19,28 @@ use Rattle.intake.specs.Books.{JudgedInTurn, is_accepted, gained_jobs, AllAnswer
 use Rattle.intake.proofs.Accounting.{accounted-snoc}
 use Rattle.intake.proofs.Judging.{judged-accepted, judged-answered}
 
-pub judged-snoc : (limits : Limits) (k : Lists) (js : List Entry) (bs : List Account) (m : Lists) (j : Entry) (a : Account) (end : Lists) → JudgedInTurn limits k js bs m → Answers limits m j a.answer end → JudgedInTurn limits k (js ++ j ∷ []) (bs ++ a ∷ []) end
+pub judged-snoc : (limits : Limits) (k : Lists) (js : List Entry) (bs : List Account) (m : Lists) (j : Entry) (a : Account) (end : Lists)
+    → JudgedInTurn limits k js bs m → Answers limits m j a.answer end → JudgedInTurn limits k (js ++ j ∷ []) (bs ++ a ∷ []) end
 judged-snoc limits k [] [] m j a end r g = (end, subst (λ (z : Lists). Answers limits z j a.answer end) r g, refl)
 judged-snoc limits k [] (b ∷ bs) m j a end r g = absurd r
 judged-snoc limits k (x ∷ xs) [] m j a end r g = absurd r
 judged-snoc limits k (x ∷ xs) (b ∷ bs) m j a end r g = (r.0, r.1, judged-snoc limits r.0 xs bs m j a end r.2 g)
 
-pub all-shown : (limits : Limits) (k : Lists) (js : List Entry) (bs : List Account) (end : Lists) → JudgedInTurn limits k js bs end → IsPrefix k.published end.published
+pub all-shown : (limits : Limits) (k : Lists) (js : List Entry) (bs : List Account) (end : Lists) → JudgedInTurn limits k js bs end
+    → IsPrefix k.published end.published
 all-shown limits k [] [] end r = ([], append-nil k.published ∙ sym (ap (λ (z : Lists). z.published) r))
 all-shown limits k [] (b ∷ bs) end r = absurd r
 all-shown limits k (j ∷ js) [] end r = absurd r
-all-shown limits k (j ∷ js) (b ∷ bs) end r = prefix_trans k.published r.0.published end.published (grows limits k j b.answer r.0 r.1) (all-shown limits r.0 js bs end r.2)
+all-shown limits k (j ∷ js) (b ∷ bs) end r =
+    prefix_trans k.published r.0.published end.published (grows limits k j b.answer r.0 r.1) (all-shown limits r.0 js bs end r.2)
 
-pub all-answered : (limits : Limits) (k : Lists) (js : List Entry) (bs : List Account) (end : Lists) → JudgedInTurn limits k js bs end → AllAnswered end.published js bs
+pub all-answered : (limits : Limits) (k : Lists) (js : List Entry) (bs : List Account) (end : Lists) → JudgedInTurn limits k js bs end
+    → AllAnswered end.published js bs
 all-answered limits k [] [] end r = tt
 all-answered limits k [] (b ∷ bs) end r = absurd r
 all-answered limits k (j ∷ js) [] end r = absurd r
-all-answered limits k (j ∷ js) (b ∷ bs) end r = (judged-answered limits k j b.answer r.0 end.published r.1 (all-shown limits r.0 js bs end r.2), all-answered limits r.0 js bs end r.2)
+all-answered limits k (j ∷ js) (b ∷ bs) end r =
+    (judged-answered limits k j b.answer r.0 end.published r.1 (all-shown limits r.0 js bs end r.2), all-answered limits r.0 js bs end r.2)
 
 -- what is gained if one job is gained or not, and then others
 gained-then : (c : Bool) (before after : List Entry) (j : Entry) (js : List Entry) (bs : List Account) → after ≡ before ++ (if c then j ∷ [] else [])
@@ -44,7 +49,8 @@ gained-then true before after j js bs e =
     ap (λ z. z ++ gained_jobs z js bs) e ∙ append_assoc before (j ∷ []) (gained_jobs (before ++ j ∷ []) js bs)
 gained-then false before after j js bs e = ap (λ z. z ++ gained_jobs z js bs) (e ∙ append-nil before)
 
-pub all-accepted : (limits : Limits) (k : Lists) (js : List Entry) (bs : List Account) (end : Lists) → JudgedInTurn limits k js bs end → accepted end ≡ accepted k ++ gained_jobs (accepted k) js bs
+pub all-accepted : (limits : Limits) (k : Lists) (js : List Entry) (bs : List Account) (end : Lists) → JudgedInTurn limits k js bs end
+    → accepted end ≡ accepted k ++ gained_jobs (accepted k) js bs
 all-accepted limits k [] [] end r = ap accepted r ∙ sym (append-nil (accepted k))
 all-accepted limits k [] (b ∷ bs) end r = absurd r
 all-accepted limits k (j ∷ js) [] end r = absurd r
@@ -53,8 +59,10 @@ all-accepted limits k (j ∷ js) (b ∷ bs) end r =
     ∙ gained-then (is_accepted b.answer && not (is_sent (accepted k) j)) (accepted k) (accepted r.0) j js bs (judged-accepted limits k j b.answer r.0 r.1)
 
 -- the books after a run, by what was judged
-pub ran : (limits : Limits) (before : List Entry) (accounts : List Account) (start : Lists) (taken : List Entry) (after : List Account) (end : Lists) (js : List Entry) (bs : List Account)
-    → taken ≡ before ++ js → after ≡ accounts ++ bs → Accounted taken after → JudgedInTurn limits start js bs end → Ran limits before accounts start taken after end
+pub ran : (limits : Limits) (before : List Entry) (accounts : List Account) (start : Lists) (taken : List Entry) (after : List Account) (end : Lists)
+    (js : List Entry) (bs : List Account)
+    → taken ≡ before ++ js → after ≡ accounts ++ bs → Accounted taken after → JudgedInTurn limits start js bs end
+    → Ran limits before accounts start taken after end
 ran limits before accounts start taken after end js bs t a each judged = record {
   jobs = js;
   answers = bs;
@@ -66,8 +74,10 @@ ran limits before accounts start taken after end js bs t a each judged = record 
   answered = all-answered limits start js bs end judged;
 }
 
-pub ran-start : (limits : Limits) (before : List Entry) (accounts : List Account) (start : Lists) → Accounted before accounts → Ran limits before accounts start before accounts start
-ran-start limits before accounts start each = ran limits before accounts start before accounts start [] [] (sym (append-nil before)) (sym (append-nil accounts)) each refl
+pub ran-start : (limits : Limits) (before : List Entry) (accounts : List Account) (start : Lists) → Accounted before accounts
+    → Ran limits before accounts start before accounts start
+ran-start limits before accounts start each =
+    ran limits before accounts start before accounts start [] [] (sym (append-nil before)) (sym (append-nil accounts)) each refl
 
 -- one more job was judged
 pub ran-served : (limits : Limits) (before : List Entry) (accounts : List Account) (start : Lists) (c d : ClerkValue) (m end : Lists) (seat number : ℕ)
@@ -78,7 +88,8 @@ ran-served limits before accounts start c d m end seat number h s =
     let t : d.taken ≡ c.taken ++ j ∷ [] = ap (λ (z : ClerkValue). z.taken) s.4 in
     let b : d.accounts ≡ c.accounts ++ a ∷ [] = ap (λ (z : ClerkValue). z.accounts) s.4 in
     let each : Accounted d.taken d.accounts =
-    (let P : List Entry → Type 0 = λ z. Accounted z d.accounts in let Q : List Account → Type 0 = λ z. Accounted (c.taken ++ j ∷ []) z in subst P (sym t) (subst Q (sym b) (accounted-snoc c.taken c.accounts j a h.each refl refl))) in
+    (let P : List Entry → Type 0 = λ z. Accounted z d.accounts in let Q : List Account → Type 0 = λ z. Accounted (c.taken ++ j ∷ []) z in
+    subst P (sym t) (subst Q (sym b) (accounted-snoc c.taken c.accounts j a h.each refl refl))) in
     ran limits before accounts start d.taken d.accounts end (h.jobs ++ j ∷ []) (h.answers ++ a ∷ [])
     (t ∙ (ap (λ z. z ++ j ∷ []) h.taken_is ∙ append_assoc before h.jobs (j ∷ [])))
     (b ∙ (ap (λ z. z ++ a ∷ []) h.accounts_are ∙ append_assoc accounts h.answers (a ∷ [])))
@@ -86,7 +97,8 @@ ran-served limits before accounts start c d m end seat number h s =
     (judged-snoc limits start h.jobs h.answers m j a end h.in_turn s.5)
 
 pub ran-unchanged : (limits : Limits) (before : List Entry) (accounts : List Account) (start : Lists) (c d : ClerkValue) (m end : Lists)
-    → Ran limits before accounts start c.taken c.accounts m → d ≡ c → end ≡ m → Ran limits before accounts start d.taken d.accounts end × (d.desk ≡ c.desk) × (d.ended ≡ c.ended)
+    → Ran limits before accounts start c.taken c.accounts m → d ≡ c → end ≡ m → Ran limits before accounts start d.taken d.accounts end × (d.desk ≡ c.desk)
+    × (d.ended ≡ c.ended)
 ran-unchanged limits before accounts start c d m end h e k =
     let P : ClerkValue → Type 0 = λ z. Ran limits before accounts start z.taken z.accounts end × (z.desk ≡ c.desk) × (z.ended ≡ c.ended) in
     let Q : Lists → Type 0 = λ z. Ran limits before accounts start c.taken c.accounts z in
@@ -94,9 +106,11 @@ ran-unchanged limits before accounts start c d m end h e k =
 
 -- whatever the turn did
 pub ran-on : (limits : Limits) (before : List Entry) (accounts : List Account) (start : Lists) (c d : ClerkValue) (m end : Lists) (r : Result Turn Refusal)
-    → Ran limits before accounts start c.taken c.accounts m → IfServed r (λ seat number. Serves limits c m seat number d end) → IfNotServed r ((d ≡ c) × (end ≡ m))
+    → Ran limits before accounts start c.taken c.accounts m → IfServed r (λ seat number. Serves limits c m seat number d end)
+    → IfNotServed r ((d ≡ c) × (end ≡ m))
     → Ran limits before accounts start d.taken d.accounts end × (d.desk ≡ c.desk) × (d.ended ≡ c.ended)
-ran-on limits before accounts start c d m end (Ok (Served seat number)) h s u = (ran-served limits before accounts start c d m end seat number h s, ap (λ (z : ClerkValue). z.desk) s.4, ap (λ (z : ClerkValue). z.ended) s.4)
+ran-on limits before accounts start c d m end (Ok (Served seat number)) h s u =
+    (ran-served limits before accounts start c d m end seat number h s, ap (λ (z : ClerkValue). z.desk) s.4, ap (λ (z : ClerkValue). z.ended) s.4)
 ran-on limits before accounts start c d m end (Ok Idle) h s u = ran-unchanged limits before accounts start c d m end h u.0 u.1
 ran-on limits before accounts start c d m end (Ok Ended) h s u = ran-unchanged limits before accounts start c d m end h u.0 u.1
 ran-on limits before accounts start c d m end (Err why) h s u = ran-unchanged limits before accounts start c d m end h u.0 u.1

@@ -8,7 +8,8 @@ use Rattle.intake.specs.Seats.{SeatValue, IsNewSeat}
 use Rattle.std.proofs.lemmas.List.FromFn.{map-range_with_len_more}
 
 range-next : (n : ℕ) → range_with_len 0 (n + 1) ≡ range_with_len 0 n ++ n ∷ []
-range-next n = sym (map-id (range_with_len 0 (n + 1))) ∙ map-range_with_len_more (λ k. k) 0 n n (omega arith) ∙ ap (λ l. l ++ n ∷ []) (map-id (range_with_len 0 n))
+range-next n =
+    sym (map-id (range_with_len 0 (n + 1))) ∙ map-range_with_len_more (λ k. k) 0 n n (omega arith) ∙ ap (λ l. l ++ n ∷ []) (map-id (range_with_len 0 n))
 
 -- one more seat was made: `old` was the desk's name, which is `here` and `there` now
 pub seated-on : (old here there : TableId) (room capacity number : ℕ) (made made' : List SeatValue) (s : SeatValue)
@@ -21,5 +22,6 @@ seated-on old here there room capacity number made made' s same its size each nu
     let P : List SeatValue → Type 0 = λ z. All (IsNewSeat here capacity) z in
     let F : SeatValue → ℕ = λ z. z.seat in (
       subst P (sym grown) (All-push (IsNewSeat here capacity) made s before one),
-      ap (map F) grown ∙ (map-append F made (s ∷ []) ∙ (ap (λ (l : List ℕ). l ++ s.seat ∷ []) numbers ∙ (ap (λ n. range_with_len 0 number ++ n ∷ []) seat ∙ sym (range-next number)))),
+      ap (map F) grown ∙ (map-append F made (s ∷ [])
+          ∙ (ap (λ (l : List ℕ). l ++ s.seat ∷ []) numbers ∙ (ap (λ n. range_with_len 0 number ++ n ∷ []) seat ∙ sym (range-next number)))),
     )

@@ -1,5 +1,6 @@
 -- The steps keep the rule of the queue.
-use Rattle.std.proofs.Common.{◌≡◌, ◌≢◌, ℕ, ◌+◌, ◌==◌, ◌<◌, ◌⊎◌, inl, inr, zero, suc, lt_of_not-le, Bool, true, false, cond, List, [], ◌∷◌, ◌++◌, length, set, refl, subst, sym, ap, ◌∙◌, ⊎_elim, append_assoc, arith, eq-eqb, ne_eqb, length-append}
+use Rattle.std.proofs.Common.{◌≡◌, ◌≢◌, ℕ, ◌+◌, ◌==◌, ◌<◌, ◌⊎◌, inl, inr, zero, suc, lt_of_not-le, Bool, true, false, cond, List, [], ◌∷◌, ◌++◌, length, set}
+use Rattle.std.proofs.Common.{refl, subst, sym, ap, ◌∙◌, ⊎_elim, append_assoc, arith, eq-eqb, ne_eqb, length-append}
 use Rattle.std.proofs.lemmas.List.{append-nil}
 use Rattle.std.proofs.lemmas.List.Elements.{filter-append}
 use Rattle.std.proofs.lemmas.Bool.Decides.{nat_tests}
@@ -10,7 +11,8 @@ use Rattle.atomic_table.proofs.Lists.{at_set, set_else}
 use Rattle.trace_model.specs.declared.entry.Entry.{Entry}
 use Rattle.intake.specs.declared.queue.QueueView.{QueueView}
 use Rattle.intake.specs.declared.queue.EndedSeat.{EndedSeat}
-use Rattle.intake.specs.Queues.{jobs_of, CountUp, AllCountUp, FitsSeat, FitsClerk, AreEnded, Balanced, Puts, Takes, Queued, Waiting, AreWhole, first_view, one_more, new_seat, took_in, retired, spent}
+use Rattle.intake.specs.Queues.{jobs_of, CountUp, AllCountUp, FitsSeat, FitsClerk, AreEnded, Balanced, Puts, Takes, Queued, Waiting, AreWhole, first_view}
+use Rattle.intake.specs.Queues.{one_more, new_seat, took_in, retired, spent}
 
 pub jobs_of-append : (s : ℕ) (xs ys : List Entry) → jobs_of s (xs ++ ys) ≡ jobs_of s xs ++ jobs_of s ys
 jobs_of-append s xs ys = filter-append (λ (j : Entry). j.seat == s) xs ys
@@ -20,7 +22,8 @@ counted-left k [] ys c = tt
 counted-left k (x ∷ xs) ys c = (c.0, counted-left (k + 1) xs ys c.1)
 
 -- the jobs of each seat are numbered from 1 on in the front part, if they are in all of them
-pub counted-front : (handed : ℕ → List Entry) (front items : List Entry) → ((s : ℕ) → jobs_of s (front ++ items) ≡ handed s) → ((s : ℕ) → CountUp 1 (handed s)) → AllCountUp front
+pub counted-front : (handed : ℕ → List Entry) (front items : List Entry) → ((s : ℕ) → jobs_of s (front ++ items) ≡ handed s) → ((s : ℕ) → CountUp 1 (handed s))
+    → AllCountUp front
 counted-front handed front items same counts s =
     counted-left 1 (jobs_of s front) (jobs_of s items) (subst (CountUp 1) (sym (same s) ∙ jobs_of-append s front items) (counts s))
 
@@ -28,7 +31,8 @@ counted-front handed front items same counts s =
 pub some-of : (s : ℕ) (before : List Entry) (j : Entry) (after : List Entry) → j.seat ≡ s → jobs_of s (before ++ j ∷ after) ≡ [] → ⊥
 some-of s before j after is gone =
     let here : jobs_of s (j ∷ after) ≡ j ∷ jobs_of s after = rw (eq-eqb j.seat s is) refl in
-    let all : jobs_of s before ++ (j ∷ jobs_of s after) ≡ [] = ap (λ z. jobs_of s before ++ z) (sym here) ∙ (sym (jobs_of-append s before (j ∷ after)) ∙ gone) in
+    let all : jobs_of s before ++ (j ∷ jobs_of s after) ≡ [] =
+    ap (λ z. jobs_of s before ++ z) (sym here) ∙ (sym (jobs_of-append s before (j ∷ after)) ∙ gone) in
     let size = length-append (jobs_of s before) (j ∷ jobs_of s after) in
     let nothing = ap length all in
     absurd (omega (arith, size, nothing))
@@ -49,7 +53,8 @@ takes pass v may not j items views b at =
         whole,
         b.5,
         (λ k u e. ⊎_elim
-            (λ t. subst (λ (z : QueueView). FitsSeat b.1 b.2 k z × FitsClerk b.0 b.1 b.2 (taken ++ j ∷ []) k z) t.1 ((λ y. absurd (cc (y, not))), (λ y. (t.0 ∙ mine.0, ap (λ z. z ++ j ∷ []) mine.1, mine.2, mine.3))))
+            (λ t. subst (λ (z : QueueView). FitsSeat b.1 b.2 k z × FitsClerk b.0 b.1 b.2 (taken ++ j ∷ []) k z) t.1
+            ((λ y. absurd (cc (y, not))), (λ y. (t.0 ∙ mine.0, ap (λ z. z ++ j ∷ []) mine.1, mine.2, mine.3))))
             (λ t. let f = b.6 k u t.1 in (f.0, (λ y. absurd (t.0 ((f.1 y).0 ∙ sym mine.0)))))
             (at_set views pass k w u e)),
       ),
@@ -70,7 +75,8 @@ more-here handed at j = rw (eq-eqb at at refl) refl
 pub more-else : (handed : ℕ → List Entry) (at : ℕ) (j : Entry) (s : ℕ) → s ≢ at → more handed at j s ≡ handed s
 more-else handed at j s n = rw (ne_eqb s at n) refl
 
-pub more-of : (handed : ℕ → List Entry) (at : ℕ) (j : Entry) (s : ℕ) (all : List Entry) → j.seat ≡ at → jobs_of s all ≡ handed s → jobs_of s (all ++ j ∷ []) ≡ more handed at j s
+pub more-of : (handed : ℕ → List Entry) (at : ℕ) (j : Entry) (s : ℕ) (all : List Entry) → j.seat ≡ at → jobs_of s all ≡ handed s
+    → jobs_of s (all ++ j ∷ []) ≡ more handed at j s
 more-of handed at j s all is same = jobs_of-append s all (j ∷ []) ∙ (ap (λ z. z ++ jobs_of s (j ∷ [])) same ∙ go (s == at) (j.seat == s) (grind (arith, is)))
   where
     go : (b c : Bool) → b ≡ c → handed s ++ cond c (j ∷ []) [] ≡ cond b (handed s ++ j ∷ []) (handed s)
@@ -79,7 +85,8 @@ more-of handed at j s all is same = jobs_of-append s all (j ∷ []) ∙ (ap (λ 
     go true false e = absurd (cc e)
     go false true e = absurd (cc e)
 
-pub more-count : (handed : ℕ → List Entry) (at : ℕ) (j : Entry) (s : ℕ) → CountUp 1 (handed s) → (s ≡ at → j.number ≡ length (handed s) + 1) → CountUp 1 (more handed at j s)
+pub more-count : (handed : ℕ → List Entry) (at : ℕ) (j : Entry) (s : ℕ) → CountUp 1 (handed s) → (s ≡ at → j.number ≡ length (handed s) + 1)
+    → CountUp 1 (more handed at j s)
 more-count handed at j s h e = go (s == at) refl
   where
     go : (b : Bool) → (s == at) ≡ b → CountUp 1 (cond b (handed s ++ j ∷ []) (handed s))
@@ -94,7 +101,8 @@ ended-on holder holder' handed handed' m n (k ∷ ks) le keep h =
     let same = keep k.seat h.0.0 h.0.1 in
     (((let l = h.0.0 in omega (arith, le, l)), same.0, same.1 ∙ h.0.2), ended-on holder holder' handed handed' m n ks le keep h.1)
 
-pub puts : (n pass : ℕ) (v : QueueView) (j : Entry) → v.submits ≡ true → v.takes ≡ false → j.seat ≡ v.seat → j.number ≡ length v.handed + 1 → Pushes Balanced n pass v j (Puts v j)
+pub puts : (n pass : ℕ) (v : QueueView) (j : Entry) → v.submits ≡ true → v.takes ≡ false → j.seat ≡ v.seat → j.number ≡ length v.handed + 1
+    → Pushes Balanced n pass v j (Puts v j)
 puts n pass v j may not is next items views room b at =
     let w = record v { handed = v.handed ++ j ∷ [] } in
     let holder = b.1 in
@@ -102,7 +110,8 @@ puts n pass v j may not is next items views room b at =
     let taken = b.3 in
     let mine = (b.6 pass v at).0 may in
     let handed' = more handed v.seat j in
-    let other : (s : ℕ) → holder s ≡ none → handed' s ≡ handed s = λ s free. more-else handed v.seat j s (λ same. some-ne-none pass (sym mine.0 ∙ (ap holder (sym same) ∙ free))) in (
+    let other : (s : ℕ) → holder s ≡ none → handed' s ≡ handed s =
+    λ s free. more-else handed v.seat j s (λ same. some-ne-none pass (sym mine.0 ∙ (ap holder (sym same) ∙ free))) in (
       w,
       (
         b.0,
@@ -117,7 +126,12 @@ puts n pass v j may not is next items views room b at =
             (λ t. let f = b.6 k u t.1 in
             let apart : u.submits ≡ true → u.seat ≢ v.seat = λ y same. t.0 (some-injective k pass (sym ((f.0 y).0) ∙ (ap holder same ∙ mine.0))) in (
               (λ y. ((f.0 y).0, (f.0 y).1 ∙ sym (more-else handed v.seat j u.seat (apart y)))),
-              (λ y. ((f.1 y).0, (f.1 y).1, (λ s le. let g = (f.1 y).2 s le in (g.0, other s g.0 ∙ g.1)), ended-on holder holder handed handed' u.made u.made u.ended (omega arith) (λ s l free. (free, other s free)) (f.1 y).3)),
+              (λ y. (
+                (f.1 y).0,
+                (f.1 y).1,
+                (λ s le. let g = (f.1 y).2 s le in (g.0, other s g.0 ∙ g.1)),
+                ended-on holder holder handed handed' u.made u.made u.ended (omega arith) (λ s l free. (free, other s free)) (f.1 y).3,
+              )),
             ))
             (at_set views pass k w u e)),
       ),
@@ -135,7 +149,8 @@ pub seat_given-else : (holder : ℕ → Option ℕ) (at : ℕ) (pass : Option �
 seat_given-else holder at pass s n = rw (ne_eqb s at n) refl
 
 -- what is in a list that is one longer
-pub at_end : {A : Type 0} (l : List A) (a b : A) (j : ℕ) → get_elem? (l ++ a ∷ []) j ≡ some b → ((get_elem? l j ≡ some b) × (j < length l)) ⊎ ((j ≡ length l) × (a ≡ b))
+pub at_end : {A : Type 0} (l : List A) (a b : A) (j : ℕ) → get_elem? (l ++ a ∷ []) j ≡ some b → ((get_elem? l j ≡ some b) × (j < length l))
+    ⊎ ((j ≡ length l) × (a ≡ b))
 at_end [] a b zero e = inr (refl, some-injective a b e)
 at_end [] a b (suc j) e = absurd (some-ne-none b (sym e))
 at_end (x ∷ xs) a b zero e = inl (e, omega arith)
@@ -143,7 +158,8 @@ at_end (x ∷ xs) a b (suc j) e = ⊎_elim (λ t. inl (t.0, (let l = t.1 in omeg
 
 -- each view of a list in which one was replaced and one is appended: those two, and each other one
 each_forked : (Q : ℕ → QueueView → Type 0) (views : List QueueView) (pass : ℕ) (w new : QueueView) → Q pass w → Q (length (set views pass w)) new
-    → ((k : ℕ) (u : QueueView) → k ≢ pass → get_elem? views k ≡ some u → Q k u) → (k : ℕ) (u : QueueView) → get_elem? (set views pass w ++ new ∷ []) k ≡ some u → Q k u
+    → ((k : ℕ) (u : QueueView) → k ≢ pass → get_elem? views k ≡ some u → Q k u) → (k : ℕ) (u : QueueView) → get_elem? (set views pass w ++ new ∷ []) k ≡ some u
+    → Q k u
 each_forked Q views pass w new changed added others k u e =
     ⊎_elim
     (λ p. ⊎_elim
@@ -194,18 +210,29 @@ resigns pass v may not items views b at =
     let handed = b.2 in
     let mine = (b.6 pass v at).0 may in
     let holder' = seat_given holder v.seat (some here) in
-    let other : (s : ℕ) → holder s ≡ none → holder' s ≡ none = λ s free. seat_given-else holder v.seat (some here) s (λ same. some-ne-none pass (sym mine.0 ∙ (ap holder (sym same) ∙ free))) ∙ free in
+    let other : (s : ℕ) → holder s ≡ none → holder' s ≡ none =
+    λ s free. seat_given-else holder v.seat (some here) s (λ same. some-ne-none pass (sym mine.0 ∙ (ap holder (sym same) ∙ free))) ∙ free in
     reheld items views (set views pass w ++ v ∷ []) b holder'
     (each_forked (λ k u. FitsSeat holder' handed k u × FitsClerk b.0 holder' handed b.3 k u) views pass w v
     ((λ y. absurd (cc y)), (λ y. absurd (cc (y, not))))
     ((λ y. (seat_given-here holder v.seat (some here), mine.1)), (λ y. absurd (cc (y, not))))
     (λ k u apart is. let f = b.6 k u is in (
-      (λ y. (seat_given-else holder v.seat (some here) u.seat (λ same. apart (some-injective k pass (sym ((f.0 y).0) ∙ (ap holder same ∙ mine.0)))) ∙ (f.0 y).0, (f.0 y).1)),
-      (λ y. ((f.1 y).0, (f.1 y).1, (λ s le. let g = (f.1 y).2 s le in (other s g.0, g.1)), ended-on holder holder' handed handed u.made u.made u.ended (omega arith) (λ s l free. (other s free, refl)) (f.1 y).3)),
+      (λ y. (
+        seat_given-else holder v.seat (some here) u.seat (λ same. apart (some-injective k pass (sym ((f.0 y).0) ∙ (ap holder same ∙ mine.0))))
+            ∙ (f.0 y).0,
+        (f.0 y).1,
+      )),
+      (λ y. (
+        (f.1 y).0,
+        (f.1 y).1,
+        (λ s le. let g = (f.1 y).2 s le in (other s g.0, g.1)),
+        ended-on holder holder' handed handed u.made u.made u.ended (omega arith) (λ s l free. (other s free, refl)) (f.1 y).3,
+      )),
     )))
 
 -- the clerk takes over a seat
-pub takes_in : (pass : ℕ) (v : QueueView) (other : ℕ) (w : QueueView) → v.takes ≡ true → v.submits ≡ false → w.submits ≡ true → w.takes ≡ false → Merges Balanced pass v other w (took_in v w) spent
+pub takes_in : (pass : ℕ) (v : QueueView) (other : ℕ) (w : QueueView) → v.takes ≡ true → v.submits ≡ false → w.submits ≡ true → w.takes ≡ false
+    → Merges Balanced pass v other w (took_in v w) spent
 takes_in pass v other w may not theirs quiet items views b at apart its =
     let both = took_in v w in
     let holder = b.1 in
@@ -224,7 +251,8 @@ takes_in pass v other w may not theirs quiet items views b at apart its =
       b.4,
       b.5,
       (λ k u e. ⊎_elim
-          (λ t. subst (λ (z : QueueView). FitsSeat holder' handed k z × FitsClerk b.0 holder' handed taken k z) t.1 ((λ y. absurd (cc y)), (λ y. absurd (cc y))))
+          (λ t. subst (λ (z : QueueView). FitsSeat holder' handed k z × FitsClerk b.0 holder' handed taken k z) t.1
+          ((λ y. absurd (cc y)), (λ y. absurd (cc y))))
           (λ p. ⊎_elim
           (λ t. subst (λ (z : QueueView). FitsSeat holder' handed k z × FitsClerk b.0 holder' handed taken k z) t.1 (
             (λ y. absurd (cc (y, not))),
@@ -232,11 +260,18 @@ takes_in pass v other w may not theirs quiet items views b at apart its =
               t.0 ∙ mine.0,
               mine.1,
               (λ s le. let g = mine.2 s le in (freed s g.0, g.1)),
-              ((within, seat_given-here holder w.seat none, sym seat.1), ended-on holder holder' handed handed v.made v.made v.ended (omega arith) (λ s l free. (freed s free, refl)) mine.3),
+              (
+                (within, seat_given-here holder w.seat none, sym seat.1),
+                ended-on holder holder' handed handed v.made v.made v.ended (omega arith) (λ s l free. (freed s free, refl)) mine.3,
+              ),
             )),
           ))
           (λ t. let f = b.6 k u t.1 in (
-            (λ y. (seat_given-else holder w.seat none u.seat (λ same. p.0 (some-injective k other (sym ((f.0 y).0) ∙ (ap holder same ∙ seat.0)))) ∙ (f.0 y).0, (f.0 y).1)),
+            (λ y. (
+              seat_given-else holder w.seat none u.seat (λ same. p.0 (some-injective k other (sym ((f.0 y).0) ∙ (ap holder same ∙ seat.0))))
+                  ∙ (f.0 y).0,
+              (f.0 y).1,
+            )),
             (λ y. absurd (t.0 ((f.1 y).0 ∙ sym mine.0))),
           ))
           (at_set views pass k both u p.1))
@@ -256,13 +291,18 @@ pub waits : (pass : ℕ) (v : QueueView) → v.takes ≡ true → Learns Balance
 waits pass v may items views b at = let mine = (b.6 pass v at).1 may in
     go b.1 b.2 v.made v.ended (v.taken ++ items) (λ s. ap (λ z. jobs_of s (z ++ items)) mine.1 ∙ b.4 s) b.5 mine.3
   where
-    go : (holder : ℕ → Option ℕ) (handed : ℕ → List Entry) (made : ℕ) (ks : List EndedSeat) (all : List Entry) → ((s : ℕ) → jobs_of s all ≡ handed s) → ((s : ℕ) → CountUp 1 (handed s)) → AreEnded holder handed made ks → AreWhole ks all
+    go : (holder : ℕ → Option ℕ) (handed : ℕ → List Entry) (made : ℕ) (ks : List EndedSeat) (all : List Entry) → ((s : ℕ) → jobs_of s all ≡ handed s)
+        → ((s : ℕ) → CountUp 1 (handed s)) → AreEnded holder handed made ks → AreWhole ks all
     go holder handed made [] all same counts h = tt
-    go holder handed made (k ∷ ks) all same counts h = ((same k.seat ∙ h.0.2, subst (CountUp 1) h.0.2 (counts k.seat)), go holder handed made ks all same counts h.1)
+    go holder handed made (k ∷ ks) all same counts h =
+        ((same k.seat ∙ h.0.2, subst (CountUp 1) h.0.2 (counts k.seat)), go holder handed made ks all same counts h.1)
 
 pub empty : Balanced [] (first_view ∷ [])
 empty = (0, (λ s. none), (λ s. []), [], (λ s. refl), (λ s. tt), first)
   where
-    first : (pass : ℕ) (v : QueueView) → get_elem? (first_view ∷ []) pass ≡ some v → FitsSeat (λ s. none) (λ s. []) pass v × FitsClerk 0 (λ s. none) (λ s. []) [] pass v
-    first zero v e = subst (λ (z : QueueView). FitsSeat (λ s. none) (λ s. []) 0 z × FitsClerk 0 (λ s. none) (λ s. []) [] 0 z) (some-injective _ _ e) ((λ y. absurd (cc y)), (λ y. (refl, refl, (λ s le. (refl, refl)), tt)))
+    first : (pass : ℕ) (v : QueueView) → get_elem? (first_view ∷ []) pass ≡ some v → FitsSeat (λ s. none) (λ s. []) pass v
+        × FitsClerk 0 (λ s. none) (λ s. []) [] pass v
+    first zero v e =
+        subst (λ (z : QueueView). FitsSeat (λ s. none) (λ s. []) 0 z × FitsClerk 0 (λ s. none) (λ s. []) [] 0 z) (some-injective _ _ e)
+        ((λ y. absurd (cc y)), (λ y. (refl, refl, (λ s le. (refl, refl)), tt)))
     first (suc k) v e = absurd (some-ne-none v (sym e))

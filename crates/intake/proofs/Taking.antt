@@ -1,5 +1,6 @@
 -- Which jobs of a seat were taken, and what taking over the seat moves.
-use Rattle.std.proofs.Common.{◌≡◌, ℕ, ◌+◌, ◌==◌, ◌<◌, ◌≤◌, ◌&&◌, ◌||◌, Bool, true, false, List, [], ◌∷◌, ◌++◌, length, refl, subst, sym, ap, ◌∙◌, arith, append_assoc, length-append, cond, map}
+use Rattle.std.proofs.Common.{◌≡◌, ℕ, ◌+◌, ◌==◌, ◌<◌, ◌≤◌, ◌&&◌, ◌||◌, Bool, true, false, List, [], ◌∷◌, ◌++◌, length, refl, subst, sym, ap, ◌∙◌, arith}
+use Rattle.std.proofs.Common.{append_assoc, length-append, cond, map}
 use Rattle.std.specs.List.{list_any}
 use Rattle.std.proofs.lemmas.List.{append-nil, map-append}
 use Rattle.std.proofs.lemmas.List.Folds.{list_any-append}
@@ -43,7 +44,8 @@ counted-has k n (j ∷ js) c le lt = go (j.number == n) refl (λ more. counted-h
 
 -- if all jobs of a seat were taken, its last one was
 pub last-among : (s : ℕ) (js taken : List Entry) → AllTaken s js taken → 0 < length js → has_job s (length js) taken ≡ true
-last-among s js taken a some = job-of-seat s (length js) taken ∙ (ap (numbered (length js)) a.0 ∙ counted-has 1 (length js) js a.1 (omega (arith, some)) (omega arith))
+last-among s js taken a some =
+    job-of-seat s (length js) taken ∙ (ap (numbered (length js)) a.0 ∙ counted-has 1 (length js) js a.1 (omega (arith, some)) (omega arith))
 
 pub not-yet : (s n : ℕ) (js taken : List Entry) → n ≡ length js → 0 < n → has_job s n taken ≡ false → AllTaken s js taken → ⊥
 not-yet s n js taken is some not a =
@@ -51,7 +53,8 @@ not-yet s n js taken is some not a =
     absurd (cc (subst P is not, last-among s js taken a (omega (arith, some, is))))
 
 -- if the last job of an ended seat was taken, all of them were
-pub taken-already : (ks : List EndedSeat) (s n : ℕ) (js taken items : List Entry) → HasEnded ks s js → AreWhole ks (taken ++ items) → n ≡ length js → ((n == 0) || has_job s n taken) ≡ true → AllTaken s js taken
+pub taken-already : (ks : List EndedSeat) (s n : ℕ) (js taken items : List Entry) → HasEnded ks s js → AreWhole ks (taken ++ items) → n ≡ length js
+    → ((n == 0) || has_job s n taken) ≡ true → AllTaken s js taken
 taken-already ks s n js taken items h w is last = go (n == 0) refl
   where
     whole : (jobs_of s (taken ++ items) ≡ js) × CountUp 1 js
@@ -76,13 +79,15 @@ taken-already ks s n js taken items h w is last = go (n == 0) refl
 
 -- ---- moving
 
-pub needed-snoc : (s : ℕ) (js taken moved : List Entry) (e : Entry) → EachNeeded s js taken moved → (AllTaken s js (taken ++ moved) → ⊥) → EachNeeded s js taken (moved ++ e ∷ [])
+pub needed-snoc : (s : ℕ) (js taken moved : List Entry) (e : Entry) → EachNeeded s js taken moved → (AllTaken s js (taken ++ moved) → ⊥)
+    → EachNeeded s js taken (moved ++ e ∷ [])
 needed-snoc s js taken [] e h not = ((λ a. not (subst (AllTaken s js) (sym (append-nil taken)) a)), tt)
 needed-snoc s js taken (m ∷ ms) e h not =
     (h.0, needed-snoc s js (taken ++ m ∷ []) ms e h.1 (λ a. not (subst (AllTaken s js) (append_assoc taken (m ∷ []) ms) a)))
 
 -- one more was moved, and the seat's last job was not among those before
-pub moves-one : (s n : ℕ) (js taken left taken1 left1 taken2 left2 : List Entry) (e : Entry) → MovesFor s js taken left taken1 left1 → n ≡ length js → 0 < n → has_job s n taken1 ≡ false
+pub moves-one : (s n : ℕ) (js taken left taken1 left1 taken2 left2 : List Entry) (e : Entry) → MovesFor s js taken left taken1 left1 → n ≡ length js → 0 < n
+    → has_job s n taken1 ≡ false
     → taken2 ≡ taken1 ++ e ∷ [] → left2 ≡ left1 ++ e ∷ [] → MovesFor s js taken left taken2 left2
 moves-one s n js taken left taken1 left1 taken2 left2 e m is some not t l = record {
   moved = m.moved ++ e ∷ [];
@@ -91,11 +96,13 @@ moves-one s n js taken left taken1 left1 taken2 left2 e m is some not t l = reco
   needed = needed-snoc s js taken m.moved e m.needed (λ a. not-yet s n js taken1 is some not (subst (AllTaken s js) (sym m.taken_is) a));
 }
 
-pub left-more : {X : Type 0} (value : X → Entry) (before reserved after : List X) (x : X) (e : Entry) → after ≡ reserved ++ x ∷ [] → reserved ≡ before → value x ≡ e → map value after ≡ map value before ++ e ∷ []
+pub left-more : {X : Type 0} (value : X → Entry) (before reserved after : List X) (x : X) (e : Entry) → after ≡ reserved ++ x ∷ [] → reserved ≡ before
+    → value x ≡ e → map value after ≡ map value before ++ e ∷ []
 left-more value before reserved after x e a b is =
     ap (map value) (a ∙ ap (λ z. z ++ x ∷ []) b) ∙ (map-append value before (x ∷ []) ∙ ap (λ (z : Entry). map value before ++ z ∷ []) is)
 
-pub balances-more : (taken taken' left left' : List Entry) (accounts : List Account) (e : Entry) → Balances taken accounts left → taken' ≡ taken ++ e ∷ [] → left' ≡ left ++ e ∷ [] → Balances taken' accounts left'
+pub balances-more : (taken taken' left left' : List Entry) (accounts : List Account) (e : Entry) → Balances taken accounts left → taken' ≡ taken ++ e ∷ []
+    → left' ≡ left ++ e ∷ [] → Balances taken' accounts left'
 balances-more taken taken' left left' accounts e b t l = record {
   judged_jobs = b.judged_jobs;
   each = b.each;
@@ -103,12 +110,14 @@ balances-more taken taken' left left' accounts e b t l = record {
 }
 
 -- one more was taken, and it was not the seat's last job
-pub still-not : (s n : ℕ) (taken taken' : List Entry) (e : Entry) → has_job s n taken ≡ false → is_job s n e ≡ false → taken' ≡ taken ++ e ∷ [] → has_job s n taken' ≡ false
+pub still-not : (s n : ℕ) (taken taken' : List Entry) (e : Entry) → has_job s n taken ≡ false → is_job s n e ≡ false → taken' ≡ taken ++ e ∷ []
+    → has_job s n taken' ≡ false
 still-not s n taken taken' e not other t =
     ap (has_job s n) t ∙ (list_any-append (is_job s n) taken (e ∷ []) ∙ (ap (λ z. z || (is_job s n e || false)) not ∙ ap (λ z. z || false) other))
 
 -- of the seats that had ended nothing more was moved
-pub stays : (before ks : List EndedSeat) (s : ℕ) (js taken left taken' left' items : List Entry) → StillEnded before ks → MovesFor s js taken left taken' left' → AreWhole ks (taken' ++ items) → StaysTaken before taken taken'
+pub stays : (before ks : List EndedSeat) (s : ℕ) (js taken left taken' left' items : List Entry) → StillEnded before ks → MovesFor s js taken left taken' left'
+    → AreWhole ks (taken' ++ items) → StaysTaken before taken taken'
 stays before ks s js taken left taken' left' items still m w seat jobs ended all =
     let whole = whole-of ks seat jobs (taken' ++ items) (still seat jobs ended) w in
     let more = jobs_of seat m.moved in

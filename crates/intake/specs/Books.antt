@@ -54,7 +54,8 @@ abbrev pub refused : List Account → ℕ
 refused accounts = count_by (λ (a : Account). is_err a.answer) accounts
 
 -- what the clerk took in this run was judged in turn; each job that it ever took has its account
-pub record Ran (limits : Limits) (before : List Entry) (accounts : List Account) (start : Lists) (taken : List Entry) (after : List Account) (end : Lists) : Type 0 where
+pub record Ran (limits : Limits) (before : List Entry) (accounts : List Account) (start : Lists) (taken : List Entry) (after : List Account)
+    (end : Lists) : Type 0 where
   pub jobs : List Entry
   pub answers : List Account
   pub taken_is : taken ≡ before ++ jobs

@@ -15,6 +15,7 @@
 //!   it returns.
 //! * `shared`: the state that all of them share. `bell`: wakes a sleeping thread.
 //! * `opening`: [`desk`]. `closing`: the [`Desk`], which closes the queue.
+//! * `live`: a seat and a pass as the backend of a session: the [`Live`].
 #![tactic(auto)]
 
 mod account;
@@ -27,6 +28,7 @@ mod closing;
 mod denial;
 mod inbox;
 mod job;
+mod live;
 mod opening;
 mod queue;
 mod seat;
@@ -40,6 +42,7 @@ pub use clerk::{Clerk, Turn};
 pub use closing::Desk;
 pub use denial::Denial;
 pub use inbox::Inbox;
+pub use live::Live;
 pub use opening::desk;
 pub use queue::{EndedSeat, QueueView};
 pub use seat::Seat;

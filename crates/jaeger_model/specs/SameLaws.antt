@@ -21,7 +21,8 @@ use Rattle.jaeger_model.specs.declared.tag.Tag.{Tag}
 use Rattle.jaeger_model.specs.declared.batch.Process.{Process}
 use Rattle.jaeger_model.specs.declared.tag.Value.{Value}
 use Rattle.jaeger_model.specs.declared.tag.Value.TheVariants.{Text, Double, Bool as BoolValue, Long, Bytes}
-use Rattle.jaeger_model.specs.Same.{same_value, same_tag, same_process, same_id, same_kind, same_reference, same_log, same_span, same_number, same_batch, same_placed}
+use Rattle.jaeger_model.specs.Same.{same_value, same_tag, same_process, same_id, same_kind, same_reference, same_log, same_span, same_number, same_batch}
+use Rattle.jaeger_model.specs.Same.{same_placed}
 
 pub same_value-decides : (a b : Value) → Decides (same_value a b) (a ≡ b)
 same_value-decides (Text x) (Text y) = Decides-like (pointwise ◌==◌ x y) (λ e. ap (λ t. Text t) e) (λ e. cc) (bytes_decides x y)
@@ -61,7 +62,8 @@ same_tag-decides a b =
 pub same_process-decides : (a b : Process) → Decides (same_process a b) (a ≡ b)
 same_process-decides a b =
     Decides-like (same_process a b) (λ p. both p.0 p.1) (λ e. (ap (λ (t : Process). t.service) e, ap (λ (t : Process). t.tags) e))
-    (Decides-and (pointwise ◌==◌ a.service b.service) (pointwise same_tag a.tags b.tags) (bytes_decides a.service b.service) (pointwise_decides same_tag-decides a.tags b.tags))
+    (Decides-and (pointwise ◌==◌ a.service b.service) (pointwise same_tag a.tags b.tags) (bytes_decides a.service b.service)
+    (pointwise_decides same_tag-decides a.tags b.tags))
   where
     both : a.service ≡ b.service → a.tags ≡ b.tags → a ≡ b
     both k v = λ i. record { service = k i; tags = v i }
@@ -95,8 +97,37 @@ same_log-decides a b =
 pub same_span-decides : (a b : Span) → Decides (same_span a b) (a ≡ b)
 same_span-decides a b =
     Decides-like (same_span a b)
-    (λ p. λ i. record { trace = p.0 i; id = p.1.0 i; parent = p.1.1.0 i; operation = p.1.1.1.0 i; references = p.1.1.1.1.0 i; flags = p.1.1.1.1.1.0 i; start = p.1.1.1.1.1.1.0 i; duration = p.1.1.1.1.1.1.1.0 i; tags = p.1.1.1.1.1.1.1.1.0 i; logs = p.1.1.1.1.1.1.1.1.1 i })
-    (λ e. (ap (λ (t : Span). t.trace) e, (ap (λ (t : Span). t.id) e, (ap (λ (t : Span). t.parent) e, (ap (λ (t : Span). t.operation) e, (ap (λ (t : Span). t.references) e, (ap (λ (t : Span). t.flags) e, (ap (λ (t : Span). t.start) e, (ap (λ (t : Span). t.duration) e, (ap (λ (t : Span). t.tags) e, ap (λ (t : Span). t.logs) e))))))))))
+    (λ p. λ i. record {
+      trace = p.0 i;
+      id = p.1.0 i;
+      parent = p.1.1.0 i;
+      operation = p.1.1.1.0 i;
+      references = p.1.1.1.1.0 i;
+      flags = p.1.1.1.1.1.0 i;
+      start = p.1.1.1.1.1.1.0 i;
+      duration = p.1.1.1.1.1.1.1.0 i;
+      tags = p.1.1.1.1.1.1.1.1.0 i;
+      logs = p.1.1.1.1.1.1.1.1.1 i;
+    })
+    (λ e. (
+      ap (λ (t : Span). t.trace) e,
+      (
+        ap (λ (t : Span). t.id) e,
+        (
+          ap (λ (t : Span). t.parent) e,
+          (
+            ap (λ (t : Span). t.operation) e,
+            (
+              ap (λ (t : Span). t.references) e,
+              (
+                ap (λ (t : Span). t.flags) e,
+                (ap (λ (t : Span). t.start) e, (ap (λ (t : Span). t.duration) e, (ap (λ (t : Span). t.tags) e, ap (λ (t : Span). t.logs) e))),
+              ),
+            ),
+          ),
+        ),
+      ),
+    ))
     (Decides-and (same_trace a.trace b.trace) _ (same_trace-decides a.trace b.trace)
     (Decides-and (same_id a.id b.id) _ (same_id-decides a.id b.id)
     (Decides-and (same_id a.parent b.parent) _ (same_id-decides a.parent b.parent)
@@ -105,7 +136,8 @@ same_span-decides a b =
     (Decides-and (int_eq a.flags b.flags) _ (Decides-int_eq a.flags b.flags)
     (Decides-and (int_eq a.start b.start) _ (Decides-int_eq a.start b.start)
     (Decides-and (int_eq a.duration b.duration) _ (Decides-int_eq a.duration b.duration)
-    (Decides-and (pointwise same_tag a.tags b.tags) _ (pointwise_decides same_tag-decides a.tags b.tags) (pointwise_decides same_log-decides a.logs b.logs))))))))))
+    (Decides-and (pointwise same_tag a.tags b.tags) _ (pointwise_decides same_tag-decides a.tags b.tags)
+    (pointwise_decides same_log-decides a.logs b.logs))))))))))
 
 pub same_number-decides : (a b : Option ℤ) → Decides (same_number a b) (a ≡ b)
 same_number-decides None None = (λ e. refl, λ e. refl)

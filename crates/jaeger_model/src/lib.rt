@@ -13,15 +13,20 @@
 //! * `shared_process`: a process that all spans of a batch share.
 //! * `placed`: a span together with the process that reported it.
 //! * `text`, `short_text`, `seq`: texts and lists, as contracts see them.
+//! * `decimal`: unsigned decimal numbers, with or without leading zeros.
+//! * `process_order`: a total order of processes, in which two compare as equal exactly if they are equal:
+//!   [`ByContent`], a process as the key of a map.
 //! * `laws`: facts about these rules, stated without the code.
 #![tactic(auto)]
 
 mod batch;
+pub mod decimal;
 mod ids;
 mod kind;
 pub mod laws;
 mod parent;
 mod placed;
+mod process_order;
 mod seq;
 mod shared_process;
 mod short_text;
@@ -35,6 +40,7 @@ pub use ids::{SpanId, TraceId, parse_trace, span_text, trace_text};
 pub use kind::kind_of;
 pub use parent::{is_own_child, is_own_other, needs_no_reference, parent_of};
 pub use placed::{Placed, Seen, domain, parent_reference, place_span, refer_to_parent};
+pub use process_order::ByContent;
 pub use seq::Seq;
 pub use shared_process::SharedProcess;
 pub use span::{Log, RefKind, Span, SpanRef};

@@ -1,10 +1,10 @@
 //! The program: a trace collector for `jaeger.thrift` batches.
 //!
-//! `program_run` runs the command of its words over standard input and output, and `serve` over sockets. Nothing is
+//! `commands` runs the command of its words over standard input and output, and `serve` over sockets. Nothing is
 //! proved about the bytes that a real file, terminal or socket carried.
 #![tactic(auto)]
 
-use program_run::run;
+use commands::run;
 use session_devices::Watched;
 use std::process::ExitCode;
 use std::{env, io};

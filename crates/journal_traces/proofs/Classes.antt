@@ -10,7 +10,8 @@ same_value a b e = ap (λ (o : Option ℕ). unwrap_or o a) e
 
 -- once the process p has a class, whatever class a process has leads to that process
 module _ (process_of : ℕ → Option Process) (p : Process) (own : ℕ) (leads : process_of own ≡ Some p) where
-  pub process_put : (q : Process) (old : Option ℕ) (class : ℕ) → (old ≡ Some class → process_of class ≡ Some q) → cond (same_process p q) (Some own) old ≡ Some class → process_of class ≡ Some q
+  pub process_put : (q : Process) (old : Option ℕ) (class : ℕ) → (old ≡ Some class → process_of class ≡ Some q)
+      → cond (same_process p q) (Some own) old ≡ Some class → process_of class ≡ Some q
   process_put q old class before e = by (same_process p q) refl e
     where
       by : (t : Bool) → same_process p q ≡ t → cond t (Some own) old ≡ Some class → process_of class ≡ Some q
@@ -19,7 +20,8 @@ module _ (process_of : ℕ → Option Process) (p : Process) (own : ℕ) (leads 
 
 -- once a number has a class, whatever class a number has leads to its process
 module _ (process_of : ℕ → Option Process) (number own : ℕ) (leads : process_of own ≡ process_of number) where
-  pub number_put : (n : ℕ) (old : Option ℕ) (class : ℕ) → (old ≡ Some class → process_of class ≡ process_of n) → (if number == n then Some own else old) ≡ Some class → process_of class ≡ process_of n
+  pub number_put : (n : ℕ) (old : Option ℕ) (class : ℕ) → (old ≡ Some class → process_of class ≡ process_of n)
+      → (if number == n then Some own else old) ≡ Some class → process_of class ≡ process_of n
   number_put n old class before e = by (number == n) refl e
     where
       by : (t : Bool) → (number == n) ≡ t → (if t then Some own else old) ≡ Some class → process_of class ≡ process_of n

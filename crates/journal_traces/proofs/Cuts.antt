@@ -1,5 +1,6 @@
 -- A list of items that is cut at the starts of traces grows at its end.
-use Rattle.std.proofs.Common.{◌≡◌, ℕ, zero, suc, ◌+◌, ◌-◌, ◌<◌, ◌≤◌, List, [], ◌∷◌, ◌++◌, length, take, drop, get_or, refl, sym, ap, subst, ◌∙◌, arith, length-append, length-drop}
+use Rattle.std.proofs.Common.{◌≡◌, ℕ, zero, suc, ◌+◌, ◌-◌, ◌<◌, ◌≤◌, List, [], ◌∷◌, ◌++◌, length, take, drop, get_or, refl, sym, ap, subst, ◌∙◌, arith}
+use Rattle.std.proofs.Common.{length-append, length-drop}
 use Rattle.std.specs.Prelude.{slice_range, slice_index_or}
 use Rattle.std.proofs.lemmas.List.{take-append-le, drop-append-le, take_all}
 use Rattle.journal_traces.specs.Cutting.{next_start, cut_at, AreStarts}
@@ -34,14 +35,17 @@ before xs ys a b low high =
     let short : b - a ≤ length (drop a xs) = omega (arith, length-drop a xs) in
     ap (take (b - a)) (drop-append-le a xs ys inside) ∙ take-append-le (b - a) (drop a xs) ys short
 
-last_more : {X : Type 0} (xs : List X) (x : X) (a : ℕ) → a ≤ length xs → slice_range (xs ++ x ∷ []) a (length (xs ++ x ∷ [])) ≡ slice_range xs a (length xs) ++ x ∷ []
+last_more : {X : Type 0} (xs : List X) (x : X) (a : ℕ) → a ≤ length xs
+    → slice_range (xs ++ x ∷ []) a (length (xs ++ x ∷ [])) ≡ slice_range xs a (length xs) ++ x ∷ []
 last_more xs x a low =
-    let whole : length (drop a xs ++ x ∷ []) ≤ length (xs ++ x ∷ []) - a = omega (arith, length-append (drop a xs) (x ∷ []), length-append xs (x ∷ []), length-drop a xs) in
+    let whole : length (drop a xs ++ x ∷ []) ≤ length (xs ++ x ∷ []) - a =
+    omega (arith, length-append (drop a xs) (x ∷ []), length-append xs (x ∷ []), length-drop a xs) in
     let here : length (drop a xs) ≤ length xs - a = omega (arith, length-drop a xs) in
     ap (take (length (xs ++ x ∷ []) - a)) (drop-append-le a xs (x ∷ []) low) ∙ take_all (length (xs ++ x ∷ []) - a) (drop a xs ++ x ∷ []) whole
     ∙ ap (λ l. l ++ x ∷ []) (sym (take_all (length xs - a) (drop a xs) here))
 
-pub cut_push : {X : Type 0} (xs : List X) (x : X) (ss : List ℕ) → AreStarts (length xs) ss → (ts : List (List X)) (t : List X) → cut_at xs ss ≡ ts ++ t ∷ [] → cut_at (xs ++ x ∷ []) ss ≡ ts ++ (t ++ x ∷ []) ∷ []
+pub cut_push : {X : Type 0} (xs : List X) (x : X) (ss : List ℕ) → AreStarts (length xs) ss → (ts : List (List X)) (t : List X) → cut_at xs ss ≡ ts ++ t ∷ []
+    → cut_at (xs ++ x ∷ []) ss ≡ ts ++ (t ++ x ∷ []) ∷ []
 cut_push xs x [] a [] t e = absurd (cc e)
 cut_push xs x [] a (u ∷ ts) t e = absurd (cc e)
 cut_push xs x (s ∷ []) a [] t e =
@@ -66,7 +70,8 @@ no_cut xs [] k le = refl
 no_cut xs (s ∷ ss) zero le = absurd (omega arith)
 no_cut xs (s ∷ ss) (suc k) le = no_cut xs ss k (omega arith)
 
-pub cut_got : {X : Type 0} (xs : List X) (ss : List ℕ) (k d : ℕ) → k < length ss → slice_range xs (get_or ss k d) (get_or ss (k + 1) (length xs)) ≡ slice_index_or (cut_at xs ss) k []
+pub cut_got : {X : Type 0} (xs : List X) (ss : List ℕ) (k d : ℕ) → k < length ss
+    → slice_range xs (get_or ss k d) (get_or ss (k + 1) (length xs)) ≡ slice_index_or (cut_at xs ss) k []
 cut_got xs [] k d le = absurd (omega arith)
 cut_got xs (s ∷ []) zero d le = refl
 cut_got xs (s ∷ r ∷ ss) zero d le = refl

@@ -5,7 +5,7 @@ use Rattle.std.proofs.lemmas.List.{get_or-drop, drop-drop}
 use Rattle.jaeger_model.specs.declared.ids.TraceId.{TraceId}
 use Rattle.trace_assembly.specs.declared.spot.Spot.{Spot}
 use Rattle.journal_traces.proofs.Spots.{no_id}
-use Rattle.first_starts.specs.Starting.{places_from, places_after}
+use Rattle.trace_ring.specs.Starting.{places_from, places_after}
 
 -- each of the places is one of a start
 within_from : (time : ℤ) (k : ℕ) (ss : List ℤ) (i : ℕ) → i < length (places_from time k ss) → get_or (places_from time k ss) i 0 < k + length ss
@@ -13,7 +13,8 @@ within_from time k [] i h = absurd (omega arith)
 within_from time k (s ∷ ss) i h = by (within_from time (suc k) ss) (int_lt time s) i h
   where
     by : ((j : ℕ) → j < length (places_from time (suc k) ss) → get_or (places_from time (suc k) ss) j 0 < suc k + length ss) → (b : Bool) (j : ℕ)
-        → j < length (if b then k ∷ places_from time (suc k) ss else places_from time (suc k) ss) → get_or (if b then k ∷ places_from time (suc k) ss else places_from time (suc k) ss) j 0 < k + length (s ∷ ss)
+        → j < length (if b then k ∷ places_from time (suc k) ss else places_from time (suc k) ss)
+        → get_or (if b then k ∷ places_from time (suc k) ss else places_from time (suc k) ss) j 0 < k + length (s ∷ ss)
     by later true zero l = omega arith
     by later true (suc j) l = let next = later j (omega arith) in omega arith
     by later false j l = let next = later j l in omega arith
@@ -30,7 +31,9 @@ placed_from f start time all k (x ∷ xs) at =
     let own : get_or all k no_id ≡ x = ap (λ n. get_or all n no_id) (sym here) ∙ sym (get_or-drop k all 0 no_id) ∙ ap (λ l. get_or l 0 no_id) at in
     let after : drop (suc k) all ≡ xs = ap (λ n. drop n all) (sym next) ∙ sym (drop-drop 1 k all) ∙ ap (drop 1) at in
     let rest = placed_from f start time all (suc k) xs after in
-    elim (int_lt time (start x)) as (λ b. map (λ p. f (get_or all p no_id)) (if b then k ∷ places_from time (suc k) (map start xs) else places_from time (suc k) (map start xs)) ≡ map f (cond b (x ∷ filter (λ t. int_lt time (start t)) xs) (filter (λ t. int_lt time (start t)) xs))) [
+    elim (int_lt time (start x)) as (λ b. map
+    (λ p. f (get_or all p no_id)) (if b then k ∷ places_from time (suc k) (map start xs) else places_from time (suc k) (map start xs))
+    ≡ map f (cond b (x ∷ filter (λ t. int_lt time (start t)) xs) (filter (λ t. int_lt time (start t)) xs))) [
       | true ↦ λ i. f (own i) ∷ rest i
       | false ↦ rest
     ]

@@ -31,7 +31,8 @@ passed_near q (Some x) ol is none =
     let same : ol ≡ outline_in x = cc is in
     ap (λ b. if b then met_or_none (near q) (batch_brought x.work) else []) (ap (may_meet q) (sym same) ∙ none)
 
-pub looked_near : (q : Find) (e : Option Entry) (ol : Outline) → Some ol ≡ option_map outline_in e → may_meet q ol ≡ true → near_or_none q e ≡ met_or_none (near q) (option_and_then (λ (x : Entry). batch_brought x.work) e)
+pub looked_near : (q : Find) (e : Option Entry) (ol : Outline) → Some ol ≡ option_map outline_in e → may_meet q ol ≡ true
+    → near_or_none q e ≡ met_or_none (near q) (option_and_then (λ (x : Entry). batch_brought x.work) e)
 looked_near q None ol is may = refl
 looked_near q (Some x) ol is may =
     let same : ol ≡ outline_in x = cc is in
@@ -70,24 +71,27 @@ meets_near q o s e =
 
 met_near : (q : Find) (o : Process) (t : TraceId) (ss : List Span) → reaches (met q o ss) t ≡ true → reaches (met (near q) o ss) t ≡ true
 met_near q o t [] e = e
-met_near q o t (s ∷ ss) e = elim (meets q o s) as (λ b. meets q o s ≡ b → list_any (is_of t) (cond b (s ∷ met q o ss) (met q o ss)) ≡ true → list_any (is_of t) (cond (meets (near q) o s) (s ∷ met (near q) o ss) (met (near q) o ss)) ≡ true) [
-  | true ↦ λ m f.
-      ap (λ b. list_any (is_of t) (cond b (s ∷ met (near q) o ss) (met (near q) o ss))) (meets_near q o s m)
-      ∙ or_cases (is_of t s) (reaches (met q o ss) t) f
-      (λ own. ap (λ b. b || reaches (met (near q) o ss) t) own)
-      (λ rest. or_right (is_of t s) (reaches (met (near q) o ss) t) (met_near q o t ss rest))
-  | false ↦ λ _ f.
-      elim (meets (near q) o s) as (λ b. list_any (is_of t) (cond b (s ∷ met (near q) o ss) (met (near q) o ss)) ≡ true) [
-        | true ↦ or_right (is_of t s) (reaches (met (near q) o ss) t) (met_near q o t ss f)
-        | false ↦ met_near q o t ss f
-      ]
-] refl e
+met_near q o t (s ∷ ss) e =
+    elim (meets q o s) as (λ b. meets q o s ≡ b → list_any (is_of t) (cond b (s ∷ met q o ss) (met q o ss)) ≡ true
+    → list_any (is_of t) (cond (meets (near q) o s) (s ∷ met (near q) o ss) (met (near q) o ss)) ≡ true) [
+      | true ↦ λ m f.
+          ap (λ b. list_any (is_of t) (cond b (s ∷ met (near q) o ss) (met (near q) o ss))) (meets_near q o s m)
+          ∙ or_cases (is_of t s) (reaches (met q o ss) t) f
+          (λ own. ap (λ b. b || reaches (met (near q) o ss) t) own)
+          (λ rest. or_right (is_of t s) (reaches (met (near q) o ss) t) (met_near q o t ss rest))
+      | false ↦ λ _ f.
+          elim (meets (near q) o s) as (λ b. list_any (is_of t) (cond b (s ∷ met (near q) o ss) (met (near q) o ss)) ≡ true) [
+            | true ↦ or_right (is_of t s) (reaches (met (near q) o ss) t) (met_near q o t ss f)
+            | false ↦ met_near q o t ss f
+          ]
+    ] refl e
 
 brought_near : (q : Find) (t : TraceId) (b : Option Batch) → reaches (met_or_none q b) t ≡ true → reaches (met_or_none (near q) b) t ≡ true
 brought_near q t None e = e
 brought_near q t (Some b) e = met_near q b.process t b.spans e
 
-entry_near : (q : Find) (t : TraceId) (e : Option Entry) → reaches (met_or_none q (option_and_then (λ (x : Entry). batch_brought x.work) e)) t ≡ true → reaches (near_or_none q e) t ≡ true
+entry_near : (q : Find) (t : TraceId) (e : Option Entry) → reaches (met_or_none q (option_and_then (λ (x : Entry). batch_brought x.work) e)) t ≡ true
+    → reaches (near_or_none q e) t ≡ true
 entry_near q t None found = found
 entry_near q t (Some x) found = by (may_meet q (outline_in x)) refl
   where
@@ -96,7 +100,8 @@ entry_near q t (Some x) found = by (may_meet q (outline_in x)) refl
     by false none = absurd (false≢true (sym (ap (λ ss. reaches ss t) (passed_there q (Some x) (outline_in x) refl none)) ∙ found))
 
 -- a trace with a span that meets the search is among those that are near
-pub near_covers : (q : Find) (h : List Entry) (places : List ℕ) (t : TraceId) → reaches (met_along q h places) t ≡ true → reaches (near_along q h places) t ≡ true
+pub near_covers : (q : Find) (h : List Entry) (places : List ℕ) (t : TraceId) → reaches (met_along q h places) t ≡ true
+    → reaches (near_along q h places) t ≡ true
 near_covers q h [] t e = e
 near_covers q h (place ∷ places) t e =
     list_any-append (is_of t) (near_at q h place) (near_along q h places)

@@ -14,8 +14,8 @@ use Rattle.trace_model.specs.Works.{batch_brought, service_brought}
 use Rattle.trace_model.proofs.NameLaws.{text_is}
 use Rattle.trace_assembly.specs.declared.spot.Spot.{Spot}
 use Rattle.trace_assembly.specs.Located.{span_at}
-use Rattle.service_places.specs.Reported.{reporters, service_at, group_in, AreGroups}
-use Rattle.service_places.proofs.Grouping.{group_within, as_many_reporters}
+use Rattle.service_index.specs.Reported.{reporters, service_at, group_in, AreGroups}
+use Rattle.service_index.proofs.PlacesGrouping.{group_within, as_many_reporters}
 use Rattle.call_links.specs.Seen.{StandsFor}
 use Rattle.journal_traces.specs.Standing.{process_at}
 use Rattle.journal_traces.proofs.Processes.{process_there}
@@ -24,7 +24,9 @@ of_work : (w : Work) (p : Process) → Some p ≡ option_map (λ (b : Batch). b.
 of_work (brings.Batch b) p e = let same : p ≡ b.process = cc e in ap (λ (x : Process). x.service) same
 of_work (brings.TraceLimit n) p e = absurd (cc e)
 
-after : (h : List Entry) (n : ℕ) (p : Process) → Some p ≡ option_map (λ (b : Batch). b.process) (option_and_then (λ (x : Entry). batch_brought x.work) (slice_get h n)) → (n < length h) × (p.service ≡ service_at h n)
+after : (h : List Entry) (n : ℕ) (p : Process)
+    → Some p ≡ option_map (λ (b : Batch). b.process) (option_and_then (λ (x : Entry). batch_brought x.work) (slice_get h n)) → (n < length h)
+    × (p.service ≡ service_at h n)
 after [] n p e = absurd (cc e)
 after (x ∷ h) zero p e = (omega arith, of_work x.work p e)
 after (x ∷ h) (suc n) p e =
@@ -32,7 +34,8 @@ after (x ∷ h) (suc n) p e =
     let below : n < length h = r.0 in
     (omega (arith, below), r.1)
 
-pub at_place : (h : List Entry) (place : ℕ) (p : Process) → Some p ≡ process_at h place → (0 < place) × ((place - 1 < length h) × (p.service ≡ service_at h (place - 1)))
+pub at_place : (h : List Entry) (place : ℕ) (p : Process) → Some p ≡ process_at h place → (0 < place)
+    × ((place - 1 < length h) × (p.service ≡ service_at h (place - 1)))
 at_place h zero p e = absurd (cc e)
 at_place h (suc n) p e =
     let r = after h n p e in
@@ -41,11 +44,13 @@ at_place h (suc n) p e =
     (omega arith, (omega (arith, m, below), r.1 ∙ ap (service_at h) (sym m)))
 
 -- the span at a spot was brought by the entry at its place
-pub place_there : (h : List Entry) (s : Spot) (q : Placed) → Some q ≡ span_at h s → (0 < s.place) × ((s.place - 1 < length h) × (q.process.service ≡ service_at h (s.place - 1)))
+pub place_there : (h : List Entry) (s : Spot) (q : Placed) → Some q ≡ span_at h s → (0 < s.place)
+    × ((s.place - 1 < length h) × (q.process.service ≡ service_at h (s.place - 1)))
 place_there h s q e = at_place h s.place q.process (process_there h s q e)
 
 -- and its service has the number that is stored there
-pub number_there : (h : List Entry) (groups : List ℕ) (s : Spot) (q : Placed) → AreGroups h groups → Some q ≡ span_at h s → StandsFor (service_at h) (group_in h) (get_or groups (s.place - 1) 0, q.process.service)
+pub number_there : (h : List Entry) (groups : List ℕ) (s : Spot) (q : Placed) → AreGroups h groups → Some q ≡ span_at h s
+    → StandsFor (service_at h) (group_in h) (get_or groups (s.place - 1) 0, q.process.service)
 number_there h groups s q kept e =
     let there = place_there h s q e in
     let n = s.place - 1 in
@@ -56,5 +61,6 @@ number_there h groups s q kept e =
     let first : group_in h q.process.service ≡ group_in h (service_at h n) = ap (group_in h) same in
     let many = as_many_reporters h in
     let known : q.process.service ≡ service_at h (group_in h q.process.service) =
-    text_is q.process.service (service_at h (group_in h q.process.service)) (passes_at_first (same_text q.process.service) (reporters h) [] (omega (arith, within, first, many, below))) in
+    text_is q.process.service (service_at h (group_in h q.process.service))
+    (passes_at_first (same_text q.process.service) (reporters h) [] (omega (arith, within, first, many, below))) in
     (number, ap (service_at h) number ∙ sym known)

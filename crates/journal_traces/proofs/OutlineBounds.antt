@@ -60,7 +60,8 @@ record Outlined (ol : Outline) (o : Process) (s : Span) : Type 0 where
   pub within : Within ol.times s
   pub set : AreSet ol.tags o s
 
-outlined : (ol : Outline) (o : Process) (ss : List Span) → AllByRecursion (Within ol.times) ss → AllByRecursion (AreSet ol.tags o) ss → AllByRecursion (Outlined ol o) ss
+outlined : (ol : Outline) (o : Process) (ss : List Span) → AllByRecursion (Within ol.times) ss → AllByRecursion (AreSet ol.tags o) ss
+    → AllByRecursion (Outlined ol o) ss
 outlined ol o [] w t = tt
 outlined ol o (s ∷ ss) w t = (record { within = w.0; set = t.0 }, outlined ol o ss w.1 t.1)
 
@@ -101,6 +102,7 @@ passed q (brings.Batch b) none =
 passed q (brings.TraceLimit n) none = refl
 
 -- ---- at a place
-pub passed_there : (q : Find) (e : Option Entry) (ol : Outline) → Some ol ≡ option_map outline_in e → may_meet q ol ≡ false → met_or_none q (option_and_then (λ (x : Entry). batch_brought x.work) e) ≡ []
+pub passed_there : (q : Find) (e : Option Entry) (ol : Outline) → Some ol ≡ option_map outline_in e → may_meet q ol ≡ false
+    → met_or_none q (option_and_then (λ (x : Entry). batch_brought x.work) e) ≡ []
 passed_there q None ol e none = absurd (cc e)
 passed_there q (Some x) ol e none = let same : ol ≡ outline_in x = cc e in passed q x.work (ap (may_meet q) (sym same) ∙ none)

@@ -24,4 +24,5 @@ start-adopted p = elim (needs_no_reference p.span) as (λ b. (placed_if b p).spa
 
 -- ---- windows
 pub window-adopted : (end_ms lookback_ms : ℤ) (p : Placed) → in_window end_ms lookback_ms (adopted p) ≡ in_window end_ms lookback_ms p
-window-adopted end_ms lookback_ms p = elim (needs_no_reference p.span) as (λ b. in_window end_ms lookback_ms (placed_if b p) ≡ in_window end_ms lookback_ms p) [ true ↦ refl | false ↦ refl ]
+window-adopted end_ms lookback_ms p =
+    elim (needs_no_reference p.span) as (λ b. in_window end_ms lookback_ms (placed_if b p) ≡ in_window end_ms lookback_ms p) [ true ↦ refl | false ↦ refl ]

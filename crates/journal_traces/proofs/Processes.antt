@@ -17,7 +17,8 @@ use Rattle.trace_assembly.specs.declared.spot.Spot.{Spot}
 use Rattle.trace_assembly.specs.Located.{span_at}
 use Rattle.journal_traces.specs.Standing.{process_at, AreAt}
 
-of_batch : (p : Process) (ss : List Span) (i : ℕ) (q : Placed) → Some q ≡ slice_get (map {B = Placed} (λ s. record { process = p; span = with_parent s }) ss) i → q.process ≡ p
+of_batch : (p : Process) (ss : List Span) (i : ℕ) (q : Placed) → Some q ≡ slice_get (map {B = Placed} (λ s. record { process = p; span = with_parent s }) ss) i
+    → q.process ≡ p
 of_batch p [] i q e = absurd (cc e)
 of_batch p (s ∷ ss) zero q e = let same : q ≡ record { process = p; span = with_parent s } = cc e in ap (λ (x : Placed). x.process) same
 of_batch p (s ∷ ss) (suc i) q e = of_batch p ss i q e
@@ -30,12 +31,14 @@ brought (brings.TraceLimit n) i q e = absurd (cc e)
 pub process_there : (h : List Entry) (s : Spot) (q : Placed) → Some q ≡ span_at h s → Some q.process ≡ process_at h s.place
 process_there h s q e = there (entry_at h s.place) e
   where
-    there : (o : Option Entry) → Some q ≡ option_and_then (λ (x : Entry). slice_get (placed_brought x.work) s.index) o → Some q.process ≡ option_map (λ (b : Batch). b.process) (option_and_then (λ (x : Entry). batch_brought x.work) o)
+    there : (o : Option Entry) → Some q ≡ option_and_then (λ (x : Entry). slice_get (placed_brought x.work) s.index) o
+        → Some q.process ≡ option_map (λ (b : Batch). b.process) (option_and_then (λ (x : Entry). batch_brought x.work) o)
     there None e = absurd (cc e)
     there (Some x) e = brought x.work s.index q e
 
 -- one more span
-pub more_at : (h : List Entry) (spans more : List Placed) (places next : List ℕ) (q : Placed) (place : ℕ) → AreAt h spans places → more ≡ spans ++ q ∷ [] → next ≡ places ++ place ∷ [] → Some q.process ≡ process_at h place → AreAt h more next
+pub more_at : (h : List Entry) (spans more : List Placed) (places next : List ℕ) (q : Placed) (place : ℕ) → AreAt h spans places → more ≡ spans ++ q ∷ []
+    → next ≡ places ++ place ∷ [] → Some q.process ≡ process_at h place → AreAt h more next
 more_at h spans more places next q place at put put_place here =
     ap (map (λ (p : Placed). Some p.process)) put ∙ map_push (λ (p : Placed). Some p.process) spans q ∙ (λ i. at i ++ here i ∷ [])
     ∙ sym (ap (map (process_at h)) put_place ∙ map_push (process_at h) places place)
@@ -43,15 +46,20 @@ more_at h spans more places next q place at put put_place here =
 -- the processes of spans are those to which their numbers lead
 module _ (f : ℕ → Option Process) where
   -- the process of one of them
-  process_got : (spans : List Placed) (numbers : List ℕ) → map (λ (p : Placed). Some p.process) spans ≡ map f numbers → (k : ℕ) (d : Placed) → k < length numbers → Some (get_or spans k d).process ≡ f (get_or numbers k 0)
+  process_got : (spans : List Placed) (numbers : List ℕ) → map (λ (p : Placed). Some p.process) spans ≡ map f numbers → (k : ℕ) (d : Placed)
+      → k < length numbers → Some (get_or spans k d).process ≡ f (get_or numbers k 0)
   process_got [] [] at k d l = absurd (omega arith)
   process_got [] (x ∷ numbers) at k d l = absurd (cc at)
   process_got (p ∷ spans) [] at k d l = absurd (omega arith)
   process_got (p ∷ spans) (x ∷ numbers) at zero d l = cc at
-  process_got (p ∷ spans) (x ∷ numbers) at (suc k) d l = let rest : map (λ (p : Placed). Some p.process) spans ≡ map f numbers = cc at in process_got spans numbers rest k d (omega arith)
+  process_got (p ∷ spans) (x ∷ numbers) at (suc k) d l =
+      let rest : map (λ (p : Placed). Some p.process) spans ≡ map f numbers = cc at in
+      process_got spans numbers rest k d (omega arith)
 
   -- spans of one number have one process
-  pub one_process : (spans : List Placed) (numbers : List ℕ) → map (λ (p : Placed). Some p.process) spans ≡ map f numbers → (j k : ℕ) (d : Placed) → j < length numbers → k < length numbers → get_or numbers j 0 ≡ get_or numbers k 0 → (get_or spans j d).process ≡ (get_or spans k d).process
+  pub one_process : (spans : List Placed) (numbers : List ℕ) → map (λ (p : Placed). Some p.process) spans ≡ map f numbers → (j k : ℕ) (d : Placed)
+      → j < length numbers → k < length numbers → get_or numbers j 0 ≡ get_or numbers k 0 → (get_or spans j d).process ≡ (get_or spans k d).process
   one_process spans numbers at j k d lj lk same =
-      let both : Some (get_or spans j d).process ≡ Some (get_or spans k d).process = process_got spans numbers at j d lj ∙ ap f same ∙ sym (process_got spans numbers at k d lk) in
+      let both : Some (get_or spans j d).process ≡ Some (get_or spans k d).process =
+      process_got spans numbers at j d lj ∙ ap f same ∙ sym (process_got spans numbers at k d lk) in
       cc both

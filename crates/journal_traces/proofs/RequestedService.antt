@@ -10,8 +10,8 @@ use Rattle.jaeger_model.specs.Texts.{same_text}
 use Rattle.trace_model.specs.declared.entry.Entry.{Entry}
 use Rattle.trace_model.specs.declared.query.Find.{Find}
 use Rattle.trace_model.proofs.NameLaws.{same_where, text_is, text_turned}
-use Rattle.service_places.specs.Reported.{reporters, service_at, group_in, group_of}
-use Rattle.service_places.proofs.Grouping.{group_within, as_many_reporters}
+use Rattle.service_index.specs.Reported.{reporters, service_at, group_in, group_of}
+use Rattle.service_index.proofs.PlacesGrouping.{group_within, as_many_reporters}
 use Rattle.journal_traces.specs.Lasting.{AreTold}
 use Rattle.journal_traces.specs.Standing.{process_at}
 use Rattle.journal_traces.proofs.Numbers.{at_place}
@@ -22,13 +22,15 @@ is_number None group = false
 is_number (Some service) group = group == service
 
 -- of an entry, by the number of its own service
-by_number : (h : List Entry) (s : List ℕ) (service : Option ℕ) (n : ℕ) → n < length h → service ≡ group_of h s → is_number service (group_in h (service_at h n)) ≡ same_text s (service_at h n)
+by_number : (h : List Entry) (s : List ℕ) (service : Option ℕ) (n : ℕ) → n < length h → service ≡ group_of h s
+    → is_number service (group_in h (service_at h n)) ≡ same_text s (service_at h n)
 by_number h s None n below none =
     let many = as_many_reporters h in
     let p = position_or_len (same_text s) (reporters h) in
     sym (elim (cases_lt n p) [
       | inl low ↦ fails_before_first (same_text s) (reporters h) n [] low
-      | inr high ↦ let within : p < length (reporters h) = omega arith in absurd (let some : None ≡ Some p = none ∙ ap (λ b. cond b (Some p) None) (lt-ltb p (length (reporters h)) within) in cc some)
+      | inr high ↦ let within : p < length (reporters h) = omega arith in
+          absurd (let some : None ≡ Some p = none ∙ ap (λ b. cond b (Some p) None) (lt-ltb p (length (reporters h)) within) in cc some)
     ])
 by_number h s (Some service) n below some =
     let many = as_many_reporters h in
@@ -41,7 +43,8 @@ by_number h s (Some service) n below some =
     let there : t ≡ service_at h own = text_is t (service_at h own) (passes_at_first (same_text t) (reporters h) [] (omega (arith, within, below, many))) in
     same_where own service t s (λ one. there ∙ ap (service_at h) (one ∙ sym parts.1) ∙ sym asked) (λ same. ap (group_in h) same ∙ parts.1) ∙ text_turned t s
 
-pub is_told : (q : Find) (h : List Entry) (groups : List ℕ) (service : Option ℕ) (place : ℕ) (p : Process) → AreTold q h groups service → Some p ≡ process_at h place → is_number service (get_or groups (place - 1) 0) ≡ same_text q.service p.service
+pub is_told : (q : Find) (h : List Entry) (groups : List ℕ) (service : Option ℕ) (place : ℕ) (p : Process) → AreTold q h groups service
+    → Some p ≡ process_at h place → is_number service (get_or groups (place - 1) 0) ≡ same_text q.service p.service
 is_told q h groups service place p told there =
     let at = at_place h place p there in
     let n = place - 1 in

@@ -1,5 +1,6 @@
 -- Traces whose ranges don't reach into a window have no span in it.
-use Rattle.std.proofs.Common.{◌≡◌, ℕ, ℤ, zero, suc, ◌+◌, ◌-◌, ◌<◌, ◌≤◌, Bool, true, false, ◌||◌, ◌&&◌, List, [], ◌∷◌, ◌++◌, map, length, take, get_or, refl, sym, ap, ◌∙◌, arith, Some}
+use Rattle.std.proofs.Common.{◌≡◌, ℕ, ℤ, zero, suc, ◌+◌, ◌-◌, ◌<◌, ◌≤◌, Bool, true, false, ◌||◌, ◌&&◌, List, [], ◌∷◌, ◌++◌, map, length, take, get_or, refl}
+use Rattle.std.proofs.Common.{sym, ap, ◌∙◌, arith, Some}
 use Rattle.std.specs.Prelude.{filter, int_lt, pos, ◌-ℤ◌, ◌*ℤ◌}
 use Rattle.std.specs.List.{list_any, AllByRecursion}
 use Rattle.std.proofs.lemmas.Bool.{false≢true, and_parts, true_from_ne_false}
@@ -10,10 +11,10 @@ use Rattle.std.proofs.lemmas.Option.{slice_get-get_or}
 use Rattle.jaeger_model.specs.declared.ids.TraceId.{TraceId}
 use Rattle.jaeger_model.specs.declared.placed.Placed.{Placed}
 use Rattle.trace_model.specs.Linking.{in_window, is_between}
-use Rattle.first_starts.specs.declared.ranges.Range.{Range}
-use Rattle.first_starts.specs.declared.ranges.Window.{Window}
-use Rattle.first_starts.specs.Starting.{Starts}
-use Rattle.first_starts.specs.Ranges.{IsIn, range_at, reaches}
+use Rattle.trace_ring.specs.declared.first_starts.ranges.Range.{Range}
+use Rattle.trace_ring.specs.declared.first_starts.ranges.Window.{Window}
+use Rattle.trace_ring.specs.Starting.{Starts}
+use Rattle.trace_ring.specs.StartRanges.{IsIn, range_at, reaches}
 use Rattle.trace_assembly.specs.declared.spot.Spot.{Spot}
 use Rattle.trace_assembly.specs.Rows.{Assembled, spots_of}
 use Rattle.journal_traces.specs.Ranged.{AreRanged, FailsOutside, StartsIn}
@@ -40,7 +41,8 @@ outside e l r time none in_it = by (is_between e l time) refl
         let b = sooner (pos 1000 *ℤ e) r.earliest time in_it.begun parts.1 in
         absurd (false≢true (sym none ∙ (λ i. a i && b i)))
 
-none_starts : (e l : ℤ) (r : Range) (ps : List Placed) → reaches (window_of e l) r ≡ false → AllByRecursion (StartsIn r) ps → list_any (in_window e l) ps ≡ false
+none_starts : (e l : ℤ) (r : Range) (ps : List Placed) → reaches (window_of e l) r ≡ false → AllByRecursion (StartsIn r) ps
+    → list_any (in_window e l) ps ≡ false
 none_starts e l r [] none all = refl
 none_starts e l r (p ∷ ps) none all =
     ap (λ b. b || list_any (in_window e l) ps) (outside e l r p.span.start none all.0) ∙ none_starts e l r ps none all.1
@@ -82,8 +84,10 @@ spots_skipped w starts shown p fails from to up within none =
     fails k (get_or shown.newest.ids k no_id) (slice_get-get_or shown.newest.ids k no_id (omega arith)) (none k low high))
 
 -- one more trace
-pub spots_more : (shown : Assembled) (p : List Spot → Bool) (found : List (List Spot)) (spots : List Spot) (i : ℕ) → i < length shown.newest.ids → spots ≡ spots_of shown (get_or shown.newest.ids i no_id)
-    → filter p found ≡ filter p (map (spots_of shown) (take i shown.newest.ids)) → filter p (found ++ spots ∷ []) ≡ filter p (map (spots_of shown) (take (i + 1) shown.newest.ids))
+pub spots_more : (shown : Assembled) (p : List Spot → Bool) (found : List (List Spot)) (spots : List Spot) (i : ℕ) → i < length shown.newest.ids
+    → spots ≡ spots_of shown (get_or shown.newest.ids i no_id)
+    → filter p found ≡ filter p (map (spots_of shown) (take i shown.newest.ids))
+    → filter p (found ++ spots ∷ []) ≡ filter p (map (spots_of shown) (take (i + 1) shown.newest.ids))
 spots_more shown p found spots i below is before =
     let f = spots_of shown in
     let ids = shown.newest.ids in

@@ -1,5 +1,6 @@
 -- The spans at spots, one by one.
-use Rattle.std.proofs.Common.{◌≡◌, ℕ, ℤ, zero, suc, ◌+◌, ◌<◌, Bool, true, false, ◌||◌, List, [], ◌∷◌, ◌++◌, map, length, take, get_or, append_assoc, refl, sym, ap, ◌∙◌, Some, None, Option}
+use Rattle.std.proofs.Common.{◌≡◌, ℕ, ℤ, zero, suc, ◌+◌, ◌<◌, Bool, true, false, ◌||◌, List, [], ◌∷◌, ◌++◌, map, length, take, get_or, append_assoc, refl, sym}
+use Rattle.std.proofs.Common.{ap, ◌∙◌, Some, None, Option}
 use denote.Ref.{Bor}
 use Rattle.std.specs.Prelude.{pos, slice_get, slice_index_or, filter, if◌then◌else◌, flat_map}
 use Rattle.std.specs.List.{list_any, cons_option}
@@ -51,14 +52,16 @@ not_brought (brings.TraceLimit n) i is = refl
 pub span_there : (h : List Entry) (s : Spot) (b : Batch) → Some b ≡ batch_at h s.place → slice_get (domain b) s.index ≡ span_at h s
 span_there h s b is = there (entry_at h s.place) is
   where
-    there : (o : Option Entry) → Some b ≡ option_and_then (λ (e : Entry). batch_brought e.work) o → slice_get (domain b) s.index ≡ option_and_then (λ (e : Entry). slice_get (placed_brought e.work) s.index) o
+    there : (o : Option Entry) → Some b ≡ option_and_then (λ (e : Entry). batch_brought e.work) o
+        → slice_get (domain b) s.index ≡ option_and_then (λ (e : Entry). slice_get (placed_brought e.work) s.index) o
     there None is = absurd (cc is)
     there (Some e) is = brought e.work s.index b is
 
 pub no_span_there : (h : List Entry) (s : Spot) → None ≡ batch_at h s.place → None ≡ span_at h s
 no_span_there h s is = there (entry_at h s.place) is
   where
-    there : (o : Option Entry) → None ≡ option_and_then (λ (e : Entry). batch_brought e.work) o → None ≡ option_and_then (λ (e : Entry). slice_get (placed_brought e.work) s.index) o
+    there : (o : Option Entry) → None ≡ option_and_then (λ (e : Entry). batch_brought e.work) o
+        → None ≡ option_and_then (λ (e : Entry). slice_get (placed_brought e.work) s.index) o
     there None is = refl
     there (Some e) is = not_brought e.work s.index is
 
@@ -66,10 +69,12 @@ abbrev pub no_id : TraceId
 no_id = record { high = 0; low = 0 }
 
 -- ---- one spot less at the front
-pub named_some : (h : List Entry) (done : List Placed) (s : Spot) (ss : List Spot) (p : Placed) → span_at h s ≡ Some p → (done ++ p ∷ []) ++ spans_named h ss ≡ done ++ spans_named h (s ∷ ss)
+pub named_some : (h : List Entry) (done : List Placed) (s : Spot) (ss : List Spot) (p : Placed) → span_at h s ≡ Some p
+    → (done ++ p ∷ []) ++ spans_named h ss ≡ done ++ spans_named h (s ∷ ss)
 named_some h done s ss p e = append_assoc done (p ∷ []) (spans_named h ss) ∙ ap (λ o. done ++ cons_option o (spans_named h ss)) (sym e)
 
-pub named_none : (h : List Entry) (done : List Placed) (s : Spot) (ss : List Spot) → span_at h s ≡ None → done ++ spans_named h ss ≡ done ++ spans_named h (s ∷ ss)
+pub named_none : (h : List Entry) (done : List Placed) (s : Spot) (ss : List Spot) → span_at h s ≡ None
+    → done ++ spans_named h ss ≡ done ++ spans_named h (s ∷ ss)
 named_none h done s ss e = ap (λ o. done ++ cons_option o (spans_named h ss)) (sym e)
 
 pub named_end : (h : List Entry) (done : List Placed) (ss : List Spot) → ss ≡ [] → done ≡ done ++ spans_named h ss
@@ -81,23 +86,28 @@ first_none h s ss e = ap (λ o. slice_get (cons_option o (spans_named h ss)) 0) 
 pub first_some : (h : List Entry) (s : Spot) (ss : List Spot) (p : Placed) → span_at h s ≡ Some p → Some p ≡ slice_get (spans_named h (s ∷ ss)) 0
 first_some h s ss p e = ap (λ o. slice_get (cons_option o (spans_named h ss)) 0) (sym e)
 
-any_next : (h : List Entry) (w : Placed → Bool) (s : Spot) (ss : List Spot) → list_any w (spans_named h (s ∷ ss)) ≡ (list_any w (spans_named h (s ∷ [])) || list_any w (spans_named h ss))
-any_next h w s ss = elim (span_at h s) as (λ o. list_any w (cons_option o (spans_named h ss)) ≡ (list_any w (cons_option o []) || list_any w (spans_named h ss))) [
-  | None ↦ refl
-  | Some p ↦ elim (w p) as (λ b. (b || list_any w (spans_named h ss)) ≡ ((b || false) || list_any w (spans_named h ss))) [ true ↦ refl | false ↦ refl ]
-]
+any_next : (h : List Entry) (w : Placed → Bool) (s : Spot) (ss : List Spot)
+    → list_any w (spans_named h (s ∷ ss)) ≡ (list_any w (spans_named h (s ∷ [])) || list_any w (spans_named h ss))
+any_next h w s ss =
+    elim (span_at h s) as (λ o. list_any w (cons_option o (spans_named h ss)) ≡ (list_any w (cons_option o []) || list_any w (spans_named h ss))) [
+      | None ↦ refl
+      | Some p ↦ elim (w p) as (λ b. (b || list_any w (spans_named h ss)) ≡ ((b || false) || list_any w (spans_named h ss))) [ true ↦ refl | false ↦ refl ]
+    ]
 
-pub any_here : (h : List Entry) (w : Placed → Bool) (s : Spot) (ss : List Spot) → list_any w (spans_named h (s ∷ [])) ≡ true → true ≡ list_any w (spans_named h (s ∷ ss))
+pub any_here : (h : List Entry) (w : Placed → Bool) (s : Spot) (ss : List Spot) → list_any w (spans_named h (s ∷ [])) ≡ true
+    → true ≡ list_any w (spans_named h (s ∷ ss))
 any_here h w s ss e = sym (any_next h w s ss ∙ ap (λ b. b || list_any w (spans_named h ss)) e)
 
-pub any_later : (h : List Entry) (w : Placed → Bool) (s : Spot) (ss : List Spot) → list_any w (spans_named h (s ∷ [])) ≡ false → list_any w (spans_named h ss) ≡ list_any w (spans_named h (s ∷ ss))
+pub any_later : (h : List Entry) (w : Placed → Bool) (s : Spot) (ss : List Spot) → list_any w (spans_named h (s ∷ [])) ≡ false
+    → list_any w (spans_named h ss) ≡ list_any w (spans_named h (s ∷ ss))
 any_later h w s ss e = sym (any_next h w s ss ∙ ap (λ b. b || list_any w (spans_named h ss)) e)
 
 pub any_end : (h : List Entry) (w : Placed → Bool) (ss : List Spot) → ss ≡ [] → false ≡ list_any w (spans_named h ss)
 any_end h w ss e = ap (λ l. list_any w (spans_named h l)) (sym e)
 
 -- the trace at a place
-trace_got : (h : List Entry) (ss : List (List Spot)) (place : ℕ) (s : List Spot) → Some s ≡ slice_get ss place → spans_named h s ≡ slice_index_or (traces_named h ss) place []
+trace_got : (h : List Entry) (ss : List (List Spot)) (place : ℕ) (s : List Spot) → Some s ≡ slice_get ss place
+    → spans_named h s ≡ slice_index_or (traces_named h ss) place []
 trace_got h [] place s e = absurd cc
 trace_got h (x ∷ ss) zero s e = let same : s ≡ x = cc e in ap (spans_named h) same
 trace_got h (x ∷ ss) (suc place) s e = trace_got h ss place s e
@@ -124,22 +134,26 @@ no_trace [] e = refl
 no_trace (p ∷ ps) e = absurd cc
 
 -- ---- the calls of a window are those of the traces with a span in it
-calls_chosen : (end_ms lookback_ms : ℤ) (ts : List (List Placed)) → flat_map calls_of (filter (list_any (in_window end_ms lookback_ms)) ts) ≡ flat_map (calls_within end_ms lookback_ms) ts
+calls_chosen : (end_ms lookback_ms : ℤ) (ts : List (List Placed))
+    → flat_map calls_of (filter (list_any (in_window end_ms lookback_ms)) ts) ≡ flat_map (calls_within end_ms lookback_ms) ts
 calls_chosen e l [] = refl
 calls_chosen e l (t ∷ ts) =
     let rest = calls_chosen e l ts in
-    elim (list_any (in_window e l) t) as (λ b. flat_map calls_of (if b then t ∷ filter (list_any (in_window e l)) ts else filter (list_any (in_window e l)) ts) ≡ (if b then calls_of t else []) ++ flat_map (calls_within e l) ts) [
+    elim (list_any (in_window e l) t) as (λ b. flat_map calls_of (if b then t ∷ filter (list_any (in_window e l)) ts else filter (list_any (in_window e l)) ts)
+    ≡ (if b then calls_of t else []) ++ flat_map (calls_within e l) ts) [
       | true ↦ ap (λ cs. calls_of t ++ cs) rest
       | false ↦ rest
     ]
 
-pub links_chosen : (end_ms lookback_ms : ℤ) (ts : List (List Placed)) → links_in (filter (list_any (in_window end_ms lookback_ms)) ts) ≡ links end_ms lookback_ms ts
+pub links_chosen : (end_ms lookback_ms : ℤ) (ts : List (List Placed))
+    → links_in (filter (list_any (in_window end_ms lookback_ms)) ts) ≡ links end_ms lookback_ms ts
 links_chosen e l ts = ap counted (calls_chosen e l ts)
 
 -- ---- traces that pass a test, one by one
 module _ {X : Type 0} (w : X → Bool) (f : TraceId → X) (ids : List TraceId) (i : ℕ) (d : TraceId) (le : i < length ids) where
   pub kept_more : w (f (get_or ids i d)) ≡ true → filter w (map f (take (i + 1) ids)) ≡ filter w (map f (take i ids)) ++ f (get_or ids i d) ∷ []
-  kept_more e = sym (map_filter f w (take (i + 1) ids)) ∙ picked f (λ t. w (f t)) ids i d le e ∙ ap (λ ts. ts ++ f (get_or ids i d) ∷ []) (map_filter f w (take i ids))
+  kept_more e =
+      sym (map_filter f w (take (i + 1) ids)) ∙ picked f (λ t. w (f t)) ids i d le e ∙ ap (λ ts. ts ++ f (get_or ids i d) ∷ []) (map_filter f w (take i ids))
 
   pub left_out : w (f (get_or ids i d)) ≡ false → filter w (map f (take (i + 1) ids)) ≡ filter w (map f (take i ids))
   left_out e = sym (map_filter f w (take (i + 1) ids)) ∙ passed f (λ t. w (f t)) ids i d le e ∙ map_filter f w (take i ids)

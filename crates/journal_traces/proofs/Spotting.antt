@@ -1,5 +1,6 @@
 -- Traces that are collected by their spots among entries that are collected once each.
-use Rattle.std.proofs.Common.{◌≡◌, ℕ, zero, suc, ◌+◌, ◌-◌, ◌<◌, ◌≤◌, ◌≢◌, Bool, true, false, ◌||◌, ◌&&◌, cond, List, [], ◌∷◌, ◌++◌, map, length, take, drop, get_or, append_assoc, refl, sym, ap, subst, ◌∙◌, arith, Some, None, Option, ⊎_elim}
+use Rattle.std.proofs.Common.{◌≡◌, ℕ, zero, suc, ◌+◌, ◌-◌, ◌<◌, ◌≤◌, ◌≢◌, Bool, true, false, ◌||◌, ◌&&◌, cond, List, [], ◌∷◌, ◌++◌, map, length, take, drop}
+use Rattle.std.proofs.Common.{get_or, append_assoc, refl, sym, ap, subst, ◌∙◌, arith, Some, None, Option, ⊎_elim}
 use Rattle.std.specs.Prelude.{slice_get, slice_range, slice_index_or, slice_set, filter, IfSome, IfOk, Result, Ok, Err, option_map}
 use Rattle.std.specs.List.{list_any, cons_option, All, AllZip}
 use Rattle.std.specs.Option.{option_and_then}
@@ -33,7 +34,8 @@ use Rattle.journal_traces.specs.declared.taken_spot.TakenSpot.{TakenSpot}
 use Rattle.journal_traces.specs.Lasting.{AreTold}
 use Rattle.journal_traces.specs.Picked.{meets, met, met_or_none}
 use Rattle.journal_traces.specs.Pruned.{may_meet}
-use Rattle.journal_traces.specs.Spotted.{entry_shared, entries_shared, process_numbered, spot_of, taken_spotted, trace_spotted, is_entry_met, is_spot_met, are_spots_met, IsTellingOf, IsWithin, AreNumbers, AddsSpan}
+use Rattle.journal_traces.specs.Spotted.{entry_shared, entries_shared, process_numbered, spot_of, taken_spotted, trace_spotted, is_entry_met, is_spot_met}
+use Rattle.journal_traces.specs.Spotted.{are_spots_met, IsTellingOf, IsWithin, AreNumbers, AddsSpan}
 use Rattle.journal_traces.specs.Standing.{process_at, spans_named}
 use Rattle.journal_traces.specs.Taking.{placed_taken, HasProcess}
 use Rattle.journal_traces.proofs.Processes.{process_there}
@@ -51,22 +53,27 @@ another q b (s ∷ ss) e =
     let own : matches q (placed b s) ≡ false = matches-adopted q bare ∙ ap (λ c. ((c && asked) && is_timed q bare) && list_all (has_tag bare) q.tags) e in
     λ i. own i || another q b ss e i
 
-unasked_work : (q : Find) (w : Work) → ((p : Process) → Some p ≡ option_map (λ (b : Batch). b.process) (batch_brought w) → same_text q.service p.service ≡ false) → list_any (matches q) (placed_brought w) ≡ false
+unasked_work : (q : Find) (w : Work)
+    → ((p : Process) → Some p ≡ option_map (λ (b : Batch). b.process) (batch_brought w) → same_text q.service p.service ≡ false)
+    → list_any (matches q) (placed_brought w) ≡ false
 unasked_work q (brings.Batch b) f = another q b b.spans (f b.process refl)
 unasked_work q (brings.TraceLimit n) f = refl
 
-pub unasked : (q : Find) (h : List Entry) (groups : List ℕ) (service : Option ℕ) (place : ℕ) (e : Entry) → AreTold q h groups service → Some e ≡ entry_at h place
+pub unasked : (q : Find) (h : List Entry) (groups : List ℕ) (service : Option ℕ) (place : ℕ) (e : Entry) → AreTold q h groups service
+    → Some e ≡ entry_at h place
     → is_number service (get_or groups (place - 1) 0) ≡ false → is_entry_met q e ≡ false
 unasked q h groups service place e told at none =
     unasked_work q e.work (λ p is.
-    let there : Some p ≡ process_at h place = is ∙ ap (λ (o : Option Entry). option_map (λ (b : Batch). b.process) (option_and_then (λ (x : Entry). batch_brought x.work) o)) at in
+    let there : Some p ≡ process_at h place =
+    is ∙ ap (λ (o : Option Entry). option_map (λ (b : Batch). b.process) (option_and_then (λ (x : Entry). batch_brought x.work) o)) at in
     sym (is_told q h groups service place p told there) ∙ none)
 
 none_met : (q : Find) (b : Batch) (ss : List Span) → met q b.process ss ≡ [] → list_any (matches q) (map (placed b) ss) ≡ false
 none_met q b [] e = refl
 none_met q b (s ∷ ss) e = by (none_met q b ss) (meets q b.process s) refl e
   where
-    by : (met q b.process ss ≡ [] → list_any (matches q) (map (placed b) ss) ≡ false) → (c : Bool) → meets q b.process s ≡ c → cond c (s ∷ met q b.process ss) (met q b.process ss) ≡ [] → list_any (matches q) (map (placed b) (s ∷ ss)) ≡ false
+    by : (met q b.process ss ≡ [] → list_any (matches q) (map (placed b) ss) ≡ false) → (c : Bool) → meets q b.process s ≡ c
+        → cond c (s ∷ met q b.process ss) (met q b.process ss) ≡ [] → list_any (matches q) (map (placed b) (s ∷ ss)) ≡ false
     by later true is none = absurd (cc none)
     by later false is none =
         let own : matches q (placed b s) ≡ false = matches-adopted q (record { process = b.process; span = s }) ∙ is in
@@ -76,8 +83,10 @@ none_of : (q : Find) (w : Work) → met_or_none q (batch_brought w) ≡ [] → l
 none_of q (brings.Batch b) e = none_met q b b.spans e
 none_of q (brings.TraceLimit n) e = refl
 
-pub unoutlined : (q : Find) (e : Entry) (o : Option Entry) (ol : Outline) → Some e ≡ o → Some ol ≡ option_map outline_in o → may_meet q ol ≡ false → is_entry_met q e ≡ false
-unoutlined q e o ol at is none = none_of q e.work (ap (λ (x : Option Entry). met_or_none q (option_and_then (λ (y : Entry). batch_brought y.work) x)) at ∙ passed_there q o ol is none)
+pub unoutlined : (q : Find) (e : Entry) (o : Option Entry) (ol : Outline) → Some e ≡ o → Some ol ≡ option_map outline_in o → may_meet q ol ≡ false
+    → is_entry_met q e ≡ false
+unoutlined q e o ol at is none =
+    none_of q e.work (ap (λ (x : Option Entry). met_or_none q (option_and_then (λ (y : Entry). batch_brought y.work) x)) at ∙ passed_there q o ol is none)
 
 -- ---- one more entry
 got_still : (es : List Entry) (x e : Entry) (n : ℕ) → n < length es → slice_get (es ++ x ∷ []) n ≡ slice_get es n
@@ -112,7 +121,8 @@ below_got (y ∷ es) (suc n) e is = let rest = below_got es n e is in omega arit
 
 -- ---- one more number
 module _ (h es : List Entry) (numbers : List ℕ) (x : Entry) (known : AreNumbers h es numbers) where
-  number_put : (b next : ℕ) → slice_get h b ≡ Some x → next ≡ suc (length es) → (k n : ℕ) (e : Entry) → get_or (slice_set numbers b next) k 0 ≡ suc n → slice_get h k ≡ Some e → slice_get (es ++ x ∷ []) n ≡ Some e
+  number_put : (b next : ℕ) → slice_get h b ≡ Some x → next ≡ suc (length es) → (k n : ℕ) (e : Entry) → get_or (slice_set numbers b next) k 0 ≡ suc n
+      → slice_get h k ≡ Some e → slice_get (es ++ x ∷ []) n ≡ Some e
   number_put b next there is k n e got at = ⊎_elim same other (cases_eq k b)
     where
       same : k ≡ b → slice_get (es ++ x ∷ []) n ≡ Some e
@@ -134,7 +144,8 @@ module _ (h es : List Entry) (numbers : List ℕ) (x : Entry) (known : AreNumber
         each = number_put b next (sym there) is;
       })
 
-pub numbers_more : (h es new : List Entry) (numbers : List ℕ) (x : Entry) (place next : ℕ) → AreNumbers h es numbers → Some x ≡ entry_at h place → next ≡ length es + 1 → new ≡ es ++ x ∷ [] → AreNumbers h new (slice_set numbers (place - 1) next)
+pub numbers_more : (h es new : List Entry) (numbers : List ℕ) (x : Entry) (place next : ℕ) → AreNumbers h es numbers → Some x ≡ entry_at h place
+    → next ≡ length es + 1 → new ≡ es ++ x ∷ [] → AreNumbers h new (slice_set numbers (place - 1) next)
 numbers_more h es new numbers x place next known there is put =
     let one : next ≡ suc (length es) = omega (arith, is) in
     subst (λ l. AreNumbers h l (slice_set numbers (place - 1) next)) (sym put) (numbers_at h es numbers x known place next there one)
@@ -143,7 +154,8 @@ numbers_more h es new numbers x place next known there is put =
 pub adds_none : (old : List (List Taken)) (o : Option Placed) → None ≡ o → AddsSpan o old old
 adds_none old o none = λ ts t is. ([], ap (λ p. cons_option p []) none, is ∙ ap (λ l. ts ++ l ∷ []) (sym (append-nil t)))
 
-pub adds_one : (old new : List (List Taken)) (x : Taken) (o : Option Placed) → x.span ≡ o → ((ts : List (List Taken)) (t : List Taken) → old ≡ ts ++ t ∷ [] → new ≡ ts ++ (t ++ x ∷ []) ∷ []) → AddsSpan o old new
+pub adds_one : (old new : List (List Taken)) (x : Taken) (o : Option Placed) → x.span ≡ o
+    → ((ts : List (List Taken)) (t : List Taken) → old ≡ ts ++ t ∷ [] → new ≡ ts ++ (t ++ x ∷ []) ∷ []) → AddsSpan o old new
 adds_one old new x o at put = λ ts t is. (x ∷ [], ap (λ p. cons_option p []) at, put ts t is)
 
 joined : (o : Option Placed) (done rest : List Placed) → (done ++ cons_option o []) ++ rest ≡ done ++ cons_option o rest
@@ -153,7 +165,8 @@ joined (Some p) done rest = append_assoc done (p ∷ []) rest
 abbrev pub Anything : Taken → Type 0
 Anything t = Unit {0}
 
-pub taking_added : (h : List Entry) (old now next : List (List Taken)) (s : Spot) (left rest all : List Spot) → left ≡ s ∷ rest → AddsSpan (span_at h s) now next → IsTaking Anything h old now left all → IsTaking Anything h old next rest all
+pub taking_added : (h : List Entry) (old now next : List (List Taken)) (s : Spot) (left rest all : List Spot) → left ≡ s ∷ rest
+    → AddsSpan (span_at h s) now next → IsTaking Anything h old now left all → IsTaking Anything h old next rest all
 taking_added h old now next s left rest all steps adds t =
     let more = adds old t.last t.is in record {
       last = t.last ++ more.0;
@@ -176,22 +189,26 @@ none_at w (p ∷ ps) zero e = let own = or_false (w p) (list_any w ps) e in ap (
 none_at w (p ∷ ps) (suc i) e = let own = or_false (w p) (list_any w ps) e in none_at w ps i own.1
 
 spot_unmet : (q : Find) (ts : List TakenEntry) (met : List Bool) (number index : ℕ) → AllZip (IsTellingOf q) ts met → get_or met number false ≡ false
-    → list_any (matches q) (cons_option (option_and_then (λ (e : Entry). slice_get (placed_brought e.work) index) (slice_get (entries_shared ts) number)) []) ≡ false
+    → list_any (matches q) (cons_option (option_and_then (λ (e : Entry). slice_get (placed_brought e.work) index) (slice_get (entries_shared ts) number)) [])
+    ≡ false
 spot_unmet q [] met number index told e = refl
 spot_unmet q (x ∷ ts) [] number index told e = absurd told
 spot_unmet q (x ∷ ts) (b ∷ met) zero index told e = none_at (matches q) (placed_brought (entry_shared x).work) index (told.0 e)
 spot_unmet q (x ∷ ts) (b ∷ met) (suc number) index told e = spot_unmet q ts met number index told.1 e
 
-any_cons : (w : Placed → Bool) (o : Option Placed) (ps : List Placed) → list_any w (cons_option o []) ≡ false → list_any w ps ≡ false → list_any w (cons_option o ps) ≡ false
+any_cons : (w : Placed → Bool) (o : Option Placed) (ps : List Placed) → list_any w (cons_option o []) ≡ false → list_any w ps ≡ false
+    → list_any w (cons_option o ps) ≡ false
 any_cons w None ps a b = b
 any_cons w (Some p) ps a b = let own = or_false (w p) false a in λ i. own.0 i || b i
 
-pub trace_unmet : (q : Find) (ts : List TakenEntry) (met : List Bool) (ss : List TakenSpot) → AllZip (IsTellingOf q) ts met → are_spots_met met ss ≡ false → list_any (matches q) (placed_taken (trace_spotted (entries_shared ts) ss)) ≡ false
+pub trace_unmet : (q : Find) (ts : List TakenEntry) (met : List Bool) (ss : List TakenSpot) → AllZip (IsTellingOf q) ts met → are_spots_met met ss ≡ false
+    → list_any (matches q) (placed_taken (trace_spotted (entries_shared ts) ss)) ≡ false
 trace_unmet q ts met [] told e = refl
 trace_unmet q ts met (s ∷ ss) told e =
     let es = entries_shared ts in
     let parts = or_false (is_spot_met met s) (are_spots_met met ss) e in
-    any_cons (matches q) (span_at es (spot_of s)) (placed_taken (trace_spotted es ss)) (spot_unmet q ts met s.number s.index told parts.0) (trace_unmet q ts met ss told parts.1)
+    any_cons (matches q) (span_at es (spot_of s)) (placed_taken (trace_spotted es ss)) (spot_unmet q ts met s.number s.index told parts.0)
+    (trace_unmet q ts met ss told parts.1)
 
 zip_push : {A B : Type 0} (R : A → B → Type 0) (xs : List A) (ys : List B) (x : A) (y : B) → AllZip R xs ys → R x y → AllZip R (xs ++ x ∷ []) (ys ++ y ∷ [])
 zip_push R [] [] x y all own = (own, tt)
@@ -200,7 +217,8 @@ zip_push R (a ∷ xs) [] x y all own = absurd all
 zip_push R (a ∷ xs) (b ∷ ys) x y all own = (all.0, zip_push R xs ys x y all.1 own)
 
 -- its flag is right for one more entry
-pub told_more : (q : Find) (ts : List TakenEntry) (i : ℕ) (t : TakenEntry) (met next : List Bool) (b : Bool) → i < length ts → t ≡ get_or ts i t → AllZip (IsTellingOf q) (take i ts) met → IsTellingOf q t b → next ≡ met ++ b ∷ []
+pub told_more : (q : Find) (ts : List TakenEntry) (i : ℕ) (t : TakenEntry) (met next : List Bool) (b : Bool) → i < length ts → t ≡ get_or ts i t
+    → AllZip (IsTellingOf q) (take i ts) met → IsTellingOf q t b → next ≡ met ++ b ∷ []
     → AllZip (IsTellingOf q) (take (i + 1) ts) next
 told_more q ts i t met next b le is before own put =
     let more : take (i + 1) ts ≡ take i ts ++ t ∷ [] = take_more ts i t le ∙ ap (λ y. take i ts ++ y ∷ []) (sym is) in
@@ -222,21 +240,25 @@ meets_domain q b (s ∷ ss) = let own = sym (matches-adopted q (record { process
 
 module _ {X : Type 0} (w : X → Bool) (xs : List X) (i : ℕ) (x : X) (le : i < length xs) (is : x ≡ get_or xs i x) where
   any_more : list_any w (take (i + 1) xs) ≡ (list_any w (take i xs) || (w x || false))
-  any_more = ap (list_any w) (take_more xs i x le) ∙ list_any-append w (take i xs) (get_or xs i x ∷ []) ∙ ap (λ y. list_any w (take i xs) || (w y || false)) (sym is)
+  any_more =
+      ap (list_any w) (take_more xs i x le) ∙ list_any-append w (take i xs) (get_or xs i x ∷ []) ∙ ap (λ y. list_any w (take i xs) || (w y || false)) (sym is)
 
   pub none_yet : list_any w (take i xs) ≡ false → w x ≡ false → list_any w (take (i + 1) xs) ≡ false
   none_yet before here = any_more ∙ (λ j. before j || (here j || false))
 
   pub one_now : w x ≡ true → list_any w xs ≡ true
   one_now here =
-      let front : list_any w (take (i + 1) xs) ≡ true = any_more ∙ ap (λ b. list_any w (take i xs) || (b || false)) here ∙ or_right (list_any w (take i xs)) true refl in
-      ap (list_any w) (sym (take-append-drop (i + 1) xs)) ∙ list_any-append w (take (i + 1) xs) (drop (i + 1) xs) ∙ ap (λ b. b || list_any w (drop (i + 1) xs)) front
+      let front : list_any w (take (i + 1) xs) ≡ true =
+      any_more ∙ ap (λ b. list_any w (take i xs) || (b || false)) here ∙ or_right (list_any w (take i xs)) true refl in
+      ap (list_any w) (sym (take-append-drop (i + 1) xs)) ∙ list_any-append w (take (i + 1) xs) (drop (i + 1) xs)
+      ∙ ap (λ b. b || list_any w (drop (i + 1) xs)) front
 
 pub batch_met : (q : Find) (b : Batch) → list_any (meets q b.process) b.spans ≡ list_any (matches q) (map (placed b) b.spans)
 batch_met q b = meets_domain q b b.spans
 
 -- ---- what is collected at a spot
-pub there_shared : (ts : List TakenEntry) (s : TakenSpot) (t : TakenEntry) → Some t ≡ slice_get ts s.number → slice_get (placed_brought (entry_shared t).work) s.index ≡ span_at (entries_shared ts) (spot_of s)
+pub there_shared : (ts : List TakenEntry) (s : TakenSpot) (t : TakenEntry) → Some t ≡ slice_get ts s.number
+    → slice_get (placed_brought (entry_shared t).work) s.index ≡ span_at (entries_shared ts) (spot_of s)
 there_shared ts s t at =
     ap (λ (o : Option TakenEntry). option_and_then (λ (e : Entry). slice_get (placed_brought e.work) s.index) (option_map entry_shared o)) at
     ∙ ap (option_and_then (λ (e : Entry). slice_get (placed_brought e.work) s.index)) (sym (slice_get-map entry_shared ts s.number))
@@ -246,7 +268,8 @@ nothing_shared ts s at =
     ap (λ (o : Option TakenEntry). option_and_then (λ (e : Entry). slice_get (placed_brought e.work) s.index) (option_map entry_shared o)) at
     ∙ ap (option_and_then (λ (e : Entry). slice_get (placed_brought e.work) s.index)) (sym (slice_get-map entry_shared ts s.number))
 
-pub numbered_spot : (es : List Entry) (s : TakenSpot) (taken : Option Taken) → option_and_then (λ (x : Taken). x.span) taken ≡ span_at es (spot_of s) → IfSome taken (λ (x : Taken). x.number ≡ s.number) → IfSome taken (HasProcess (process_numbered es))
+pub numbered_spot : (es : List Entry) (s : TakenSpot) (taken : Option Taken) → option_and_then (λ (x : Taken). x.span) taken ≡ span_at es (spot_of s)
+    → IfSome taken (λ (x : Taken). x.number ≡ s.number) → IfSome taken (HasProcess (process_numbered es))
 numbered_spot es s None at number = tt
 numbered_spot es s (Some x) at number = by x.span at
   where
@@ -254,13 +277,15 @@ numbered_spot es s (Some x) at number = by x.span at
     by None e = tt
     by (Some p) e = process_there es (spot_of s) p e ∙ ap (process_numbered es) (sym number)
 
-pub numbered_result : {E : Type 0} → (es : List Entry) (s : TakenSpot) (r : Result (Option Taken) E) → IfOk r (λ t. option_and_then (λ (x : Taken). x.span) t ≡ span_at es (spot_of s)) → IfOk r (λ t. IfSome t (λ (x : Taken). x.number ≡ s.number))
+pub numbered_result : {E : Type 0} → (es : List Entry) (s : TakenSpot) (r : Result (Option Taken) E)
+    → IfOk r (λ t. option_and_then (λ (x : Taken). x.span) t ≡ span_at es (spot_of s)) → IfOk r (λ t. IfSome t (λ (x : Taken). x.number ≡ s.number))
     → IfOk r (λ t. IfSome t (HasProcess (process_numbered es)))
 numbered_result es s (Ok t) at number = numbered_spot es s t at number
 numbered_result es s (Err e) at number = tt
 
 -- ---- the spots of a trace, one by one
-pub spots_left : (ss : List TakenSpot) (i : ℕ) (d : TakenSpot) → i < length ss → map spot_of (drop i ss) ≡ spot_of (get_or ss i d) ∷ map spot_of (drop (i + 1) ss)
+pub spots_left : (ss : List TakenSpot) (i : ℕ) (d : TakenSpot) → i < length ss
+    → map spot_of (drop i ss) ≡ spot_of (get_or ss i d) ∷ map spot_of (drop (i + 1) ss)
 spots_left ss i d le =
     let one : i + 1 ≡ suc i = omega arith in
     ap (map spot_of) (drop-cons ss i d le) ∙ ap (λ n. spot_of (get_or ss i d) ∷ map spot_of (drop n ss)) (sym one)
@@ -273,9 +298,12 @@ spots_named es [] = refl
 spots_named es (s ∷ ss) = ap (cons_option (span_at es (spot_of s))) (spots_named es ss)
 
 -- ---- the traces, one by one
-module _ (q : Find) (done xs : List (List Placed)) (k : ℕ) (t : List Placed) (le : k < length xs) (before : matching q done ≡ matching q (take k xs)) (is : t ≡ slice_index_or xs k []) where
+module _ (q : Find) (done xs : List (List Placed)) (k : ℕ) (t : List Placed) (le : k < length xs) (before : matching q done ≡ matching q (take k xs))
+    (is : t ≡ slice_index_or xs k []) where
   next_trace : matching q (take (k + 1) xs) ≡ matching q (take k xs) ++ matching q (t ∷ [])
-  next_trace = ap (matching q) (take_more xs k [] le) ∙ filter-append (list_any (matches q)) (take k xs) (slice_index_or xs k [] ∷ []) ∙ ap (λ y. matching q (take k xs) ++ matching q (y ∷ [])) (sym is)
+  next_trace =
+      ap (matching q) (take_more xs k [] le) ∙ filter-append (list_any (matches q)) (take k xs) (slice_index_or xs k [] ∷ [])
+      ∙ ap (λ y. matching q (take k xs) ++ matching q (y ∷ [])) (sym is)
 
   pub trace_kept : matching q (done ++ t ∷ []) ≡ matching q (take (k + 1) xs)
   trace_kept = filter-append (list_any (matches q)) done (t ∷ []) ∙ ap (λ l. l ++ matching q (t ∷ [])) before ∙ sym next_trace

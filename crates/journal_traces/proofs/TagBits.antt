@@ -32,14 +32,16 @@ set_still b (t ∷ ts) k e = set_still (with_tag b t) ts k (set_more b (bit_of t
 
 each_set : (b : ℕ) (ts : List Tag) → AllByRecursion (IsSet (fold with_tag b ts)) ts
 each_set b [] = tt
-each_set b (t ∷ ts) = (set_still (with_tag b t) ts (tag_place t.key (tag_text t.value)) (bit_own b (tag_place t.key (tag_text t.value))), each_set (with_tag b t) ts)
+each_set b (t ∷ ts) =
+    (set_still (with_tag b t) ts (tag_place t.key (tag_text t.value)) (bit_own b (tag_place t.key (tag_text t.value))), each_set (with_tag b t) ts)
 
 -- ---- those of each span, of its process and of its logs
 -- the bit of each tag that the span of this process shows is set
 abbrev pub AreSet : ℕ → Process → Span → Type 0
 AreSet bits o s = AllByRecursion (IsSet bits) (tags_of (record { process = o; span = s }))
 
-each_span : (bits : ℕ) (o : Process) (ss : List Span) → AllByRecursion (IsSet bits) o.tags → AllByRecursion (IsSet bits) (flat_map own_tags ss) → AllByRecursion (AreSet bits o) ss
+each_span : (bits : ℕ) (o : Process) (ss : List Span) → AllByRecursion (IsSet bits) o.tags → AllByRecursion (IsSet bits) (flat_map own_tags ss)
+    → AllByRecursion (AreSet bits o) ss
 each_span bits o [] a b = tt
 each_span bits o (s ∷ ss) a b =
     let own = each_front (IsSet bits) (own_tags s) (flat_map own_tags ss) b in
@@ -51,7 +53,8 @@ each_span bits o (s ∷ ss) a b =
 pub all_set : (b : Batch) → AllByRecursion (AreSet (bits_of b) b.process) b.spans
 all_set b =
     let each = each_set 0 (b.process.tags ++ flat_map own_tags b.spans) in
-    each_span (bits_of b) b.process b.spans (each_front (IsSet (bits_of b)) b.process.tags (flat_map own_tags b.spans) each) (each_behind (IsSet (bits_of b)) b.process.tags (flat_map own_tags b.spans) each)
+    each_span (bits_of b) b.process b.spans (each_front (IsSet (bits_of b)) b.process.tags (flat_map own_tags b.spans) each)
+    (each_behind (IsSet (bits_of b)) b.process.tags (flat_map own_tags b.spans) each)
 
 -- ---- what matches is marked
 matching_place : (asked : List ℕ × List ℕ) (t : Tag) → tag_matches asked t ≡ true → tag_place t.key (tag_text t.value) ≡ tag_place asked.0 asked.1
@@ -64,15 +67,18 @@ matching_place asked t e =
 marked : (bits : ℕ) (asked : List ℕ × List ℕ) (t : Tag) → IsSet bits t → tag_matches asked t ≡ true → is_marked bits asked ≡ true
 marked bits asked t set e = eq-eqb (bit_at bits (tag_place asked.0 asked.1)) 1 (ap (bit_at bits) (sym (matching_place asked t e)) ∙ set)
 
-one_marked : (bits : ℕ) (asked : List ℕ × List ℕ) (ts : List Tag) → AllByRecursion (IsSet bits) ts → list_any (tag_matches asked) ts ≡ true → is_marked bits asked ≡ true
+one_marked : (bits : ℕ) (asked : List ℕ × List ℕ) (ts : List Tag) → AllByRecursion (IsSet bits) ts → list_any (tag_matches asked) ts ≡ true
+    → is_marked bits asked ≡ true
 one_marked bits asked [] set e = absurd (false≢true e)
 one_marked bits asked (t ∷ ts) set e = by (tag_matches asked t) refl e (one_marked bits asked ts set.1)
   where
-    by : (b : Bool) → tag_matches asked t ≡ b → (b || list_any (tag_matches asked) ts) ≡ true → (list_any (tag_matches asked) ts ≡ true → is_marked bits asked ≡ true) → is_marked bits asked ≡ true
+    by : (b : Bool) → tag_matches asked t ≡ b → (b || list_any (tag_matches asked) ts) ≡ true
+        → (list_any (tag_matches asked) ts ≡ true → is_marked bits asked ≡ true) → is_marked bits asked ≡ true
     by true matches f rest = marked bits asked t set.0 matches
     by false other f rest = rest f
 
-pub all_marked : (bits : ℕ) (p : Placed) (asked : List (List ℕ × List ℕ)) → AllByRecursion (IsSet bits) (tags_of p) → list_all (has_tag p) asked ≡ true → list_all (is_marked bits) asked ≡ true
+pub all_marked : (bits : ℕ) (p : Placed) (asked : List (List ℕ × List ℕ)) → AllByRecursion (IsSet bits) (tags_of p) → list_all (has_tag p) asked ≡ true
+    → list_all (is_marked bits) asked ≡ true
 all_marked bits p [] set e = refl
 all_marked bits p (a ∷ more) set e =
     let ab = and_parts (has_tag p a) (list_all (has_tag p) more) e in

@@ -65,5 +65,6 @@ mask_tells bits mask asked is =
     (λ e. (parts bits 0 asked (same_covers bits (requested_bits asked) (eqb-true (bit_or bits (requested_bits asked)) bits e))).1)
     (λ e. eq-eqb (bit_or bits (requested_bits asked)) bits (covers_same bits (requested_bits asked) (whole bits 0 asked (λ i. omega (arith, bit_at-zero i)) e)))
 
-pub mask_more : (asked : List (List ℕ × List ℕ)) (i : ℕ) (a : List ℕ × List ℕ) → i < length asked → a ≡ get_or asked i a → with_requested (requested_bits (take i asked)) a ≡ requested_bits (take (i + 1) asked)
+pub mask_more : (asked : List (List ℕ × List ℕ)) (i : ℕ) (a : List ℕ × List ℕ) → i < length asked → a ≡ get_or asked i a
+    → with_requested (requested_bits (take i asked)) a ≡ requested_bits (take (i + 1) asked)
 mask_more asked i a le is = ap (with_requested (requested_bits (take i asked))) is ∙ sym (fold_more with_requested 0 asked i a le)

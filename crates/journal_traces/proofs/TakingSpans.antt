@@ -24,7 +24,8 @@ pub record IsTaking (P : Taken → Type 0) (h : List Entry) (old now : List (Lis
 pub taking_none : (P : Taken → Type 0) (h : List Entry) (old now : List (List Taken)) (all : List Spot) → now ≡ old ++ [] ∷ [] → IsTaking P h old now all all
 taking_none P h old now all is = record { last = []; is = is; spans = refl; numbers = All-nil P }
 
-pub taking_over : (P : Taken → Type 0) (h : List Entry) (old now : List (List Taken)) (s : Spot) (left rest all : List Spot) → left ≡ s ∷ rest → None ≡ span_at h s → IsTaking P h old now left all → IsTaking P h old now rest all
+pub taking_over : (P : Taken → Type 0) (h : List Entry) (old now : List (List Taken)) (s : Spot) (left rest all : List Spot) → left ≡ s ∷ rest
+    → None ≡ span_at h s → IsTaking P h old now left all → IsTaking P h old now rest all
 taking_over P h old now s left rest all steps none t = record {
   last = t.last;
   is = t.is;
@@ -36,8 +37,10 @@ joined : (o : Option Placed) (done rest : List Placed) → (done ++ cons_option 
 joined None done rest = ap (λ l. l ++ rest) (append-nil done)
 joined (Some p) done rest = append_assoc done (p ∷ []) rest
 
-pub taking_more : (P : Taken → Type 0) (h : List Entry) (old now next : List (List Taken)) (s : Spot) (left rest all : List Spot) (x : Taken) → left ≡ s ∷ rest → x.span ≡ span_at h s → P x
-    → ((ts : List (List Taken)) (t : List Taken) → now ≡ ts ++ t ∷ [] → next ≡ ts ++ (t ++ x ∷ []) ∷ []) → IsTaking P h old now left all → IsTaking P h old next rest all
+pub taking_more : (P : Taken → Type 0) (h : List Entry) (old now next : List (List Taken)) (s : Spot) (left rest all : List Spot) (x : Taken) → left ≡ s ∷ rest
+    → x.span ≡ span_at h s → P x
+    → ((ts : List (List Taken)) (t : List Taken) → now ≡ ts ++ t ∷ [] → next ≡ ts ++ (t ++ x ∷ []) ∷ []) → IsTaking P h old now left all
+    → IsTaking P h old next rest all
 taking_more P h old now next s left rest all x steps at number put t = record {
   last = t.last ++ x ∷ [];
   is = put old t.last t.is;
@@ -49,16 +52,20 @@ taking_more P h old now next s left rest all x steps at number put t = record {
   numbers = All-push P t.last x t.numbers number;
 }
 
-pub taken_spans : (P : Taken → Type 0) (h : List Entry) (old now : List (List Taken)) (left all : List Spot) → left ≡ [] → IsTaking P h old now left all → map placed_taken now ≡ map placed_taken old ++ spans_named h all ∷ []
+pub taken_spans : (P : Taken → Type 0) (h : List Entry) (old now : List (List Taken)) (left all : List Spot) → left ≡ [] → IsTaking P h old now left all
+    → map placed_taken now ≡ map placed_taken old ++ spans_named h all ∷ []
 taken_spans P h old now left all none t =
     ap (map placed_taken) t.is ∙ map_push placed_taken old t.last
     ∙ ap (λ l. map placed_taken old ++ l ∷ []) (sym (append-nil (placed_taken t.last)) ∙ ap (λ l. placed_taken t.last ++ spans_named h l) (sym none) ∙ t.spans)
 
-pub taken_numbers : (P : Taken → Type 0) (h : List Entry) (old now : List (List Taken)) (left all : List Spot) → IsTaking P h old now left all → All (λ (t : List Taken). All P t) old → All (λ (t : List Taken). All P t) now
-taken_numbers P h old now left all t before = All-same (λ (t : List Taken). All P t) now (old ++ t.last ∷ []) t.is (All-push (λ (t : List Taken). All P t) old t.last before t.numbers)
+pub taken_numbers : (P : Taken → Type 0) (h : List Entry) (old now : List (List Taken)) (left all : List Spot) → IsTaking P h old now left all
+    → All (λ (t : List Taken). All P t) old → All (λ (t : List Taken). All P t) now
+taken_numbers P h old now left all t before =
+    All-same (λ (t : List Taken). All P t) now (old ++ t.last ∷ []) t.is (All-push (λ (t : List Taken). All P t) old t.last before t.numbers)
 
 -- the number of what is collected at a spot leads to its process
-pub numbered_there : (h : List Entry) (s : Spot) (taken : Option Taken) → option_and_then (λ (x : Taken). x.span) taken ≡ span_at h s → IfSome taken (λ (x : Taken). x.number ≡ s.place) → IfSome taken (HasProcess (process_at h))
+pub numbered_there : (h : List Entry) (s : Spot) (taken : Option Taken) → option_and_then (λ (x : Taken). x.span) taken ≡ span_at h s
+    → IfSome taken (λ (x : Taken). x.number ≡ s.place) → IfSome taken (HasProcess (process_at h))
 numbered_there h s None at number = tt
 numbered_there h s (Some x) at number = by x.span at
   where

@@ -1,5 +1,6 @@
 -- The marks of the traces that a search by a service considers.
-use Rattle.std.proofs.Common.{◌≡◌, ℕ, zero, suc, ◌+◌, ◌<◌, ◌≤◌, Bool, true, false, ◌||◌, ◌&&◌, cond, List, [], ◌∷◌, ◌++◌, map, length, take, get_or, refl, sym, ap, ◌∙◌, arith, Some, None}
+use Rattle.std.proofs.Common.{◌≡◌, ℕ, zero, suc, ◌+◌, ◌<◌, ◌≤◌, Bool, true, false, ◌||◌, ◌&&◌, cond, List, [], ◌∷◌, ◌++◌, map, length, take, get_or, refl, sym}
+use Rattle.std.proofs.Common.{ap, ◌∙◌, arith, Some, None}
 use Rattle.std.specs.Prelude.{filter, flat_map, slice_get, not, Option}
 use Rattle.std.specs.List.{list_any, position}
 use Rattle.std.proofs.Math.ListN.{set}
@@ -51,7 +52,8 @@ unmarked p (x ∷ xs) t e =
     let rest = unmarked p xs t apart.1 in
     λ i. first i ∷ rest i
 
-marked_at : (p : TraceId → Bool) (r : List TraceId) (t : TraceId) (k : ℕ) → NoneTwice r → slice_get r k ≡ Some t → set (map p r) k true ≡ map (λ u. p u || same_trace u t) r
+marked_at : (p : TraceId → Bool) (r : List TraceId) (t : TraceId) (k : ℕ) → NoneTwice r → slice_get r k ≡ Some t
+    → set (map p r) k true ≡ map (λ u. p u || same_trace u t) r
 marked_at p [] t k once e = absurd cc
 marked_at p (x ∷ xs) t zero once e =
     let same : x ≡ t = cc e in
@@ -68,7 +70,8 @@ marked_at p (x ∷ xs) t (suc k) once e =
     let rest = marked_at p xs t k once.1 e in
     λ i. first i ∷ rest i
 
-pub marked_put : (p : TraceId → Bool) (r : List TraceId) (t : TraceId) (place : ℕ) (marks : List Bool) → NoneTwice r → position (same_trace t) r ≡ Some place → marks ≡ map p r → set marks place true ≡ map (λ u. p u || same_trace u t) r
+pub marked_put : (p : TraceId → Bool) (r : List TraceId) (t : TraceId) (place : ℕ) (marks : List Bool) → NoneTwice r → position (same_trace t) r ≡ Some place
+    → marks ≡ map p r → set marks place true ≡ map (λ u. p u || same_trace u t) r
 marked_put p r t place marks once e before = ap (λ l. set l place true) before ∙ marked_at p r t place once (placed_at r t place e)
 
 -- a trace that is not in the ring changes nothing
@@ -106,14 +109,16 @@ module _ (q : Find) (o : Process) (ss : List Span) (i : ℕ) (s : Span) (le : i 
       → map (λ u. (p u || reaches (met q o (take i ss)) u) || same_trace u s.trace) r ≡ map (λ u. p u || reaches (met q o (take (i + 1) ss)) u) r
   marked_more p r m = λ j. map (λ u. (or_assoc (p u) (reaches (met q o (take i ss)) u) (same_trace u s.trace) ∙ ap (λ b. p u || b) (sym (reach_more m u))) j) r
 
-  still : reaches (met q o (take i ss)) s.trace ≡ true → (u : TraceId) → reaches (met q o (take i ss)) u ≡ (reaches (met q o (take i ss)) u || same_trace u s.trace)
+  still : reaches (met q o (take i ss)) s.trace ≡ true → (u : TraceId)
+      → reaches (met q o (take i ss)) u ≡ (reaches (met q o (take i ss)) u || same_trace u s.trace)
   still there u = elim (same_trace u s.trace) as (λ b. same_trace u s.trace ≡ b → reaches (met q o (take i ss)) u ≡ (reaches (met q o (take i ss)) u || b)) [
     | true ↦ λ e. ap (reaches (met q o (take i ss))) (same_is u s.trace e) ∙ there ∙ sym (or-true (reaches (met q o (take i ss)) u))
     | false ↦ λ _. or_same (reaches (met q o (take i ss)) u)
   ] refl
 
   -- one that doesn't meet it, or whose trace was marked before
-  same_reach : (meets q o s ≡ true → reaches (met q o (take i ss)) s.trace ≡ true) → (u : TraceId) → reaches (met q o (take (i + 1) ss)) u ≡ reaches (met q o (take i ss)) u
+  same_reach : (meets q o s ≡ true → reaches (met q o (take i ss)) s.trace ≡ true) → (u : TraceId)
+      → reaches (met q o (take (i + 1) ss)) u ≡ reaches (met q o (take i ss)) u
   same_reach there u = elim (meets q o s) as (λ b. meets q o s ≡ b → reaches (met q o (take (i + 1) ss)) u ≡ reaches (met q o (take i ss)) u) [
     | true ↦ λ m. reach_more m u ∙ sym (still (there m) u)
     | false ↦ λ m. ap (list_any (is_of u)) (more ∙ ap (λ b. met q o (take i ss) ++ cond b (s ∷ []) []) m ∙ append-nil (met q o (take i ss)))
@@ -124,9 +129,12 @@ module _ (q : Find) (o : Process) (ss : List Span) (i : ℕ) (s : Span) (le : i 
   marked_again p r there = λ j. map (λ u. p u || sym (same_reach there u) j) r
 
   pub reached_own : (t : TraceId) → meets q o s ≡ true → s.trace ≡ t → reaches (met q o (take (i + 1) ss)) t ≡ true
-  reached_own t m own = reach_more m t ∙ ap (λ x. reaches (met q o (take i ss)) t || same_trace t x) own ∙ ap (λ b. reaches (met q o (take i ss)) t || b) (same_self t) ∙ or-true (reaches (met q o (take i ss)) t)
+  reached_own t m own =
+      reach_more m t ∙ ap (λ x. reaches (met q o (take i ss)) t || same_trace t x) own ∙ ap (λ b. reaches (met q o (take i ss)) t || b) (same_self t)
+      ∙ or-true (reaches (met q o (take i ss)) t)
 
-  pub reached_still : (t : TraceId) → (meets q o s ≡ true → reaches (met q o (take i ss)) s.trace ≡ true) → reaches (met q o (take i ss)) t ≡ true → reaches (met q o (take (i + 1) ss)) t ≡ true
+  pub reached_still : (t : TraceId) → (meets q o s ≡ true → reaches (met q o (take i ss)) s.trace ≡ true) → reaches (met q o (take i ss)) t ≡ true
+      → reaches (met q o (take (i + 1) ss)) t ≡ true
   reached_still t there before = same_reach there t ∙ before
 
 pub marked_all : (q : Find) (o : Process) (p : TraceId → Bool) (r : List TraceId) (ss : List Span) (i : ℕ) → length ss ≤ i
@@ -141,7 +149,8 @@ marked_place spans_at r done place = λ j. map (λ u. sym (
     ∙ list_any-append (is_of u) (flat_map spans_at done) (spans_at place)) j) r
 
 -- ---- what was marked is picked
-pub mark_read : (p : TraceId → Bool) (r : List TraceId) (marks : List Bool) (i : ℕ) (d : TraceId) (b : Bool) → i < length r → marks ≡ map p r → get_or marks i b ≡ p (get_or r i d)
+pub mark_read : (p : TraceId → Bool) (r : List TraceId) (marks : List Bool) (i : ℕ) (d : TraceId) (b : Bool) → i < length r → marks ≡ map p r
+    → get_or marks i b ≡ p (get_or r i d)
 mark_read p r marks i d b le same = ap (λ l. get_or l i b) same ∙ read r i le
   where
     read : (r : List TraceId) (i : ℕ) → i < length r → get_or (map p r) i b ≡ p (get_or r i d)
@@ -151,7 +160,8 @@ mark_read p r marks i d b le same = ap (λ l. get_or l i b) same ∙ read r i le
 
 module _ {A B : Type 0} (f : A → B) (p : A → Bool) (r : List A) (i : ℕ) (d : A) (le : i < length r) where
   pub picked : p (get_or r i d) ≡ true → map f (filter p (take (i + 1) r)) ≡ map f (filter p (take i r)) ++ f (get_or r i d) ∷ []
-  picked e = ap (map f) (filter_more p r i d le ∙ ap (λ b. filter p (take i r) ++ cond b (get_or r i d ∷ []) []) e) ∙ map_push f (filter p (take i r)) (get_or r i d)
+  picked e =
+      ap (map f) (filter_more p r i d le ∙ ap (λ b. filter p (take i r) ++ cond b (get_or r i d ∷ []) []) e) ∙ map_push f (filter p (take i r)) (get_or r i d)
 
   pub passed : p (get_or r i d) ≡ false → map f (filter p (take (i + 1) r)) ≡ map f (filter p (take i r))
   passed e = ap (map f) (filter_more p r i d le ∙ ap (λ b. filter p (take i r) ++ cond b (get_or r i d ∷ []) []) e ∙ append-nil (filter p (take i r)))

@@ -1,5 +1,6 @@
 -- Traces of a window that are collected by their spots, with the numbers of their services.
-use Rattle.std.proofs.Common.{◌≡◌, ℕ, zero, suc, ◌+◌, ◌-◌, ◌<◌, ◌≤◌, List, [], ◌∷◌, ◌++◌, map, length, take, drop, replicate, get_or, refl, sym, ap, subst, ◌∙◌, arith, Some, None, Option, length-append}
+use Rattle.std.proofs.Common.{◌≡◌, ℕ, zero, suc, ◌+◌, ◌-◌, ◌<◌, ◌≤◌, List, [], ◌∷◌, ◌++◌, map, length, take, drop, replicate, get_or, refl, sym, ap, subst, ◌∙◌}
+use Rattle.std.proofs.Common.{arith, Some, None, Option, length-append}
 use Rattle.std.specs.Prelude.{slice_get, slice_range, slice_index_or, slice_set, IfSome, option_map, is_some}
 use Rattle.std.specs.List.{cons_option, All, AllByRecursion}
 use Rattle.std.specs.Option.{option_and_then}
@@ -18,8 +19,8 @@ use Rattle.trace_model.proofs.Lists.{each_append}
 use Rattle.trace_model.proofs.NameLaws.{text_is}
 use Rattle.trace_assembly.specs.declared.spot.Spot.{Spot}
 use Rattle.trace_assembly.specs.Located.{span_at}
-use Rattle.service_places.specs.Reported.{reporters, service_at, group_in, AreGroups}
-use Rattle.service_places.proofs.Grouping.{group_within, as_many_reporters}
+use Rattle.service_index.specs.Reported.{reporters, service_at, group_in, AreGroups}
+use Rattle.service_index.proofs.PlacesGrouping.{group_within, as_many_reporters}
 use Rattle.call_links.specs.Seen.{StandsFor}
 use Rattle.journal_traces.specs.declared.taken_spot.TakenSpot.{TakenSpot}
 use Rattle.journal_traces.specs.declared.window_traces.WindowSpots.{WindowSpots}
@@ -27,7 +28,8 @@ use Rattle.journal_traces.specs.Cutting.{next_start, cut_at, AreStarts}
 use Rattle.journal_traces.specs.Spotted.{IsWithin, AreNumbers, AddsSpan}
 use Rattle.journal_traces.specs.Standing.{HasNumber, AreNumberedByService}
 use Rattle.journal_traces.specs.Taking.{placed_taken}
-use Rattle.journal_traces.specs.Windowed.{ServedEntry, entry_seen, entries_seen, entries_in, numbered_span, taken_in, taken_reported, trace_reported, traces_reported, HasService, AreWindowed}
+use Rattle.journal_traces.specs.Windowed.{ServedEntry, entry_seen, entries_seen, entries_in, numbered_span, taken_in, taken_reported, trace_reported}
+use Rattle.journal_traces.specs.Windowed.{traces_reported, HasService, AreWindowed}
 use Rattle.journal_traces.proofs.Cuts.{cut_begin, cut_push, starts_begin, starts_push}
 use Rattle.journal_traces.proofs.Spotting.{numbers_more}
 
@@ -59,7 +61,8 @@ served_after (x ∷ h) (suc n) e is =
     let below : n < length h = rest.0 in
     (omega (arith, below), rest.1)
 
-pub served_at : (h : List Entry) (groups : List ℕ) (place : ℕ) (e : Entry) → AreGroups h groups → Some e ≡ entry_at h place → HasService h (e, get_or groups (place - 1) 0)
+pub served_at : (h : List Entry) (groups : List ℕ) (place : ℕ) (e : Entry) → AreGroups h groups → Some e ≡ entry_at h place
+    → HasService h (e, get_or groups (place - 1) 0)
 served_at h groups zero e kept is = absurd (cc is)
 served_at h groups (suc m) e kept is =
     let n : ℕ = suc m - 1 in
@@ -73,17 +76,20 @@ served_at h groups (suc m) e kept is =
     let first : group_in h (service_brought e.work) ≡ group_in h (service_at h n) = ap (group_in h) own in
     let many = as_many_reporters h in
     let known : service_brought e.work ≡ service_at h (group_in h (service_brought e.work)) =
-    text_is (service_brought e.work) (service_at h (group_in h (service_brought e.work))) (passes_at_first (same_text (service_brought e.work)) (reporters h) [] (omega (arith, within, first, many, below))) in
+    text_is (service_brought e.work) (service_at h (group_in h (service_brought e.work)))
+    (passes_at_first (same_text (service_brought e.work)) (reporters h) [] (omega (arith, within, first, many, below))) in
     (number, ap (service_at h) number ∙ sym known)
 
 -- ---- so are the numbers of the spans
-named_there : (h : List Entry) (n : ℕ) (s : List ℕ) (o : Option Placed) → StandsFor (service_at h) (group_in h) (n, s) → ((p : Placed) → o ≡ Some p → s ≡ p.process.service) → IfSome (option_map (numbered_span n) o) (HasNumber h)
+named_there : (h : List Entry) (n : ℕ) (s : List ℕ) (o : Option Placed) → StandsFor (service_at h) (group_in h) (n, s)
+    → ((p : Placed) → o ≡ Some p → s ≡ p.process.service) → IfSome (option_map (numbered_span n) o) (HasNumber h)
 named_there h n s None stands own = tt
 named_there h n s (Some p) stands own = subst (λ t. StandsFor (service_at h) (group_in h) (n, t)) (own p refl) stands
 
 own_name : (e : Entry) (i : ℕ) (p : Placed) → slice_get (placed_brought e.work) i ≡ Some p → service_brought e.work ≡ p.process.service
 own_name e i p is =
-    let named : Some (service_brought e.work) ≡ Some p.process.service = name_there e.work i (ap is_some is) ∙ ap (option_map (λ (q : Placed). q.process.service)) is in
+    let named : Some (service_brought e.work) ≡ Some p.process.service =
+    name_there e.work i (ap is_some is) ∙ ap (option_map (λ (q : Placed). q.process.service)) is in
     cc named
 
 has_number : (h : List Entry) (es : List ServedEntry) (n i : ℕ) → AllByRecursion (HasService h) es → IfSome (taken_in i (slice_get es n)) (HasNumber h)
@@ -99,9 +105,12 @@ trace_numbered : (h : List Entry) (es : List ServedEntry) (ss : List TakenSpot) 
 trace_numbered h es [] a = λ j d le. absurd (omega arith)
 trace_numbered h es (s ∷ ss) a = cons_numbered h (taken_reported es s) (trace_reported es ss) (has_number h es s.number s.index a) (trace_numbered h es ss a)
 
-pub traces_numbered : (h : List Entry) (es : List ServedEntry) (sss : List (List TakenSpot)) → AllByRecursion (HasService h) es → AreNumberedByService h (map (trace_reported es) sss)
+pub traces_numbered : (h : List Entry) (es : List ServedEntry) (sss : List (List TakenSpot)) → AllByRecursion (HasService h) es
+    → AreNumberedByService h (map (trace_reported es) sss)
 traces_numbered h es [] a = λ j d le. absurd (omega arith)
-traces_numbered h es (ss ∷ sss) a = All-cons (λ (t : List Taken). All (HasNumber h) t) (trace_reported es ss) (map (trace_reported es) sss) (trace_numbered h es ss a) (traces_numbered h es sss a)
+traces_numbered h es (ss ∷ sss) a =
+    All-cons (λ (t : List Taken). All (HasNumber h) t) (trace_reported es ss) (map (trace_reported es) sss) (trace_numbered h es ss a)
+    (traces_numbered h es sss a)
 
 -- ---- one more entry
 got_still : {X : Type 0} (xs : List X) (x : X) (n : ℕ) → n < length xs → slice_get (xs ++ x ∷ []) n ≡ slice_get xs n
@@ -109,7 +118,8 @@ got_still [] x n le = absurd (omega arith)
 got_still (y ∷ xs) x zero le = refl
 got_still (y ∷ xs) x (suc n) le = got_still xs x n (omega arith)
 
-trace_still : (es : List ServedEntry) (x : ServedEntry) (ss : List TakenSpot) → AllByRecursion (IsWithin (length es)) ss → trace_reported (es ++ x ∷ []) ss ≡ trace_reported es ss
+trace_still : (es : List ServedEntry) (x : ServedEntry) (ss : List TakenSpot) → AllByRecursion (IsWithin (length es)) ss
+    → trace_reported (es ++ x ∷ []) ss ≡ trace_reported es ss
 trace_still es x [] a = refl
 trace_still es x (s ∷ ss) a =
     let same = got_still es x s.number a.0 in
@@ -131,7 +141,8 @@ cuts_still : (es : List ServedEntry) (x : ServedEntry) (spots : List TakenSpot) 
 cuts_still es x spots [] a = refl
 cuts_still es x spots (s ∷ starts) a =
     let end = next_start (length spots) starts in
-    let own = trace_still es x (slice_range spots s end) (all_first (IsWithin (length es)) (end - s) (drop s spots) (all_dropped (IsWithin (length es)) s spots a)) in
+    let own = trace_still es x (slice_range spots s end)
+    (all_first (IsWithin (length es)) (end - s) (drop s spots) (all_dropped (IsWithin (length es)) s spots a)) in
     let rest = cuts_still es x spots starts a in
     λ i. own i ∷ rest i
 
@@ -140,7 +151,8 @@ all_within n m [] le a = tt
 all_within n m (s ∷ ss) le a = let own : s.number < n = a.0 in (omega (arith, own, le), all_within n m ss le a.1)
 
 module _ (h : List Entry) (old new : WindowSpots) (numbers : List ℕ) (known : AreWindowed h old numbers) where
-  module _ (x : ServedEntry) (same_spots : new.spots ≡ old.spots) (same_starts : new.starts ≡ old.starts) (put : entries_seen new.entries.items ≡ entries_seen old.entries.items ++ x ∷ []) where
+  module _ (x : ServedEntry) (same_spots : new.spots ≡ old.spots) (same_starts : new.starts ≡ old.starts)
+      (put : entries_seen new.entries.items ≡ entries_seen old.entries.items ++ x ∷ []) where
     -- one more entry leaves the traces as they are
     pub shared_still : traces_reported new ≡ traces_reported old
     shared_still =
@@ -149,50 +161,69 @@ module _ (h : List Entry) (old new : WindowSpots) (numbers : List ℕ) (known : 
         (λ i. map (trace_reported (put i)) (cut_at (same_spots i).items (same_starts i).items))
         ∙ cuts_still es x old.spots.items old.starts.items (all_within (length old.entries.items) (length es) old.spots.items long known.within)
 
-    pub shared_known : (place next : ℕ) → Some x.0 ≡ entry_at h place → HasService h x → next ≡ length old.entries.items + 1 → AreWindowed h new (slice_set numbers (place - 1) next)
+    pub shared_known : (place next : ℕ) → Some x.0 ≡ entry_at h place → HasService h x → next ≡ length old.entries.items + 1
+        → AreWindowed h new (slice_set numbers (place - 1) next)
     shared_known place next there served is =
         let es = entries_seen old.entries.items in
         let more : length new.entries.items ≡ length old.entries.items + 1 =
         sym (length-map new.entries.items entry_seen) ∙ ap length put ∙ length-append es (x ∷ []) ∙ ap (λ n. n + 1) (length-map old.entries.items entry_seen) in
         let alone : entries_in (entries_seen new.entries.items) ≡ entries_in es ++ x.0 ∷ [] = ap entries_in put ∙ map_push (λ (e : ServedEntry). e.0) es x in
-        let counted : next ≡ length (entries_in es) + 1 = is ∙ ap (λ n. n + 1) (sym (length-map es (λ (e : ServedEntry). e.0) ∙ length-map old.entries.items entry_seen)) in
+        let counted : next ≡ length (entries_in es) + 1 =
+        is ∙ ap (λ n. n + 1) (sym (length-map es (λ (e : ServedEntry). e.0) ∙ length-map old.entries.items entry_seen)) in
         record {
-          ordered = subst (λ (w : List TakenSpot × List ℕ). AreStarts (length w.0) w.1) (λ i. ((sym same_spots i).items, (sym same_starts i).items)) known.ordered;
-          within = subst (λ ss. AllByRecursion (IsWithin (length new.entries.items)) ss) (λ i. (sym same_spots i).items) (all_within (length old.entries.items) (length new.entries.items) old.spots.items (omega (arith, more)) known.within);
+          ordered =
+              subst (λ (w : List TakenSpot × List ℕ). AreStarts (length w.0) w.1) (λ i. ((sym same_spots i).items, (sym same_starts i).items)) known.ordered;
+          within =
+              subst (λ ss. AllByRecursion (IsWithin (length new.entries.items)) ss)
+              (λ i. (sym same_spots i).items)
+              (all_within (length old.entries.items) (length new.entries.items) old.spots.items (omega (arith, more)) known.within);
           services = subst (AllByRecursion (HasService h)) (sym put) (each_append (HasService h) es (x ∷ []) known.services (served, tt));
           found = numbers_more h (entries_in es) (entries_in (entries_seen new.entries.items)) numbers x.0 place next known.found there counted alone;
         }
 
   -- one more spot
-  pub pushed_known : (s : TakenSpot) → new.entries ≡ old.entries → new.spots.items ≡ old.spots.items ++ s ∷ [] → new.starts ≡ old.starts → s.number < length old.entries.items → AreWindowed h new numbers
+  pub pushed_known : (s : TakenSpot) → new.entries ≡ old.entries → new.spots.items ≡ old.spots.items ++ s ∷ [] → new.starts ≡ old.starts
+      → s.number < length old.entries.items → AreWindowed h new numbers
   pushed_known s same_entries put same_starts below =
       let long : length new.spots.items ≡ length old.spots.items + 1 = ap length put ∙ length-append old.spots.items (s ∷ []) in
       let P : ℕ → TakenSpot → Type 0 = λ n. IsWithin n in
       record {
-        ordered = subst (λ (w : ℕ × List ℕ). AreStarts w.0 w.1) (λ i. (sym long i, (sym same_starts i).items)) (starts_push (length old.spots.items) old.starts.items known.ordered);
-        within = subst (λ (w : ℕ × List TakenSpot). AllByRecursion (P w.0) w.1) (λ i. (length (sym same_entries i).items, sym put i)) (each_append (P (length old.entries.items)) old.spots.items (s ∷ []) known.within (below, tt));
+        ordered =
+            subst (λ (w : ℕ × List ℕ). AreStarts w.0 w.1)
+            (λ i. (sym long i, (sym same_starts i).items)) (starts_push (length old.spots.items) old.starts.items known.ordered);
+        within =
+            subst (λ (w : ℕ × List TakenSpot). AllByRecursion (P w.0) w.1)
+            (λ i. (length (sym same_entries i).items, sym put i))
+            (each_append (P (length old.entries.items)) old.spots.items (s ∷ []) known.within (below, tt));
         services = subst (λ es. AllByRecursion (HasService h) (entries_seen es)) (λ i. (sym same_entries i).items) known.services;
         found = subst (λ es. AreNumbers h (entries_in (entries_seen es)) numbers) (λ i. (sym same_entries i).items) known.found;
       }
 
   -- one more trace
-  pub begun_known : new.entries ≡ old.entries → new.spots ≡ old.spots → new.starts.items ≡ old.starts.items ++ length old.spots.items ∷ [] → AreWindowed h new numbers
+  pub begun_known : new.entries ≡ old.entries → new.spots ≡ old.spots → new.starts.items ≡ old.starts.items ++ length old.spots.items ∷ []
+      → AreWindowed h new numbers
   begun_known same_entries same_spots put =
       record {
-        ordered = subst (λ (w : List TakenSpot × List ℕ). AreStarts (length w.0) w.1) (λ i. ((sym same_spots i).items, sym put i)) (starts_begin (length old.spots.items) old.starts.items known.ordered);
-        within = subst (λ (w : ℕ × List TakenSpot). AllByRecursion (IsWithin w.0) w.1) (λ i. (length (sym same_entries i).items, (sym same_spots i).items)) known.within;
+        ordered =
+            subst (λ (w : List TakenSpot × List ℕ). AreStarts (length w.0) w.1)
+            (λ i. ((sym same_spots i).items, sym put i)) (starts_begin (length old.spots.items) old.starts.items known.ordered);
+        within =
+            subst (λ (w : ℕ × List TakenSpot). AllByRecursion (IsWithin w.0) w.1)
+            (λ i. (length (sym same_entries i).items, (sym same_spots i).items)) known.within;
         services = subst (λ es. AllByRecursion (HasService h) (entries_seen es)) (λ i. (sym same_entries i).items) known.services;
         found = subst (λ es. AreNumbers h (entries_in (entries_seen es)) numbers) (λ i. (sym same_entries i).items) known.found;
       }
 
-  pub begun_traces : new.entries ≡ old.entries → new.spots ≡ old.spots → new.starts.items ≡ old.starts.items ++ length old.spots.items ∷ [] → traces_reported new ≡ traces_reported old ++ [] ∷ []
+  pub begun_traces : new.entries ≡ old.entries → new.spots ≡ old.spots → new.starts.items ≡ old.starts.items ++ length old.spots.items ∷ []
+      → traces_reported new ≡ traces_reported old ++ [] ∷ []
   begun_traces same_entries same_spots put =
       (λ i. map (trace_reported (entries_seen (same_entries i).items)) (cut_at (same_spots i).items (put i)))
       ∙ ap (map (trace_reported (entries_seen old.entries.items))) (cut_begin old.spots.items old.starts.items)
       ∙ map_push (trace_reported (entries_seen old.entries.items)) (cut_at old.spots.items old.starts.items) []
 
   -- ---- the last trace gets the span of the spot
-  pub pushed_adds : (s : TakenSpot) (o : Option Placed) → placed_taken (cons_option (taken_reported (entries_seen old.entries.items) s) []) ≡ cons_option o [] → new.entries ≡ old.entries
+  pub pushed_adds : (s : TakenSpot) (o : Option Placed) → placed_taken (cons_option (taken_reported (entries_seen old.entries.items) s) []) ≡ cons_option o []
+      → new.entries ≡ old.entries
       → new.spots.items ≡ old.spots.items ++ s ∷ [] → new.starts ≡ old.starts → AddsSpan o (traces_reported old) (traces_reported new)
   pushed_adds s o at same_entries put same_starts = λ ts t is.
       let es = entries_seen old.entries.items in
@@ -210,20 +241,25 @@ placed_one : (n : ℕ) (o : Option Placed) → placed_taken (cons_option (option
 placed_one n None = refl
 placed_one n (Some p) = refl
 
-placed_in : (i : ℕ) (o : Option ServedEntry) → placed_taken (cons_option (taken_in i o) []) ≡ cons_option (option_and_then (λ (e : Entry). slice_get (placed_brought e.work) i) (option_map (λ (x : ServedEntry). x.0) o)) []
+placed_in : (i : ℕ) (o : Option ServedEntry)
+    → placed_taken (cons_option (taken_in i o) [])
+    ≡ cons_option (option_and_then (λ (e : Entry). slice_get (placed_brought e.work) i) (option_map (λ (x : ServedEntry). x.0) o)) []
 placed_in i None = refl
 placed_in i (Some x) = placed_one x.1 (slice_get (placed_brought x.0.work) i)
 
 -- it is the span that the journal has there
-pub placed_there : (h : List Entry) (es : List ServedEntry) (s : TakenSpot) (spot : Spot) (e : Entry) → slice_get (entries_in es) s.number ≡ Some e → Some e ≡ entry_at h spot.place → s.index ≡ spot.index
+pub placed_there : (h : List Entry) (es : List ServedEntry) (s : TakenSpot) (spot : Spot) (e : Entry) → slice_get (entries_in es) s.number ≡ Some e
+    → Some e ≡ entry_at h spot.place → s.index ≡ spot.index
     → placed_taken (cons_option (taken_reported es s) []) ≡ cons_option (span_at h spot) []
 placed_there h es s spot e got there same =
     placed_in s.index (slice_get es s.number)
-    ∙ ap (λ o. cons_option (option_and_then (λ (x : Entry). slice_get (placed_brought x.work) s.index) o) []) (sym (slice_get-map (λ (x : ServedEntry). x.0) es s.number) ∙ got ∙ there)
+    ∙ ap (λ o. cons_option (option_and_then (λ (x : Entry). slice_get (placed_brought x.work) s.index) o) [])
+    (sym (slice_get-map (λ (x : ServedEntry). x.0) es s.number) ∙ got ∙ there)
     ∙ ap (λ i. cons_option (option_and_then (λ (x : Entry). slice_get (placed_brought x.work) i) (entry_at h spot.place)) []) same
 
 -- ---- the trace at a place
-pub reported_got : (es : List ServedEntry) (sss : List (List TakenSpot)) (k : ℕ) → trace_reported es (slice_index_or sss k []) ≡ slice_index_or (map (trace_reported es) sss) k []
+pub reported_got : (es : List ServedEntry) (sss : List (List TakenSpot)) (k : ℕ)
+    → trace_reported es (slice_index_or sss k []) ≡ slice_index_or (map (trace_reported es) sss) k []
 reported_got es [] k = refl
 reported_got es (ss ∷ sss) zero = refl
 reported_got es (ss ∷ sss) (suc k) = reported_got es sss k
@@ -244,7 +280,8 @@ zeros_known h numbers zeros = subst (AreNumbers h []) (sym zeros) (record {
     none_numbered (suc n) zero = refl
     none_numbered (suc n) (suc k) = none_numbered n k
 
-pub new_known : (h : List Entry) (w : WindowSpots) (numbers : List ℕ) → w.entries.items ≡ [] → w.spots.items ≡ [] → w.starts.items ≡ [] → AreNumbers h [] numbers → AreWindowed h w numbers
+pub new_known : (h : List Entry) (w : WindowSpots) (numbers : List ℕ) → w.entries.items ≡ [] → w.spots.items ≡ [] → w.starts.items ≡ []
+    → AreNumbers h [] numbers → AreWindowed h w numbers
 new_known h w numbers entries spots starts known = record {
   ordered = subst (λ (x : ℕ × List ℕ). AreStarts x.0 x.1) (λ i. (length (sym spots i), sym starts i)) tt;
   within = subst (AllByRecursion (IsWithin (length w.entries.items))) (sym spots) tt;

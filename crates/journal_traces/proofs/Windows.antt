@@ -51,7 +51,8 @@ none_placed e l t b (s ∷ ss) w none zero =
     ap (λ (x : Bool). x || false) (window-adopted e l (record { process = b.process; span = s }) ∙ not_reaching e l t s w.0 none)
 none_placed e l t b (s ∷ ss) w none (suc i) = none_placed e l t b ss w.1 none i
 
-none_brought : (e l : ℤ) (w : Work) (i : ℕ) → may_reach e l (times_of (spans_brought w)) ≡ false → list_any (in_window e l) (cons_option (slice_get (placed_brought w) i) []) ≡ false
+none_brought : (e l : ℤ) (w : Work) (i : ℕ) → may_reach e l (times_of (spans_brought w)) ≡ false
+    → list_any (in_window e l) (cons_option (slice_get (placed_brought w) i) []) ≡ false
 none_brought e l (brings.Batch b) i none = none_placed e l (times_of b.spans) b b.spans (all_within b.spans) none i
 none_brought e l (brings.TraceLimit n) i none = refl
 

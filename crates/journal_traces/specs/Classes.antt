@@ -4,8 +4,8 @@ use Rattle.std.specs.BTreeMap.{get}
 use Rattle.std.specs.List.{All}
 use Rattle.std.specs.Ordering.{nat_cmp, on}
 use Rattle.jaeger_model.specs.declared.batch.Process.{Process}
-use Rattle.process_order.specs.declared.order.ByContent.{ByContent}
-use Rattle.process_order.specs.Order.{process_cmp}
+use Rattle.jaeger_model.specs.declared.process_order.ByContent.{ByContent}
+use Rattle.jaeger_model.specs.ProcessOrder.{process_cmp}
 use Rattle.trace_model.specs.Taking.{Taken}
 use Rattle.journal_traces.specs.declared.process_classes.ProcessClasses.{ProcessClasses}
 use Rattle.journal_traces.specs.Taking.{HaveProcesses}

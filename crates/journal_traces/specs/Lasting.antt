@@ -3,7 +3,7 @@ use Rattle.std.specs.Prelude.{◌≡◌, ◌<◌, ◌^◌, ℕ, List, length, Op
 use Rattle.trace_model.specs.declared.entry.Entry.{Entry}
 use Rattle.trace_model.specs.declared.query.Find.{Find}
 use Rattle.journal_traces.specs.declared.judging.LastJudged.{LastJudged}
-use Rattle.service_places.specs.Reported.{AreGroups, group_of}
+use Rattle.service_index.specs.Reported.{AreGroups, group_of}
 use Rattle.journal_traces.specs.Standing.{process_at}
 
 -- it is that of the entry at its place, judged by the search

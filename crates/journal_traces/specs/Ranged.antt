@@ -6,10 +6,10 @@ use Rattle.jaeger_model.specs.declared.placed.Placed.{Placed}
 use Rattle.trace_model.specs.declared.query.Find.{Find}
 use Rattle.trace_assembly.specs.declared.spot.Spot.{Spot}
 use Rattle.trace_assembly.specs.Rows.{Assembled, spots_of}
-use Rattle.first_starts.specs.declared.ranges.Range.{Range}
-use Rattle.first_starts.specs.declared.ranges.Window.{Window}
-use Rattle.first_starts.specs.Starting.{Starts}
-use Rattle.first_starts.specs.Ranges.{IsIn, range_at, reaches}
+use Rattle.trace_ring.specs.declared.first_starts.ranges.Range.{Range}
+use Rattle.trace_ring.specs.declared.first_starts.ranges.Window.{Window}
+use Rattle.trace_ring.specs.Starting.{Starts}
+use Rattle.trace_ring.specs.StartRanges.{IsIn, range_at, reaches}
 
 abbrev pub StartsIn : Range → Placed → Type 0
 StartsIn r p = IsIn r p.span.start
@@ -20,7 +20,8 @@ AreRanged starts ids spans = (k : ℕ) (t : TraceId) → slice_get ids k ≡ Som
 
 -- the spots of a trace whose range doesn't reach into the window fail the test
 abbrev pub FailsOutside : Window → Starts → Assembled → (List Spot → Bool) → Type 0
-FailsOutside w starts shown p = (k : ℕ) (t : TraceId) → slice_get shown.newest.ids k ≡ Some t → reaches w (range_at starts k) ≡ false → p (spots_of shown t) ≡ false
+FailsOutside w starts shown p =
+    (k : ℕ) (t : TraceId) → slice_get shown.newest.ids k ≡ Some t → reaches w (range_at starts k) ≡ false → p (spots_of shown t) ≡ false
 
 -- the times strictly between the bounds of a search's starts, widened so that the bounds are included
 abbrev pub search_window : Find → Window

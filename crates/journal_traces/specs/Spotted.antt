@@ -94,4 +94,6 @@ pub record AreNumbers (h es : List Entry) (numbers : List ℕ) : Type 0 where
 -- ---- the last trace grows
 -- it gets this span, if there is one
 abbrev pub AddsSpan : Option Placed → List (List Taken) → List (List Taken) → Type 0
-AddsSpan o old new = (ts : List (List Taken)) (t : List Taken) → old ≡ ts ++ t ∷ [] → (more : List Taken) × (placed_taken more ≡ cons_option o []) × (new ≡ ts ++ (t ++ more) ∷ [])
+AddsSpan o old new =
+    (ts : List (List Taken)) (t : List Taken) → old ≡ ts ++ t ∷ [] → (more : List Taken) × (placed_taken more ≡ cons_option o [])
+    × (new ≡ ts ++ (t ++ more) ∷ [])

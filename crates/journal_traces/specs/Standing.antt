@@ -10,7 +10,7 @@ use Rattle.trace_model.specs.Places.{entry_at}
 use Rattle.trace_model.specs.Works.{batch_brought}
 use Rattle.trace_assembly.specs.declared.spot.Spot.{Spot}
 use Rattle.trace_assembly.specs.Located.{span_at}
-use Rattle.service_places.specs.Reported.{service_at, group_in}
+use Rattle.service_index.specs.Reported.{service_at, group_in}
 use Rattle.trace_model.specs.Taking.{Taken}
 use Rattle.call_links.specs.Seen.{IsNumberedBy, AreNumberedBy}
 

@@ -7,7 +7,7 @@ use Rattle.jaeger_model.specs.declared.placed.Placed.{Placed}
 use Rattle.trace_model.specs.declared.entry.Entry.{Entry}
 use Rattle.trace_model.specs.Taking.{Taken}
 use Rattle.trace_model.specs.Works.{placed_brought, service_brought}
-use Rattle.service_places.specs.Reported.{service_at, group_in}
+use Rattle.service_index.specs.Reported.{service_at, group_in}
 use Rattle.call_links.specs.Seen.{StandsFor}
 use Rattle.journal_traces.specs.declared.taken_spot.TakenSpot.{TakenSpot}
 use Rattle.journal_traces.specs.declared.window_traces.ReportedEntry.{ReportedEntry}

@@ -6,7 +6,7 @@ use crate::spotted_spans::{first_id, first_start, is_found};
 use arrival_journal::Journal;
 use find_traces::{PreparedSearch, Searched};
 use jaeger_model::TraceId;
-use service_places::ServicePlaces;
+use service_index::ServicePlaces;
 use std::alloc::{AllocError, Global};
 use trace_assembly::Spots;
 

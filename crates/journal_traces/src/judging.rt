@@ -14,7 +14,7 @@ use crate::spotted_spans::seen_at;
 use arrival_journal::Journal;
 use find_traces::{JudgedProcess, PreparedSearch};
 use jaeger_model::{Process, Seen};
-use service_places::ServicePlaces;
+use service_index::ServicePlaces;
 use std::alloc::{AllocError, Global};
 use std::marker::Model;
 use trace_assembly::Spot;

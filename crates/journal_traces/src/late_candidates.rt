@@ -4,9 +4,9 @@ ghost use Rattle.std.specs.Prelude.{◌≡◌, ℤ, int_lt, IfOk, map, filter, l
 ghost use Rattle.jaeger_model.specs.declared.ids.TraceId.{TraceId as TraceIdValue};
 ghost use Rattle.trace_assembly.specs.Rows.{spots_of};
 
-use first_starts::FirstStarts;
 use std::alloc::{AllocError, Global};
 use trace_assembly::{Assembly, Spots};
+use trace_ring::FirstStarts;
 
 /// Returns the spots of each trace of the ring whose first start is after this time, those of the one opened first
 /// at the front.

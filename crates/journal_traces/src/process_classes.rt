@@ -8,8 +8,7 @@ ghost use Rattle.journal_traces.specs.Classes.{Leads};
 ghost use Rattle.journal_traces.specs.Taking.{HasProcess};
 
 use crate::recurring::Recurring;
-use jaeger_model::Process;
-use process_order::ByContent;
+use jaeger_model::{ByContent, Process};
 use std::alloc::{AllocError, Global};
 use std::collections::BTreeMap;
 use trace_model::TakenSpan;

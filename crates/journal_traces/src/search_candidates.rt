@@ -14,7 +14,7 @@ use crate::pruning::EntryFilter;
 use crate::spotted_spans::batch_at;
 use arrival_journal::Journal;
 use jaeger_model::{Process, Seen, Span, Text, TraceId};
-use service_places::Places;
+use service_index::Places;
 use span_steps::is_timed;
 use std::alloc::{AllocError, Global};
 use trace_assembly::{Assembly, Spots};

@@ -7,7 +7,7 @@ ghost use Rattle.trace_model.specs.Linking.{in_window};
 ghost use Rattle.trace_model.specs.Places.{entry_at};
 ghost use Rattle.trace_assembly.specs.Located.{span_at};
 ghost use Rattle.trace_assembly.specs.Rows.{spots_of};
-ghost use Rattle.service_places.specs.Reported.{AreGroups};
+ghost use Rattle.service_index.specs.Reported.{AreGroups};
 ghost use Rattle.journal_traces.specs.Ranged.{AreRanged};
 ghost use Rattle.journal_traces.specs.Spotted.{AddsSpan};
 ghost use Rattle.journal_traces.specs.Standing.{spans_named, trace_named, AreNumberedByService};
@@ -19,14 +19,13 @@ use crate::taken_spot::TakenSpot;
 use crate::window::window_of;
 use crate::window_traces::{WindowSpots, WindowTraces};
 use arrival_journal::Journal;
-use first_starts::FirstStarts;
 use jaeger_model::TraceId;
-use service_places::ServicePlaces;
+use service_index::ServicePlaces;
 use std::alloc::{AllocError, Global};
 use std::sync::Arc;
 use trace_assembly::{Assembly, Spot, Spots};
 use trace_model::Entry;
-use trace_ring::Ring;
+use trace_ring::{FirstStarts, Ring};
 
 /// Returns the number of the entry at a place, which is collected unless it was before, with the number of its
 /// service.

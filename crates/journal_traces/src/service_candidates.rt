@@ -3,11 +3,11 @@
 ghost use Rattle.std.specs.Prelude.{◌≡◌, ◌<◌, ◌^◌, IfOk, map, filter, length};
 ghost use Rattle.std.specs.List.{list_any};
 ghost use Rattle.trace_assembly.specs.Rows.{spots_of};
-ghost use Rattle.service_places.specs.Reported.{AreGroups};
+ghost use Rattle.service_index.specs.Reported.{AreGroups};
 ghost use Rattle.journal_traces.specs.Reporting.{is_reported, are_reported};
 
 use arrival_journal::Journal;
-use service_places::ServicePlaces;
+use service_index::ServicePlaces;
 use std::alloc::{AllocError, Global};
 use trace_assembly::{Assembly, Spot, Spots};
 

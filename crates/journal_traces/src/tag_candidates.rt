@@ -10,7 +10,8 @@ ghost use Rattle.trace_model.specs.Seeing.{seen};
 ghost use Rattle.trace_model.specs.Taking.{Taken};
 ghost use Rattle.trace_assembly.specs.Located.{span_at};
 ghost use Rattle.journal_traces.specs.Meeting.{IsJudgedAs};
-ghost use Rattle.journal_traces.specs.Spotted.{spot_of, taken_spotted, trace_spotted, traces_spotted, is_entry_met, is_spot_met, are_spots_met, IsToldBy, IsTold, IsTellingOf, entry_shared, entries_shared, process_numbered, AreNumbered};
+ghost use Rattle.journal_traces.specs.Spotted.{spot_of, taken_spotted, trace_spotted, traces_spotted, is_entry_met, is_spot_met, are_spots_met, IsToldBy};
+ghost use Rattle.journal_traces.specs.Spotted.{IsTold, IsTellingOf, entry_shared, entries_shared, process_numbered, AreNumbered};
 ghost use Rattle.journal_traces.specs.Taking.{placed_taken, HasProcess, ShareByNumber};
 
 use crate::span_conditions::{has_tags, is_met_alone, judge};

@@ -14,7 +14,7 @@ use crate::pruning::EntryFilter;
 use crate::tag_candidates::TagCandidates;
 use crate::taken_spot::TakenSpot;
 use arrival_journal::Journal;
-use service_places::ServicePlaces;
+use service_index::ServicePlaces;
 use std::alloc::{AllocError, Global};
 use std::sync::Arc;
 use trace_assembly::{Spot, Spots};

@@ -3,8 +3,8 @@
 ghost use Rattle.std.specs.Prelude.{◌≡◌, Some, pos, ◌+ℤ◌, ◌-ℤ◌, ◌*ℤ◌, ◌≤ℤ◌, ◌<ℤ◌, ◌^◌, option_map};
 ghost use Rattle.journal_traces.specs.Ranged.{search_window};
 
-use first_starts::Window;
 use trace_model::Find;
+use trace_ring::Window;
 
 /// Converts milliseconds to microseconds.
 fn micros(ms: i128) -> i128

@@ -5,9 +5,9 @@ ghost use Rattle.trace_assembly.specs.declared.spot.Spot.{Spot as SpotValue};
 ghost use Rattle.trace_assembly.specs.Rows.{spots_of};
 ghost use Rattle.journal_traces.specs.Ranged.{FailsOutside};
 
-use first_starts::{FirstStarts, Window};
 use std::alloc::{AllocError, Global};
 use trace_assembly::{Assembly, Spots};
+use trace_ring::{FirstStarts, Window};
 
 /// Returns the spots of each trace of the ring whose range reaches into the window, those of the one opened first
 /// at the front. A test that all other traces fail finds the same among these as among all.

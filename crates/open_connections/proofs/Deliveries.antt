@@ -1,6 +1,7 @@
 -- What a connection took of what waits.
 use Rattle.std.specs.Prelude.{is_some}
-use Rattle.std.proofs.Common.{Bool, true, false, ◌≡◌, ℕ, ◌+◌, ◌-◌, ◌≤◌, ◌<◌, List, [], ◌++◌, length, take, drop, Option, Some, None, refl, sym, ap, ◌∙◌, append_assoc, append-nil, arith, subst}
+use Rattle.std.proofs.Common.{Bool, true, false, ◌≡◌, ℕ, ◌+◌, ◌-◌, ◌≤◌, ◌<◌, List, [], ◌++◌, length, take, drop, Option, Some, None, refl, sym, ap, ◌∙◌}
+use Rattle.std.proofs.Common.{append_assoc, append-nil, arith, subst}
 use Rattle.std.proofs.lemmas.List.{take-append-drop, take-append-le, drop-append-le, drop-drop, drop_all, length-drop, length-append}
 use Rattle.std.specs.Io.KnownBytes.{Appends, Keeps, append_known}
 use Rattle.std.proofs.KnownBytes.{Appends-nil, Appends-trans, Appends-kept, append_known-moved}
@@ -13,7 +14,8 @@ pub takes_none : (a : Option (List ℕ)) (waits : List ℕ) → TakesFirst a a w
 takes_none a waits = ([], Appends-nil a, refl)
 
 -- one more write
-pub takes_more : (a b c : Option (List ℕ)) (all part rest later : List ℕ) (n : ℕ) → TakesFirst a b all (part ++ rest) → Appends b c (take n part) → n ≤ length part → later ≡ drop n (part ++ rest) → TakesFirst a c all later
+pub takes_more : (a b c : Option (List ℕ)) (all part rest later : List ℕ) (n : ℕ) → TakesFirst a b all (part ++ rest) → Appends b c (take n part)
+    → n ≤ length part → later ≡ drop n (part ++ rest) → TakesFirst a c all later
 takes_more a b c all part rest later n took wrote le is = (
   took.0 ++ take n part,
   Appends-trans a b c took.0 (take n part) took.1 wrote,
@@ -39,7 +41,8 @@ handed_grows (Some x) (Some y) all waits took =
     ap (λ l. l ++ waits) took.1 ∙ append_assoc x took.0 waits ∙ ap (λ l. x ++ l) (sym took.2) ∙ ap (λ l. l ++ all) (sym (append-nil x))
 
 -- the first of them, where the connection failed after these
-pub handed_part : (a b : Option (List ℕ)) (all waits : List ℕ) (n : ℕ) → TakesFirst a b all waits → n ≡ length all - length waits → Appends (append_known a []) (append_known b []) (take n all)
+pub handed_part : (a b : Option (List ℕ)) (all waits : List ℕ) (n : ℕ) → TakesFirst a b all waits → n ≡ length all - length waits
+    → Appends (append_known a []) (append_known b []) (take n all)
 handed_part None b all waits n took is = tt
 handed_part (Some x) None all waits n took is = absurd took.1
 handed_part (Some x) (Some y) all waits n took is =
@@ -71,7 +74,8 @@ pub passed : (part rest : List ℕ) (sent count : ℕ) → count ≤ length (dro
 passed part rest sent count le = ap (λ l. l ++ rest) (sym (drop-drop count sent part)) ∙ sym (drop-append-le count (drop sent part) rest le)
 
 -- and none of them is left
-pub passed_all : (part rest : List ℕ) (sent count : ℕ) → count ≤ length (drop sent part) → length part ≤ sent + count → rest ≡ drop count (drop sent part ++ rest)
+pub passed_all : (part rest : List ℕ) (sent count : ℕ) → count ≤ length (drop sent part) → length part ≤ sent + count
+    → rest ≡ drop count (drop sent part ++ rest)
 passed_all part rest sent count le most = ap (λ l. l ++ rest) (sym (drop_all (sent + count) part most)) ∙ passed part rest sent count le
 
 -- ---- what was handed over, after which nothing waited
@@ -81,7 +85,8 @@ none_waits None none = refl
 none_waits (Some w) none = absurd (cc none)
 
 -- a response was taken, and some of it may wait
-pub responded : (a b : Option (List ℕ)) (before after : Option Parted) (all response waits : List ℕ) → is_some before ≡ false → bytes_waiting after ≡ waits → all ≡ response → TakesFirst a b all waits
+pub responded : (a b : Option (List ℕ)) (before after : Option Parted) (all response waits : List ℕ) → is_some before ≡ false → bytes_waiting after ≡ waits
+    → all ≡ response → TakesFirst a b all waits
     → Appends (append_known a (bytes_waiting before)) (append_known b (bytes_waiting after)) response
 responded a b before after all response waits none left same took =
     subst (λ (l : List ℕ). Appends (append_known a l) (append_known b (bytes_waiting after)) response) (sym (none_waits before none))
@@ -89,14 +94,16 @@ responded a b before after all response waits none left same took =
     (subst (λ (l : List ℕ). Appends (append_known a []) (append_known b waits) l) same (handed_grows a b all waits took)))
 
 -- the connection failed after the first bytes of it
-pub responded_part : (a b : Option (List ℕ)) (before : Option Parted) (all response waits : List ℕ) (n : ℕ) → is_some before ≡ false → all ≡ response → TakesFirst a b all waits → n ≡ length all - length waits
+pub responded_part : (a b : Option (List ℕ)) (before : Option Parted) (all response waits : List ℕ) (n : ℕ) → is_some before ≡ false → all ≡ response
+    → TakesFirst a b all waits → n ≡ length all - length waits
     → Appends (append_known a (bytes_waiting before)) (append_known b (bytes_waiting before)) (take n response)
 responded_part a b before all response waits n none same took is =
     subst (λ (l : List ℕ). Appends (append_known a l) (append_known b l) (take n response)) (sym (none_waits before none))
     (subst (λ (l : List ℕ). Appends (append_known a []) (append_known b []) (take n l)) same (handed_part a b all waits n took is))
 
 -- what waited was written as far as the connection took it
-pub flushed : (a b : Option (List ℕ)) (before after : Option Parted) (waited waits : List ℕ) → bytes_waiting before ≡ waited → bytes_waiting after ≡ waits → TakesFirst a b waited waits
+pub flushed : (a b : Option (List ℕ)) (before after : Option Parted) (waited waits : List ℕ) → bytes_waiting before ≡ waited → bytes_waiting after ≡ waits
+    → TakesFirst a b waited waits
     → Keeps (append_known a (bytes_waiting before)) (append_known b (bytes_waiting after))
 flushed a b before after waited waits was left took =
     subst (λ (l : List ℕ). Keeps (append_known a l) (append_known b (bytes_waiting after))) (sym was)

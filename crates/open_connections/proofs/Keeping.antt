@@ -63,7 +63,8 @@ module _ {S C : Type 0} (store : Store S) (line : Line (Outbox C)) (now : S) whe
   rest_is_open old new all rest key it e = all key it (rest key it e)
 
   -- one was put in
-  pub all_with_one : (old new : Slab (OpenConnection C)) (key : ℕ) (one : OpenConnection C) → AllOpen store line now old → Updates old new key (Some one) → IsOpen store line now one
+  pub all_with_one : (old new : Slab (OpenConnection C)) (key : ℕ) (one : OpenConnection C) → AllOpen store line now old → Updates old new key (Some one)
+      → IsOpen store line now one
       → AllOpen store line now new
   all_with_one old new key one all put is k it e =
       ⊎_elim
@@ -93,7 +94,8 @@ module _ {S C : Type 0} (store : Store S) (line : Line (Outbox C)) (now : S) whe
   come_open it Undelivered stays is = absurd (cc stays)
 
   -- nothing changed but what its thread notes of it
-  pub moved_open : (old new : OpenConnection C) → new.connection ≡ old.connection → new.session ≡ old.session → new.began.value ≡ old.began.value → IsOpen store line now old → IsOpen store line now new
+  pub moved_open : (old new : OpenConnection C) → new.connection ≡ old.connection → new.session ≡ old.session → new.began.value ≡ old.began.value
+      → IsOpen store line now old → IsOpen store line now new
   moved_open old new connection session began is = record {
     then = is.then;
     underway = subst (λ (b : Outbox C). UnderwayAmong store line b new.connection is.then now new.session) (sym began)
@@ -106,7 +108,8 @@ module _ {S C : Type 0} (store : Store S) (line : Line (Outbox C)) (now : S) whe
   }
 
   -- nothing was read of it yet
-  pub new_open : (it : OpenConnection C) (box : Outbox C) → it.connection ≡ box → it.session ≡ no_requests_yet → it.began.value ≡ box → UnderwayAmong store line box box now now no_requests_yet
+  pub new_open : (it : OpenConnection C) (box : Outbox C) → it.connection ≡ box → it.session ≡ no_requests_yet → it.began.value ≡ box
+      → UnderwayAmong store line box box now now no_requests_yet
       → CanContinue (line.source.remaining box) no_requests_yet → line.in_failed box ≡ false → line.out_failed box ≡ false → IsOpen store line now it
   new_open it box connection session began under can reads writes = record {
     then = now;
@@ -122,7 +125,8 @@ module _ {S C : Type 0} (store : Store S) (line : Line (Outbox C)) (now : S) whe
 -- ---- what waits is written
 
 -- reads leave what was handed over, and writes what is still to be read
-pub two_way_box : {C : Type 0} (remaining : C → Option (List ℕ)) (gives : Gives C) (failed : C → Bool) (contents : C → Option (List ℕ)) → LeavesContents C gives contents → IsTwoWay (box_line remaining gives failed contents)
+pub two_way_box : {C : Type 0} (remaining : C → Option (List ℕ)) (gives : Gives C) (failed : C → Bool) (contents : C → Option (List ℕ))
+    → LeavesContents C gives contents → IsTwoWay (box_line remaining gives failed contents)
 two_way_box remaining gives failed contents leaves = record {
   reads_leave = λ s t bytes given. (
     ap (λ x. append_known x (bytes_waiting t.waiting)) (leaves s.connection t.connection bytes given.0)
@@ -133,7 +137,8 @@ two_way_box remaining gives failed contents leaves = record {
 }
 
 module _ {S C : Type 0} (store : Store S) (now : S) (remaining : C → Option (List ℕ)) (gives : Gives C) (failed : C → Bool) (contents : C → Option (List ℕ))
-    (lasts : OutlastsWrites store (box_line remaining gives failed contents)) (old new : OpenConnection C) (p : ConnectionProgress) (is : IsOpen store (box_line remaining gives failed contents) now old)
+    (lasts : OutlastsWrites store (box_line remaining gives failed contents)) (old new : OpenConnection C) (p : ConnectionProgress)
+    (is : IsOpen store (box_line remaining gives failed contents) now old)
     (delivers : Delivers remaining failed contents old new p) where
   abbrev line : Line (Outbox C)
   line = box_line remaining gives failed contents
@@ -159,7 +164,8 @@ module _ {S C : Type 0} (store : Store S) (now : S) (remaining : C → Option (L
 
 -- ---- one turn
 
-module _ {S C : Type 0} (store : Store S) (line : Line (Outbox C)) (t u : S) (old new : OpenConnection C) (before after : Session) (before_is : before ≡ old.session) (after_is : new.session ≡ after)
+module _ {S C : Type 0} (store : Store S) (line : Line (Outbox C)) (t u : S) (old new : OpenConnection C) (before after : Session)
+    (before_is : before ≡ old.session) (after_is : new.session ≡ after)
     (began : new.began.value ≡ old.began.value) (is : IsOpen store line t old) where
   under_before : UnderwayAmong store line old.began.value old.connection is.then t before
   under_before = subst (λ (x : Session). UnderwayAmong store line old.began.value old.connection is.then t x) (sym before_is) is.underway
@@ -210,6 +216,8 @@ module _ {S C : Type 0} (store : Store S) (line : Line (Outbox C)) (t u : S) (ol
       (subst (λ (r : Result (Option EndedSession) SessionError). IfOpen r (CanContinue (line.source.remaining new.connection) after)) is can)
       works
 
-  pub came_to_end : (p : Piece) (ended : EndedSession) → p ≡ EndedBy ended → GoesOn store line old.connection new.connection t u before after (piece_of (Ok p)) → HasEnded store line u new
+  pub came_to_end : (p : Piece) (ended : EndedSession) → p ≡ EndedBy ended → GoesOn store line old.connection new.connection t u before after (piece_of (Ok p))
+      → HasEnded store line u new
   came_to_end p ended same goes =
-      came_ended ended (subst (λ (r : Result (Option EndedSession) SessionError). GoesOn store line old.connection new.connection t u before after r) (ap (λ (x : Piece). piece_of (Ok x)) same) goes)
+      came_ended ended (subst (λ (r : Result (Option EndedSession) SessionError). GoesOn store line old.connection new.connection t u before after r)
+      (ap (λ (x : Piece). piece_of (Ok x)) same) goes)

@@ -2,7 +2,7 @@
 use Rattle.std.specs.Prelude.{◌≡◌, ◌⊎◌, ℕ, List, [], Bool, Option, Some, None, true, false}
 use Rattle.std.specs.Io.KnownBytes.{Keeps as KeepsBytes}
 use Rattle.slab.specs.Slab.{Slab, get}
-use Rattle.store_backend.specs.Knowing.{Keeps}
+use Rattle.trace_model.specs.Knowing.{Keeps}
 use Rattle.http_session.specs.InOrder.{Line}
 use Rattle.http_session.specs.Between.{Store, EndsServed, FailsServed}
 use Rattle.http_session.specs.Pieces.{CanContinue, UnderwayAmong, shared}
@@ -81,7 +81,8 @@ IsRest {C = C} old new = (key : ℕ) (it : OpenConnection C) → get new key ≡
 
 -- Writing the waiting bytes changes neither the session nor what was handed over. The connection stays open or has
 -- failed.
-pub record Delivers {C : Type 0} (remaining : C → Option (List ℕ)) (failed : C → Bool) (contents : C → Option (List ℕ)) (old new : OpenConnection C) (progress : ConnectionProgress) : Type 0 where
+pub record Delivers {C : Type 0} (remaining : C → Option (List ℕ)) (failed : C → Bool) (contents : C → Option (List ℕ)) (old new : OpenConnection C)
+    (progress : ConnectionProgress) : Type 0 where
   pub session : new.session ≡ old.session
   pub began : new.began.value ≡ old.began.value
   pub nothing_new : box_takes remaining failed contents old.connection [] new.connection

@@ -15,7 +15,7 @@ use query_http::Endpoint;
 use std::alloc::Global;
 use std::snapshot::Snapshot;
 use std::time::Duration;
-use store_backend::Backend;
+use trace_model::Backend;
 
 /// A connection and its session, between two requests or inside one.
 #[derive(Drop)]

@@ -18,7 +18,7 @@ use std::alloc::{AllocError, Global};
 use std::marker::Model;
 use std::mem::drop;
 use std::time::Duration;
-use store_backend::Backend;
+use trace_model::Backend;
 
 /// The open connections of a thread, each with its session, by key. Contracts see the connections by key.
 #[derive(Drop)]

@@ -1,13 +1,14 @@
 -- The contract of a session's call implies the premises of the laws on sessions.
 use Rattle.std.proofs.Common.{◌≡◌, ℕ, Bool, List, ◌++◌, take, Option, Some, None, refl, ap}
 use Rattle.trace_model.specs.Held.{Held}
-use Rattle.direct_store.specs.Exactly.{DirectSubmits, DirectReads}
+use Rattle.pipe_session.specs.DirectCalls.{DirectSubmits, DirectReads}
 use Rattle.http_session.specs.Sessions.{EndsAs, FailsAs, last_of, responses, exchange_due, bytes_due}
 use Rattle.http_session.specs.declared.exchanges.SessionError.{SessionError}
 use Rattle.pipe_session.specs.OneFunction.{NeverWants, Finished, Failed}
 use Rattle.pipe_session.proofs.Prefixes.{spoken}
 
-pub finished : (bytes before : List ℕ) (left out : Option (List ℕ)) (s t : Held) (n : ℕ) (c : Bool) (ends : EndsAs DirectSubmits DirectReads (Some bytes) left (Some before) out s t n c)
+pub finished : (bytes before : List ℕ) (left out : Option (List ℕ)) (s t : Held) (n : ℕ) (c : Bool)
+    (ends : EndsAs DirectSubmits DirectReads (Some bytes) left (Some before) out s t n c)
     → NeverWants (ends.opens ++ last_of ends.ending) → (written : List ℕ) × (out ≡ Some (before ++ written)) × Finished bytes s written t n c
 finished bytes before left None s t n c ends memory = absurd ends.written
 finished bytes before left (Some after) s t n c ends memory = (

@@ -1,5 +1,6 @@
 -- A session over a store with one owner takes one course: at each place of the bytes there is one next exchange.
-use Rattle.std.proofs.Common.{◌≡◌, ◌≢◌, ℕ, ◌||◌, true, false, List, [], ◌∷◌, ◌++◌, map, All, length, refl, sym, ap, ◌∙◌, subst, arith, append_assoc, length-append}
+use Rattle.std.proofs.Common.{◌≡◌, ◌≢◌, ℕ, ◌||◌, true, false, List, [], ◌∷◌, ◌++◌, map, All, length, refl, sym, ap, ◌∙◌, subst, arith, append_assoc}
+use Rattle.std.proofs.Common.{length-append}
 use Rattle.std.proofs.lemmas.List.Elements.{All-head, All-tail}
 use Rattle.trace_model.specs.Held.{Held}
 use Rattle.http_requests.specs.Asked.{asked_by}
@@ -22,10 +23,12 @@ pub record Asks (bytes : List ℕ) (s : Held) (x : Exchange) (rest : List ℕ) :
   pub answered : x.reply ≡ reply_at s x.verdict
   pub memory : x.verdict ≢ Reject NoMemory
 
-same_verdict : (x y : Exchange) → IsExchange x → IsExchange y → x.verdict ≢ Reject NoMemory → y.verdict ≢ Reject NoMemory → x.head ≡ y.head → x.body ≡ y.body → x.verdict ≡ y.verdict
+same_verdict : (x y : Exchange) → IsExchange x → IsExchange y → x.verdict ≢ Reject NoMemory → y.verdict ≢ Reject NoMemory → x.head ≡ y.head → x.body ≡ y.body
+    → x.verdict ≡ y.verdict
 same_verdict x y one other m n heads bodies =
     let follows : Judges (asked_by x.head) x.body y.verdict =
-    subst (λ (b : List ℕ). Judges (asked_by x.head) b y.verdict) (sym bodies) (subst (λ h. Judges (asked_by h) y.body y.verdict) (sym heads) other.verdict_follows) in
+    subst (λ (b : List ℕ). Judges (asked_by x.head) b y.verdict) (sym bodies)
+    (subst (λ h. Judges (asked_by h) y.body y.verdict) (sym heads) other.verdict_follows) in
     one_verdict (asked_by x.head) x.body x.verdict y.verdict m n one.verdict_follows follows
 
 pub same_exchange : (bytes : List ℕ) (s : Held) (x y : Exchange) (rest more : List ℕ) → Asks bytes s x rest → Asks bytes s y more → (x ≡ y) × (rest ≡ more)
@@ -83,7 +86,8 @@ RunsTo bytes s [] e t = (rest : List ℕ) × ComesNext bytes s e rest × Shuts e
 RunsTo bytes s (x ∷ xs) e t = (rest : List ℕ) × Asks bytes s x rest × (x.close ≡ false) × RunsTo rest (held_after s x.verdict) xs e t
 
 -- where the next exchange leaves the session open, the session doesn't end
-pub goes_on : (bytes : List ℕ) (s : Held) (x : Exchange) (e : Ending) (rest more : List ℕ) → Asks bytes s x rest → x.close ≡ false → ComesNext bytes s e more → Shuts e → ⊥
+pub goes_on : (bytes : List ℕ) (s : Held) (x : Exchange) (e : Ending) (rest more : List ℕ) → Asks bytes s x rest → x.close ≡ false → ComesNext bytes s e more
+    → Shuts e → ⊥
 goes_on bytes s x e rest more asks is_open next shuts =
     let shut : x.close ≡ true = subst Shuts (sym (one_next bytes s (closing x) e rest more asks next).0) shuts in
     absurd (cc (is_open, shut))
@@ -92,9 +96,11 @@ goes_on bytes s x e rest more asks is_open next shuts =
 pub goes_after : (s : Held) (x y : Exchange) (rest more : List ℕ) (ys : List Exchange) (e : Ending) (t : Held) → x ≡ y → rest ≡ more
     → RunsTo more (held_after s y.verdict) ys e t → RunsTo rest (held_after s x.verdict) ys e t
 goes_after s x y rest more ys e t same behind runs_to =
-    subst (λ (z : Exchange). RunsTo rest (held_after s z.verdict) ys e t) (sym same) (subst (λ (l : List ℕ). RunsTo l (held_after s y.verdict) ys e t) (sym behind) runs_to)
+    subst (λ (z : Exchange). RunsTo rest (held_after s z.verdict) ys e t) (sym same)
+    (subst (λ (l : List ℕ). RunsTo l (held_after s y.verdict) ys e t) (sym behind) runs_to)
 
-pub one_course : (bytes : List ℕ) (s : Held) (xs ys : List Exchange) (e f : Ending) (t u : Held) → RunsTo bytes s xs e t → RunsTo bytes s ys f u → (xs ≡ ys) × (e ≡ f) × (t ≡ u)
+pub one_course : (bytes : List ℕ) (s : Held) (xs ys : List Exchange) (e f : Ending) (t u : Held) → RunsTo bytes s xs e t → RunsTo bytes s ys f u → (xs ≡ ys)
+    × (e ≡ f) × (t ≡ u)
 one_course bytes s [] [] e f t u one other =
     let same = (one_next bytes s e f one.0 other.0 one.1 other.1).0 in
     (refl, same, one.3 ∙ ap (λ (g : Ending). held_at_last s (verdicts (last_of g))) same ∙ sym other.3)
@@ -148,9 +154,11 @@ last_goes bytes s clean behind t stand ends = ([], (stand.front ∙ ends, refl),
 last_goes bytes s (closing x) behind t stand ends = (behind, first_asks bytes s x [] behind t ends.0 stand, ends.1, stand.held)
 last_goes bytes s (malformed b) behind t stand ends = ([], (subst (λ (l : List ℕ). Breaks l b) (sym stand.front) ends, refl), tt, stand.held)
 
-pub runs_to : (bytes : List ℕ) (s : Held) (xs : List Exchange) (e : Ending) (behind : List ℕ) (t : Held) → All IsOpen xs → Stand bytes s (xs ++ last_of e) behind t → EndsAt behind e → RunsTo bytes s xs e t
+pub runs_to : (bytes : List ℕ) (s : Held) (xs : List Exchange) (e : Ending) (behind : List ℕ) (t : Held) → All IsOpen xs
+    → Stand bytes s (xs ++ last_of e) behind t → EndsAt behind e → RunsTo bytes s xs e t
 runs_to bytes s [] e behind t opens stand ends = last_goes bytes s e behind t stand ends
 runs_to bytes s (x ∷ xs) e behind t opens stand ends =
     let is = All-head IsOpen x xs opens in
-    let later = runs_to (texts (xs ++ last_of e) ++ behind) (held_after s x.verdict) xs e behind t (All-tail IsOpen x xs opens) (rest_stands bytes s x (xs ++ last_of e) behind t stand) ends in
+    let later = runs_to (texts (xs ++ last_of e) ++ behind) (held_after s x.verdict) xs e behind t (All-tail IsOpen x xs opens)
+    (rest_stands bytes s x (xs ++ last_of e) behind t stand) ends in
     (texts (xs ++ last_of e) ++ behind, first_asks bytes s x (xs ++ last_of e) behind t is.exchange stand, is.open_is, later)

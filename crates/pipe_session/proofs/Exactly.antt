@@ -11,7 +11,7 @@ use Rattle.trace_model.specs.Held.{Held}
 use Rattle.trace_model.specs.Refusals.{with_admitted}
 use Rattle.arrival_journal.specs.Journals.{admission_by, turned_away_by}
 use Rattle.span_store.specs.NextEntry.{next_entry}
-use Rattle.direct_store.specs.Exactly.{DirectSubmits, DirectReads}
+use Rattle.pipe_session.specs.DirectCalls.{DirectSubmits, DirectReads}
 use Rattle.http_session.specs.Sessions.{Exchange, Step, Run}
 use Rattle.http_session.specs.declared.verdict.Verdict.{Verdict}
 use Rattle.http_session.specs.declared.verdict.Verdict.TheVariants.{Submit, Ask, Reject}
@@ -51,6 +51,7 @@ exact s t (x ∷ xs) run m =
     let now = one s run.0 x.verdict x.reply (All-head (λ (x : Exchange). x.reply ≢ Refused NoMemory) x xs m) run.1 in
     let later = exact run.0 t xs run.2 (All-tail (λ (x : Exchange). x.reply ≢ Refused NoMemory) x xs m) in
     let vs = map (λ (y : Exchange). y.verdict) xs in (
-      ap (λ (l : List Reply). x.reply ∷ l) later.0 ∙ ap (λ (r : Reply). r ∷ replies_at run.0 vs) now.0 ∙ ap (λ (h : Held). reply_at s x.verdict ∷ replies_at h vs) now.1,
+      ap (λ (l : List Reply). x.reply ∷ l) later.0 ∙ ap (λ (r : Reply). r ∷ replies_at run.0 vs) now.0
+          ∙ ap (λ (h : Held). reply_at s x.verdict ∷ replies_at h vs) now.1,
       later.1 ∙ ap (λ (h : Held). held_at_last h vs) now.1,
     )

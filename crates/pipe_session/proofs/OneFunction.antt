@@ -4,7 +4,7 @@ use Rattle.std.proofs.lemmas.List.{append_cancel_left}
 use mathlib.Core.List.{IsPrefix}
 use Rattle.trace_model.specs.Held.{Held}
 use Rattle.trace_model.proofs.Prefixes.{prefix_self, prefix_trans}
-use Rattle.direct_store.specs.Exactly.{DirectSubmits, DirectReads}
+use Rattle.pipe_session.specs.DirectCalls.{DirectSubmits, DirectReads}
 use Rattle.http_session.specs.Sessions.{Exchange, texts, Run, EndsAs, FailsAs, last_of, responses, malformed_responses, is_clean, exchange_due, bytes_due}
 use Rattle.http_session.specs.declared.exchanges.SessionError.{SessionError}
 use Rattle.pipe_session.specs.OneFunction.{NeverWants, Finished, Failed}
@@ -13,7 +13,8 @@ use Rattle.pipe_session.proofs.Courses.{Stand, ends_at, RunsTo, runs_to, one_cou
 use Rattle.pipe_session.proofs.Prefixes.{spoken, Stops, stops, due_at, meant, meant_begins, part_begins}
 
 -- the exchanges of a run in which memory didn't run out stand at the start of the bytes
-stand : (bytes taken rest left : List ℕ) (s t : Held) (xs : List Exchange) → bytes ≡ taken ++ left → taken ≡ texts xs ++ rest → Run DirectSubmits DirectReads s xs t → NeverWants xs
+stand : (bytes taken rest left : List ℕ) (s t : Held) (xs : List Exchange) → bytes ≡ taken ++ left → taken ≡ texts xs ++ rest
+    → Run DirectSubmits DirectReads s xs t → NeverWants xs
     → Stand bytes s xs (rest ++ left) t
 stand bytes taken rest left s t xs read split run memory =
     let is = exact s t xs run memory.answered in
@@ -26,12 +27,14 @@ stand bytes taken rest left s t xs read split run memory =
 
 -- ---- the course of a session that ended
 
-course : (bytes before out : List ℕ) (left : Option (List ℕ)) (s t : Held) (n : ℕ) (c : Bool) (ends : EndsAs DirectSubmits DirectReads (Some bytes) left (Some before) (Some out) s t n c)
+course : (bytes before out : List ℕ) (left : Option (List ℕ)) (s t : Held) (n : ℕ) (c : Bool)
+    (ends : EndsAs DirectSubmits DirectReads (Some bytes) left (Some before) (Some out) s t n c)
     → NeverWants (ends.opens ++ last_of ends.ending) → RunsTo bytes s ends.opens ends.ending t
 course bytes before out None s t n c ends memory = absurd ends.read
 course bytes before out (Some left) s t n c ends memory =
     runs_to bytes s ends.opens ends.ending (ends.rest ++ left) t ends.each
-    (stand bytes ends.taken ends.rest left s t (ends.opens ++ last_of ends.ending) ends.read ends.split ends.run memory) (ends_at ends.rest left ends.ending ends.ends)
+    (stand bytes ends.taken ends.rest left s t (ends.opens ++ last_of ends.ending) ends.read ends.split ends.run memory)
+    (ends_at ends.rest left ends.ending ends.ends)
 
 said : (bytes : List ℕ) (s : Held) (w : List ℕ) (t : Held) (n : ℕ) (c : Bool) (f : Finished bytes s w t n c) → w ≡ spoken f.ends.opens f.ends.ending
 said bytes s w t n c f = append_cancel_left f.before w (spoken f.ends.opens f.ends.ending) f.ends.written
@@ -50,12 +53,14 @@ one_function bytes s w v t u n m c d one other =
 
 -- ---- the course of a session that failed
 
-stopped : (bytes before out : List ℕ) (left : Option (List ℕ)) (s t : Held) (i o : Bool) (e : SessionError) (fails : FailsAs DirectSubmits DirectReads (Some bytes) left (Some before) (Some out) s t i o e)
+stopped : (bytes before out : List ℕ) (left : Option (List ℕ)) (s t : Held) (i o : Bool) (e : SessionError)
+    (fails : FailsAs DirectSubmits DirectReads (Some bytes) left (Some before) (Some out) s t i o e)
     → NeverWants (fails.opens ++ exchange_due fails.next) → Stops bytes s fails.opens fails.next
 stopped bytes before out None s t i o e fails memory = absurd fails.read
 stopped bytes before out (Some left) s t i o e fails memory =
     stops bytes s fails.opens fails.next (fails.rest ++ left) t fails.each
-    (stand bytes fails.taken fails.rest left s t (fails.opens ++ exchange_due fails.next) fails.read fails.split fails.run memory) (due_at e.cause fails.rest left fails.next fails.next_is)
+    (stand bytes fails.taken fails.rest left s t (fails.opens ++ exchange_due fails.next) fails.read fails.split fails.run memory)
+    (due_at e.cause fails.rest left fails.next fails.next_is)
 
 pub failed_course : (bytes : List ℕ) (s : Held) (w : List ℕ) (f : Failed bytes s w) → Stops bytes s f.fails.opens f.fails.next
 failed_course bytes s w f = stopped bytes f.before (f.before ++ w) f.left s f.held f.in_failed f.out_failed f.error f.fails f.memory

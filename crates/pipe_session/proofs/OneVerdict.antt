@@ -36,7 +36,8 @@ method_verdict Post e query batch = if allows e Post then batch else Reject (Not
 method_verdict Other e query batch = Reject (NotAllowed e)
 
 verdict_at : Asked → List ℕ → Endpoint → List ℕ → Verdict
-verdict_at a body e part = method_verdict a.method e (query_verdict (query_at e part (pairs_of (form_of a.target)))) (batch_verdict a.has_batch_type (decoded body))
+verdict_at a body e part =
+    method_verdict a.method e (query_verdict (query_at e part (pairs_of (form_of a.target)))) (batch_verdict a.has_batch_type (decoded body))
 
 -- ---- each verdict is that
 
@@ -85,7 +86,8 @@ by_neither Get e query batch not = absurd (cc (each_takes_get e, not))
 by_neither Post e query batch not = sym (ap (λ (t : Bool). if t then batch else Reject (NotAllowed e)) not)
 by_neither Other e query batch not = refl
 
-by_method : (a : Asked) (body : List ℕ) (v : Verdict) (e : Endpoint) (part : List ℕ) → v ≢ Reject NoMemory → JudgesMethod a body v e part → v ≡ verdict_at a body e part
+by_method : (a : Asked) (body : List ℕ) (v : Verdict) (e : Endpoint) (part : List ℕ) → v ≢ Reject NoMemory → JudgesMethod a body v e part
+    → v ≡ verdict_at a body e part
 unfolding verdict_at
 by_method a body v e part memory (inl get) = by_query (query_at e part (pairs_of (form_of a.target))) v get.1 ∙ by_get a.method e _ _ get.0
 by_method a body v e part memory (inr (inl post)) = by_batch a.has_batch_type body v memory post.2 ∙ by_post a.method e _ _ post.1 post.0
@@ -97,4 +99,5 @@ one_verdict a body v w m n (inl one) (inr other) = absurd (one.0 other.endpoint 
 one_verdict a body v w m n (inr one) (inl other) = absurd (other.0 one.endpoint one.part one.path)
 one_verdict a body v w m n (inr one) (inr other) =
     let same = one_endpoint one.endpoint other.endpoint one.part other.part (path_of a.target) one.path other.path in
-    by_method a body v one.endpoint one.part m one.next ∙ (λ i. verdict_at a body (same.0 i) (same.1 i)) ∙ sym (by_method a body w other.endpoint other.part n other.next)
+    by_method a body v one.endpoint one.part m one.next ∙ (λ i. verdict_at a body (same.0 i) (same.1 i))
+    ∙ sym (by_method a body w other.endpoint other.part n other.next)

@@ -6,7 +6,8 @@ use Rattle.trace_model.specs.Held.{Held}
 use Rattle.trace_model.proofs.Prefixes.{prefix_trans}
 use Rattle.http_requests.proofs.Once.{Breaks, breaks_all}
 use Rattle.http_session.specs.declared.exchanges.SessionErrorKind.{SessionErrorKind}
-use Rattle.http_session.specs.Sessions.{Exchange, IsExchange, IsOpen, texts, response_to, responses, Ending, Ending.{closing, malformed}, last_of, malformed_response, Due, Due.{none_yet, due, due_malformed}, exchange_due, IsDue, bytes_due}
+use Rattle.http_session.specs.Sessions.{Exchange, IsExchange, IsOpen, texts, response_to, responses, Ending, Ending.{closing, malformed}, last_of}
+use Rattle.http_session.specs.Sessions.{malformed_response, Due, Due.{none_yet, due, due_malformed}, exchange_due, IsDue, bytes_due}
 use Rattle.pipe_session.specs.Exact.{held_after}
 use Rattle.pipe_session.proofs.Courses.{Asks, same_exchange, ComesNext, one_next, RunsTo, goes_on, goes_after, Stand, first_asks, rest_stands}
 
@@ -21,7 +22,8 @@ abbrev first : List Exchange → Ending → Ending
 first [] e = e
 first (x ∷ xs) e = closing x
 
-first_comes : (bytes : List ℕ) (s : Held) (xs : List Exchange) (e : Ending) (t : Held) → RunsTo bytes s xs e t → (rest : List ℕ) × ComesNext bytes s (first xs e) rest
+first_comes : (bytes : List ℕ) (s : Held) (xs : List Exchange) (e : Ending) (t : Held) → RunsTo bytes s xs e t → (rest : List ℕ)
+    × ComesNext bytes s (first xs e) rest
 first_comes bytes s [] e t runs_to = (runs_to.0, runs_to.1)
 first_comes bytes s (x ∷ xs) e t runs_to = (runs_to.0, runs_to.1)
 
@@ -29,11 +31,13 @@ spoken_first : (xs : List Exchange) (e : Ending) → IsPrefix (spoken [] (first 
 spoken_first [] e = ([], append-nil (spoken [] e))
 spoken_first (x ∷ xs) e = (
   spoken xs e,
-  ap (λ (l : List ℕ). l ++ spoken xs e) (append-nil (response_to x ++ []) ∙ append-nil (response_to x)) ∙ sym (append_assoc (response_to x) (responses (xs ++ last_of e)) (malformed_response e)),
+  ap (λ (l : List ℕ). l ++ spoken xs e) (append-nil (response_to x ++ []) ∙ append-nil (response_to x))
+      ∙ sym (append_assoc (response_to x) (responses (xs ++ last_of e)) (malformed_response e)),
 )
 
 -- what is first said at these bytes begins all that is said
-says_first : (bytes : List ℕ) (s : Held) (n : Ending) (rest : List ℕ) (xs : List Exchange) (e : Ending) (t : Held) → ComesNext bytes s n rest → RunsTo bytes s xs e t
+says_first : (bytes : List ℕ) (s : Held) (n : Ending) (rest : List ℕ) (xs : List Exchange) (e : Ending) (t : Held) → ComesNext bytes s n rest
+    → RunsTo bytes s xs e t
     → IsPrefix (spoken [] n) (spoken xs e)
 says_first bytes s n rest xs e t next runs_to =
     let comes = first_comes bytes s xs e t runs_to in
@@ -62,11 +66,13 @@ longer y x some all more behind same begins = (
       ∙ sym (append_assoc (response_to x) all behind),
 )
 
-pub meant_begins : (bytes : List ℕ) (s : Held) (ys : List Exchange) (d : Due) (xs : List Exchange) (e : Ending) (t : Held) → Stops bytes s ys d → RunsTo bytes s xs e t
+pub meant_begins : (bytes : List ℕ) (s : Held) (ys : List Exchange) (d : Due) (xs : List Exchange) (e : Ending) (t : Held) → Stops bytes s ys d
+    → RunsTo bytes s xs e t
     → IsPrefix (meant ys d) (spoken xs e)
 meant_begins bytes s [] none_yet xs e t stops runs_to = (spoken xs e, refl)
 meant_begins bytes s [] (due y) xs e t stops runs_to =
-    subst (λ (l : List ℕ). IsPrefix l (spoken xs e)) (append-nil (response_to y ++ []) ∙ append-nil (response_to y)) (says_first bytes s (closing y) stops.0 xs e t stops.1 runs_to)
+    subst (λ (l : List ℕ). IsPrefix l (spoken xs e)) (append-nil (response_to y ++ []) ∙ append-nil (response_to y))
+    (says_first bytes s (closing y) stops.0 xs e t stops.1 runs_to)
 meant_begins bytes s [] (due_malformed b) xs e t stops runs_to = says_first bytes s (malformed b) [] xs e t (stops, refl) runs_to
 meant_begins bytes s (y ∷ ys) d [] e t stops runs_to = absurd (goes_on bytes s y e stops.0 runs_to.0 stops.1 stops.2 runs_to.1 runs_to.2)
 meant_begins bytes s (y ∷ ys) d (x ∷ xs) e t stops runs_to =
@@ -91,11 +97,13 @@ last_stops bytes s none_yet behind t stand is = tt
 last_stops bytes s (due x) behind t stand is = (behind, first_asks bytes s x [] behind t is stand)
 last_stops bytes s (due_malformed b) behind t stand is = subst (λ (l : List ℕ). Breaks l b) (sym stand.front) is
 
-pub stops : (bytes : List ℕ) (s : Held) (ys : List Exchange) (d : Due) (behind : List ℕ) (t : Held) → All IsOpen ys → Stand bytes s (ys ++ exchange_due d) behind t → DueAt behind d → Stops bytes s ys d
+pub stops : (bytes : List ℕ) (s : Held) (ys : List Exchange) (d : Due) (behind : List ℕ) (t : Held) → All IsOpen ys
+    → Stand bytes s (ys ++ exchange_due d) behind t → DueAt behind d → Stops bytes s ys d
 stops bytes s [] d behind t opens stand is = last_stops bytes s d behind t stand is
 stops bytes s (y ∷ ys) d behind t opens stand is =
     let now = All-head IsOpen y ys opens in
-    let later = stops (texts (ys ++ exchange_due d) ++ behind) (held_after s y.verdict) ys d behind t (All-tail IsOpen y ys opens) (rest_stands bytes s y (ys ++ exchange_due d) behind t stand) is in
+    let later = stops (texts (ys ++ exchange_due d) ++ behind) (held_after s y.verdict) ys d behind t (All-tail IsOpen y ys opens)
+    (rest_stands bytes s y (ys ++ exchange_due d) behind t stand) is in
     (texts (ys ++ exchange_due d) ++ behind, first_asks bytes s y (ys ++ exchange_due d) behind t now.exchange stand, now.open_is, later)
 
 -- what was written is a prefix of what was meant

@@ -1,12 +1,14 @@
 -- What a session wrote before memory ran out.
-use Rattle.std.proofs.Common.{◌≡◌, ℕ, ◌+◌, ◌≤◌, Bool, true, false, List, [], ◌∷◌, ◌++◌, length, refl, inl, sym, ap, ◌∙◌, subst, arith, append_assoc, append-nil, length-append, Option, Some, None, All}
+use Rattle.std.proofs.Common.{◌≡◌, ℕ, ◌+◌, ◌≤◌, Bool, true, false, List, [], ◌∷◌, ◌++◌, length, refl, inl, sym, ap, ◌∙◌, subst, arith, append_assoc, append-nil}
+use Rattle.std.proofs.Common.{length-append, Option, Some, None, All}
 use Rattle.std.specs.Io.KnownBytes.{Consumes, Appends}
 use Rattle.std.proofs.lemmas.Bool.{false≢true}
 use Rattle.std.proofs.lemmas.List.Elements.{All-head, All-tail, All-cons, All-nil}
 use Rattle.std.proofs.lemmas.Grind.{flat_map-append}
 use Rattle.trace_model.specs.Held.{Held}
-use Rattle.direct_store.specs.Exactly.{DirectSubmits, DirectReads}
-use Rattle.http_session.specs.Sessions.{Exchange, IsOpen, texts, Submits, Reads, Run, EndsAs, FailsAs, Ending, Ending.{clean, closing, malformed}, last_of, malformed_response, response_to, responses, Due, Due.{none_yet, due, due_malformed}, exchange_due, bytes_due}
+use Rattle.pipe_session.specs.DirectCalls.{DirectSubmits, DirectReads}
+use Rattle.http_session.specs.Sessions.{Exchange, IsOpen, texts, Submits, Reads, Run, EndsAs, FailsAs, Ending, Ending.{clean, closing, malformed}, last_of}
+use Rattle.http_session.specs.Sessions.{malformed_response, response_to, responses, Due, Due.{none_yet, due, due_malformed}, exchange_due, bytes_due}
 use Rattle.http_requests.specs.LineLaws.{no_bytes_await}
 use Rattle.http_session.specs.declared.exchanges.SessionErrorKind.TheVariants.{Reading}
 use Rattle.http_session.specs.declared.exchanges.SessionError.{SessionError}
@@ -14,7 +16,8 @@ use Rattle.pipe_session.specs.OneFunction.{NeverWants, Failed, WroteFirst}
 use Rattle.std.specs.Prelude.{take}
 
 -- a run in two parts
-run_parts : {S : Type 0} (submits : Submits S) (reads : Reads S) (s : S) (xs ys : List Exchange) (t : S) → Run submits reads s (xs ++ ys) t → (m : S) × Run submits reads s xs m × Run submits reads m ys t
+run_parts : {S : Type 0} (submits : Submits S) (reads : Reads S) (s : S) (xs ys : List Exchange) (t : S) → Run submits reads s (xs ++ ys) t → (m : S)
+    × Run submits reads s xs m × Run submits reads m ys t
 run_parts submits reads s [] ys t run = (s, refl, run)
 run_parts submits reads s (x ∷ xs) ys t run =
     let later = run_parts submits reads run.0 xs ys t run.2 in
@@ -50,17 +53,20 @@ responses_parts : (xs ys : List Exchange) → responses (xs ++ ys) ≡ responses
 responses_parts xs ys = flat_map-append response_to xs ys
 
 -- where nothing more was taken, all of it is left
-left_after : (bytes front behind taken : List ℕ) (left : Option (List ℕ)) → Consumes (Some bytes) left taken → taken ≡ front ++ behind → (more : List ℕ) × (bytes ≡ front ++ more)
+left_after : (bytes front behind taken : List ℕ) (left : Option (List ℕ)) → Consumes (Some bytes) left taken → taken ≡ front ++ behind → (more : List ℕ)
+    × (bytes ≡ front ++ more)
 left_after bytes front behind taken None read split = absurd read
 left_after bytes front behind taken (Some left) read split = (behind ++ left, read ∙ ap (λ (l : List ℕ). l ++ left) split ∙ append_assoc front behind left)
 
 -- a session up to some exchange is one whose input failed there, and had written the responses before
-stopped_there : (bytes before taken rest : List ℕ) (left : Option (List ℕ)) (s t : Held) (ys zs : List Exchange) → Consumes (Some bytes) left taken → taken ≡ texts (ys ++ zs) ++ rest → All IsOpen ys
+stopped_there : (bytes before taken rest : List ℕ) (left : Option (List ℕ)) (s t : Held) (ys zs : List Exchange) → Consumes (Some bytes) left taken
+    → taken ≡ texts (ys ++ zs) ++ rest → All IsOpen ys
     → Run DirectSubmits DirectReads s (ys ++ zs) t → NeverWants ys → Failed bytes s (responses ys)
 stopped_there bytes before taken rest left s t ys zs read split opens run memory =
     let parts = run_parts DirectSubmits DirectReads s ys zs t run in
     let alone : ys ≡ ys ++ [] = sym (append-nil ys) in
-    let cut : taken ≡ texts ys ++ (texts zs ++ rest) = split ∙ ap (λ (l : List ℕ). l ++ rest) (flat_map-append (λ (x : Exchange). x.text) ys zs) ∙ append_assoc (texts ys) (texts zs) rest in
+    let cut : taken ≡ texts ys ++ (texts zs ++ rest) =
+    split ∙ ap (λ (l : List ℕ). l ++ rest) (flat_map-append (λ (x : Exchange). x.text) ys zs) ∙ append_assoc (texts ys) (texts zs) rest in
     let behind = left_after bytes (texts ys) (texts zs ++ rest) taken left read cut in
     record {
       before = before;
@@ -91,8 +97,10 @@ stopped_there bytes before taken rest left s t ys zs read split opens run memory
     }
 
 -- what was answered before some exchange was written first, whatever was written after
-written_first : (bytes before taken rest tail : List ℕ) (left out : Option (List ℕ)) (s t : Held) (opens last ys zs : List Exchange) (z : Exchange) → length last ≤ 1 → All IsOpen opens → opens ++ last ≡ ys ++ z ∷ zs → NeverWants ys
-    → Consumes (Some bytes) left taken → taken ≡ texts (opens ++ last) ++ rest → Run DirectSubmits DirectReads s (opens ++ last) t → Appends (Some before) out (responses opens ++ tail) → WroteFirst bytes before out s (responses ys)
+written_first : (bytes before taken rest tail : List ℕ) (left out : Option (List ℕ)) (s t : Held) (opens last ys zs : List Exchange) (z : Exchange)
+    → length last ≤ 1 → All IsOpen opens → opens ++ last ≡ ys ++ z ∷ zs → NeverWants ys
+    → Consumes (Some bytes) left taken → taken ≡ texts (opens ++ last) ++ rest → Run DirectSubmits DirectReads s (opens ++ last) t
+    → Appends (Some before) out (responses opens ++ tail) → WroteFirst bytes before out s (responses ys)
 written_first bytes before taken rest tail left None s t opens last ys zs z few each e memory read split run written = absurd written
 written_first bytes before taken rest tail left (Some o) s t opens last ys zs z few each e memory read split run written =
     let mid = front opens last ys zs z few e in
@@ -106,15 +114,21 @@ written_first bytes before taken rest tail left (Some o) s t opens last ys zs z 
           (all_front IsOpen ys mid.0 (subst (All IsOpen) mid.1 each)) (subst (λ (l : List Exchange). Run DirectSubmits DirectReads s l t) e run) memory;
     }
 
-pub ended_before : (bytes before : List ℕ) (left out : Option (List ℕ)) (s t : Held) (n : ℕ) (c : Bool) (ends : EndsAs DirectSubmits DirectReads (Some bytes) left (Some before) out s t n c)
+pub ended_before : (bytes before : List ℕ) (left out : Option (List ℕ)) (s t : Held) (n : ℕ) (c : Bool)
+    (ends : EndsAs DirectSubmits DirectReads (Some bytes) left (Some before) out s t n c)
     (ys zs : List Exchange) (z : Exchange) → ends.opens ++ last_of ends.ending ≡ ys ++ z ∷ zs → NeverWants ys → WroteFirst bytes before out s (responses ys)
 ended_before bytes before left out s t n c ends ys zs z e memory =
     let last = last_of ends.ending in
-    let parts = ap (λ (l : List ℕ). l ++ malformed_response ends.ending) (responses_parts ends.opens last) ∙ append_assoc (responses ends.opens) (responses last) (malformed_response ends.ending) in
-    written_first bytes before ends.taken ends.rest (responses last ++ malformed_response ends.ending) left out s t ends.opens last ys zs z (last_few ends.ending) ends.each e memory ends.read ends.split ends.run
+    let parts = ap (λ (l : List ℕ). l ++ malformed_response ends.ending) (responses_parts ends.opens last)
+    ∙ append_assoc (responses ends.opens) (responses last) (malformed_response ends.ending) in
+    written_first bytes before ends.taken ends.rest (responses last ++ malformed_response ends.ending) left out s t ends.opens last ys zs z
+    (last_few ends.ending) ends.each e memory ends.read ends.split ends.run
     (subst (λ (w : List ℕ). Appends (Some before) out w) parts ends.written)
 
-pub failed_before : (bytes before : List ℕ) (left out : Option (List ℕ)) (s t : Held) (i o : Bool) (error : SessionError) (fails : FailsAs DirectSubmits DirectReads (Some bytes) left (Some before) out s t i o error)
-    (ys zs : List Exchange) (z : Exchange) → fails.opens ++ exchange_due fails.next ≡ ys ++ z ∷ zs → NeverWants ys → WroteFirst bytes before out s (responses ys)
+pub failed_before : (bytes before : List ℕ) (left out : Option (List ℕ)) (s t : Held) (i o : Bool) (error : SessionError)
+    (fails : FailsAs DirectSubmits DirectReads (Some bytes) left (Some before) out s t i o error)
+    (ys zs : List Exchange) (z : Exchange) → fails.opens ++ exchange_due fails.next ≡ ys ++ z ∷ zs → NeverWants ys
+    → WroteFirst bytes before out s (responses ys)
 failed_before bytes before left out s t i o error fails ys zs z e memory =
-    written_first bytes before fails.taken fails.rest (take error.written (bytes_due fails.next)) left out s t fails.opens (exchange_due fails.next) ys zs z (due_few fails.next) fails.each e memory fails.read fails.split fails.run fails.written
+    written_first bytes before fails.taken fails.rest (take error.written (bytes_due fails.next)) left out s t fails.opens (exchange_due fails.next) ys zs z
+    (due_few fails.next) fails.each e memory fails.read fails.split fails.run fails.written

@@ -22,14 +22,19 @@ both_begin w v all p q = elim (cases_lt (length w) (length v)) [
 stops_after : (s : Held) (x y : Exchange) (rest more : List ℕ) (ys : List Exchange) (d : Due) → x ≡ y → rest ≡ more
     → Stops more (held_after s y.verdict) ys d → Stops rest (held_after s x.verdict) ys d
 stops_after s x y rest more ys d same behind stops =
-    subst (λ (z : Exchange). Stops rest (held_after s z.verdict) ys d) (sym same) (subst (λ (l : List ℕ). Stops l (held_after s y.verdict) ys d) (sym behind) stops)
+    subst (λ (z : Exchange). Stops rest (held_after s z.verdict) ys d) (sym same)
+    (subst (λ (l : List ℕ). Stops l (held_after s y.verdict) ys d) (sym behind) stops)
 
 -- what is due at the first exchange, beside a session that went on
-due_begins : (bytes : List ℕ) (s : Held) (d : Due) (x : Exchange) (xs : List Exchange) (e : Due) → Stops bytes s [] d → Stops bytes s (x ∷ xs) e → IsPrefix (meant [] d) (meant (x ∷ xs) e)
+due_begins : (bytes : List ℕ) (s : Held) (d : Due) (x : Exchange) (xs : List Exchange) (e : Due) → Stops bytes s [] d → Stops bytes s (x ∷ xs) e
+    → IsPrefix (meant [] d) (meant (x ∷ xs) e)
 due_begins bytes s none_yet x xs e stops other = (meant (x ∷ xs) e, refl)
 due_begins bytes s (due y) x xs e stops other =
-    let same = (same_exchange bytes s y x stops.0 other.0 stops.1 other.1).0 in
-    (responses xs ++ bytes_due e, (λ i. response_to (same i) ++ (responses xs ++ bytes_due e)) ∙ sym (append_assoc (response_to x) (responses xs) (bytes_due e)))
+    let same = (same_exchange bytes s y x stops.0 other.0 stops.1 other.1).0 in (
+      responses xs ++ bytes_due e,
+      (λ i. response_to (same i) ++ (responses xs ++ bytes_due e))
+          ∙ sym (append_assoc (response_to x) (responses xs) (bytes_due e)),
+    )
 due_begins bytes s (due_malformed b) x xs e stops other = absurd (not_malformed bytes s x other.0 b other.1 stops)
 
 -- what is due at one place is one thing, if it is anything
@@ -43,9 +48,11 @@ one_due bytes s (due y) (due_malformed b) stops other = absurd (not_malformed by
 one_due bytes s (due_malformed b) none_yet stops other = inr (meant [] (due_malformed b), refl)
 one_due bytes s (due_malformed b) (due x) stops other = absurd (not_malformed bytes s x other.0 b other.1 stops)
 one_due bytes s (due_malformed b) (due_malformed a) stops other =
-    inl (subst (λ c. IsPrefix (meant [] (due_malformed b)) (meant [] (due_malformed c))) (one_bad_request bytes b a stops other) (prefix_self (meant [] (due_malformed b))))
+    inl (subst (λ c. IsPrefix (meant [] (due_malformed b)) (meant [] (due_malformed c))) (one_bad_request bytes b a stops other)
+    (prefix_self (meant [] (due_malformed b))))
 
-one_meant : (bytes : List ℕ) (s : Held) (ys : List Exchange) (d : Due) (xs : List Exchange) (e : Due) → Stops bytes s ys d → Stops bytes s xs e → OneBegins (meant ys d) (meant xs e)
+one_meant : (bytes : List ℕ) (s : Held) (ys : List Exchange) (d : Due) (xs : List Exchange) (e : Due) → Stops bytes s ys d → Stops bytes s xs e
+    → OneBegins (meant ys d) (meant xs e)
 one_meant bytes s [] d [] e stops other = one_due bytes s d e stops other
 one_meant bytes s [] d (x ∷ xs) e stops other = inl (due_begins bytes s d x xs e stops other)
 one_meant bytes s (y ∷ ys) d [] e stops other = inr (due_begins bytes s e y ys d other stops)
@@ -62,6 +69,8 @@ two_failed bytes s w v one other =
     let mine = wrote bytes s w one in
     let theirs = wrote bytes s v other in
     elim (one_meant bytes s one.fails.opens one.fails.next other.fails.opens other.fails.next (failed_course bytes s w one) (failed_course bytes s v other)) [
-      | inl p ↦ both_begin w v (meant other.fails.opens other.fails.next) (prefix_trans w (meant one.fails.opens one.fails.next) (meant other.fails.opens other.fails.next) mine p) theirs
-      | inr p ↦ both_begin w v (meant one.fails.opens one.fails.next) mine (prefix_trans v (meant other.fails.opens other.fails.next) (meant one.fails.opens one.fails.next) theirs p)
+      | inl p ↦ both_begin w v (meant other.fails.opens other.fails.next)
+          (prefix_trans w (meant one.fails.opens one.fails.next) (meant other.fails.opens other.fails.next) mine p) theirs
+      | inr p ↦ both_begin w v (meant one.fails.opens one.fails.next) mine
+          (prefix_trans v (meant other.fails.opens other.fails.next) (meant one.fails.opens one.fails.next) theirs p)
     ]

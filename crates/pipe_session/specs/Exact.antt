@@ -7,7 +7,7 @@ use Rattle.trace_model.specs.Refusals.{with_admitted}
 use Rattle.trace_model.specs.Answers.{answer}
 use Rattle.arrival_journal.specs.Journals.{admission_by, refusal_by}
 use Rattle.span_store.specs.NextEntry.{next_entry}
-use Rattle.direct_store.specs.Exactly.{DirectSubmits, DirectReads}
+use Rattle.pipe_session.specs.DirectCalls.{DirectSubmits, DirectReads}
 use Rattle.http_session.specs.Between.{Devices, EndsWith, FailsWith}
 use Rattle.http_session.specs.Sessions.{Exchange}
 use Rattle.http_session.specs.declared.exchanges.Ended.{Ended}

@@ -1,2 +1,5 @@
 pub mod Exact
 pub mod OneFunction
+pub mod DirectAfter
+pub mod DirectCalls
+pub mod DirectLaws

@@ -2,7 +2,7 @@
 use Rattle.std.specs.Prelude.{◌≡◌, ◌≢◌, ℕ, ◌⊎◌, Bool, List, ◌∷◌, ◌++◌, All, Option, Some}
 use mathlib.Core.List.{IsPrefix}
 use Rattle.trace_model.specs.Held.{Held}
-use Rattle.direct_store.specs.Exactly.{DirectSubmits, DirectReads}
+use Rattle.pipe_session.specs.DirectCalls.{DirectSubmits, DirectReads}
 use Rattle.http_session.specs.Sessions.{Exchange, EndsAs, FailsAs, last_of, exchange_due}
 use Rattle.http_session.specs.declared.exchanges.SessionError.{SessionError}
 use Rattle.http_session.specs.declared.verdict.ErrorReply.TheVariants.{NoMemory}
@@ -15,7 +15,8 @@ EndsOf bytes left before out s t answered clean = EndsAs DirectSubmits DirectRea
 
 -- like EndsOf, for a session that failed
 abbrev pub FailsOf : List ℕ → Option (List ℕ) → List ℕ → Option (List ℕ) → Held → Held → Bool → Bool → SessionError → Type 0
-FailsOf bytes left before out s t in_failed out_failed error = FailsAs DirectSubmits DirectReads (Some bytes) left (Some before) out s t in_failed out_failed error
+FailsOf bytes left before out s t in_failed out_failed error =
+    FailsAs DirectSubmits DirectReads (Some bytes) left (Some before) out s t in_failed out_failed error
 
 -- memory ran out neither for a request nor for an answer of the store
 pub record NeverWants (xs : List Exchange) : Type 0 where

@@ -10,7 +10,8 @@ ghost use Rattle.http_session.specs.Verdicts.{Judges};
 ghost use Rattle.http_session.specs.declared.verdict.ErrorReply.TheVariants.{NoMemory};
 ghost use Rattle.http_session.specs.declared.verdict.Verdict.{Verdict as VerdictValue};
 ghost use Rattle.http_session.specs.declared.verdict.Verdict.TheVariants.{Reject};
-ghost use Rattle.pipe_session.specs.OneFunction.{EndsOf, FailsOf, NeverWants, Finished, Failed, HadMemoryFirst, OneBegins, WroteFailed, WroteFinished, WroteFirst};
+ghost use Rattle.pipe_session.specs.OneFunction.{EndsOf, FailsOf, NeverWants, Finished, Failed, HadMemoryFirst, OneBegins, WroteFailed, WroteFinished};
+ghost use Rattle.pipe_session.specs.OneFunction.{WroteFirst};
 
 /// A request determines its verdict, unless memory ran out.
 pub fn a_request_has_one_verdict()

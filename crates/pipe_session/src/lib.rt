@@ -3,18 +3,22 @@
 //! A query is answered from exactly the entries held at the start, followed by one entry for each batch accepted so
 //! far, in order, except those that were sent before. So the bytes written are a function of the bytes read, those
 //! entries and the limits: `laws`.
+//!
+//! * `direct`: a store with one owner as the backend of a session: the [`Direct`].
+//! * `laws`: facts about the definitions of `specs/`.
 #![tactic(auto)]
 
 ghost use Rattle.std.specs.Prelude.{◌≡◌, false, IfOk, IfErr, OnOk};
 ghost use Rattle.http_session.specs.Between.{devices_of};
 ghost use Rattle.pipe_session.specs.Exact.{EndsExactly, FailsExactly};
 
-use direct_store::Direct;
+mod direct;
+pub mod laws;
+
+pub use direct::Direct;
 use http_session::{Ended, SessionError, session};
 use session_devices::{Input, Output};
 use std::alloc::Global;
-
-pub mod laws;
 
 /// Answers the requests of the input one after the other, from a store with one owner. It blocks on nothing but the
 /// devices.

@@ -9,7 +9,8 @@ use Rattle.trace_model.proofs.Shows.{ring_more, kept_more, ring_fewer, kept_fewe
 use Rattle.plain_store.specs.Events.{in_ring, Shows}
 use Rattle.plain_store.specs.declared.showing.Showing.{Showing}
 
-pub once_came : (n : ℕ) (es : List (Event Placed)) (p : Placed) (s t : Showing) → t.limit ≡ s.limit → t.ring.items ≡ arrive s.limit s.ring.items (trace_of p) → t.spans.items ≡ in_ring t.ring.items (s.spans.items ++ p ∷ []) → Shows n es s → Shows n (es ++ came p ∷ []) t
+pub once_came : (n : ℕ) (es : List (Event Placed)) (p : Placed) (s t : Showing) → t.limit ≡ s.limit → t.ring.items ≡ arrive s.limit s.ring.items (trace_of p)
+    → t.spans.items ≡ in_ring t.ring.items (s.spans.items ++ p ∷ []) → Shows n es s → Shows n (es ++ came p ∷ []) t
 once_came n es p s t l r k was =
     let ring' = ring_more n es p s.ring.items t.ring.items was.ring_is (r ∙ ap (λ m. arrive m s.ring.items (trace_of p)) was.limit_is) in
     record {
@@ -18,7 +19,8 @@ once_came n es p s t l r k was =
       spans_are = kept_more n es p t.ring.items s.spans.items t.spans.items ring' was.spans_are k;
     }
 
-pub once_limited : (n : ℕ) (es : List (Event Placed)) (m : ℕ) (s t : Showing) → t.limit ≡ m → t.ring.items ≡ newest m s.ring.items → t.spans.items ≡ in_ring t.ring.items s.spans.items → Shows n es s → Shows n (es ++ limited m ∷ []) t
+pub once_limited : (n : ℕ) (es : List (Event Placed)) (m : ℕ) (s t : Showing) → t.limit ≡ m → t.ring.items ≡ newest m s.ring.items
+    → t.spans.items ≡ in_ring t.ring.items s.spans.items → Shows n es s → Shows n (es ++ limited m ∷ []) t
 once_limited n es m s t l r k was =
     let ring' = ring_fewer n es m s.ring.items t.ring.items was.ring_is r in
     record {

@@ -69,7 +69,19 @@ api : AreLiteral (codes "/api/")
 api = (refl, refl, (refl, refl, (refl, refl, (refl, refl, (refl, refl, tt)))))
 
 d_literal : AreLiteral (codes "dependencies")
-d_literal = (refl, refl, (refl, refl, (refl, refl, (refl, refl, (refl, refl, (refl, refl, (refl, refl, (refl, refl, (refl, refl, (refl, refl, (refl, refl, (refl, refl, tt))))))))))))
+d_literal = (
+  refl,
+  refl,
+  (
+    refl,
+    refl,
+    (
+      refl,
+      refl,
+      (refl, refl, (refl, refl, (refl, refl, (refl, refl, (refl, refl, (refl, refl, (refl, refl, (refl, refl, (refl, refl, tt))))))))),
+    ),
+  ),
+)
 
 o_literal : AreLiteral (codes "operations")
 o_literal = (refl, refl, (refl, refl, (refl, refl, (refl, refl, (refl, refl, (refl, refl, (refl, refl, (refl, refl, (refl, refl, (refl, refl, tt))))))))))
@@ -108,7 +120,8 @@ Is r rest = (part : List ℕ) × IsPath r.value part (codes "/api/" ++ rest)
 made : (r s : Found) (rest : List ℕ) (part : List ℕ) → r ≡ s → IsPath s.value part (codes "/api/" ++ rest) → Is r rest
 made r s rest part e p = (part, subst (λ (x : Found). IsPath x.value part (codes "/api/" ++ rest)) (sym e) p)
 
-ended : (word path rest : List ℕ) (x : Endpoint) (r : Found) → IsPath x [] (codes "/api/" ++ word) → path ≡ word ++ rest → seek 0 (ends_at word x) rest ≡ Some r → Is r path
+ended : (word path rest : List ℕ) (x : Endpoint) (r : Found) → IsPath x [] (codes "/api/" ++ word) → path ≡ word ++ rest → seek 0 (ends_at word x) rest ≡ Some r
+    → Is r path
 ended word path rest x r is cut e =
     let last = literal (codes "/api/" ++ word) x in
     let g = found_end last rest r e in
@@ -191,20 +204,30 @@ trace_there part path p n =
 
 names_there : (part path : List ℕ) → IsPath OperationNames part path → seek 0 endpoint_rows path ≡ None → ⊥
 names_there part path p n =
-    let e : seek 0 endpoint_rows (codes "/api/" ++ (codes "services/" ++ (part ++ codes "/operations"))) ≡ None = subst (λ (x : List ℕ). seek 0 endpoint_rows x ≡ None) p.1 n in
+    let e : seek 0 endpoint_rows (codes "/api/" ++ (codes "services/" ++ (part ++ codes "/operations"))) ≡ None =
+    subst (λ (x : List ℕ). seek 0 endpoint_rows x ≡ None) p.1 n in
     let walk : seek 0 all_rows (codes "services/" ++ (part ++ codes "/operations")) ≡ seek 0 names_rows (part ++ codes "/operations") =
     seek_second 100 (codes "ependencies") dependencies_rows from_operations d_literal d_apart 115 (codes "ervices/" ++ (part ++ codes "/operations")) refl
     ∙ seek_second 111 (codes "perations") operations_rows from_services o_literal o_apart 115 (codes "ervices/" ++ (part ++ codes "/operations")) refl
     ∙ seek_first 115 (codes "ervices") services_rows from_traces s_literal s_apart (47 ∷ (part ++ codes "/operations"))
     ∙ seek_first 47 [] names_rows services_end slash_literal names_apart (part ++ codes "/operations") in
-    part_between the_names (codes "operations") more_literal (omega arith) part p.0 (sym (along (codes "services/" ++ (part ++ codes "/operations")) ∙ walk) ∙ e)
+    part_between the_names (codes "operations") more_literal (omega arith) part p.0
+    (sym (along (codes "services/" ++ (part ++ codes "/operations")) ∙ walk) ∙ e)
 
 -- a path of an endpoint is found
 pub endpoint_there : (e : Endpoint) (part path : List ℕ) → IsPath e part path → seek 0 endpoint_rows path ≡ None → ⊥
 unfolding seek param_step
-endpoint_there Traces part path p n = let e : seek 0 endpoint_rows (codes "/api/traces") ≡ None = subst (λ (x : List ℕ). seek 0 endpoint_rows x ≡ None) p.1 n in some_none _ e
-endpoint_there Services part path p n = let e : seek 0 endpoint_rows (codes "/api/services") ≡ None = subst (λ (x : List ℕ). seek 0 endpoint_rows x ≡ None) p.1 n in some_none _ e
-endpoint_there Operations part path p n = let e : seek 0 endpoint_rows (codes "/api/operations") ≡ None = subst (λ (x : List ℕ). seek 0 endpoint_rows x ≡ None) p.1 n in some_none _ e
-endpoint_there Dependencies part path p n = let e : seek 0 endpoint_rows (codes "/api/dependencies") ≡ None = subst (λ (x : List ℕ). seek 0 endpoint_rows x ≡ None) p.1 n in some_none _ e
+endpoint_there Traces part path p n =
+    let e : seek 0 endpoint_rows (codes "/api/traces") ≡ None = subst (λ (x : List ℕ). seek 0 endpoint_rows x ≡ None) p.1 n in
+    some_none _ e
+endpoint_there Services part path p n =
+    let e : seek 0 endpoint_rows (codes "/api/services") ≡ None = subst (λ (x : List ℕ). seek 0 endpoint_rows x ≡ None) p.1 n in
+    some_none _ e
+endpoint_there Operations part path p n =
+    let e : seek 0 endpoint_rows (codes "/api/operations") ≡ None = subst (λ (x : List ℕ). seek 0 endpoint_rows x ≡ None) p.1 n in
+    some_none _ e
+endpoint_there Dependencies part path p n =
+    let e : seek 0 endpoint_rows (codes "/api/dependencies") ≡ None = subst (λ (x : List ℕ). seek 0 endpoint_rows x ≡ None) p.1 n in
+    some_none _ e
 endpoint_there Trace part path p n = trace_there part path p n
 endpoint_there OperationNames part path p n = names_there part path p n

@@ -13,4 +13,7 @@ text_part_is part t e u = let yes' : is_utf8 (percent_decode part) ≡ true = is
 
 pub text_part_bad : (part : List ℕ) → ¬ IsUtf8 (percent_decode part) → text_part part ≡ Err bad.Service
 unfolding text_part
-text_part_bad part n = let none : is_utf8 (percent_decode part) ≡ false = false_from_ne_true (is_utf8 (percent_decode part)) (λ y. n (IsUtf8-from_is_utf8 (percent_decode part) y)) in rw none refl
+text_part_bad part n =
+    let none : is_utf8 (percent_decode part) ≡ false =
+    false_from_ne_true (is_utf8 (percent_decode part)) (λ y. n (IsUtf8-from_is_utf8 (percent_decode part) y)) in
+    rw none refl

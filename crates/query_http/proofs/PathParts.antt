@@ -1,5 +1,6 @@
 -- What a part of a path matches, with literal bytes or nothing after it.
-use Rattle.std.proofs.Common.{◌≡◌, ◌≢◌, ℕ, ◌+◌, ◌-◌, ◌<◌, ◌≤◌, List, [], ◌∷◌, ◌++◌, length, drop, Option, Some, None, Bool, true, false, cond, refl, sym, ap, ◌∙◌, subst, rules, eqb, ltb, arith, inl, inr, ◌⊎◌, length-append}
+use Rattle.std.proofs.Common.{◌≡◌, ◌≢◌, ℕ, ◌+◌, ◌-◌, ◌<◌, ◌≤◌, List, [], ◌∷◌, ◌++◌, length, drop, Option, Some, None, Bool, true, false, cond, refl, sym, ap}
+use Rattle.std.proofs.Common.{◌∙◌, subst, rules, eqb, ltb, arith, inl, inr, ◌⊎◌, length-append}
 use Rattle.std.proofs.lemmas.Bool.Decides.{nat_tests}
 use Rattle.std.proofs.lemmas.Bool.{lt-ltb}
 use Rattle.std.proofs.lemmas.List.{append-nil, drop_at, length-drop, nil_from_length}
@@ -37,7 +38,14 @@ slash_cut (b ∷ t) = by (eqb b 47) refl (slash_cut t)
         inl (record { none = rw e h.none; whole = rw (e, h.whole) refl; plain = (other, h.plain) })
     by false e (inr h) =
         let other : b ≢ 47 = λ q. grind (arith, nat_tests) in
-        inr (record { part = b ∷ h.part; tail = h.tail; is = ap (λ (x : List ℕ). b ∷ x) h.is; front = rw (e, h.front) refl; some = rw e h.some; plain = (other, h.plain) })
+        inr (record {
+          part = b ∷ h.part;
+          tail = h.tail;
+          is = ap (λ (x : List ℕ). b ∷ x) h.is;
+          front = rw (e, h.front) refl;
+          some = rw e h.some;
+          plain = (other, h.plain);
+        })
 
 or_some : {K : Type 0} (x y : Option K) (k : K) → or_else x (or_else y None) ≡ Some k → (x ≡ Some k) ⊎ (y ≡ Some k)
 or_some None None k e = absurd (none-some k e)
@@ -59,7 +67,8 @@ after_part rows b path = seek ((param_step rows (b ∷ path)).0 - 1) (param_step
 
 module _ {K : Type 0} (k : K) (tail : List ℕ) (b : ℕ) (path : List ℕ) where
   -- what the route of a part matches follows the marker as a byte, or follows a part
-  found_by : {P : Type 0} (found : K) → (IsPart (b ∷ []) → seek 0 ((tail, k) ∷ []) path ≡ Some found → P) → (after_part ((tail, k) ∷ []) b path ≡ Some found → P)
+  found_by : {P : Type 0} (found : K) → (IsPart (b ∷ []) → seek 0 ((tail, k) ∷ []) path ≡ Some found → P)
+      → (after_part ((tail, k) ∷ []) b path ≡ Some found → P)
       → seek 0 ((256 ∷ tail, k) ∷ []) (b ∷ path) ≡ Some found → P
   unfolding seek
   found_by {P = P} found as_byte behind_part e = by (eqb 256 b) refl (or_some _ _ found e)
@@ -91,7 +100,8 @@ module _ {K : Type 0} (k : K) where
 
       by : NoSlash (b ∷ path) ⊎ AtSlash (b ∷ path) → IsPart (b ∷ path) × (found ≡ k)
       by (inl h) =
-          let e' : seek (length (b ∷ path) - 1) (([], k) ∷ []) path ≡ Some found = subst (λ (s : ℕ × RowsOf K). seek (s.0 - 1) s.1 path ≡ Some found) (goes false h.none) e in
+          let e' : seek (length (b ∷ path) - 1) (([], k) ∷ []) path ≡ Some found =
+          subst (λ (s : ℕ × RowsOf K). seek (s.0 - 1) s.1 path ≡ Some found) (goes false h.none) e in
           let f = found_end k (drop (length (b ∷ path) - 1) path) found (sym (seek_skips (length (b ∷ path) - 1) (([], k) ∷ []) path) ∙ e') in
           (record { some = omega arith; plain = h.plain }, f.1)
       by (inr h) =
@@ -165,21 +175,25 @@ module _ {K : Type 0} (k : K) (w : List ℕ) (l : AreLiteral (47 ∷ w)) (long :
       (f.1 ∙ ap (λ (r : List ℕ). (47 ∷ w) ++ r) g.0 ∙ append-nil (47 ∷ w), g.1)
 
   -- cut: the segment ends with a slash and has bytes before it
-  between_cut : (b : ℕ) (path : List ℕ) (found : K) → cuts (segment (b ∷ path)) (47 ∷ []) ≡ true → seek (length (segment (b ∷ path)) - 1 - 1) (((47 ∷ w), k) ∷ []) path ≡ Some found → NoSlash (b ∷ path) ⊎ AtSlash (b ∷ path) → Between (b ∷ path) found
+  between_cut : (b : ℕ) (path : List ℕ) (found : K) → cuts (segment (b ∷ path)) (47 ∷ []) ≡ true
+      → seek (length (segment (b ∷ path)) - 1 - 1) (((47 ∷ w), k) ∷ []) path ≡ Some found → NoSlash (b ∷ path) ⊎ AtSlash (b ∷ path) → Between (b ∷ path) found
   between_cut b path found cut e (inl h) =
-      let f = found_more (drop (length (segment (b ∷ path)) - 1 - 1) path) found (sym (seek_skips (length (segment (b ∷ path)) - 1 - 1) (((47 ∷ w), k) ∷ []) path) ∙ e) in
+      let f = found_more (drop (length (segment (b ∷ path)) - 1 - 1) path) found
+      (sym (seek_skips (length (segment (b ∷ path)) - 1 - 1) (((47 ∷ w), k) ∷ []) path) ∙ e) in
       absurd (too_short (length (segment (b ∷ path)) - 1 - 1) path (omega (arith, ap length h.whole)) f.0)
     where
       too_short : (n : ℕ) (p : List ℕ) → length p ≤ n + 1 → drop n p ≡ 47 ∷ w → ⊥
       too_short n p le d = omega (arith, ap length d, length-drop n p)
   between_cut b path found cut e (inr h) =
-      let f = found_more (drop (length (segment (b ∷ path)) - 1 - 1) path) found (sym (seek_skips (length (segment (b ∷ path)) - 1 - 1) (((47 ∷ w), k) ∷ []) path) ∙ e) in
+      let f = found_more (drop (length (segment (b ∷ path)) - 1 - 1) path) found
+      (sym (seek_skips (length (segment (b ∷ path)) - 1 - 1) (((47 ∷ w), k) ∷ []) path) ∙ e) in
       by h.part h.is h.front h.plain f
     where
       one_more : (c : ℕ) (x : List ℕ) → length ((c ∷ x) ++ (47 ∷ [])) - 1 - 1 ≡ length x
       one_more c x = omega (arith, length-append (c ∷ x) (47 ∷ []))
 
-      by : (part : List ℕ) → b ∷ path ≡ part ++ (47 ∷ h.tail) → segment (b ∷ path) ≡ part ++ (47 ∷ []) → AllByRecursion (λ c. c ≢ 47) part → (drop (length (segment (b ∷ path)) - 1 - 1) path ≡ 47 ∷ w) × (found ≡ k) → Between (b ∷ path) found
+      by : (part : List ℕ) → b ∷ path ≡ part ++ (47 ∷ h.tail) → segment (b ∷ path) ≡ part ++ (47 ∷ []) → AllByRecursion (λ c. c ≢ 47) part
+          → (drop (length (segment (b ∷ path)) - 1 - 1) path ≡ 47 ∷ w) × (found ≡ k) → Between (b ∷ path) found
       by [] is front plain f =
           absurd (not_alone (segment (b ∷ path)) front cut)
         where
@@ -191,7 +205,9 @@ module _ {K : Type 0} (k : K) (w : List ℕ) (l : AreLiteral (47 ∷ w)) (long :
       by (c ∷ part) is front plain f =
           let path-is : path ≡ part ++ (47 ∷ h.tail) = ap (λ (x : List ℕ). drop 1 x) is in
           let size : length (segment (b ∷ path)) - 1 - 1 ≡ length part = ap (λ (x : List ℕ). length x - 1 - 1) front ∙ one_more c part in
-          let rest-is : 47 ∷ h.tail ≡ 47 ∷ w = sym (drop_at part (47 ∷ h.tail) (length part) refl) ∙ sym (ap (λ (x : List ℕ). drop (length part) x) path-is) ∙ sym (ap (λ n. drop n path) size) ∙ f.0 in
+          let rest-is : 47 ∷ h.tail ≡ 47 ∷ w =
+          sym (drop_at part (47 ∷ h.tail) (length part) refl) ∙ sym (ap (λ (x : List ℕ). drop (length part) x) path-is) ∙ sym (ap (λ n. drop n path) size)
+          ∙ f.0 in
           record {
             part = c ∷ part;
             is_part = record { some = omega arith; plain = plain };
@@ -200,14 +216,19 @@ module _ {K : Type 0} (k : K) (w : List ℕ) (l : AreLiteral (47 ∷ w)) (long :
           }
 
   -- not cut: the part would have to end the path
-  between_whole : (b : ℕ) (path : List ℕ) (found : K) → seek ((cut_step (b ∷ path) false).0 - 1) (cut_step (b ∷ path) false).1 path ≡ Some found → NoSlash (b ∷ path) ⊎ AtSlash (b ∷ path) → Between (b ∷ path) found
+  between_whole : (b : ℕ) (path : List ℕ) (found : K) → seek ((cut_step (b ∷ path) false).0 - 1) (cut_step (b ∷ path) false).1 path ≡ Some found
+      → NoSlash (b ∷ path) ⊎ AtSlash (b ∷ path) → Between (b ∷ path) found
   unfolding cut_step
   between_whole b path found e (inl h) =
-      let e' : seek (length (b ∷ path) - 1) (((47 ∷ w), k) ∷ []) path ≡ Some found = subst (λ (v : Bool). seek ((cond {A = ℕ × RowsOf K} v (0, []) (length (b ∷ path), ((47 ∷ w), k) ∷ [])).0 - 1) (cond {A = ℕ × RowsOf K} v (0, []) (length (b ∷ path), ((47 ∷ w), k) ∷ [])).1 path ≡ Some found) h.none e in
+      let e' : seek (length (b ∷ path) - 1) (((47 ∷ w), k) ∷ []) path ≡ Some found =
+      subst (λ (v : Bool). seek ((cond {A = ℕ × RowsOf K} v (0, []) (length (b ∷ path), ((47 ∷ w), k) ∷ [])).0 - 1)
+      (cond {A = ℕ × RowsOf K} v (0, []) (length (b ∷ path), ((47 ∷ w), k) ∷ [])).1 path ≡ Some found) h.none e in
       let f = found_more (drop (length (b ∷ path) - 1) path) found (sym (seek_skips (length (b ∷ path) - 1) (((47 ∷ w), k) ∷ []) path) ∙ e') in
       absurd (omega (arith, ap length f.0, length-drop (length (b ∷ path) - 1) path))
   between_whole b path found e (inr h) =
-      let e' : seek (0 - 1) [] path ≡ Some found = subst (λ (v : Bool). seek ((cond {A = ℕ × RowsOf K} v (0, []) (length (b ∷ path), ((47 ∷ w), k) ∷ [])).0 - 1) (cond {A = ℕ × RowsOf K} v (0, []) (length (b ∷ path), ((47 ∷ w), k) ∷ [])).1 path ≡ Some found) h.some e in
+      let e' : seek (0 - 1) [] path ≡ Some found =
+      subst (λ (v : Bool). seek ((cond {A = ℕ × RowsOf K} v (0, []) (length (b ∷ path), ((47 ∷ w), k) ∷ [])).0 - 1)
+      (cond {A = ℕ × RowsOf K} v (0, []) (length (b ∷ path), ((47 ∷ w), k) ∷ [])).1 path ≡ Some found) h.some e in
       absurd (none-some found (sym (seek_none (0 - 1) path) ∙ e'))
 
   between_param : (b : ℕ) (path : List ℕ) (found : K) → after_part (((47 ∷ w), k) ∷ []) b path ≡ Some found → Between (b ∷ path) found
@@ -239,9 +260,11 @@ module _ {K : Type 0} (k : K) (w : List ℕ) (l : AreLiteral (47 ∷ w)) (long :
 
   cuts_plain : (c : ℕ) (part : List ℕ) → cuts ((c ∷ part) ++ (47 ∷ [])) (47 ∷ []) ≡ true
   cuts_plain c part =
-      let long : ltb 1 (length ((c ∷ part) ++ (47 ∷ []))) ≡ true = lt-ltb 1 (length ((c ∷ part) ++ (47 ∷ []))) (omega (arith, length-append (c ∷ part) (47 ∷ []))) in
+      let long : ltb 1 (length ((c ∷ part) ++ (47 ∷ []))) ≡ true =
+      lt-ltb 1 (length ((c ∷ part) ++ (47 ∷ []))) (omega (arith, length-append (c ∷ part) (47 ∷ []))) in
       let at : length ((c ∷ part) ++ (47 ∷ [])) - 1 ≡ length (c ∷ part) = omega (arith, length-append (c ∷ part) (47 ∷ [])) in
-      let end : drop (length ((c ∷ part) ++ (47 ∷ [])) - 1) ((c ∷ part) ++ (47 ∷ [])) ≡ 47 ∷ [] = ap (λ n. drop n ((c ∷ part) ++ (47 ∷ []))) at ∙ drop_at (c ∷ part) (47 ∷ []) (length (c ∷ part)) refl in
+      let end : drop (length ((c ∷ part) ++ (47 ∷ [])) - 1) ((c ∷ part) ++ (47 ∷ [])) ≡ 47 ∷ [] =
+      ap (λ n. drop n ((c ∷ part) ++ (47 ∷ []))) at ∙ drop_at (c ∷ part) (47 ∷ []) (length (c ∷ part)) refl in
       rw (long, end) refl
 
   found_literal : seek 0 (((47 ∷ w), k) ∷ []) (47 ∷ w) ≡ Some k
@@ -260,7 +283,8 @@ module _ {K : Type 0} (k : K) (w : List ℕ) (l : AreLiteral (47 ∷ w)) (long :
       let seg : segment ((c ∷ part) ++ (47 ∷ w)) ≡ (c ∷ part) ++ (47 ∷ []) = plain_segment (c ∷ part) w p in
       let cut : cuts (segment ((c ∷ part) ++ (47 ∷ w))) (47 ∷ []) ≡ true = ap (λ s. cuts s (47 ∷ [])) seg ∙ cuts_plain c part in
       let size : length (segment ((c ∷ part) ++ (47 ∷ w))) - 1 - 1 ≡ length part = ap (λ (s : List ℕ). length s - 1 - 1) seg ∙ two_less in
-      let step : param_step (((47 ∷ w), k) ∷ []) ((c ∷ part) ++ (47 ∷ w)) ≡ cut_step ((c ∷ part) ++ (47 ∷ w)) true = param_step-is ((c ∷ part) ++ (47 ∷ w)) ∙ ap (λ (u : Bool). cut_step ((c ∷ part) ++ (47 ∷ w)) u) cut in
+      let step : param_step (((47 ∷ w), k) ∷ []) ((c ∷ part) ++ (47 ∷ w)) ≡ cut_step ((c ∷ part) ++ (47 ∷ w)) true =
+      param_step-is ((c ∷ part) ++ (47 ∷ w)) ∙ ap (λ (u : Bool). cut_step ((c ∷ part) ++ (47 ∷ w)) u) cut in
       ap (λ (s : ℕ × RowsOf K). seek (s.0 - 1) s.1 (part ++ (47 ∷ w))) step
       ∙ ap (λ n. seek n (((47 ∷ w), k) ∷ []) (part ++ (47 ∷ w))) size
       ∙ seek_skips (length part) (((47 ∷ w), k) ∷ []) (part ++ (47 ∷ w))

@@ -1,5 +1,6 @@
 -- How a router's routes are walked.
-use Rattle.std.proofs.Common.{◌≡◌, ℕ, ◌-◌, suc, zero, List, [], ◌∷◌, ◌++◌, length, drop, Option, Some, None, Bool, true, false, cond, refl, sym, ap, ◌∙◌, subst, rules, eqb, arith, inl, inr, ◌⊎◌}
+use Rattle.std.proofs.Common.{◌≡◌, ℕ, ◌-◌, suc, zero, List, [], ◌∷◌, ◌++◌, length, drop, Option, Some, None, Bool, true, false, cond, refl, sym, ap, ◌∙◌, subst}
+use Rattle.std.proofs.Common.{rules, eqb, arith, inl, inr, ◌⊎◌}
 use Rattle.std.proofs.lemmas.Bool.Decides.{nat_tests}
 use Rattle.std.proofs.lemmas.List.{append-nil}
 use Rattle.std.proofs.lemmas.Option.{none-some}
@@ -15,7 +16,8 @@ pub seek_none : {K : Type 0} (n : ℕ) (path : List ℕ) → seek {K = K} n [] p
 unfolding seek
 seek_none n [] = refl
 seek_none (suc n) (b ∷ path) = seek_none n path
-seek_none {K = K} zero (b ∷ path) = rw (seek_none {K = K} 0 path, no_rows {K = K} (b ∷ path), seek_none {K = K} ((param_step {K = K} [] (b ∷ path)).0 - 1) path) refl
+seek_none {K = K} zero (b ∷ path) =
+    rw (seek_none {K = K} 0 path, no_rows {K = K} (b ∷ path), seek_none {K = K} ((param_step {K = K} [] (b ∷ path)).0 - 1) path) refl
 
 pub seek_skips : {K : Type 0} (n : ℕ) (rs : RowsOf K) (path : List ℕ) → seek n rs path ≡ seek 0 rs (drop n path)
 unfolding seek
@@ -63,7 +65,8 @@ abbrev pub FoundBehind : {K : Type 0} → List ℕ → RowsOf K → List ℕ →
 FoundBehind w rs path found = (rest : List ℕ) × (path ≡ w ++ rest) × (seek 0 rs rest ≡ Some found)
 
 found_at : {K : Type 0} (x : ℕ) (w : List ℕ) (rs : RowsOf K) (b : ℕ) (path : List ℕ) (found : K) (v : Bool) → eqb x b ≡ v
-    → seek 0 (step b (behind (x ∷ w) rs)) path ≡ Some found → (seek 0 (behind w rs) path ≡ Some found → FoundBehind w rs path found) → FoundBehind (x ∷ w) rs (b ∷ path) found
+    → seek 0 (step b (behind (x ∷ w) rs)) path ≡ Some found → (seek 0 (behind w rs) path ≡ Some found → FoundBehind w rs path found)
+    → FoundBehind (x ∷ w) rs (b ∷ path) found
 found_at x w rs b path found true same e deeper =
     let f = deeper (sym (ap (λ r. seek 0 r path) (step_same b x w rs same)) ∙ e) in
     let here : x ≡ b = search (rules, nat_tests) in
@@ -135,7 +138,8 @@ module _ {K : Type 0} (x : ℕ) (w : List ℕ) (rs ys : RowsOf K) (l : AreLitera
   together b path = seek_literal (behind (x ∷ w) rs ++ ys) b path both_part both_rest
 
   -- what two groups of routes match, one of them matches
-  pub found_in_either : (path : List ℕ) (found : K) → seek 0 (behind (x ∷ w) rs ++ ys) path ≡ Some found → (seek 0 (behind (x ∷ w) rs) path ≡ Some found) ⊎ (seek 0 ys path ≡ Some found)
+  pub found_in_either : (path : List ℕ) (found : K) → seek 0 (behind (x ∷ w) rs ++ ys) path ≡ Some found → (seek 0 (behind (x ∷ w) rs) path ≡ Some found)
+      ⊎ (seek 0 ys path ≡ Some found)
   unfolding seek
   found_in_either [] found e =
       inr (sym (own_append (behind (x ∷ w) rs) ys ∙ ap (λ (o : Option K). or_else o (own ys)) (own_none x w rs)) ∙ e)

@@ -1,8 +1,9 @@
 -- Numbers and durations in a query's parameters.
-use Rattle.std.specs.Prelude.{ℕ, ◌+◌, ◌*◌, ◌/◌, ◌^◌, ◌==◌, List, [], ◌∷◌, length, drop, Bool, not, Option, Some, None, option_and_then, if◌then◌else◌, nat_lt, codes}
+use Rattle.std.specs.Prelude.{ℕ, ◌+◌, ◌*◌, ◌/◌, ◌^◌, ◌==◌, List, [], ◌∷◌, length, drop, Bool, not, Option, Some, None, option_and_then, if◌then◌else◌, nat_lt}
+use Rattle.std.specs.Prelude.{codes}
 use Rattle.std.specs.List.{before_first}
 use Rattle.std.specs.Char.{is_ascii_digit}
-use Rattle.decimal_digits.specs.Digits.{is_digits, number_of}
+use Rattle.jaeger_model.specs.Decimal.{is_digits, number_of}
 use Rattle.jaeger_model.specs.Texts.{same_text}
 
 abbrev pub up_to_limit : ℕ → Option ℕ
@@ -45,5 +46,6 @@ microseconds whole part unit = (number_of whole * 10 ^ length part + number_of p
 unfoldable pub read_duration : List ℕ → Option ℕ
 read_duration text =
     if is_digits 19 (front_digits text) then
-    option_and_then (λ (f : List ℕ × List ℕ). option_and_then (λ unit. up_to_limit (microseconds (front_digits text) f.0 unit)) (unit_of f.1)) (fraction (behind_digits text))
+    option_and_then (λ (f : List ℕ × List ℕ). option_and_then (λ unit. up_to_limit (microseconds (front_digits text) f.0 unit)) (unit_of f.1))
+    (fraction (behind_digits text))
     else None

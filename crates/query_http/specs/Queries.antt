@@ -133,7 +133,9 @@ find_at ps = do
   })
 
 abbrev pub is_yes : List ℕ → Bool
-is_yes t = same_text t (codes "1") || same_text t (codes "t") || same_text t (codes "T") || same_text t (codes "true") || same_text t (codes "True") || same_text t (codes "TRUE")
+is_yes t =
+    same_text t (codes "1") || same_text t (codes "t") || same_text t (codes "T") || same_text t (codes "true") || same_text t (codes "True")
+    || same_text t (codes "TRUE")
 
 abbrev pub raw_at : Pairs → Bool
 raw_at ps = is_yes (text_of (codes "raw") ps)

@@ -3,7 +3,7 @@ ghost use Rattle.query_http.specs.Queries.{time_of};
 ghost use Rattle.std.specs.List.{position_or_len};
 ghost use Rattle.query_http.specs.Numbers.{is_other, read_number, unit_of, front_digits, behind_digits, fraction, microseconds, read_duration};
 
-use decimal_digits::{is_number, value_of};
+use jaeger_model::decimal::{is_number, value_of};
 
 /// Parses a number of 1 to 19 digits, at most 9223372036854775807.
 #[tactic(auto, unfolding(crate::specs::Numbers::read_number))]

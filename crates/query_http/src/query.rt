@@ -2,7 +2,8 @@ ghost use Rattle.std.specs.Prelude.{◌≡◌, IfOk};
 ghost use Rattle.query_http.specs.Answering.{Asks, AsksTarget};
 ghost use Rattle.query_http.specs.Forms.{pairs_of};
 ghost use Rattle.query_http.specs.Paths.{endpoint_rows};
-ghost use Rattle.query_http.specs.Queries.{time_at, length_at, limit_at, required, text_of, find_at, text_part, raw_at, operations_at, links_at, query_at, path_of, form_of};
+ghost use Rattle.query_http.specs.Queries.{time_at, length_at, limit_at, required, text_of, find_at, text_part, raw_at, operations_at, links_at, query_at};
+ghost use Rattle.query_http.specs.Queries.{path_of, form_of};
 ghost use Rattle.query_http.specs.declared.paths.Endpoint.TheVariants as at;
 
 use crate::fault::{Parameter, QueryFault};

@@ -25,7 +25,8 @@ before_msg = 44 ∷ (quoted (codes "msg") ++ 58 ∷ [])
 -- and the text after the list of errors
 abbrev pub behind_errors : List ℕ
 behind_errors =
-    members_text true (member (codes "limit") (number (unsigned 0)) (member (codes "offset") (number (unsigned 0)) (member (codes "total") (number (unsigned 0)) no_members)))
+    members_text true (member (codes "limit") (number (unsigned 0))
+    (member (codes "offset") (number (unsigned 0)) (member (codes "total") (number (unsigned 0)) no_members)))
 
 one_by_one : (d b q w : List ℕ) → ((d ++ b) ++ q) ++ w ≡ d ++ (b ++ (q ++ w))
 one_by_one d b q w = append_assoc (d ++ b) q w ∙ append_assoc d b (q ++ w)
@@ -35,8 +36,10 @@ within d b q t u v =
     append_assoc (d ++ (b ++ (q ++ t))) u v ∙ append_assoc d (b ++ (q ++ t)) (u ++ v)
     ∙ ap (λ l. d ++ l) (append_assoc b (q ++ t) (u ++ v) ∙ ap (λ l. b ++ l) (append_assoc q t (u ++ v)))
 
-pub error_text : (code : ℕ) (msg : List ℕ) → (((before_code ++ decimal code) ++ before_msg) ++ quoted msg) ++ (125 ∷ 93 ∷ behind_errors) ≡ compact_text (error_tree code msg)
+pub error_text : (code : ℕ) (msg : List ℕ)
+    → (((before_code ++ decimal code) ++ before_msg) ++ quoted msg) ++ (125 ∷ 93 ∷ behind_errors) ≡ compact_text (error_tree code msg)
 unfolding escape_byte digits
 error_text code msg =
     ap (λ l. before_code ++ l)
-    (one_by_one (decimal code) before_msg (quoted msg) (125 ∷ 93 ∷ behind_errors) ∙ sym (within (decimal code) before_msg (quoted msg) (125 ∷ []) (93 ∷ []) behind_errors))
+    (one_by_one (decimal code) before_msg (quoted msg) (125 ∷ 93 ∷ behind_errors)
+    ∙ sym (within (decimal code) before_msg (quoted msg) (125 ∷ []) (93 ∷ []) behind_errors))

@@ -1,5 +1,6 @@
 -- Digits need no escape in a string.
-use Rattle.std.proofs.Common.{◌≡◌, ◌<◌, ◌≤◌, ◌+◌, ◌/◌, ◌%◌, ℕ, zero, suc, Bool, true, false, List, [], ◌∷◌, ◌++◌, length, take, drop, get_or, refl, sym, ap, ap₂, ◌∙◌, append-nil, append_assoc, subst, ℤ, pos, negsuc, arith, slice_index, ◌-◌}
+use Rattle.std.proofs.Common.{◌≡◌, ◌<◌, ◌≤◌, ◌+◌, ◌/◌, ◌%◌, ℕ, zero, suc, Bool, true, false, List, [], ◌∷◌, ◌++◌, length, take, drop, get_or, refl, sym, ap}
+use Rattle.std.proofs.Common.{ap₂, ◌∙◌, append-nil, append_assoc, subst, ℤ, pos, negsuc, arith, slice_index, ◌-◌}
 use Rattle.std.specs.Prelude.{◌==◌, if◌then◌else◌}
 use Rattle.std.specs.Fmt.{decimal, digit_glyph, digits, digits_onto, signed_decimal}
 use Rattle.std.specs.Str.{IsAscii, IsUtf8}
@@ -51,7 +52,8 @@ pub escape_trace_text : (t : TraceId) → escape (trace_text t) ≡ trace_text t
 unfolding trace_text
 escape_trace_text t = by (t.high == 0)
   where
-    by : (b : Bool) → escape (if b then low_digits 16 t.low else low_digits 16 t.high ++ low_digits 16 t.low) ≡ (if b then low_digits 16 t.low else low_digits 16 t.high ++ low_digits 16 t.low)
+    by : (b : Bool) → escape (if b then low_digits 16 t.low else low_digits 16 t.high ++ low_digits 16 t.low)
+        ≡ (if b then low_digits 16 t.low else low_digits 16 t.high ++ low_digits 16 t.low)
     by true = escape_low_digits 16 t.low
     by false =
         escape-append (low_digits 16 t.high) (low_digits 16 t.low)

@@ -59,6 +59,7 @@ pub trace_text-halves : (t : TraceId) → (if t.high == 0 then [] else low_digit
 unfolding trace_text
 trace_text-halves t = by (t.high == 0)
   where
-    by : (b : Bool) → (if b then [] else low_digits 16 t.high) ++ low_digits 16 t.low ≡ (if b then low_digits 16 t.low else low_digits 16 t.high ++ low_digits 16 t.low)
+    by : (b : Bool) → (if b then [] else low_digits 16 t.high) ++ low_digits 16 t.low
+        ≡ (if b then low_digits 16 t.low else low_digits 16 t.high ++ low_digits 16 t.low)
     by true = refl
     by false = refl

@@ -35,11 +35,13 @@ abbrev pub HaveSpans : List Shown → List Entry → Type 0
 HaveSpans ss [] = Unit {0}
 HaveSpans ss (e ∷ es) = HasSpan ss e.1 × HaveSpans ss es
 
-pub have_insert : (ss : List Shown) (es : List Entry) (k : Bor (List ℕ)) (p : NamedProcess) → HasSpan ss p → HaveSpans ss es → HaveSpans ss (insert_entry cmp es k p)
+pub have_insert : (ss : List Shown) (es : List Entry) (k : Bor (List ℕ)) (p : NamedProcess) → HasSpan ss p → HaveSpans ss es
+    → HaveSpans ss (insert_entry cmp es k p)
 have_insert ss [] k p own h = (own, tt)
 have_insert ss (x ∷ es) k p own h = by (cmp k x.0) (have_insert ss es k p own h.1)
   where
-    by : (o : Ordering) → HaveSpans ss (insert_entry cmp es k p) → HaveSpans ss (match_ordering o ((k, p) ∷ x ∷ es) ((x.0, p) ∷ es) (x ∷ insert_entry cmp es k p))
+    by : (o : Ordering) → HaveSpans ss (insert_entry cmp es k p)
+        → HaveSpans ss (match_ordering o ((k, p) ∷ x ∷ es) ((x.0, p) ∷ es) (x ∷ insert_entry cmp es k p))
     by Less rest = (own, h)
     by Equal rest = (own, h.1)
     by Greater rest = (h.0, rest)
@@ -63,13 +65,15 @@ first_tree ss f is = by (slice_get ss f.span) refl is
     by None at e = absurd (cc (e))
     by (Some s) at e =
         let own : process_of s ≡ f.process.now = cc (e) in
-        get_or-map shown_process_tree ss f.span s null (slice_get_within ss f.span s at) ∙ ap shown_process_tree (get_or_from_slice_get ss f.span s s at) ∙ ap process_tree own
+        get_or-map shown_process_tree ss f.span s null (slice_get_within ss f.span s at) ∙ ap shown_process_tree (get_or_from_slice_get ss f.span s s at)
+        ∙ ap process_tree own
 
 pub keyed_insert : (es : List Entry) (k : Bor (List ℕ)) (p : NamedProcess) → k.now ≡ name_of p → AreKeyed es → AreKeyed (insert_entry cmp es k p)
 keyed_insert [] k p e h = (e, tt)
 keyed_insert (x ∷ es) k p e h = by (cmp k x.0) refl (keyed_insert es k p e h.1)
   where
-    by : (o : Ordering) → cmp k x.0 ≡ o → AreKeyed (insert_entry cmp es k p) → AreKeyed (match_ordering o ((k, p) ∷ x ∷ es) ((x.0, p) ∷ es) (x ∷ insert_entry cmp es k p))
+    by : (o : Ordering) → cmp k x.0 ≡ o → AreKeyed (insert_entry cmp es k p)
+        → AreKeyed (match_ordering o ((k, p) ∷ x ∷ es) ((x.0, p) ∷ es) (x ∷ insert_entry cmp es k p))
     by Less is rest = (e, h)
     by Equal is rest = (sym (exact_bytes k.now x.0.now is) ∙ e, h.1)
     by Greater is rest = (h.0, rest)
@@ -80,7 +84,8 @@ pub named_insert : (ss : List Shown) (es : List Entry) (k : Bor (List ℕ)) (p :
 named_insert ss [] k p e h = refl
 named_insert ss (x ∷ es) k p e h =
     by (cmp k x.0) refl (named_insert ss es k p e h.1)
-    ∙ ap (λ o. match_ordering o (member (name_of p) (process_tree_at ss p.span) (members_of ss (x ∷ es))) (member (name_of x.1) (process_tree_at ss p.span) (members_of ss es))
+    ∙ ap (λ o. match_ordering o (member (name_of p) (process_tree_at ss p.span) (members_of ss (x ∷ es)))
+    (member (name_of x.1) (process_tree_at ss p.span) (members_of ss es))
     (member (name_of x.1) (process_tree_at ss x.1.span) (put (name_of p) (process_tree_at ss p.span) (members_of ss es)))) same
   where
     same : cmp k x.0 ≡ slice_cmp nat_cmp (name_of p) (name_of x.1)
@@ -88,7 +93,8 @@ named_insert ss (x ∷ es) k p e h =
 
     by : (o : Ordering) → cmp k x.0 ≡ o → members_of ss (insert_entry cmp es k p) ≡ put (name_of p) (process_tree_at ss p.span) (members_of ss es)
         → members_of ss (match_ordering o ((k, p) ∷ x ∷ es) ((x.0, p) ∷ es) (x ∷ insert_entry cmp es k p))
-        ≡ match_ordering o (member (name_of p) (process_tree_at ss p.span) (members_of ss (x ∷ es))) (member (name_of x.1) (process_tree_at ss p.span) (members_of ss es))
+        ≡ match_ordering o (member (name_of p) (process_tree_at ss p.span) (members_of ss (x ∷ es)))
+        (member (name_of x.1) (process_tree_at ss p.span) (members_of ss es))
         (member (name_of x.1) (process_tree_at ss x.1.span) (put (name_of p) (process_tree_at ss p.span) (members_of ss es)))
     by Less is rest = refl
     by Equal is rest = ap (λ n. member n (process_tree_at ss p.span) (members_of ss es)) (sym e ∙ exact_bytes k.now x.0.now is ∙ h.0)

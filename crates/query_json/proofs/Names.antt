@@ -11,17 +11,21 @@ use Rattle.query_json.proofs.Distinct.{place_within}
 length_names : (n : ℕ) (names : List (String Global)) → map string_bytes names ≡ process_names n → length names ≡ n
 length_names n names e = sym (length-map names string_bytes) ∙ ap length e ∙ length-map-range_with_len process_name 0 n
 
-pub name_at : (n k : ℕ) (names : List (String Global)) (name : String Global) → map string_bytes names ≡ process_names n → k < n → name ≡ get_or names k name → string_bytes name ≡ process_name k
+pub name_at : (n k : ℕ) (names : List (String Global)) (name : String Global) → map string_bytes names ≡ process_names n → k < n → name ≡ get_or names k name
+    → string_bytes name ≡ process_name k
 name_at n k names name e below is =
     let within : k < length names = let long = length_names n names e in omega arith in
-    ap string_bytes is ∙ sym (get_or-map string_bytes names k name [] within) ∙ ap (λ ns. get_or ns k []) e ∙ get_or-map-range_with_len process_name 0 n k k [] below (omega arith)
+    ap string_bytes is ∙ sym (get_or-map string_bytes names k name [] within) ∙ ap (λ ns. get_or ns k []) e
+    ∙ get_or-map-range_with_len process_name 0 n k k [] below (omega arith)
 
-pub place_at : (spans : List Shown) (places : List ℕ) (i : ℕ) (s : Shown) → places ≡ map (process_place (processes_of spans)) spans → i < length spans → s ≡ get_or spans i s → get_or places i 0 ≡ process_place (processes_of spans) s
+pub place_at : (spans : List Shown) (places : List ℕ) (i : ℕ) (s : Shown) → places ≡ map (process_place (processes_of spans)) spans → i < length spans
+    → s ≡ get_or spans i s → get_or places i 0 ≡ process_place (processes_of spans) s
 place_at spans places i s e below is =
     let place_of = process_place (processes_of spans) in
     ap (λ l. get_or l i 0) e ∙ get_or-map place_of spans i s 0 below ∙ ap place_of (sym is)
 
-pub place_below_all : (spans : List Shown) (i : ℕ) (s : Shown) → i < length spans → s ≡ get_or spans i s → process_place (processes_of spans) s < length (processes_of spans)
+pub place_below_all : (spans : List Shown) (i : ℕ) (s : Shown) → i < length spans → s ≡ get_or spans i s
+    → process_place (processes_of spans) s < length (processes_of spans)
 place_below_all spans i s below is =
     let front : List Shown = take i spans in
     let rest : List Shown = drop (i + 1) spans in

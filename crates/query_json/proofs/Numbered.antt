@@ -10,9 +10,11 @@ use Rattle.query_json.specs.Named.{AreNamed, first_named}
 use Rattle.query_json.specs.Trees.{processes_of}
 use Rattle.query_json.specs.Writing.{process_place}
 
-pub numbered : (ss : List Shown) (places : List ℕ) (ps : List NamedProcess) → places ≡ map (process_place (processes_of ss)) ss → AreNamed ss (processes_of ss) ps → length ps + length ss < 2 ^ 62 → IsNumbered ss places ps
+pub numbered : (ss : List Shown) (places : List ℕ) (ps : List NamedProcess) → places ≡ map (process_place (processes_of ss)) ss
+    → AreNamed ss (processes_of ss) ps → length ps + length ss < 2 ^ 62 → IsNumbered ss places ps
 numbered ss places ps at named few = record {
-  places = λ k s within is. ap (λ l. get_or l k 0) at ∙ get_or-map (process_place (processes_of ss)) ss k s 0 within ∙ ap (process_place (processes_of ss)) (sym is);
+  places =
+      λ k s within is. ap (λ l. get_or l k 0) at ∙ get_or-map (process_place (processes_of ss)) ss k s 0 within ∙ ap (process_place (processes_of ss)) (sym is);
   named = named;
   few = few;
 }
@@ -23,7 +25,8 @@ zeros (p ∷ ps) all zero = eqb-true p 0 (and_parts (p == 0) (list_all (λ q. q 
 zeros (p ∷ ps) all (suc k) = zeros ps (and_parts (p == 0) (list_all (λ q. q == 0) ps) all).1 k
 
 -- if the process of the first span is the only one, no place is needed
-pub one_numbered : (ss : List Shown) (places : List ℕ) (ps : List NamedProcess) → IsNumbered ss places ps → ps ≡ first_named ∷ [] → ((k : ℕ) → get_or places k 0 ≡ 0) → IsNumbered ss [] (first_named ∷ [])
+pub one_numbered : (ss : List Shown) (places : List ℕ) (ps : List NamedProcess) → IsNumbered ss places ps → ps ≡ first_named ∷ []
+    → ((k : ℕ) → get_or places k 0 ≡ 0) → IsNumbered ss [] (first_named ∷ [])
 one_numbered ss places ps known alone none = record {
   places = λ k s within is. sym (none k) ∙ known.places k s within is;
   named = subst (AreNamed ss (processes_of ss)) alone known.named;

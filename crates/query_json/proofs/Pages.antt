@@ -1,5 +1,6 @@
 -- What is written to a page, piece by piece.
-use Rattle.std.proofs.Common.{◌≡◌, ◌<◌, ◌≤◌, ◌+◌, ℕ, Bool, true, false, List, [], ◌∷◌, ◌++◌, length, length-append, map, drop, get_or, refl, sym, ap, subst, ◌∙◌, append_assoc, append-nil, arith, true≢false, Result, Ok, Err, Vec, Global, IfOk, Some}
+use Rattle.std.proofs.Common.{◌≡◌, ◌<◌, ◌≤◌, ◌+◌, ℕ, Bool, true, false, List, [], ◌∷◌, ◌++◌, length, length-append, map, drop, get_or, refl, sym, ap, subst}
+use Rattle.std.proofs.Common.{◌∙◌, append_assoc, append-nil, arith, true≢false, Result, Ok, Err, Vec, Global, IfOk, Some}
 use Rattle.std.specs.Str.{IsUtf8}
 use Rattle.std.specs.Prelude.{slice_get, vec_capacity}
 use Rattle.std.proofs.lemmas.List.{drop_all, drop_more, get_or-map, length-map}
@@ -90,7 +91,8 @@ put_rest-text t no_members = refl
 put_rest-text t (member k d ms) =
     let key : List ℕ = quoted k ++ 58 ∷ [] in
     let rest : List ℕ = members_text true ms in
-    put_rest-text ((t ++ (44 ∷ key)) ++ compact_text d) ms ∙ append_assoc (t ++ (44 ∷ key)) (compact_text d) rest ∙ append_assoc t (44 ∷ key) (compact_text d ++ rest)
+    put_rest-text ((t ++ (44 ∷ key)) ++ compact_text d) ms ∙ append_assoc (t ++ (44 ∷ key)) (compact_text d) rest
+    ∙ append_assoc t (44 ∷ key) (compact_text d ++ rest)
     ∙ ap (λ (l : List ℕ). t ++ 44 ∷ l) (append_assoc (quoted k) (58 ∷ []) (compact_text d ++ rest))
 
 -- an object member by member, and any other tree at once
@@ -165,7 +167,8 @@ Going-over {f = f} {close = close} {old = old} {now = now} xs i {whole = whole} 
     Going-end (subst (λ ys. Going f close old now ys whole) (drop_all i xs over) g) p
 
 -- the first of a list of trees is written
-pub list_begun : {X : Type 0} (f : X → Data) {old now : Page} {xs : List X} {x : X} {left : List X} → xs ≡ x ∷ left → Puts old now ((91 ∷ []) ++ compact_text (f x))
+pub list_begun : {X : Type 0} (f : X → Data) {old now : Page} {xs : List X} {x : X} {left : List X} → xs ≡ x ∷ left
+    → Puts old now ((91 ∷ []) ++ compact_text (f x))
     → Going (λ y. compact_text (f y)) 93 old now left (compact_text (list (map f xs)))
 list_begun f {x = x} {left = left} e p = record {
   front = 91 ∷ compact_text (f x);

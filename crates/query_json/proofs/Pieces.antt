@@ -22,7 +22,8 @@ use Rattle.query_json.proofs.TracePieces.{trace_text}
 
 one_texts : (ds : List Data) → map joined (map one_piece ds) ≡ map compact_text ds
 one_texts [] = refl
-one_texts (d ∷ ds) = ap (λ (l : List ℕ). l ∷ map joined (map one_piece ds)) (append-nil (compact_text d)) ∙ ap (λ (ls : List (List ℕ)). compact_text d ∷ ls) (one_texts ds)
+one_texts (d ∷ ds) =
+    ap (λ (l : List ℕ). l ∷ map joined (map one_piece ds)) (append-nil (compact_text d)) ∙ ap (λ (ls : List (List ℕ)). compact_text d ∷ ls) (one_texts ds)
 
 trace_text_of : (t : TraceItem) → IsWritable t → joined (trace_pieces t) ≡ compact_text (item_tree t)
 trace_text_of (One spans) known = trace_text spans (first_named ∷ []) known.named
@@ -60,12 +61,14 @@ one_at ds k h = get_or-map one_piece ds k null [] (omega (arith, h, length-map d
 pub one_there : (ds : List Data) (k : ℕ) → k < length (map one_piece ds) → length (get_or (map one_piece ds) k []) ≡ 1
 one_there ds k h = ap length (one_at ds k h)
 
-pub piece_is : (ds : List Data) (k piece : ℕ) → k < length (map one_piece ds) → piece < length (get_or (map one_piece ds) k []) → compact_text (get_or ds k null) ≡ get_or (get_or (map one_piece ds) k []) piece []
+pub piece_is : (ds : List Data) (k piece : ℕ) → k < length (map one_piece ds) → piece < length (get_or (map one_piece ds) k [])
+    → compact_text (get_or ds k null) ≡ get_or (get_or (map one_piece ds) k []) piece []
 piece_is ds k piece h within =
     let only : piece ≡ 0 = omega (arith, within, one_there ds k h) in
     sym (ap (λ n. get_or (get_or (map one_piece ds) k []) n []) only ∙ ap (λ (r : Run). get_or r 0 []) (one_at ds k h))
 
-pub ones : (i j : Items) (ds : List Data) (k : ℕ) → i ≡ j → item_pieces j ≡ map one_piece ds → k < length (item_pieces i) → 1 ≡ length (get_or (item_pieces i) k [])
+pub ones : (i j : Items) (ds : List Data) (k : ℕ) → i ≡ j → item_pieces j ≡ map one_piece ds → k < length (item_pieces i)
+    → 1 ≡ length (get_or (item_pieces i) k [])
 ones i j ds k is one h =
     let here : item_pieces i ≡ map one_piece ds = ap item_pieces is ∙ one in
     sym (ap (λ (rs : List Run). length (get_or rs k [])) here ∙ one_there ds k (omega (arith, h, ap length here)))

@@ -36,7 +36,8 @@ module _ (spans : List Shown) (entries : List ℕ) (i : ℕ) (s : Shown) (entry 
   all_more known all e n found = known_more e n (all e n found)
 
   -- the place of the span's process is inserted for that of its entry
-  pub known_put : (n : ℕ) (old new : ℕ → Option ℕ) → n ≡ process_place (processes_of spans) s → ((e : ℕ) → new e ≡ kept_under entry n old e) → AreKnown spans entries i old → AreKnown spans entries (i + 1) new
+  pub known_put : (n : ℕ) (old new : ℕ → Option ℕ) → n ≡ process_place (processes_of spans) s → ((e : ℕ) → new e ≡ kept_under entry n old e)
+      → AreKnown spans entries i old → AreKnown spans entries (i + 1) new
   known_put n old new found put all e m is = by entry refl (sym (put e) ∙ is)
     where
       own : (k : ℕ) → Some k ≡ slice_get entries i → IsKnown spans entries (i + 1) k n
@@ -45,7 +46,8 @@ module _ (spans : List Shown) (entries : List ℕ) (i : ℕ) (s : Shown) (entry 
         before = omega arith;
         stands = sym at;
         counted = λ d.
-            ap (λ p. among p (processes_of (take (i + 1) spans))) (process_there d) ∙ ap (λ (l : List Shown). among s.placed.process (processes_of l)) one_more ∙ among_itself (take i spans) s;
+            ap (λ p. among p (processes_of (take (i + 1) spans))) (process_there d) ∙ ap (λ (l : List Shown). among s.placed.process (processes_of l)) one_more
+            ∙ among_itself (take i spans) s;
         place = λ d. found ∙ ap (λ p. place p (processes_of spans)) (sym (process_there d));
       }
 
@@ -54,7 +56,14 @@ module _ (spans : List Shown) (entries : List ℕ) (i : ℕ) (s : Shown) (entry 
       by_test k true t at q =
           let known : IsKnown spans entries (i + 1) k n = own k at in
           let same : m ≡ n = cc (q) in
-          record { index = known.index; before = known.before; stands = known.stands ∙ ap Some (eqb-true k e t); counted = known.counted; place = λ d. same ∙ known.place d }
+          record {
+            index = known.index;
+            before = known.before;
+            stands = known.stands ∙ ap Some (eqb-true k e t);
+            counted = known.counted;
+            place = λ d. same
+                ∙ known.place d;
+          }
 
       by : (o : Option ℕ) → entry ≡ o → kept_under o n old e ≡ Some m → IsKnown spans entries (i + 1) e m
       by None same q = known_more e m (all e m q)
@@ -64,11 +73,13 @@ module _ (spans : List Shown) (entries : List ℕ) (i : ℕ) (s : Shown) (entry 
   same_process : (k n : ℕ) → entry ≡ Some k → (known : IsKnown spans entries i k n) → (get_or (spans_of spans) known.index s.placed).process ≡ s.placed.process
   same_process k n is known =
       let own : slice_get entries i ≡ Some k = sym next.stands ∙ is in
-      let one : get_or entries known.index 0 ≡ get_or entries i 0 = get_or_from_slice_get entries known.index k 0 known.stands ∙ sym (get_or_from_slice_get entries i k 0 own) in
+      let one : get_or entries known.index 0 ≡ get_or entries i 0 =
+      get_or_from_slice_get entries known.index k 0 known.stands ∙ sym (get_or_from_slice_get entries i k 0 own) in
       next.shares known.index i s.placed (slice_get_within entries known.index k known.stands, slice_get_within entries i k own, one) ∙ process_there s.placed
 
   -- the map has the place of the process for the span's entry
-  pub known_place : (known : ℕ → Option ℕ) (n : ℕ) → AreKnown spans entries i known → option_and_then known entry ≡ Some n → n ≡ process_place (processes_of spans) s
+  pub known_place : (known : ℕ → Option ℕ) (n : ℕ) → AreKnown spans entries i known → option_and_then known entry ≡ Some n
+      → n ≡ process_place (processes_of spans) s
   known_place known n all found = by entry refl found
     where
       by : (o : Option ℕ) → entry ≡ o → option_and_then known o ≡ Some n → n ≡ process_place (processes_of spans) s
@@ -76,7 +87,8 @@ module _ (spans : List Shown) (entries : List ℕ) (i : ℕ) (s : Shown) (entry 
       by (Some k) is q = (all k n q).place s.placed ∙ ap (λ p. place p (processes_of spans)) (same_process k n is (all k n q))
 
   -- and its process has been added
-  pub known_processes : (known : ℕ → Option ℕ) (n : ℕ) → AreKnown spans entries i known → option_and_then known entry ≡ Some n → processes_of (take (i + 1) spans) ≡ processes_of (take i spans)
+  pub known_processes : (known : ℕ → Option ℕ) (n : ℕ) → AreKnown spans entries i known → option_and_then known entry ≡ Some n
+      → processes_of (take (i + 1) spans) ≡ processes_of (take i spans)
   known_processes known n all found =
       let ps = processes_of (take i spans) in
       ap processes_of one_more ∙ processes_more ps (take i spans) s refl ∙ added_known s.placed.process ps (by entry refl found)
@@ -86,7 +98,8 @@ module _ (spans : List Shown) (entries : List ℕ) (i : ℕ) (s : Shown) (entry 
       by (Some k) is q = ap (λ p. among p (processes_of (take i spans))) (sym (same_process k n is (all k n q))) ∙ (all k n q).counted s.placed
 
   -- one more place
-  pub places_more : (old new : List ℕ) (n : ℕ) → old ≡ map (process_place (processes_of spans)) (take i spans) → new ≡ old ++ n ∷ [] → n ≡ process_place (processes_of spans) s
+  pub places_more : (old new : List ℕ) (n : ℕ) → old ≡ map (process_place (processes_of spans)) (take i spans) → new ≡ old ++ n ∷ []
+      → n ≡ process_place (processes_of spans) s
       → new ≡ map (process_place (processes_of spans)) (take (i + 1) spans)
   places_more old new n are put found =
       let place_of = process_place (processes_of spans) in

@@ -1,5 +1,6 @@
 -- Runs of pieces of an answer's text.
-use Rattle.std.proofs.Common.{◌≡◌, ◌<◌, ◌≤◌, ◌+◌, ◌∙◌, ℕ, zero, suc, List, [], ◌∷◌, ◌++◌, true, false, Bool, length, drop, get_or, map, refl, sym, ap, subst, append_assoc, append-nil, arith}
+use Rattle.std.proofs.Common.{◌≡◌, ◌<◌, ◌≤◌, ◌+◌, ◌∙◌, ℕ, zero, suc, List, [], ◌∷◌, ◌++◌, true, false, Bool, length, drop, get_or, map, refl, sym, ap, subst}
+use Rattle.std.proofs.Common.{append_assoc, append-nil, arith}
 use Rattle.std.specs.Prelude.{vec_capacity}
 use Rattle.std.proofs.lemmas.List.{drop_all, drop_more, length-map}
 use Rattle.serde_json.specs.Data.{Data}
@@ -23,7 +24,9 @@ listed ts = rest_text (λ (t : List ℕ). t) 93 ts
 
 more_text : (total : ℕ) (rs : List Run) → text_of (more_runs total rs) ≡ listed (map joined rs) ++ tail_text total
 more_text total [] = append-nil (end_text total ++ []) ∙ append-nil (end_text total)
-more_text total (r ∷ rs) = ap (λ (l : List ℕ). 44 ∷ (joined r ++ l)) (more_text total rs) ∙ ap (λ (l : List ℕ). 44 ∷ l) (sym (append_assoc (joined r) (listed (map joined rs)) (tail_text total)))
+more_text total (r ∷ rs) =
+    ap (λ (l : List ℕ). 44 ∷ (joined r ++ l)) (more_text total rs)
+    ∙ ap (λ (l : List ℕ). 44 ∷ l) (sym (append_assoc (joined r) (listed (map joined rs)) (tail_text total)))
 
 -- the texts of the items, and the text around them
 abbrev pub body : List (List ℕ) → List ℕ
@@ -32,7 +35,8 @@ body (t ∷ ts) = t ++ (listed ts ++ tail_text (suc (length ts)))
 
 pub body_is : (rs : List Run) → text_of (runs rs) ≡ body (map joined rs)
 body_is [] = more_text 0 []
-body_is (r ∷ rs) = ap (λ (l : List ℕ). joined r ++ l) (more_text (suc (length rs)) rs ∙ ap (λ n. listed (map joined rs) ++ tail_text (suc n)) (sym (length-map rs joined)))
+body_is (r ∷ rs) =
+    ap (λ (l : List ℕ). joined r ++ l) (more_text (suc (length rs)) rs ∙ ap (λ n. listed (map joined rs) ++ tail_text (suc n)) (sym (length-map rs joined)))
 
 listed_items : (ds : List Data) → listed (map compact_text ds) ≡ items_text true (items_of ds)
 listed_items [] = refl
@@ -123,16 +127,20 @@ run_over a more = record {
   fewer = omega arith;
 }
 
-pub puts_piece : {old new : Page} (rs : List Run) (run piece : ℕ) → run < length rs → piece < length (get_or rs run []) → Puts old new (get_or (get_or rs run []) piece [])
+pub puts_piece : {old new : Page} (rs : List Run) (run piece : ℕ) → run < length rs → piece < length (get_or rs run [])
+    → Puts old new (get_or (get_or rs run []) piece [])
     → PutsNext old new (left_at rs run piece) (left_at rs run (piece + 1))
 puts_piece rs run piece h within put =
     let r = get_or rs run [] in
-    let here : left_at rs run piece ≡ (get_or r piece [] ∷ drop (piece + 1) r) ∷ drop (run + 1) rs = left_is rs run piece h ∙ ap (λ (s : Run). s ∷ drop (run + 1) rs) (drop_more r piece [] within) in
+    let here : left_at rs run piece ≡ (get_or r piece [] ∷ drop (piece + 1) r) ∷ drop (run + 1) rs =
+    left_is rs run piece h ∙ ap (λ (s : Run). s ∷ drop (run + 1) rs) (drop_more r piece [] within) in
     moved here (left_is rs run (piece + 1) h) (one_put (get_or r piece []) (drop (piece + 1) r) (drop (run + 1) rs) put)
 
-pub puts_none : (a : Page) (rs : List Run) (run piece : ℕ) → run < length rs → length (get_or rs run []) ≤ piece → PutsNext a a (left_at rs run piece) (left_at rs (run + 1) 0)
+pub puts_none : (a : Page) (rs : List Run) (run piece : ℕ) → run < length rs → length (get_or rs run []) ≤ piece
+    → PutsNext a a (left_at rs run piece) (left_at rs (run + 1) 0)
 puts_none a rs run piece h over =
-    let here : left_at rs run piece ≡ [] ∷ drop (run + 1) rs = left_is rs run piece h ∙ ap (λ (s : Run). s ∷ drop (run + 1) rs) (drop_all piece (get_or rs run []) over) in
+    let here : left_at rs run piece ≡ [] ∷ drop (run + 1) rs =
+    left_is rs run piece h ∙ ap (λ (s : Run). s ∷ drop (run + 1) rs) (drop_all piece (get_or rs run []) over) in
     moved here (without_none (drop (run + 1) rs)) (run_over a (drop (run + 1) rs))
 
 -- ---- pieces written to a page
@@ -151,7 +159,8 @@ not_full : (t : Bool) → (t ≡ true → ⊥) → t ≡ false
 not_full true lacks = absurd (lacks refl)
 not_full false lacks = refl
 
-pub Fills-next : {enough : ℕ} {a b c : Page} {from mid to : List Run} → Fills enough a b from mid → PutsNext b c mid to → length b.bytes.items < enough → b.full ≡ false → Fills enough a c from to
+pub Fills-next : {enough : ℕ} {a b c : Page} {from mid to : List Run} → Fills enough a b from mid → PutsNext b c mid to → length b.bytes.items < enough
+    → b.full ≡ false → Fills enough a c from to
 Fills-next {a = a} {b = b} {c = c} {mid = mid} {to = to} f n below had_room = record {
   bytes = f.bytes ++ n.piece;
   puts = f.puts ▸ n.puts;
@@ -160,7 +169,8 @@ Fills-next {a = a} {b = b} {c = c} {mid = mid} {to = to} f n below had_room = re
   fits = λ most h. (n.fits most (f.fits most h)).1;
   room = λ most h cap had.
       let small = (n.fits most (f.fits most h)).0 in
-      not_full c.full (λ full. let lacks = n.puts.adds.lacks had_room full in let grown = f.puts.adds.capacity in omega (arith, lacks, grown, small, cap, below));
+      not_full c.full (λ full. let lacks = n.puts.adds.lacks had_room full in let grown = f.puts.adds.capacity in
+      omega (arith, lacks, grown, small, cap, below));
 }
 
 pub put_items : {a b : Page} {xs : List ℕ} → Puts a b xs → b.full ≡ false → a.bytes.items ≡ [] → b.bytes.items ≡ xs

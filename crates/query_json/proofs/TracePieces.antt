@@ -1,5 +1,6 @@
 -- The text of a trace, piece by piece.
-use Rattle.std.proofs.Common.{◌≡◌, ◌<◌, ◌≤◌, ◌+◌, ◌-◌, ◌∙◌, ℕ, zero, suc, List, [], ◌∷◌, ◌++◌, length, length-append, get_or, map, refl, sym, ap, append_assoc, append-nil, arith}
+use Rattle.std.proofs.Common.{◌≡◌, ◌<◌, ◌≤◌, ◌+◌, ◌-◌, ◌∙◌, ℕ, zero, suc, List, [], ◌∷◌, ◌++◌, length, length-append, get_or, map, refl, sym, ap, append_assoc}
+use Rattle.std.proofs.Common.{append-nil, arith}
 use Rattle.std.specs.Prelude.{codes}
 use Rattle.std.proofs.lemmas.List.{get_or-append_right, get_or-map, get_or_append_left, length-map}
 use Rattle.json.specs.Print.{escape_byte, quoted}
@@ -17,13 +18,15 @@ use Rattle.query_json.proofs.Pages.{items_rest, members_rest, put_tree-text, res
 
 wrapped : (ts : List (List ℕ)) (close : ℕ) → joined (map (λ u. 44 ∷ u) ts) ++ close ∷ [] ≡ rest_text (λ (t : List ℕ). t) close ts
 wrapped [] close = refl
-wrapped (t ∷ ts) close = ap (λ (l : List ℕ). 44 ∷ l) (append_assoc t (joined (map (λ u. 44 ∷ u) ts)) (close ∷ []) ∙ ap (λ (l : List ℕ). t ++ l) (wrapped ts close))
+wrapped (t ∷ ts) close =
+    ap (λ (l : List ℕ). 44 ∷ l) (append_assoc t (joined (map (λ u. 44 ∷ u) ts)) (close ∷ []) ∙ ap (λ (l : List ℕ). t ++ l) (wrapped ts close))
 
 rest_of_texts : {X : Type 0} (f : X → List ℕ) (close : ℕ) (xs : List X) → rest_text (λ (t : List ℕ). t) close (map f xs) ≡ rest_text f close xs
 rest_of_texts f close [] = refl
 rest_of_texts f close (x ∷ xs) = ap (λ (l : List ℕ). 44 ∷ (f x ++ l)) (rest_of_texts f close xs)
 
-list_pieces : {X : Type 0} (f : X → Data) (xs : List X) → 91 ∷ (joined (with_commas (map (λ x. compact_text (f x)) xs)) ++ 93 ∷ []) ≡ compact_text (list (map f xs))
+list_pieces : {X : Type 0} (f : X → Data) (xs : List X)
+    → 91 ∷ (joined (with_commas (map (λ x. compact_text (f x)) xs)) ++ 93 ∷ []) ≡ compact_text (list (map f xs))
 list_pieces f [] = refl
 list_pieces f (x ∷ xs) =
     let texts : List (List ℕ) = map (λ y. compact_text (f y)) xs in
@@ -31,7 +34,8 @@ list_pieces f (x ∷ xs) =
     (append_assoc (compact_text (f x)) (joined (map (λ u. 44 ∷ u) texts)) (93 ∷ [])
     ∙ ap (λ (l : List ℕ). compact_text (f x) ++ l) (wrapped texts 93 ∙ rest_of_texts (λ y. compact_text (f y)) 93 xs ∙ items_rest f xs))
 
-object_pieces : (ss : List Shown) (ps : List NamedProcess) → 123 ∷ (joined (with_commas (map (named_text ss) ps)) ++ 125 ∷ []) ≡ compact_text (object (named_members ss ps))
+object_pieces : (ss : List Shown) (ps : List NamedProcess)
+    → 123 ∷ (joined (with_commas (map (named_text ss) ps)) ++ 125 ∷ []) ≡ compact_text (object (named_members ss ps))
 object_pieces ss [] = refl
 object_pieces ss (p ∷ ps) =
     let tree : List ℕ = compact_text (process_tree_at ss p.span) in
@@ -91,7 +95,9 @@ joined_parts : (ts : List (List ℕ)) (rest : List (List ℕ)) → joined (ts ++
 joined_parts [] rest = refl
 joined_parts (t ∷ ts) rest = ap (λ (l : List ℕ). t ++ l) (joined_parts ts rest) ∙ sym (append_assoc t (joined ts) (joined rest))
 
-tree_text : (ss : List Shown) → tail_of ((((before_processes ++ compact_text (processes_tree (processes_of ss))) ++ before_spans) ++ compact_text (list (map (span_tree (processes_of ss)) ss)))) (compact_text (string (trace_id_text ss))) ++ 125 ∷ [] ≡ compact_text (trace_tree ss)
+tree_text : (ss : List Shown) → tail_of
+    ((((before_processes ++ compact_text (processes_tree (processes_of ss))) ++ before_spans) ++ compact_text (list (map (span_tree (processes_of ss)) ss))))
+    (compact_text (string (trace_id_text ss))) ++ 125 ∷ [] ≡ compact_text (trace_tree ss)
 unfolding escape_byte
 tree_text ss = put_tree-text (trace_tree ss)
 
@@ -100,9 +106,11 @@ trace_text ss ps named =
     let p : List ℕ = joined (with_commas (map (named_text ss) ps)) in
     let s : List ℕ = joined (with_commas (map (span_text_in ss) ss)) in
     let id : List ℕ = compact_text (string (trace_id_text ss)) in
-    let obj : 123 ∷ (p ++ 125 ∷ []) ≡ compact_text (processes_tree (processes_of ss)) = object_pieces ss ps ∙ ap (λ ms. compact_text (object ms)) named.members in
+    let obj : 123 ∷ (p ++ 125 ∷ []) ≡ compact_text (processes_tree (processes_of ss)) =
+    object_pieces ss ps ∙ ap (λ ms. compact_text (object ms)) named.members in
     let spans : 91 ∷ (s ++ 93 ∷ []) ≡ compact_text (list (map (span_tree (processes_of ss)) ss)) = list_pieces (span_tree (processes_of ss)) ss in
-    let behind : joined (span_pieces ss) ≡ between_text ++ (s ++ (close_text ss ++ [])) = ap (λ (l : List ℕ). between_text ++ l) (joined_parts (with_commas (map (span_text_in ss) ss)) (close_text ss ∷ [])) in
+    let behind : joined (span_pieces ss) ≡ between_text ++ (s ++ (close_text ss ++ [])) =
+    ap (λ (l : List ℕ). between_text ++ l) (joined_parts (with_commas (map (span_text_in ss) ss)) (close_text ss ∷ [])) in
     ap (λ (l : List ℕ). open_text ++ l) (joined_parts (with_commas (map (named_text ss) ps)) (span_pieces ss) ∙ ap (λ (l : List ℕ). p ++ l) behind)
     ∙ one_by_one open_text p between_text s (close_text ss)
     ∙ ap (λ (l : List ℕ). (l ++ s) ++ close_text ss) (processes_in before_processes p before_spans)
@@ -138,7 +146,8 @@ module _ (x : List ℕ) (ts rest : List (List ℕ)) (k : ℕ) where
 
   pub piece_listed : (k ≡ 0 → ⊥) → k - 1 < length ts → separator (k - 1) ++ get_or ts (k - 1) [] ≡ get_or (x ∷ (with_commas ts ++ rest)) k []
   piece_listed differs within =
-      sym (behind_first differs ∙ get_or_append_left (with_commas ts) rest [] (k - 1) (omega (arith, within, length-with_commas ts)) ∙ commas_at ts (k - 1) within)
+      sym (behind_first differs ∙ get_or_append_left (with_commas ts) rest [] (k - 1) (omega (arith, within, length-with_commas ts))
+      ∙ commas_at ts (k - 1) within)
 
   pub piece_behind : (k ≡ 0 → ⊥) → (n : ℕ) → length ts ≡ n → n ≤ k - 1 → get_or rest (k - 1 - n) [] ≡ get_or (x ∷ (with_commas ts ++ rest)) k []
   piece_behind differs n long over = sym (behind_first differs ∙ get_or-append_right (with_commas ts) rest n (k - 1) [] (length-with_commas ts ∙ long) over)

@@ -35,9 +35,12 @@ pub past_times_text : (d : ℤ) → ((34 ∷ skew_of) ++ signed_decimal d) ++ (c
 unfolding escape_byte
 past_times_text d = quoted_around skew_of (signed_decimal d) (codes " us not applied: a time would not fit") skew_of_plain (escape_signed d) refl
 
-pub past_limit_text : (d : ℤ) (limit : ℕ) → ((((34 ∷ skew_of) ++ signed_decimal d) ++ limit_is) ++ decimal limit) ++ (us ++ 34 ∷ []) ≡ quoted (past_limit d limit)
+pub past_limit_text : (d : ℤ) (limit : ℕ)
+    → ((((34 ∷ skew_of) ++ signed_decimal d) ++ limit_is) ++ decimal limit) ++ (us ++ 34 ∷ []) ≡ quoted (past_limit d limit)
 past_limit_text d limit =
     let front : List ℕ = skew_of ++ signed_decimal d in
     let words : ((front ++ limit_is) ++ decimal limit) ++ us ≡ skew_of ++ (signed_decimal d ++ (limit_is ++ (decimal limit ++ us))) =
-    append_assoc (front ++ limit_is) (decimal limit) us ∙ append_assoc front limit_is (decimal limit ++ us) ∙ append_assoc skew_of (signed_decimal d) (limit_is ++ (decimal limit ++ us)) in
-    quoted_around_two skew_of (signed_decimal d) limit_is (decimal limit) us skew_of_plain (escape_signed d) limit_is_plain (escape_decimal limit) us_plain ∙ ap quoted (sym words)
+    append_assoc (front ++ limit_is) (decimal limit) us ∙ append_assoc front limit_is (decimal limit ++ us)
+    ∙ append_assoc skew_of (signed_decimal d) (limit_is ++ (decimal limit ++ us)) in
+    quoted_around_two skew_of (signed_decimal d) limit_is (decimal limit) us skew_of_plain (escape_signed d) limit_is_plain (escape_decimal limit) us_plain
+    ∙ ap quoted (sym words)

@@ -9,4 +9,6 @@ head_text = 123 ∷ (34 ∷ (codes "data" ++ 34 ∷ 58 ∷ []))
 -- after n of them, with no errors
 abbrev pub tail_text : ℕ → List ℕ
 tail_text total =
-    44 ∷ 34 ∷ (codes "errors" ++ 34 ∷ 58 ∷ (codes "null" ++ 44 ∷ 34 ∷ (codes "limit" ++ 34 ∷ 58 ∷ 48 ∷ 44 ∷ 34 ∷ (codes "offset" ++ 34 ∷ 58 ∷ 48 ∷ 44 ∷ 34 ∷ (codes "total" ++ 34 ∷ 58 ∷ (decimal total ++ 125 ∷ []))))))
+    44 ∷ 34 ∷ (codes "errors" ++ 34 ∷ 58
+    ∷ (codes "null" ++ 44 ∷ 34 ∷ (codes "limit"
+    ++ 34 ∷ 58 ∷ 48 ∷ 44 ∷ 34 ∷ (codes "offset" ++ 34 ∷ 58 ∷ 48 ∷ 44 ∷ 34 ∷ (codes "total" ++ 34 ∷ 58 ∷ (decimal total ++ 125 ∷ []))))))

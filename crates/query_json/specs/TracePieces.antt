@@ -31,7 +31,8 @@ between_text = 125 ∷ 44 ∷ 34 ∷ (codes "spans" ++ 34 ∷ 58 ∷ 91 ∷ [])
 
 abbrev pub close_text : List Shown → List ℕ
 close_text ss =
-    ((((93 ∷ 44 ∷ 34 ∷ (codes "traceID" ++ 34 ∷ 58 ∷ [])) ++ compact_text (string (trace_id_text ss))) ++ (44 ∷ 34 ∷ (codes "warnings" ++ 34 ∷ 58 ∷ []))) ++ codes "null") ++ 125 ∷ []
+    ((((93 ∷ 44 ∷ 34 ∷ (codes "traceID" ++ 34 ∷ 58 ∷ [])) ++ compact_text (string (trace_id_text ss))) ++ (44 ∷ 34 ∷ (codes "warnings" ++ 34 ∷ 58 ∷ [])))
+    ++ codes "null") ++ 125 ∷ []
 
 abbrev pub span_text_in : List Shown → Shown → List ℕ
 span_text_in ss s = compact_text (span_tree (processes_of ss) s)

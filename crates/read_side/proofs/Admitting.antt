@@ -1,5 +1,6 @@
 -- The place of an admitted entry.
-use Rattle.std.proofs.Common.{◌≡◌, inl, inr, ℕ, zero, suc, ◌+◌, ◌-◌, List, [], ◌∷◌, ◌++◌, length, Some, Result, Ok, Err, refl, sym, ap, ◌∙◌, subst, append_assoc, arith, length-append}
+use Rattle.std.proofs.Common.{◌≡◌, inl, inr, ℕ, zero, suc, ◌+◌, ◌-◌, List, [], ◌∷◌, ◌++◌, length, Some, Result, Ok, Err, refl, sym, ap, ◌∙◌, subst}
+use Rattle.std.proofs.Common.{append_assoc, arith, length-append}
 use Rattle.std.specs.Prelude.{IfOk, OnOk, IfSome, slice_get}
 use Rattle.std.proofs.lemmas.List.{get_or_push}
 use Rattle.std.proofs.lemmas.Option.{slice_get_read}
@@ -38,12 +39,14 @@ pub said_again : (limits : Limits) (k : Lists) (e : Entry) (place : ℕ) → adm
 said_again limits k e place is = let P : Result Admission Refusal → Type 0 = IsSaid limits (accepted k) e in subst P is (admission_says limits (accepted k) e)
 
 -- a receipt of an entry that was added, and of one whose batch was sent before
-pub added_answered : (k new : Lists) (e : Entry) (r : Result ReceiptValue Refusal) → OnOk r (new ≡ all_published (with_pending k e)) → IfOk r (λ x. x.entries ≡ new.published) → IfOk r (λ x. x.place ≡ Some (length (accepted k) + 1))
+pub added_answered : (k new : Lists) (e : Entry) (r : Result ReceiptValue Refusal) → OnOk r (new ≡ all_published (with_pending k e))
+    → IfOk r (λ x. x.entries ≡ new.published) → IfOk r (λ x. x.place ≡ Some (length (accepted k) + 1))
     → IfOk r (λ x. IfSome x.place (λ place. AnsweredAt x.entries place e))
 added_answered k new e (Err why) is entries at = tt
 added_answered k new e (Ok x) is entries at = rw (at, entries) (e, added_stands k new e is, inl refl)
 
-pub resent_answered : (k new : Lists) (e : Entry) (n : ℕ) (r : Result ReceiptValue Refusal) → IsAnswered (accepted k) e n → OnOk r (new ≡ all_published k) → IfOk r (λ x. x.entries ≡ new.published) → IfOk r (λ x. x.place ≡ Some n)
+pub resent_answered : (k new : Lists) (e : Entry) (n : ℕ) (r : Result ReceiptValue Refusal) → IsAnswered (accepted k) e n → OnOk r (new ≡ all_published k)
+    → IfOk r (λ x. x.entries ≡ new.published) → IfOk r (λ x. x.place ≡ Some n)
     → IfOk r (λ x. IfSome x.place (λ place. AnsweredAt x.entries place e))
 resent_answered k new e n (Err why) said is entries at = tt
 resent_answered k new e n (Ok x) said is entries at =

@@ -25,7 +25,8 @@ grows limits k e (Err why) m g = ⊎_elim
     g
 
 -- all calls
-pub all_grow : (limits : Limits) (old new : Lists) (calls : List (Entry × Result ℕ Refusal)) → Admissions limits old calls new → IsPrefix old.published new.published
+pub all_grow : (limits : Limits) (old new : Lists) (calls : List (Entry × Result ℕ Refusal)) → Admissions limits old calls new
+    → IsPrefix old.published new.published
 all_grow limits old new [] same = ([], append-nil old.published ∙ sym (ap (λ (z : Lists). z.published) same))
 all_grow limits old new (c ∷ cs) h =
     prefix_trans old.published h.0.published new.published (grows limits old c.0 c.1 h.0 h.1) (all_grow limits h.0 new cs h.2)

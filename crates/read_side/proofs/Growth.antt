@@ -22,13 +22,16 @@ begins {A} n m xs ys zs p q a b le =
 pub one_begins : {A : Type 0} (n m : ℕ) (xs ys zs : List A) → IsPrefix xs zs → IsPrefix ys zs → n ≤ length xs → m ≤ length ys
     → MatchBool (nat_le n m) (IsPrefix (take n xs) (take m ys)) (IsPrefix (take m ys) (take n xs) × (length (take m ys) < length (take n xs)))
 one_begins {A} n m xs ys zs p q a b =
-    elim (nat_le n m) as (λ r. nat_le n m ≡ r → MatchBool r (IsPrefix (take n xs) (take m ys)) (IsPrefix (take m ys) (take n xs) × (length (take m ys) < length (take n xs)))) [
+    elim (nat_le n m) as (λ r. nat_le n m ≡ r
+    → MatchBool r (IsPrefix (take n xs) (take m ys)) (IsPrefix (take m ys) (take n xs) × (length (take m ys) < length (take n xs)))) [
       | true ↦ λ t. begins n m xs ys zs p q a b (leb-true n m t)
-      | false ↦ λ f. (let less : m < n = leb-false n m f in (begins m n ys xs zs q p b a (omega (arith, less)), omega (arith, less, length-take-le m ys b, length-take-le n xs a)))
+      | false ↦ λ f. (let less : m < n = leb-false n m f in
+          (begins m n ys xs zs q p b a (omega (arith, less)), omega (arith, less, length-take-le m ys b, length-take-le n xs a)))
     ] refl
 
 -- one more list that is a prefix of what the others are prefixes of
-pub all_begin_more : {A : Type 0} (old new : List A) (ps : List (List A)) (i : ℕ) (p : List A) → i < length ps → p ≡ get_or ps i p → All (λ q. IsPrefix q old) (take i ps) → IsPrefix old new → IsPrefix p new
+pub all_begin_more : {A : Type 0} (old new : List A) (ps : List (List A)) (i : ℕ) (p : List A) → i < length ps → p ≡ get_or ps i p
+    → All (λ q. IsPrefix q old) (take i ps) → IsPrefix old new → IsPrefix p new
     → All (λ q. IsPrefix q new) (take (i + 1) ps)
 all_begin_more {A} old new ps i p within is all own other =
     let P : List A → Type 0 = λ q. IsPrefix q new in

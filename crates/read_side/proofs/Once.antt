@@ -1,5 +1,6 @@
 -- An entry of a legal list is there once.
-use Rattle.std.proofs.Common.{◌≡◌, ℕ, ◌-◌, ◌<◌, true, false, Bool, List, [], ◌∷◌, ◌++◌, refl, ap, sym, subst, ◌∙◌, arith, append_assoc, append-nil, eqb-true, eq-eqb}
+use Rattle.std.proofs.Common.{◌≡◌, ℕ, ◌-◌, ◌<◌, true, false, Bool, List, [], ◌∷◌, ◌++◌, refl, ap, sym, subst, ◌∙◌, arith, append_assoc, append-nil, eqb-true}
+use Rattle.std.proofs.Common.{eq-eqb}
 use Rattle.std.specs.Prelude.{◌==◌, ◌&&◌, filter, if◌then◌else◌, Some, slice_get}
 use Rattle.std.proofs.lemmas.List.Elements.{filter-append}
 use mathlib.Core.List.{IsPrefix}
@@ -42,7 +43,8 @@ none_behind front d mid (x ∷ rest) r =
     keep_none d x rest other
     (none_behind front d (mid ++ x ∷ []) rest (subst (λ l. RisesAfter l rest) (append_assoc front (d ∷ mid) (x ∷ [])) r.2))
 
-rises_at : (before front : List Entry) (d : Entry) (rest : List Entry) → RisesAfter before (front ++ d ∷ rest) → AboveEach d (before ++ front) × RisesAfter ((before ++ front) ++ d ∷ []) rest
+rises_at : (before front : List Entry) (d : Entry) (rest : List Entry) → RisesAfter before (front ++ d ∷ rest) → AboveEach d (before ++ front)
+    × RisesAfter ((before ++ front) ++ d ∷ []) rest
 rises_at before [] d rest r = subst (λ l. AboveEach d l × RisesAfter (l ++ d ∷ []) rest) (sym (append-nil before)) (r.1, r.2)
 rises_at before (x ∷ front) d rest r =
     subst (λ l. AboveEach d l × RisesAfter (l ++ d ∷ []) rest) (append_assoc before (x ∷ []) front) (rises_at (before ++ x ∷ []) front d rest r.2)
@@ -51,7 +53,8 @@ same_job : (d : Entry) → is_same_job d d ≡ true
 same_job d = ap (λ b. b && (d.number == d.number)) (eq-eqb d.seat d.seat refl) ∙ eq-eqb d.number d.number refl
 
 -- an entry of a legal list is there once
-once : (limits : Limits) (front : List Entry) (d : Entry) (rest : List Entry) → IsLegal limits (front ++ d ∷ rest) → filter (is_same_job d) (front ++ d ∷ rest) ≡ d ∷ []
+once : (limits : Limits) (front : List Entry) (d : Entry) (rest : List Entry) → IsLegal limits (front ++ d ∷ rest)
+    → filter (is_same_job d) (front ++ d ∷ rest) ≡ d ∷ []
 once limits front d rest legal =
     let parts = rises_at [] front d rest legal.rising in
     filter-append (is_same_job d) front (d ∷ rest)
@@ -60,7 +63,8 @@ once limits front d rest legal =
     ∙ ap (λ l. d ∷ l) (none_behind front d [] rest parts.1)))
 
 -- what was acknowledged with a list is in each legal continuation of it, once
-pub acknowledged_once : (limits : Limits) (list whole : List Entry) (place : ℕ) (e : Entry) → IsLegal limits whole → IsPrefix list whole → AnsweredAt list place e → IsAcknowledged whole place e
+pub acknowledged_once : (limits : Limits) (list whole : List Entry) (place : ℕ) (e : Entry) → IsLegal limits whole → IsPrefix list whole
+    → AnsweredAt list place e → IsAcknowledged whole place e
 acknowledged_once limits list whole place e legal begins at =
     let stands : StandsAt whole place at.0 = (at.1.0, prefix_get list whole (place - 1) at.0 begins at.1.1) in
     let split = split_at whole (place - 1) at.0 stands.1 in

@@ -1,5 +1,6 @@
 -- Step by step, a world plays what the machine does.
-use Rattle.std.proofs.Common.{◌≡◌, ◌⊎◌, List, [], ◌∷◌, ◌++◌, length, replicate, Option, Some, None, inl, inr, refl, sym, ap, ◌∙◌, subst, append_assoc, append-nil}
+use Rattle.std.proofs.Common.{◌≡◌, ◌⊎◌, List, [], ◌∷◌, ◌++◌, length, replicate, Option, Some, None, inl, inr, refl, sym, ap, ◌∙◌, subst, append_assoc}
+use Rattle.std.proofs.Common.{append-nil}
 use Rattle.trace_model.specs.declared.refusal.Refusal.TheVariants.{NoMemory}
 use Rattle.schedule_core.specs.declared.step.Step.{Step}
 use Rattle.schedule_core.specs.declared.outcome.Outcome.{Outcome}

@@ -1,5 +1,6 @@
 -- The machine over two copies makes the steps of the machine.
-use Rattle.std.proofs.Common.{◌≡◌, ℕ, suc, ◌+◌, ◌<◌, ◌≤◌, Bool, true, false, List, [], ◌∷◌, ◌++◌, length, map, take, Option, Some, None, inl, inr, refl, sym, ap, ◌∙◌, subst, append_assoc, append-nil, arith}
+use Rattle.std.proofs.Common.{◌≡◌, ℕ, suc, ◌+◌, ◌<◌, ◌≤◌, Bool, true, false, List, [], ◌∷◌, ◌++◌, length, map, take, Option, Some, None, inl, inr, refl, sym}
+use Rattle.std.proofs.Common.{ap, ◌∙◌, subst, append_assoc, append-nil, arith}
 use Rattle.std.specs.Prelude.{cond, get_or, not, if◌then◌else◌, nat_lt, option_map, IfSome, Result, Ok, Err, replicate, slice_index, slice_get, slice_set}
 use Rattle.std.specs.List.{All, position, position_or_len}
 use Rattle.std.specs.Option.{option_map_or}
@@ -24,7 +25,8 @@ use Rattle.schedule_core.specs.declared.outcome.Outcome.{Outcome}
 use Rattle.schedule_core.specs.declared.outcome.Outcome.TheVariants.{Held, Published}
 use Rattle.schedule_core.specs.declared.readers.Inside.{Inside}
 use Rattle.schedule_core.specs.declared.readers.ReaderState.{ReaderState}
-use Rattle.schedule_core.specs.Machine.{Machine, Reader, Stepped, Visit, drops, outcome_by, judged_job, takes_by, takes, holds, published, publishes, publishes_by, with_reader}
+use Rattle.schedule_core.specs.Machine.{Machine, Reader, Stepped, Visit, drops, outcome_by, judged_job, takes_by, takes, holds, published, publishes}
+use Rattle.schedule_core.specs.Machine.{publishes_by, with_reader}
 use Rattle.schedule_core.specs.Numbering.{IsNumbered}
 use Rattle.schedule_core.specs.Copied.{Copied, after_admission, turned, with_pending}
 use Rattle.schedule_core.specs.Queued.{Queued, number_after, next_number, queued}
@@ -105,7 +107,8 @@ repeat_alike : (c : Copied) (q : Queued) (fronts : List ℕ) (places : List Read
 repeat_alike c q fronts places e before =
     elim (same_work e.work (get_or (c.history ++ c.pending) before e).work)
     as (λ b. shown c q fronts places e (if b then Ok (Resent (suc before)) else Err (Conflict (suc before)))
-    ≡ drops (machine_of c (record q { waiting = e ∷ q.waiting }) fronts places) q.waiting (outcome_by e (if b then Ok (Resent (suc before)) else Err (Conflict (suc before))))) [
+    ≡ drops (machine_of c (record q { waiting = e ∷ q.waiting }) fronts places) q.waiting
+    (outcome_by e (if b then Ok (Resent (suc before)) else Err (Conflict (suc before))))) [
       | true ↦ refl
       | false ↦ refl
     ]
@@ -222,7 +225,8 @@ state_kept c other q fronts places s e = record {
   numbered = s.numbered;
   within = s.within;
   standing = both (Stands c.before c.history (length fronts)) (λ p. is_held (length fronts) p ≡ false) (Stands other c.history (length fronts))
-      (λ p stands free. (stands.0, visit_kept c.before other c.history (length fronts) p.inside stands.1 free)) places s.standing (none_held (length fronts) places e);
+      (λ p stands free. (stands.0, visit_kept c.before other c.history (length fronts) p.inside stands.1 free)) places s.standing
+      (none_held (length fronts) places e);
 }
 
 pub state_published : (c : Copied) (q : Queued) (fronts : List ℕ) (places : List ReaderState)
@@ -233,7 +237,8 @@ state_published c q fronts places s e =
     record {
       numbered = subst (λ a. IsNumbered a q.waiting q.numbers) (sym (append-nil (c.history ++ c.pending))) s.numbered;
       within = All-push (λ f. f ≤ length now.history) fronts (length now.history)
-          (All-weaker (λ f. f ≤ length c.history) (λ f. f ≤ length now.history) (λ f le. omega (arith, length-append c.history c.pending, le)) fronts s.within) (omega arith);
+          (All-weaker (λ f. f ≤ length c.history) (λ f. f ≤ length now.history) (λ f le. omega (arith, length-append c.history c.pending, le)) fronts s.within)
+          (omega arith);
       standing = subst (λ n. All (Stands c.history now.history n) places) (sym (length-append fronts (length now.history ∷ [])))
           (both (Stands c.before c.history (length fronts)) (λ p. is_held (length fronts) p ≡ false) (Stands c.history now.history (length fronts + 1))
           (stands_turned c.before c.history c.pending (length fronts)) places s.standing (none_held (length fronts) places e));
@@ -269,7 +274,8 @@ readers_same before h pending publishes (p ∷ ps) s =
 pub view_published : (c : Copied) (q : Queued) (fronts : List ℕ) (places : List ReaderState) → IsState c q fronts places
     → machine_of (turned c) q (fronts ++ length (turned c).history ∷ []) places ≡ published (machine_of c q fronts places)
 view_published c q fronts places s =
-    ap (λ (x : List Reader). record (published (machine_of c q fronts places)) { readers = x }) (readers_same c.before c.history c.pending (length fronts) places s.standing)
+    ap (λ (x : List Reader). record (published (machine_of c q fronts places)) { readers = x })
+    (readers_same c.before c.history c.pending (length fronts) places s.standing)
 
 held_same : (h : List Entry) (n : ℕ) (o : Option Inside) → option_map_or (λ (v : Inside). nat_lt v.publishes n) o false
     ≡ option_map_or (λ (v : Visit). nat_lt v.publishes n) (option_map (visit_at h) o) false
@@ -278,7 +284,8 @@ held_same h n (Some v) = refl
 
 first_same : (h : List Entry) (n : ℕ) (places : List ReaderState) → position_or_len (holds n) (map (reader_at h) places) ≡ position_or_len (is_held n) places
 first_same h n places = is_position_or_len (λ xs. position_or_len (holds n) (map (reader_at h) xs)) (is_held n) refl
-    (λ p ps. elim (holds n (reader_at h p)) as (λ b. cond (not b) (1 + position_or_len (holds n) (map (reader_at h) ps)) 0 ≡ cond b 0 (1 + position_or_len (holds n) (map (reader_at h) ps))) [ true ↦ refl | false ↦ refl ]
+    (λ p ps. elim (holds n (reader_at h p)) as (λ b. cond (not b) (1 + position_or_len (holds n) (map (reader_at h) ps)) 0
+    ≡ cond b 0 (1 + position_or_len (holds n) (map (reader_at h) ps))) [ true ↦ refl | false ↦ refl ]
     ∙ ap (λ b. cond b 0 (1 + position_or_len (holds n) (map (reader_at h) ps))) (sym (held_same h n p.inside))) places
 
 -- the machine finds the same first reader
@@ -286,7 +293,8 @@ pub held_first : (c : Copied) (q : Queued) (fronts : List ℕ) (places : List Re
     → position (holds (length fronts)) (machine_of c q fronts places).readers ≡ position (is_held (length fronts)) places
 held_first c q fronts places =
     ap (λ k. cond (nat_lt k (length (map (reader_at c.history) places))) (Some k) None) (first_same c.history (length fronts) places)
-    ∙ ap (λ n. cond (nat_lt (position_or_len (is_held (length fronts)) places) n) (Some (position_or_len (is_held (length fronts)) places)) None) (length-map places (reader_at c.history))
+    ∙ ap (λ n. cond (nat_lt (position_or_len (is_held (length fronts)) places) n) (Some (position_or_len (is_held (length fronts)) places)) None)
+    (length-map places (reader_at c.history))
 
 -- ---- a publish as the machine makes it
 
@@ -320,7 +328,8 @@ state_turned c now q fronts fronts_now places front s e is f grown =
 
 -- ---- the first moment
 
-pub state_first : (limits : Limits) (n : ℕ) → IsState (record { limits = limits; before = []; history = []; pending = [] }) (record { waiting = []; numbers = replicate n 0 }) [] (replicate n outside)
+pub state_first : (limits : Limits) (n : ℕ)
+    → IsState (record { limits = limits; before = []; history = []; pending = [] }) (record { waiting = []; numbers = replicate n 0 }) [] (replicate n outside)
 state_first limits n = record {
   numbered = record { rising = tt; below = All-nil (λ (e : Entry). e.number ≤ slice_index (replicate n 0) e.seat) };
   within = All-nil (λ f. f ≤ 0);

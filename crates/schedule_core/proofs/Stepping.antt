@@ -40,7 +40,8 @@ longest h a b la lb =
     ] refl
 
 -- a front is within what each is within
-front_within : (fronts : List ℕ) (bound k front : ℕ) → (if nat_lt 0 k then slice_get fronts (k - 1) else None) ≡ Some front → All (λ f. f ≤ bound) fronts → front ≤ bound
+front_within : (fronts : List ℕ) (bound k front : ℕ) → (if nat_lt 0 k then slice_get fronts (k - 1) else None) ≡ Some front → All (λ f. f ≤ bound) fronts
+    → front ≤ bound
 front_within fronts bound k front e all =
     elim (nat_lt 0 k) as (λ b. (if b then slice_get fronts (k - 1) else None) ≡ Some front → front ≤ bound) [
       | true ↦ λ e. at_place (λ f. f ≤ bound) fronts (k - 1) front e all
@@ -70,10 +71,12 @@ module _ (c : Copied) (q : Queued) (fronts : List ℕ) (places : List ReaderStat
       ∙ ap (λ k. reader_of c.history (Some (visit_of c.history k))) n
 
   pub entered_alike : (front publishes : ℕ) → is_some p.inside ≡ false → front ≡ length c.history → publishes ≡ length fronts
-      → after (Entered front) (machine_of c q fronts (slice_set places r (record { seen = front; inside = Some (record { front = front; publishes = publishes }) })))
+      → after (Entered front) (machine_of c q fronts
+      (slice_set places r (record { seen = front; inside = Some (record { front = front; publishes = publishes }) })))
       ≡ by_reader m r (λ reader. enters m r reader.inside)
   entered_alike front publishes out f n =
-      ap (λ k. after (Entered k) (machine_of c q fronts (slice_set places r (record { seen = front; inside = Some (record { front = front; publishes = publishes }) })))) f
+      ap (λ k. after (Entered k) (machine_of c q fronts
+      (slice_set places r (record { seen = front; inside = Some (record { front = front; publishes = publishes }) })))) f
       ∙ ap (λ x. after (Entered (length c.history)) x) (view_set c q fronts places r _ ∙ ap (λ x. with_reader m r x) (entered_reader front publishes f n))
       ∙ sym (by_place (λ reader. enters m r reader.inside) ∙ ap (λ o. enters m r (option_map (visit_at c.history) o)) (none_is p.inside out))
 
@@ -86,7 +89,8 @@ module _ (c : Copied) (q : Queued) (fronts : List ℕ) (places : List ReaderStat
       let fits : max p.seen front ≤ length c.history = omega (arith, (stands_there s).0, within) in
       ap (λ n. after (Learnt n) (machine_of c q fronts (slice_set places r (record { seen = n; inside = None })))) is
       ∙ ap (λ x. after (Learnt (max p.seen front)) x) (view_set c q fronts places r _)
-      ∙ ap (λ n. after (Learnt n) (with_reader m r (reader_of (take (max p.seen front) c.history) None))) (sym (length-take-le (max p.seen front) c.history fits))
+      ∙ ap (λ n. after (Learnt n) (with_reader m r (reader_of (take (max p.seen front) c.history) None)))
+      (sym (length-take-le (max p.seen front) c.history fits))
       ∙ ap (λ list. learns_list m r list) (sym (longest c.history p.seen front (stands_there s).0 within))
       ∙ sym (by_place (λ reader. option_map_or (learns m r reader) (front_of m k) (stays m Unknown))
       ∙ ap (λ o. option_map_or (learns m r (reader_at c.history p)) o (stays m Unknown)) at

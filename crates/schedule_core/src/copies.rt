@@ -37,7 +37,12 @@ impl Model for Copies {
 
     ghost Value = { Copied };
 
-    ghost view = { λ s. record { limits = s.accepted.held.limits; before = s.spare.entries; history = s.shown.entries; pending = drop (length s.shown.entries) s.accepted.held.entries } };
+    ghost view = { λ s. record {
+      limits = s.accepted.held.limits;
+      before = s.spare.entries;
+      history = s.shown.entries;
+      pending = drop (length s.shown.entries) s.accepted.held.entries;
+    } };
 
     ghost invariant = { λ s. IsCopied s.accepted.held s.shown s.spare };
 }

@@ -9,7 +9,8 @@ ghost use Rattle.schedule_core.specs.Copied.{all_of};
 ghost use Rattle.schedule_core.specs.MachineStates.{verdict};
 ghost use Rattle.schedule_core.specs.Standing.{Visits};
 ghost use Rattle.schedule_core.specs.declared.step.Step.TheVariants.{Enter, Leave, Learn, Read};
-ghost use Rattle.schedule_core.specs.Machine.{by_reader, enters, front_of, leaves, learns, new_machine, publishes, limits_by, puts, reads, stays, step as stepped, takes};
+ghost use Rattle.schedule_core.specs.Machine.{by_reader, enters, front_of, leaves, learns, new_machine, publishes, limits_by, puts, reads, stays};
+ghost use Rattle.schedule_core.specs.Machine.{step as stepped, takes};
 
 use crate::copies::{Copies, without_memory};
 use crate::outcome::Outcome;

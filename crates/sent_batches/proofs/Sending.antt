@@ -1,5 +1,6 @@
 -- Batches with a number in a list of entries.
-use Rattle.std.proofs.Common.{◌≡◌, ℕ, zero, suc, ◌+◌, ◌-◌, ◌^◌, ◌<◌, ◌≤◌, Bool, true, false, List, [], ◌∷◌, ◌++◌, map, length, get_or, Option, Some, None, refl, sym, ap, ◌∙◌, subst, arith, length-append, append_assoc, ℤ, pos, cond, nat_lt}
+use Rattle.std.proofs.Common.{◌≡◌, ℕ, zero, suc, ◌+◌, ◌-◌, ◌^◌, ◌<◌, ◌≤◌, Bool, true, false, List, [], ◌∷◌, ◌++◌, map, length, get_or, Option, Some, None, refl}
+use Rattle.std.proofs.Common.{sym, ap, ◌∙◌, subst, arith, length-append, append_assoc, ℤ, pos, cond, nat_lt}
 use Rattle.std.specs.Prelude.{slice_get, if◌then◌else◌}
 use Rattle.std.specs.Arc.{arc_value}
 use Rattle.std.specs.declared.sync.Arc.{Arc}
@@ -27,7 +28,7 @@ use Rattle.trace_model.proofs.Lists.{map_agree}
 use Rattle.trace_model.proofs.Resent.{sent_as, limit_not_sent, alike}
 use Rattle.sent_batches.specs.Hashing.{hash_of, batch_hash}
 use Rattle.sent_batches.specs.Sent.{has_number, numbered_from, work_hash, hash_after, is_sent_after, Sent, IsKept}
-use Rattle.row_places.specs.Leading.{LeadsTo}
+use Rattle.hash_tables.specs.Leading.{LeadsTo}
 
 -- ---- batches that were sent as one another
 -- two works that a work resends resend one another
@@ -42,7 +43,10 @@ resent_has (brings.TraceLimit m) u e = absurd (false≢true e)
 
 -- and they have the same hash
 same_work_hash : (keys : BatchKeys) (b : Batch) (w : Work) → resends (brings.Batch b) w ≡ true → work_hash keys w ≡ batch_hash keys b
-same_work_hash keys b (brings.Batch a) e = let s = sent_as b a e in ap (λ (n : Option ℤ). hash_of keys (unwrap_or n (pos 0)) a.process) (sym s.number) ∙ ap (λ (p : Process). hash_of keys (unwrap_or b.seq_no (pos 0)) p) (sym s.process)
+same_work_hash keys b (brings.Batch a) e =
+    let s = sent_as b a e in
+    ap (λ (n : Option ℤ). hash_of keys (unwrap_or n (pos 0)) a.process) (sym s.number)
+    ∙ ap (λ (p : Process). hash_of keys (unwrap_or b.seq_no (pos 0)) p) (sym s.process)
 same_work_hash keys b (brings.TraceLimit n) e = absurd (false≢true e)
 
 -- the hash of the work is that of its batch
@@ -55,15 +59,18 @@ same_hash keys b (d ∷ h) zero e = same_work_hash keys b d.work e
 same_hash keys b (d ∷ h) (suc before) e = same_hash keys b h before e
 
 -- ---- the entries with a number
-pub numbered_push : (n : ℕ) (h : List Entry) (e : Entry) → numbered_from n (h ++ e ∷ []) ≡ numbered_from n h ++ (if has_number e.work then (n + length h) ∷ [] else [])
+pub numbered_push : (n : ℕ) (h : List Entry) (e : Entry)
+    → numbered_from n (h ++ e ∷ []) ≡ numbered_from n h ++ (if has_number e.work then (n + length h) ∷ [] else [])
 numbered_push n [] e = elim (has_number e.work) as (λ b. (if b then n ∷ [] else []) ≡ (if b then (n + 0) ∷ [] else [])) [
   | true ↦ ap (λ m. m ∷ []) (omega arith)
   | false ↦ refl
 ]
 numbered_push n (d ∷ h) e =
     let rest = numbered_push (n + 1) h e in
-    let last : (if has_number e.work then (n + 1 + length h) ∷ [] else []) ≡ (if has_number e.work then (n + suc (length h)) ∷ [] else []) = ap (λ m. if has_number e.work then m ∷ [] else []) (omega arith) in
-    elim (has_number d.work) as (λ b. (if b then n ∷ numbered_from (n + 1) (h ++ e ∷ []) else numbered_from (n + 1) (h ++ e ∷ [])) ≡ (if b then n ∷ numbered_from (n + 1) h else numbered_from (n + 1) h) ++ (if has_number e.work then (n + suc (length h)) ∷ [] else [])) [
+    let last : (if has_number e.work then (n + 1 + length h) ∷ [] else []) ≡ (if has_number e.work then (n + suc (length h)) ∷ [] else []) =
+    ap (λ m. if has_number e.work then m ∷ [] else []) (omega arith) in
+    elim (has_number d.work) as (λ b. (if b then n ∷ numbered_from (n + 1) (h ++ e ∷ []) else numbered_from (n + 1) (h ++ e ∷ []))
+    ≡ (if b then n ∷ numbered_from (n + 1) h else numbered_from (n + 1) h) ++ (if has_number e.work then (n + suc (length h)) ∷ [] else [])) [
       | true ↦ ap (λ ks. n ∷ ks) (rest ∙ ap (λ ks. numbered_from (n + 1) h ++ ks) last)
       | false ↦ rest ∙ ap (λ ks. numbered_from (n + 1) h ++ ks) last
     ]
@@ -72,12 +79,14 @@ numbered_push n (d ∷ h) e =
 pub numbered_below : (n : ℕ) (h : List Entry) (row : ℕ) → row < length (numbered_from n h) → get_or (numbered_from n h) row 0 < n + length h
 numbered_below n [] row l = absurd (omega arith)
 numbered_below n (d ∷ h) row l =
-    elim (has_number d.work) as (λ b. row < length (if b then n ∷ numbered_from (n + 1) h else numbered_from (n + 1) h) → get_or (if b then n ∷ numbered_from (n + 1) h else numbered_from (n + 1) h) row 0 < n + suc (length h)) [
+    elim (has_number d.work) as (λ b. row < length (if b then n ∷ numbered_from (n + 1) h else numbered_from (n + 1) h)
+    → get_or (if b then n ∷ numbered_from (n + 1) h else numbered_from (n + 1) h) row 0 < n + suc (length h)) [
       | true ↦ λ m. first (λ r below. numbered_below (n + 1) h r below) row m
       | false ↦ λ m. let r = numbered_below (n + 1) h row m in omega arith
     ] l
   where
-    first : ((r : ℕ) → r < length (numbered_from (n + 1) h) → get_or (numbered_from (n + 1) h) r 0 < n + 1 + length h) → (row : ℕ) → row < suc (length (numbered_from (n + 1) h)) → get_or (n ∷ numbered_from (n + 1) h) row 0 < n + suc (length h)
+    first : ((r : ℕ) → r < length (numbered_from (n + 1) h) → get_or (numbered_from (n + 1) h) r 0 < n + 1 + length h) → (row : ℕ)
+        → row < suc (length (numbered_from (n + 1) h)) → get_or (n ∷ numbered_from (n + 1) h) row 0 < n + suc (length h)
     first rest zero m = omega arith
     first rest (suc r) m = let below = rest r (omega arith) in omega arith
 
@@ -86,10 +95,12 @@ numbered_within h row l = let below = numbered_below 0 h row l in omega arith
 
 pub numbered_few : (n : ℕ) (h : List Entry) → length (numbered_from n h) ≤ length h
 numbered_few n [] = omega arith
-numbered_few n (d ∷ h) = let rest = numbered_few (n + 1) h in elim (has_number d.work) as (λ b. length (if b then n ∷ numbered_from (n + 1) h else numbered_from (n + 1) h) ≤ suc (length h)) [
-  | true ↦ omega arith
-  | false ↦ omega arith
-]
+numbered_few n (d ∷ h) =
+    let rest = numbered_few (n + 1) h in
+    elim (has_number d.work) as (λ b. length (if b then n ∷ numbered_from (n + 1) h else numbered_from (n + 1) h) ≤ suc (length h)) [
+      | true ↦ omega arith
+      | false ↦ omega arith
+    ]
 
 -- a row for each entry that has a number
 pub record IsRow (befores : List ℕ) (before : ℕ) : Type 0 where
@@ -114,7 +125,8 @@ row_there n (d ∷ h) (suc i) e at num =
     ]
 
 -- ---- hashes
-pub behind_same : (keys : BatchKeys) (h : List Entry) (e : Entry) (before : ℕ) → before < length h → hash_after keys (h ++ e ∷ []) before ≡ hash_after keys h before
+pub behind_same : (keys : BatchKeys) (h : List Entry) (e : Entry) (before : ℕ) → before < length h
+    → hash_after keys (h ++ e ∷ []) before ≡ hash_after keys h before
 behind_same keys [] e before l = absurd (omega arith)
 behind_same keys (d ∷ h) e zero l = refl
 behind_same keys (d ∷ h) e (suc before) l = behind_same keys h e before (omega arith)
@@ -123,23 +135,28 @@ pub behind_last : (keys : BatchKeys) (h : List Entry) (e : Entry) → hash_after
 behind_last keys [] e = refl
 behind_last keys (d ∷ h) e = behind_last keys h e
 
-pub hashes_same : (keys : BatchKeys) (h : List Entry) (e : Entry) → map (hash_after keys (h ++ e ∷ [])) (numbered_from 0 h) ≡ map (hash_after keys h) (numbered_from 0 h)
+pub hashes_same : (keys : BatchKeys) (h : List Entry) (e : Entry)
+    → map (hash_after keys (h ++ e ∷ [])) (numbered_from 0 h) ≡ map (hash_after keys h) (numbered_from 0 h)
 hashes_same keys h e =
     map_agree (hash_after keys (h ++ e ∷ [])) (hash_after keys h) (numbered_from 0 h)
-    (All-from_get_or (λ k. hash_after keys (h ++ e ∷ []) k ≡ hash_after keys h k) (numbered_from 0 h) 0 (λ r l. behind_same keys h e (get_or (numbered_from 0 h) r 0) (numbered_within h r l)))
+    (All-from_get_or (λ k. hash_after keys (h ++ e ∷ []) k ≡ hash_after keys h k) (numbered_from 0 h) 0
+    (λ r l. behind_same keys h e (get_or (numbered_from 0 h) r 0) (numbered_within h r l)))
 
 -- ---- no two were sent as one another
 any_false_at : {A : Type 0} (p : A → Bool) (xs : List A) (k : ℕ) (d : A) → list_any p xs ≡ false → k < length xs → p (get_or xs k d) ≡ false
 any_false_at p xs k d none l = false_from_ne_true (p (get_or xs k d)) (λ t. false≢true (sym none ∙ list_any_at p xs k d l t))
 
-once_pairs : (before h : List Entry) → SentOnceAfter before h → (i k : ℕ) (d : Entry) → i < length h → k < length before + i → resends (get_or h i d).work (get_or (before ++ h) k d).work ≡ false
+once_pairs : (before h : List Entry) → SentOnceAfter before h → (i k : ℕ) (d : Entry) → i < length h → k < length before + i
+    → resends (get_or h i d).work (get_or (before ++ h) k d).work ≡ false
 once_pairs before [] once i k d il kl = absurd (omega arith)
 once_pairs before (e ∷ h) once zero k d il kl =
     let within : k < length before = omega arith in
-    ap (λ (x : Entry). resends e.work x.work) (get_or_append_left before (e ∷ h) d k within) ∙ any_false_at (λ (x : Entry). resends e.work x.work) before k d once.0 within
+    ap (λ (x : Entry). resends e.work x.work) (get_or_append_left before (e ∷ h) d k within)
+    ∙ any_false_at (λ (x : Entry). resends e.work x.work) before k d once.0 within
 once_pairs before (e ∷ h) once (suc i) k d il kl =
     let long = length-append before (e ∷ []) in
-    ap (λ (xs : List Entry). resends (get_or h i d).work (get_or xs k d).work) (sym (append_assoc before (e ∷ []) h)) ∙ once_pairs (before ++ e ∷ []) h once.1 i k d (omega arith) (omega (arith, long))
+    ap (λ (xs : List Entry). resends (get_or h i d).work (get_or xs k d).work) (sym (append_assoc before (e ∷ []) h))
+    ∙ once_pairs (before ++ e ∷ []) h once.1 i k d (omega arith) (omega (arith, long))
 
 -- ---- what is found
 pub brought_is : (w : Work) (b : Batch) → batch_brought w ≡ Some b → w ≡ brings.Batch b
@@ -155,19 +172,22 @@ behind_is b [] i d l = absurd (omega arith)
 behind_is b (e ∷ h) zero d l = refl
 behind_is b (e ∷ h) (suc i) d l = behind_is b h i d (omega arith)
 
-pub found_some : (h : List Entry) (e : Entry) (b : Batch) (i : ℕ) → e.work ≡ brings.Batch b → SentOnceAfter [] h → i < length h → is_sent_after b h i ≡ true → Some i ≡ sent_before h e
+pub found_some : (h : List Entry) (e : Entry) (b : Batch) (i : ℕ) → e.work ≡ brings.Batch b → SentOnceAfter [] h → i < length h → is_sent_after b h i ≡ true
+    → Some i ≡ sent_before h e
 found_some h e b i brought once l sought =
     let p : Entry → Bool = λ d. resends e.work d.work in
     let at : p (get_or h i e) ≡ true = ap (λ w. resends w (get_or h i e).work) brought ∙ sym (behind_is b h i e l) ∙ sought in
     let earlier : (k : ℕ) → k < i → p (get_or h k e) ≡ false = λ k below.
-    false_from_ne_true (p (get_or h k e)) (λ t. false≢true (sym (once_pairs [] h once i k e l (omega arith)) ∙ resend_each_other e.work (get_or h i e).work (get_or h k e).work at t)) in
+    false_from_ne_true (p (get_or h k e))
+    (λ t. false≢true (sym (once_pairs [] h once i k e l (omega arith)) ∙ resend_each_other e.work (get_or h i e).work (get_or h k e).work at t)) in
     let is : position_or_len p h ≡ i = position_or_len_is p h i e (omega arith) earlier (λ _. at) in
     sym (ap (λ n. cond (nat_lt n (length h)) (Some n) None) is ∙ ap (λ x. cond x (Some i) None) (lt-ltb i (length h) l))
 
 none_more : (k : ℕ) → 0 + k ≡ k
 none_more k = omega arith
 
-pub found_none : (h : List Entry) (e : Entry) (b : Batch) → e.work ≡ brings.Batch b → ((row : ℕ) → row < length (numbered_from 0 h) → is_sent_after b h (get_or (numbered_from 0 h) row 0) ≡ false) → None ≡ sent_before h e
+pub found_none : (h : List Entry) (e : Entry) (b : Batch) → e.work ≡ brings.Batch b
+    → ((row : ℕ) → row < length (numbered_from 0 h) → is_sent_after b h (get_or (numbered_from 0 h) row 0) ≡ false) → None ≡ sent_before h e
 found_none h e b brought none =
     let p : Entry → Bool = λ d. resends e.work d.work in
     sym (sent_nowhere h e (list_any_none p h (λ k d l. false_from_ne_true (p (get_or h k d)) (λ t.
@@ -179,7 +199,9 @@ found_none h e b brought none =
 -- ---- one more entry
 -- a list that is longer by an entry with a number has one row more, and is else unchanged
 pub more_rows : (h : List Entry) (e : Entry) → has_number e.work ≡ true → numbered_from 0 (h ++ e ∷ []) ≡ numbered_from 0 h ++ length h ∷ []
-more_rows h e num = numbered_push 0 h e ∙ ap (λ b. numbered_from 0 h ++ (if b then (0 + length h) ∷ [] else [])) num ∙ ap (λ n. numbered_from 0 h ++ n ∷ []) (none_more (length h))
+more_rows h e num =
+    numbered_push 0 h e ∙ ap (λ b. numbered_from 0 h ++ (if b then (0 + length h) ∷ [] else [])) num
+    ∙ ap (λ n. numbered_from 0 h ++ n ∷ []) (none_more (length h))
 
 pub same_rows : (h : List Entry) (e : Entry) → has_number e.work ≡ false → numbered_from 0 (h ++ e ∷ []) ≡ numbered_from 0 h
 same_rows h e none = numbered_push 0 h e ∙ ap (λ b. numbered_from 0 h ++ (if b then (0 + length h) ∷ [] else [])) none ∙ append-nil (numbered_from 0 h)
@@ -191,7 +213,8 @@ pub record OneMore (h : List Entry) (e : Entry) (sent : Sent) : Type 0 where
   pub befores : length sent.befores < sent.room
   pub hashes : length sent.hashes < sent.room
 
-pub one_more : (entries : List (Arc Entry Global)) (a : Arc Entry Global) (e : Entry) (sent : Sent) → 0 < length entries → a ≡ get_or entries (length entries - 1) a → e ≡ arc_value a
+pub one_more : (entries : List (Arc Entry Global)) (a : Arc Entry Global) (e : Entry) (sent : Sent) → 0 < length entries
+    → a ≡ get_or entries (length entries - 1) a → e ≡ arc_value a
     → IsKept (before_last (map arc_value entries)) sent → length entries ≤ sent.room → OneMore (map arc_value entries) e sent
 one_more entries a e sent some is value kept room =
     let h = before_last (map arc_value entries) in
@@ -207,25 +230,33 @@ kept_same h e sent kept none more =
       fits = kept.fits;
       within = more.within;
       befores = kept.befores ∙ sym (same_rows before e none);
-      hashes = kept.hashes ∙ ap (map (hash_after sent.keys before)) kept.befores ∙ sym (hashes_same sent.keys before e) ∙ ap (map (hash_after sent.keys (before ++ e ∷ []))) (sym kept.befores);
+      hashes =
+          kept.hashes ∙ ap (map (hash_after sent.keys before)) kept.befores ∙ sym (hashes_same sent.keys before e)
+          ∙ ap (map (hash_after sent.keys (before ++ e ∷ []))) (sym kept.befores);
       leads = kept.leads;
     }
 
-pub kept_more : (h : List Entry) (e : Entry) (b : Batch) (sent more : Sent) → IsKept h sent → e.work ≡ brings.Batch b → is_some b.seq_no ≡ true → length (h ++ e ∷ []) ≤ sent.room
+pub kept_more : (h : List Entry) (e : Entry) (b : Batch) (sent more : Sent) → IsKept h sent → e.work ≡ brings.Batch b → is_some b.seq_no ≡ true
+    → length (h ++ e ∷ []) ≤ sent.room
     → more.keys ≡ sent.keys → more.room ≡ sent.room → more.befores ≡ sent.befores ++ length h ∷ [] → more.hashes ≡ sent.hashes ++ batch_hash sent.keys b ∷ []
     → LeadsTo (sent.hashes ++ batch_hash sent.keys b ∷ []) more.slots → IsKept (h ++ e ∷ []) more
 kept_more h e b sent more kept brought num room keys rooms befores hashes leads =
     let has : has_number e.work ≡ true = ap has_number brought ∙ num in
     let rows : more.befores ≡ numbered_from 0 (h ++ e ∷ []) = befores ∙ ap (λ ks. ks ++ length h ∷ []) kept.befores ∙ sym (more_rows h e has) in
     let last : hash_after sent.keys (h ++ e ∷ []) (length h) ≡ batch_hash sent.keys b = behind_last sent.keys h e ∙ ap (work_hash sent.keys) brought in
-    let old : map (hash_after sent.keys (h ++ e ∷ [])) (numbered_from 0 h) ≡ sent.hashes = hashes_same sent.keys h e ∙ ap (map (hash_after sent.keys h)) (sym kept.befores) ∙ sym kept.hashes in
+    let old : map (hash_after sent.keys (h ++ e ∷ [])) (numbered_from 0 h) ≡ sent.hashes =
+    hashes_same sent.keys h e ∙ ap (map (hash_after sent.keys h)) (sym kept.befores) ∙ sym kept.hashes in
     let all : map (hash_after sent.keys (h ++ e ∷ [])) (numbered_from 0 h ++ length h ∷ []) ≡ sent.hashes ++ batch_hash sent.keys b ∷ [] =
-    map_push (hash_after sent.keys (h ++ e ∷ [])) (numbered_from 0 h) (length h) ∙ ap (λ ks. ks ++ hash_after sent.keys (h ++ e ∷ []) (length h) ∷ []) old ∙ ap (λ k. sent.hashes ++ k ∷ []) last in
+    map_push (hash_after sent.keys (h ++ e ∷ [])) (numbered_from 0 h) (length h) ∙ ap (λ ks. ks ++ hash_after sent.keys (h ++ e ∷ []) (length h) ∷ []) old
+    ∙ ap (λ k. sent.hashes ++ k ∷ []) last in
     record {
       fits = subst (λ n. n < 2 ^ 32) (sym rooms) kept.fits;
       within = subst (λ n. length (h ++ e ∷ []) ≤ n) (sym rooms) room;
       befores = rows;
-      hashes = hashes ∙ sym all ∙ ap (map (hash_after sent.keys (h ++ e ∷ []))) (sym (more_rows h e has)) ∙ ap (λ (k : BatchKeys). map (hash_after k (h ++ e ∷ [])) (numbered_from 0 (h ++ e ∷ []))) (sym keys) ∙ ap (map (hash_after more.keys (h ++ e ∷ []))) (sym rows);
+      hashes =
+          hashes ∙ sym all ∙ ap (map (hash_after sent.keys (h ++ e ∷ []))) (sym (more_rows h e has))
+          ∙ ap (λ (k : BatchKeys). map (hash_after k (h ++ e ∷ [])) (numbered_from 0 (h ++ e ∷ []))) (sym keys)
+          ∙ ap (map (hash_after more.keys (h ++ e ∷ []))) (sym rows);
       leads = subst (λ hs. LeadsTo hs more.slots) (sym hashes) leads;
     }
 

@@ -7,7 +7,7 @@ use Rattle.trace_model.specs.declared.entry.Work.{Work}
 use Rattle.trace_model.specs.declared.entry.Work.TheVariants as brings
 use Rattle.trace_model.specs.Works.{batch_brought}
 use Rattle.trace_model.specs.Resending.{resends}
-use Rattle.row_places.specs.Leading.{Slots, LeadsTo}
+use Rattle.hash_tables.specs.Leading.{Slots, LeadsTo}
 use Rattle.sent_batches.specs.declared.keys.BatchKeys.{BatchKeys}
 use Rattle.sent_batches.specs.Hashing.{batch_hash}
 

@@ -9,7 +9,7 @@ ghost use Rattle.sent_batches.specs.Sent.{IsKept, has_number, work_hash};
 
 use crate::keys::BatchKeys;
 use crate::sought::SoughtBatch;
-use row_places::RowPlaces;
+use hash_tables::RowPlaces;
 use std::alloc::{AllocError, Global};
 use std::marker::Model;
 use std::sync::Arc;

@@ -3,8 +3,8 @@
 ghost use Rattle.std.specs.Prelude.{◌≡◌};
 ghost use Rattle.trace_model.specs.Resending.{is_sent_as};
 
+use hash_tables::Sought;
 use jaeger_model::Batch;
-use row_places::Sought;
 use std::sync::Arc;
 use trace_model::Entry;
 

@@ -25,7 +25,8 @@ services_listed ps =
     any_map p (λ (l : Listed). l.service) (listed_in ps) ∙ any_listed (λ (l : Listed). p l.service) ps ∙ sym (any_map p (λ (q : Placed). q.process.service) ps))
 
 -- the operations of a service, listed or among the arrivals
-any_operations : (s : List ℕ) (p : Operation → Bool) (ps : List Placed) → list_any p (operations_of s (listed_in ps)) ≡ list_any p (map operation_of (of_service s ps))
+any_operations : (s : List ℕ) (p : Operation → Bool) (ps : List Placed)
+    → list_any p (operations_of s (listed_in ps)) ≡ list_any p (map operation_of (of_service s ps))
 any_operations s p ps =
     any_map p (λ (l : Listed). l.operation) (filter (λ (l : Listed). same_text s l.service) (listed_in ps))
     ∙ any_filter (λ (l : Listed). p l.operation) (λ (l : Listed). same_text s l.service) (listed_in ps)
@@ -34,11 +35,13 @@ any_operations s p ps =
 
 pub operations_listed : (service kind : List ℕ) (ps : List Placed) → operations_in service kind (listed_in ps) ≡ operations service kind ps
 operations_listed s kind ps =
-    ap (filter (is_asked_kind kind)) (same_set operation_total operation_exact (operations_of s (listed_in ps)) (map operation_of (of_service s ps)) (λ p. any_operations s p ps))
+    ap (filter (is_asked_kind kind))
+    (same_set operation_total operation_exact (operations_of s (listed_in ps)) (map operation_of (of_service s ps)) (λ p. any_operations s p ps))
 
 pub names_listed : (service : List ℕ) (ps : List Placed) → names_in service (listed_in ps) ≡ operation_names service ps
 names_listed s ps =
     let name : Operation → List ℕ = λ o. o.name in
     same_set text_total text_exact (map name (operations_of s (listed_in ps))) (map (λ (p : Placed). p.span.operation) (of_service s ps)) (λ p.
-    any_map p name (operations_of s (listed_in ps)) ∙ any_operations s (λ o. p (name o)) ps ∙ any_map (λ (o : Operation). p o.name) operation_of (of_service s ps)
+    any_map p name (operations_of s (listed_in ps)) ∙ any_operations s (λ o. p (name o)) ps
+    ∙ any_map (λ (o : Operation). p o.name) operation_of (of_service s ps)
     ∙ sym (any_map p (λ (q : Placed). q.span.operation) (of_service s ps)))

@@ -3,15 +3,17 @@ use Rattle.std.proofs.Common.{◌≡◌, ℕ, ◌<◌, ◌≤◌, List, [], map,
 use Rattle.std.proofs.lemmas.List.Elements.{All-from_get_or}
 use Rattle.jaeger_model.specs.Texts.{sorted_set}
 use Rattle.trace_model.proofs.Lists.{map_agree}
-use Rattle.row_places.specs.Leading.{LeadsTo, AreOnce}
+use Rattle.hash_tables.specs.Leading.{LeadsTo, AreOnce}
 use Rattle.service_index.specs.Listing.{Listed, listed_cmp}
 use Rattle.service_index.specs.Naming.{Names, LabelValue, Labelling, group_alone, operation_labels, group_labels, Extends}
 use Rattle.service_index.specs.Probes.{Table, no_label, hashes_of, AreNumbers, IsNamed}
 use Rattle.service_index.specs.Indexes.{Index, listing_by, owners, IsLinked, IsIndexed}
 
 -- maps that agree below a count agree on numbers that are below it
-pub numbers_agree : {X : Type 0} (count : ℕ) (f g : ℕ → X) → ((n : ℕ) → n < count → f n ≡ g n) → (numbers : List ℕ) → ((r : ℕ) → r < length numbers → get_or numbers r 0 < count) → map f numbers ≡ map g numbers
-numbers_agree count f g same numbers held = map_agree f g numbers (All-from_get_or (λ n. f n ≡ g n) numbers 0 (λ r below. same (get_or numbers r 0) (held r below)))
+pub numbers_agree : {X : Type 0} (count : ℕ) (f g : ℕ → X) → ((n : ℕ) → n < count → f n ≡ g n) → (numbers : List ℕ)
+    → ((r : ℕ) → r < length numbers → get_or numbers r 0 < count) → map f numbers ≡ map g numbers
+numbers_agree count f g same numbers held =
+    map_agree f g numbers (All-from_get_or (λ n. f n ≡ g n) numbers 0 (λ r below. same (get_or numbers r 0) (held r below)))
 
 -- more labels, with the old ones unchanged
 pub record Grows (labels more : Labelling) : Type 0 where
@@ -42,17 +44,20 @@ groups_grow : (names more : Names) → Extends names more → Grows (group_label
 groups_grow names more e = record { count = e.count; same = λ n below. ap group_alone (e.group n below) }
 
 pub owners_extend : (names more : Names) (numbers : List ℕ) → Extends names more → AreNumbers names.count numbers → owners more numbers ≡ owners names numbers
-owners_extend names more numbers e h = numbers_agree names.count (λ n. (more.at n).service) (λ n. (names.at n).service) (λ n below. ap (λ (l : Listed). l.service) (e.same n below)) numbers h.held
+owners_extend names more numbers e h =
+    numbers_agree names.count (λ n. (more.at n).service) (λ n. (names.at n).service) (λ n below. ap (λ (l : Listed). l.service) (e.same n below)) numbers h.held
 
 pub indexed_extends : (names more : Names) (index : Index) → Extends names more → IsIndexed names index → IsIndexed more index
 indexed_extends names more index e h = record {
   operations = named_extends (operation_labels names) (operation_labels more) index.operations (operations_grow names more e) h.operations;
   services = named_extends (group_labels names) (group_labels more) index.services (groups_grow names more e) h.services;
   linked =
-      subst (λ (x : List (List ℕ)). IsLinked x (owners more index.services.numbers) index.newest index.earlier) (sym (owners_extend names more index.operations.numbers e (record { held = h.operations.numbers.held })))
+      subst (λ (x : List (List ℕ)). IsLinked x (owners more index.services.numbers) index.newest index.earlier)
+      (sym (owners_extend names more index.operations.numbers e (record { held = h.operations.numbers.held })))
       (subst (λ (x : List (List ℕ)). IsLinked (owners names index.operations.numbers) x index.newest index.earlier)
       (sym (owners_extend names more index.services.numbers e (record { held = h.services.numbers.held }))) h.linked);
 }
 
 pub listing_extends : (names more : Names) (index : Index) → Extends names more → IsIndexed names index → listing_by more index ≡ listing_by names index
-listing_extends names more index e h = ap (sorted_set listed_cmp) (numbers_agree names.count more.at names.at e.same index.operations.numbers h.operations.numbers.held)
+listing_extends names more index e h =
+    ap (sorted_set listed_cmp) (numbers_agree names.count more.at names.at e.same index.operations.numbers h.operations.numbers.held)

@@ -25,12 +25,15 @@ same_listed_by_cmp a b =
     (λ i. texts_ties a.service b.service i && same_operation_by_cmp a.operation b.operation i)
     ∙ sym (then_eq (text_cmp a.service b.service) (operation_cmp a.operation b.operation))
 
-absorbed : (ls : List Listed) (l q : Listed) → list_any (same_listed l) ls ≡ true → (eq_by_cmp listed_cmp q l || list_any (eq_by_cmp listed_cmp q) ls) ≡ list_any (eq_by_cmp listed_cmp q) ls
-absorbed ls l q known = elim (listed_cmp q l) as (λ r. listed_cmp q l ≡ r → (is_eq r || list_any (eq_by_cmp listed_cmp q) ls) ≡ list_any (eq_by_cmp listed_cmp q) ls) [
-  | Less ↦ λ e. refl
-  | Equal ↦ λ e. sym (ap (λ x. list_any (eq_by_cmp listed_cmp x) ls) (listed_exact q l e) ∙ sym (any_agree (same_listed l) (eq_by_cmp listed_cmp l) (same_listed_by_cmp l) ls) ∙ known)
-  | Greater ↦ λ e. refl
-] refl
+absorbed : (ls : List Listed) (l q : Listed) → list_any (same_listed l) ls ≡ true
+    → (eq_by_cmp listed_cmp q l || list_any (eq_by_cmp listed_cmp q) ls) ≡ list_any (eq_by_cmp listed_cmp q) ls
+absorbed ls l q known =
+    elim (listed_cmp q l) as (λ r. listed_cmp q l ≡ r → (is_eq r || list_any (eq_by_cmp listed_cmp q) ls) ≡ list_any (eq_by_cmp listed_cmp q) ls) [
+      | Less ↦ λ e. refl
+      | Equal ↦ λ e. sym (ap (λ x. list_any (eq_by_cmp listed_cmp x) ls) (listed_exact q l e)
+          ∙ sym (any_agree (same_listed l) (eq_by_cmp listed_cmp l) (same_listed_by_cmp l) ls) ∙ known)
+      | Greater ↦ λ e. refl
+    ] refl
 
 -- adding what is listed changes nothing
 pub known_again : (ls : List Listed) (l : Listed) → IsStrictlySortedBy listed_cmp ls → list_any (same_listed l) ls ≡ true → insert_once listed_cmp ls l ≡ ls

@@ -5,3 +5,10 @@ pub mod Probing
 pub mod Linking
 pub mod Extending
 pub mod Ordering
+pub mod PlacesGrouping
+pub mod Walking
+pub mod Following
+pub mod Numbering
+pub mod ArrivalNaming
+pub mod AllKinds
+pub mod KindsKept

@@ -1,5 +1,6 @@
 -- Labels among the rows of a table.
-use Rattle.std.proofs.Common.{◌≡◌, ℕ, ◌^◌, ◌<◌, Bool, true, false, List, [], ◌∷◌, ◌++◌, map, length, get_or, Option, Some, None, refl, sym, ap, subst, ◌∙◌, inl, inr, arith, length-append}
+use Rattle.std.proofs.Common.{◌≡◌, ℕ, ◌^◌, ◌<◌, Bool, true, false, List, [], ◌∷◌, ◌++◌, map, length, get_or, Option, Some, None, refl, sym, ap, subst, ◌∙◌, inl}
+use Rattle.std.proofs.Common.{inr, arith, length-append}
 use Rattle.std.specs.Prelude.{◌==◌}
 use Rattle.std.specs.Ordering.{is_eq}
 use Rattle.std.specs.Cmp.Lexicographic.{bytes_decides}
@@ -10,8 +11,8 @@ use Rattle.std.proofs.lemmas.Bool.{false≢true, cases_lt, cond_below, cond_abov
 use Rattle.std.proofs.lemmas.Bool.Decides.{Decides-eqb, Decides-and, Decides-like, not_from_Decides}
 use Rattle.std.proofs.lemmas.List.{length-map, map_push, get_or-map, get_or_append_left, get_or_push}
 use Rattle.std.specs.declared.random_state.RandomState.{RandomState}
-use Rattle.row_places.specs.Leading.{Slots, LeadsTo, Found, AreOnce}
-use Rattle.row_places.proofs.Once.{row_none, row_some, once_more}
+use Rattle.hash_tables.specs.Leading.{Slots, LeadsTo, Found, AreOnce}
+use Rattle.hash_tables.proofs.Once.{row_none, row_some, once_more}
 use Rattle.jaeger_model.specs.Texts.{same_text}
 use Rattle.service_index.specs.Naming.{LabelValue, same_label, Labelling}
 use Rattle.service_index.specs.Probes.{Table, no_label, label_at, hash_of, hashes_of, AreNumbers, IsNamed, row_of, with_number}
@@ -40,20 +41,24 @@ label_of labels numbers r below = get_or-map labels.at numbers r 0 no_label belo
 abbrev pub is_label : Labelling → List ℕ → LabelValue → ℕ → Bool
 is_label labels numbers label row = same_label (labels.at (get_or numbers row 0)) label
 
-pub is_at : (labels : Labelling) (numbers : List ℕ) (label : LabelValue) (row : ℕ) → row < length numbers → is_label labels numbers label row ≡ true → label_at (map labels.at numbers) row ≡ label
+pub is_at : (labels : Labelling) (numbers : List ℕ) (label : LabelValue) (row : ℕ) → row < length numbers → is_label labels numbers label row ≡ true
+    → label_at (map labels.at numbers) row ≡ label
 is_at labels numbers label row below e = label_of labels numbers row below ∙ same_is (labels.at (get_or numbers row 0)) label e
 
 -- hashes
-pub hash_of_row : (labels : Labelling) (keys : RandomState) (numbers : List ℕ) (row : ℕ) → row < length (hashes_of keys (map labels.at numbers)) → get_or (hashes_of keys (map labels.at numbers)) row 0 ≡ hash_of keys (labels.at (get_or numbers row 0))
+pub hash_of_row : (labels : Labelling) (keys : RandomState) (numbers : List ℕ) (row : ℕ) → row < length (hashes_of keys (map labels.at numbers))
+    → get_or (hashes_of keys (map labels.at numbers)) row 0 ≡ hash_of keys (labels.at (get_or numbers row 0))
 hash_of_row labels keys numbers row below =
     let k = length-map (map labels.at numbers) (hash_of keys) in
     let l = length-map numbers labels.at in
     get_or-map (hash_of keys) (map labels.at numbers) row no_label 0 (omega arith) ∙ ap (hash_of keys) (label_of labels numbers row (omega arith))
 
 -- equal labels have equal hashes
-pub same_hash : (labels : Labelling) (keys : RandomState) (numbers : List ℕ) (label : LabelValue) (hash row : ℕ) → hash ≡ hash_of keys label → row < length (hashes_of keys (map labels.at numbers)) → is_label labels numbers label row ≡ true
+pub same_hash : (labels : Labelling) (keys : RandomState) (numbers : List ℕ) (label : LabelValue) (hash row : ℕ) → hash ≡ hash_of keys label
+    → row < length (hashes_of keys (map labels.at numbers)) → is_label labels numbers label row ≡ true
     → get_or (hashes_of keys (map labels.at numbers)) row 0 ≡ hash
-same_hash labels keys numbers label hash row is below e = hash_of_row labels keys numbers row below ∙ ap (hash_of keys) (same_is (labels.at (get_or numbers row 0)) label e) ∙ sym is
+same_hash labels keys numbers label hash row is below e =
+    hash_of_row labels keys numbers row below ∙ ap (hash_of keys) (same_is (labels.at (get_or numbers row 0)) label e) ∙ sym is
 
 -- what was found
 abbrev pub row_in : List ℕ → Option ℕ → ℕ
@@ -61,30 +66,36 @@ row_in numbers (Some r) = r
 row_in numbers None = length numbers
 
 -- the row that was found, over the fields as they are read
-pub found_of : (labels : Labelling) (keys : RandomState) (xs numbers : List ℕ) (said label : LabelValue) (r : Option ℕ) → xs ≡ numbers → said ≡ label → Found (length (hashes_of keys (map labels.at xs))) (is_label labels xs said) r
+pub found_of : (labels : Labelling) (keys : RandomState) (xs numbers : List ℕ) (said label : LabelValue) (r : Option ℕ) → xs ≡ numbers → said ≡ label
+    → Found (length (hashes_of keys (map labels.at xs))) (is_label labels xs said) r
     → Found (length numbers) (is_label labels numbers label) r
 found_of labels keys xs numbers said label r e s f =
     subst (λ (ys : List ℕ). Found (length ys) (is_label labels ys label) r) e (subst (λ (y : LabelValue). Found (length xs) (is_label labels xs y) r) s
     (subst (λ (n : ℕ). Found n (is_label labels xs said) r) (length-map (map labels.at xs) (hash_of keys) ∙ length-map xs labels.at) f))
 
-pub nowhere_of : (labels : Labelling) (numbers : List ℕ) (label : LabelValue) → Found (length numbers) (is_label labels numbers label) None → (r : ℕ) → r < length (map labels.at numbers) → label_at (map labels.at numbers) r ≡ label → ⊥
+pub nowhere_of : (labels : Labelling) (numbers : List ℕ) (label : LabelValue) → Found (length numbers) (is_label labels numbers label) None → (r : ℕ)
+    → r < length (map labels.at numbers) → label_at (map labels.at numbers) r ≡ label → ⊥
 nowhere_of labels numbers label f r below e =
     let l = length-map numbers labels.at in
-    not_from_Decides (same_label (labels.at (get_or numbers r 0)) label) (same_label-decides (labels.at (get_or numbers r 0)) label) (f r (omega arith)) (sym (label_of labels numbers r (omega arith)) ∙ e)
+    not_from_Decides (same_label (labels.at (get_or numbers r 0)) label) (same_label-decides (labels.at (get_or numbers r 0)) label) (f r (omega arith))
+    (sym (label_of labels numbers r (omega arith)) ∙ e)
 
-pub row_is : (labels : Labelling) (t : Table) (label : LabelValue) → IsNamed labels t → (r : Option ℕ) → Found (length t.numbers) (is_label labels t.numbers label) r → row_in t.numbers r ≡ row_of labels t.numbers label
+pub row_is : (labels : Labelling) (t : Table) (label : LabelValue) → IsNamed labels t → (r : Option ℕ)
+    → Found (length t.numbers) (is_label labels t.numbers label) r → row_in t.numbers r ≡ row_of labels t.numbers label
 row_is labels t label h (Some r) f =
     let l = length-map t.numbers labels.at in
     let w = f.0 in
     sym (row_some same_label same_label-decides no_label label (map labels.at t.numbers) r (omega arith) (is_at labels t.numbers label r f.0 f.1) h.once)
-row_is labels t label h None f = sym (row_none same_label same_label-decides no_label label (map labels.at t.numbers) (nowhere_of labels t.numbers label f) ∙ length-map t.numbers labels.at)
+row_is labels t label h None f =
+    sym (row_none same_label same_label-decides no_label label (map labels.at t.numbers) (nowhere_of labels t.numbers label f) ∙ length-map t.numbers labels.at)
 
 -- the numbers afterwards
 abbrev pub numbers_in : List ℕ → ℕ → Option ℕ → List ℕ
 numbers_in numbers n (Some r) = numbers
 numbers_in numbers n None = numbers ++ n ∷ []
 
-pub numbers_are : (labels : Labelling) (t : Table) (n : ℕ) → IsNamed labels t → (r : Option ℕ) → Found (length t.numbers) (is_label labels t.numbers (labels.at n)) r → numbers_in t.numbers n r ≡ with_number labels t.numbers n
+pub numbers_are : (labels : Labelling) (t : Table) (n : ℕ) → IsNamed labels t → (r : Option ℕ)
+    → Found (length t.numbers) (is_label labels t.numbers (labels.at n)) r → numbers_in t.numbers n r ≡ with_number labels t.numbers n
 numbers_are labels t n h (Some r) f =
     let e = row_is labels t (labels.at n) h (Some r) f in
     let b = f.0 in
@@ -94,7 +105,8 @@ numbers_are labels t n h None f =
     cond_above (row_of labels t.numbers (labels.at n)) (length t.numbers) t.numbers (t.numbers ++ n ∷ []) (t.numbers ++ n ∷ []) (omega arith) refl
 
 -- no number yet
-pub named_empty : (labels : Labelling) (keys : RandomState) (room : ℕ) (slots : Slots) → room < 2 ^ 32 → LeadsTo [] slots → IsNamed labels (record { numbers = []; room = room; keys = keys; slots = slots })
+pub named_empty : (labels : Labelling) (keys : RandomState) (room : ℕ) (slots : Slots) → room < 2 ^ 32 → LeadsTo [] slots
+    → IsNamed labels (record { numbers = []; room = room; keys = keys; slots = slots })
 named_empty labels keys room slots fits leads = record {
   fits = fits;
   within = omega arith;
@@ -115,8 +127,10 @@ numbers_more count numbers n h held = record {
   ];
 }
 
-pub named_more : (labels : Labelling) (t : Table) (n : ℕ) (slots : Slots) → IsNamed labels t → n < labels.count → length t.numbers < t.room → Found (length t.numbers) (is_label labels t.numbers (labels.at n)) None
-    → LeadsTo (hashes_of t.keys (map labels.at t.numbers) ++ hash_of t.keys (labels.at n) ∷ []) slots → IsNamed labels (record { numbers = t.numbers ++ n ∷ []; room = t.room; keys = t.keys; slots = slots })
+pub named_more : (labels : Labelling) (t : Table) (n : ℕ) (slots : Slots) → IsNamed labels t → n < labels.count → length t.numbers < t.room
+    → Found (length t.numbers) (is_label labels t.numbers (labels.at n)) None
+    → LeadsTo (hashes_of t.keys (map labels.at t.numbers) ++ hash_of t.keys (labels.at n) ∷ []) slots
+    → IsNamed labels (record { numbers = t.numbers ++ n ∷ []; room = t.room; keys = t.keys; slots = slots })
 named_more labels t n slots h held more f leads =
     let known = map labels.at t.numbers in
     let m = length-append t.numbers (n ∷ []) in
@@ -126,5 +140,7 @@ named_more labels t n slots h held more f leads =
       within = omega arith;
       numbers = numbers_more labels.count t.numbers n h.numbers held;
       once = subst (AreOnce no_label) pushed (once_more no_label known (labels.at n) h.once (nowhere_of labels t.numbers (labels.at n) f));
-      leads = subst (λ (xs : List LabelValue). LeadsTo (hashes_of t.keys xs) slots) pushed (subst (λ (hs : List ℕ). LeadsTo hs slots) (sym (map_push (hash_of t.keys) known (labels.at n))) leads);
+      leads =
+          subst (λ (xs : List LabelValue). LeadsTo (hashes_of t.keys xs) slots) pushed
+          (subst (λ (hs : List ℕ). LeadsTo hs slots) (sym (map_push (hash_of t.keys) known (labels.at n))) leads);
     }

@@ -25,7 +25,8 @@ module _ {K : Type 0} {cmp : K → K → Ordering} (o : IsTotalOrder cmp) (exact
   same_set xs ys same = is_set (sorted_set cmp xs) ys (sorted_set-rises o xs) (λ p. any_set exact p xs ∙ same p)
 
   -- one more member
-  pub set_more : (xs ys : List K) (x : K) → ((p : K → Bool) → list_any p ys ≡ (p x || list_any p xs)) → sorted_set cmp ys ≡ insert_once cmp (sorted_set cmp xs) x
+  pub set_more : (xs ys : List K) (x : K) → ((p : K → Bool) → list_any p ys ≡ (p x || list_any p xs))
+      → sorted_set cmp ys ≡ insert_once cmp (sorted_set cmp xs) x
   set_more xs ys x more = sym (is_set (insert_once cmp (sorted_set cmp xs) x) ys (rises_insert o (sorted_set cmp xs) x (sorted_set-rises o xs)) (λ p.
       any_insert exact p (sorted_set cmp xs) x ∙ ap (λ b. p x || b) (any_set exact p xs) ∙ sym (more p)))
 

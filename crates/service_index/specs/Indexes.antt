@@ -70,7 +70,9 @@ pub record LeadsBack (rows : ℕ) (earlier : List ℕ) : Type 0 where
 
 -- these are the operations of each service whose newest row this is
 abbrev pub AreFrom : Names → List ℕ → ℕ → List Operation → Type 0
-AreFrom names numbers newest os = (service : List ℕ) → IsNewest (owners names numbers) service newest (length numbers) → sorted_set operation_cmp os ≡ own_operations service (map names.at numbers)
+AreFrom names numbers newest os =
+    (service : List ℕ) → IsNewest (owners names numbers) service newest (length numbers)
+    → sorted_set operation_cmp os ≡ own_operations service (map names.at numbers)
 
 pub record IsLinked (rows services : List (List ℕ)) (newest earlier : List ℕ) : Type 0 where
   pub as_many : length newest ≡ length services

@@ -3,3 +3,9 @@ pub mod Naming
 pub mod Probes
 pub mod LinkedRows
 pub mod Indexes
+pub mod Reported
+pub mod PlacesAlong
+pub mod ArrivalNumbers
+pub mod NamesKept
+pub mod ArrivalGroups
+pub mod TakenNames

@@ -53,7 +53,8 @@ group_alone group = record { group = group; name = []; kind = [] }
 
 -- each number by its operation in its group
 abbrev pub operation_labels : Names → Labelling
-operation_labels names = record { count = names.count; at = λ n. record { group = names.group n; name = (names.at n).operation.name; kind = (names.at n).operation.kind } }
+operation_labels names =
+    record { count = names.count; at = λ n. record { group = names.group n; name = (names.at n).operation.name; kind = (names.at n).operation.kind } }
 
 -- each number by its group alone
 abbrev pub group_labels : Names → Labelling

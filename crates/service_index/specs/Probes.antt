@@ -5,7 +5,7 @@ use Rattle.std.specs.Hash as fed
 use Rattle.std.specs.Hash.DefaultHasher as sip
 use Rattle.std.specs.RandomState.{initial_hasher}
 use Rattle.std.specs.declared.random_state.RandomState.{RandomState}
-use Rattle.row_places.specs.Leading.{Slots, LeadsTo, AreOnce}
+use Rattle.hash_tables.specs.Leading.{Slots, LeadsTo, AreOnce}
 use Rattle.service_index.specs.Naming.{LabelValue, same_label, Labelling, group_alone}
 
 -- the value of a table: the numbers in the order of adding, the number of those that there is room for in all, and

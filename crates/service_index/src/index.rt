@@ -40,7 +40,14 @@ impl Model for ServiceIndex {
 
     ghost Value = { Index };
 
-    ghost view = { λ i. record { operations = i.operations; services = i.services; newest = i.links.newest; earlier = i.links.earlier; used = i.used; room = i.room } };
+    ghost view = { λ i. record {
+      operations = i.operations;
+      services = i.services;
+      newest = i.links.newest;
+      earlier = i.links.earlier;
+      used = i.used;
+      room = i.room;
+    } };
 
     ghost invariant = { λ i. (i.links.room ≡ i.room)
         × IsSized i.used i.room i.operations i.services i.links.newest i.links.earlier };

@@ -23,9 +23,13 @@
 //! * `sought_label`: the label to find, and the rows that are searched.
 //! * `links`: the rows of each service, from the newest on: the [`RowLinks`].
 //! * `operation_sets`: services and operations, sorted and without duplicates.
+//! * `service_places`: the places of the entries of each service, and a number for each service: the
+//!   [`ServicePlaces`].
+//! * `arrival_names`: the services and operations of the arrivals, by arrival numbers: the [`ArrivalNames`].
 //! * `laws`: facts about the definitions of `specs/`.
 #![tactic(auto)]
 
+pub mod arrival_names;
 mod guesses;
 mod index;
 mod labels;
@@ -33,12 +37,15 @@ pub mod laws;
 mod links;
 mod name_table;
 mod operation_sets;
+pub mod service_places;
 mod sought_label;
 mod texts;
 
+pub use arrival_names::{ArrivalNames, ArrivalNumbers, TakenOperation};
 pub use index::ServiceIndex;
 pub use labels::{Label, Labels};
 pub use links::RowLinks;
 pub use name_table::NameTable;
 pub use operation_sets::{sorted_names, sorted_operations, sorted_texts};
+pub use service_places::{Places, ServicePlaces};
 pub use texts::Texts;

@@ -8,7 +8,7 @@ ghost use Rattle.service_index.specs.Probes.{IsNamed, row_of, with_number};
 use crate::guesses::Guesses;
 use crate::labels::{Label, Labels, is_label};
 use crate::sought_label::{SoughtLabel, label_hash};
-use row_places::RowPlaces;
+use hash_tables::RowPlaces;
 use std::alloc::{AllocError, Global};
 use std::hash::RandomState;
 use std::marker::Model;

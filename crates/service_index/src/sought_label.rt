@@ -5,7 +5,7 @@ ghost use Rattle.service_index.specs.Naming.{label_value};
 ghost use Rattle.service_index.specs.Probes.{hash_of};
 
 use crate::labels::{Label, Labels, is_label};
-use row_places::Sought;
+use hash_tables::Sought;
 use std::hash::{BuildHasher, Hash, Hasher, RandomState};
 
 /// Returns the hash of a label, each part of which is delimited.

@@ -8,7 +8,9 @@ below : (a b : ℕ) → nat_lt a b ≡ true → a < b
 below a b e = grind (arith, nat_tests)
 
 pub place_within : {X : Type 0} (p : X → Bool) (xs : List X) → IfSome (position p xs) (λ i. i < length xs)
-place_within {X} p xs = let n = position_or_len p xs in elim (nat_lt n (length xs)) as (λ t. nat_lt n (length xs) ≡ t → IfSome (cond t (Some n) None) (λ i. i < length xs)) [
-  | true ↦ λ e. below n (length xs) e
-  | false ↦ λ e. tt
-] refl
+place_within {X} p xs =
+    let n = position_or_len p xs in
+    elim (nat_lt n (length xs)) as (λ t. nat_lt n (length xs) ≡ t → IfSome (cond t (Some n) None) (λ i. i < length xs)) [
+      | true ↦ λ e. below n (length xs) e
+      | false ↦ λ e. tt
+    ] refl

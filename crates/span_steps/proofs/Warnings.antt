@@ -13,7 +13,8 @@ use Rattle.span_steps.specs.Warnings.{warning_of, warning_text, shown_by}
 
 by_tests : (m : ℕ) (d : ℤ) (p : Placed) (none within fit : Bool)
     → shown_by (if none then None else if not within then Some (PastLimit d m) else if not fit then Some (PastTimes d) else Some (Adjusted d)) p
-    ≡ (if none then unadjusted p else if not within then warned p (past_limit d m) else if not fit then warned p (past_times d) else warned (moved_placed d p) (adjusted_by d))
+    ≡ (if none then unadjusted p else if not within then warned p (past_limit d m) else if not fit then warned p (past_times d) else warned (moved_placed d p)
+    (adjusted_by d))
 by_tests m d p true within fit = refl
 by_tests m d p false false fit = refl
 by_tests m d p false true false = refl
@@ -28,7 +29,8 @@ nothing_said m d s o e none =
     (λ i. record { placed = s.placed; warnings = sym (append-nil s.warnings) i })
     ∙ ap (said_after s) (ap (λ r. shown_by r s.placed) (sym none ∙ e) ∙ shown_is m d s.placed)
 
-said : (m : ℕ) (d : ℤ) (s : Shown) (w : Warning) → Some w ≡ warning_of m d s.placed.span → said_after s (shown_by (Some w) s.placed) ≡ said_after s (shifted m d s.placed)
+said : (m : ℕ) (d : ℤ) (s : Shown) (w : Warning) → Some w ≡ warning_of m d s.placed.span
+    → said_after s (shown_by (Some w) s.placed) ≡ said_after s (shifted m d s.placed)
 said m d s w e = ap (said_after s) (ap (λ r. shown_by r s.placed) e ∙ shown_is m d s.placed)
 
 unmoved : (w : Warning) (p : Placed) → ((d : ℤ) → w ≡ Adjusted d → ⊥) → shown_by (Some w) p ≡ warned p (warning_text w)

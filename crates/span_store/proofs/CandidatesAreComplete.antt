@@ -1,5 +1,6 @@
 -- The traces that a search by a service considers are all that can match.
-use Rattle.std.proofs.Common.{◌≡◌, ℕ, suc, ◌-◌, eq-eqb, Some, None, Option, Bool, true, false, ◌||◌, ◌&&◌, cond, List, [], ◌∷◌, ◌++◌, map, length, get_or, zero, ◌+◌, ◌<◌, ◌≤◌, refl, sym, ap, ◌∙◌, arith}
+use Rattle.std.proofs.Common.{◌≡◌, ℕ, suc, ◌-◌, eq-eqb, Some, None, Option, Bool, true, false, ◌||◌, ◌&&◌, cond, List, [], ◌∷◌, ◌++◌, map, length, get_or, zero}
+use Rattle.std.proofs.Common.{◌+◌, ◌<◌, ◌≤◌, refl, sym, ap, ◌∙◌, arith}
 use Rattle.std.specs.Prelude.{filter, flat_map, if◌then◌else◌, take, ◌==◌, nat_lt, is_some, slice_get}
 use Rattle.std.specs.List.{list_any, list_all, cons_option}
 use Rattle.std.specs.Option.{option_and_then}
@@ -31,9 +32,9 @@ use Rattle.trace_model.specs.Places.{entry_at}
 use Rattle.trace_assembly.specs.declared.spot.Spot.{Spot}
 use Rattle.trace_assembly.specs.Located.{span_at}
 use Rattle.trace_assembly.specs.Rows.{is_of}
-use Rattle.arrival_names.proofs.Numbering.{arrivals_push}
-use Rattle.arrival_names.specs.Kept.{reports_service, reports_operation}
-use Rattle.service_places.specs.Reported.{reporters, places_upto, places_of, group_in, group_of, AreGroups}
+use Rattle.service_index.proofs.Numbering.{arrivals_push}
+use Rattle.service_index.specs.NamesKept.{reports_service, reports_operation}
+use Rattle.service_index.specs.Reported.{reporters, places_upto, places_of, group_in, group_of, AreGroups}
 use Rattle.journal_traces.specs.Picked.{reaches, meets, met, met_or_none, met_at, met_along, near_along}
 use Rattle.journal_traces.specs.Reporting.{is_reported, are_reported}
 use Rattle.journal_traces.specs.Standing.{spans_named}
@@ -50,15 +51,21 @@ or_more : (a b c : Bool) → (b ≡ true → c ≡ true) → (a || b) ≡ true �
 or_more true b c f e = refl
 or_more false b c f e = f e
 
-any_lasting : {X : Type 0} (q : X → Bool) (keeps : List (Event X) → Event X → Bool) (before rest : List (Event X)) → list_any q (without_limits (lasting_after keeps before rest)) ≡ true → list_any q (without_limits rest) ≡ true
+any_lasting : {X : Type 0} (q : X → Bool) (keeps : List (Event X) → Event X → Bool) (before rest : List (Event X))
+    → list_any q (without_limits (lasting_after keeps before rest)) ≡ true → list_any q (without_limits rest) ≡ true
 any_lasting q keeps before [] h = h
 any_lasting q keeps before (came x ∷ rest) h =
-    elim (list_all (λ xs. keeps xs (came x)) (longer_prefixes before (came x ∷ rest))) as (λ b. list_any q (without_limits (if b then came x ∷ lasting_after keeps (before ++ came x ∷ []) rest else lasting_after keeps (before ++ came x ∷ []) rest)) ≡ true → (q x || list_any q (without_limits rest)) ≡ true) [
-      | true ↦ or_more (q x) (list_any q (without_limits (lasting_after keeps (before ++ came x ∷ []) rest))) (list_any q (without_limits rest)) (any_lasting q keeps (before ++ came x ∷ []) rest)
+    elim (list_all (λ xs. keeps xs (came x)) (longer_prefixes before (came x ∷ rest))) as (λ b.
+    list_any q (without_limits (if b then came x ∷ lasting_after keeps (before ++ came x ∷ []) rest else lasting_after keeps (before ++ came x ∷ []) rest))
+    ≡ true → (q x || list_any q (without_limits rest)) ≡ true) [
+      | true ↦ or_more (q x) (list_any q (without_limits (lasting_after keeps (before ++ came x ∷ []) rest))) (list_any q (without_limits rest))
+          (any_lasting q keeps (before ++ came x ∷ []) rest)
       | false ↦ λ k. or_right (q x) (list_any q (without_limits rest)) (any_lasting q keeps (before ++ came x ∷ []) rest k)
     ] h
 any_lasting q keeps before (limited m ∷ rest) h =
-    elim (list_all (λ xs. keeps xs (limited m)) (longer_prefixes before (limited m ∷ rest))) as (λ b. list_any q (without_limits (if b then limited m ∷ lasting_after keeps (before ++ limited m ∷ []) rest else lasting_after keeps (before ++ limited m ∷ []) rest)) ≡ true → list_any q (without_limits rest) ≡ true) [
+    elim (list_all (λ xs. keeps xs (limited m)) (longer_prefixes before (limited m ∷ rest))) as (λ b.
+    list_any q (without_limits (if b then limited m ∷ lasting_after keeps (before ++ limited m ∷ []) rest else lasting_after keeps
+    (before ++ limited m ∷ []) rest)) ≡ true → list_any q (without_limits rest) ≡ true) [
       | true ↦ any_lasting q keeps (before ++ limited m ∷ []) rest
       | false ↦ any_lasting q keeps (before ++ limited m ∷ []) rest
     ] h
@@ -78,7 +85,8 @@ is_hit q t p = same_trace t (trace_of p) && matches q p
 match_reported : (q : Find) (p : Placed) → matches q p ≡ true → same_text p.process.service q.service ≡ true
 match_reported q p e =
     let named = first_true (is_named q p) (is_timed q p) (list_all (has_tag p) q.tags) e in
-    text_turned p.process.service q.service ∙ (and_parts (same_text q.service p.process.service) (same_text q.operation [] || same_text q.operation p.span.operation) named).0
+    text_turned p.process.service q.service
+    ∙ (and_parts (same_text q.service p.process.service) (same_text q.operation [] || same_text q.operation p.span.operation) named).0
 
 own_spans : (q : Find) (t : TraceId) (b : Batch) (ss : List Span) → list_any (is_hit q t) (map (placed b) ss) ≡ true
     → (same_text b.process.service q.service ≡ true) × (reaches (met q b.process ss) t ≡ true)
@@ -86,13 +94,15 @@ own_spans q t b [] h = absurd (false≢true h)
 own_spans q t b (x ∷ xs) h =
     let bare : Placed = record { process = b.process; span = x } in
     let same : matches q (placed b x) ≡ meets q b.process x = matches-adopted q bare in
-    let rest : Type 0 = (same_text b.process.service q.service ≡ true) × (list_any (is_of t) (cond (meets q b.process x) (x ∷ met q b.process xs) (met q b.process xs)) ≡ true) in
+    let rest : Type 0 = (same_text b.process.service q.service ≡ true)
+    × (list_any (is_of t) (cond (meets q b.process x) (x ∷ met q b.process xs) (met q b.process xs)) ≡ true) in
     elim (is_hit q t (placed b x)) as (λ c. is_hit q t (placed b x) ≡ c → (c || list_any (is_hit q t) (map (placed b) xs)) ≡ true → rest) [
       | true ↦ λ e _.
           let w = and_parts (same_trace t (trace_of (placed b x))) (matches q (placed b x)) e in
           let own : is_of t x ≡ true = ap (same_trace t) (sym (trace_stays x)) ∙ w.0 in (
             match_reported q (placed b x) w.1,
-            ap (λ c. list_any (is_of t) (cond c (x ∷ met q b.process xs) (met q b.process xs))) (sym same ∙ w.1) ∙ ap (λ c. c || list_any (is_of t) (met q b.process xs)) own,
+            ap (λ c. list_any (is_of t) (cond c (x ∷ met q b.process xs) (met q b.process xs))) (sym same ∙ w.1)
+                ∙ ap (λ c. c || list_any (is_of t) (met q b.process xs)) own,
           )
       | false ↦ λ _ k.
           let w = own_spans q t b xs k in (
@@ -124,9 +134,12 @@ reported q t h d (suc n) le e =
     let here : Bool = list_any (is_hit q t) (placed_brought x.work) in
     let later : before ≡ true → list_any (is_of t) (flat_map (met_at q h) rest) ≡ true = reported q t h d n (omega arith) in
     let one : suc n ≡ n + 1 = omega arith in
-    let all : arrivals (take (suc n) h) ≡ arrivals (take n h) ++ placed_brought x.work = ap (λ k. arrivals (take k h)) one ∙ ap arrivals (take_more h n d below) ∙ arrivals_push (take n h) x in
-    let split : (before || here) ≡ true = sym (ap (list_any (is_hit q t)) all ∙ list_any-append (is_hit q t) (arrivals (take n h)) (placed_brought x.work)) ∙ e in
-    let spans : met_at q h (suc n) ≡ met_here = ap (λ o. met_or_none q (option_and_then (λ (y : Entry). batch_brought y.work) o)) (slice_get-get_or h n d below) in
+    let all : arrivals (take (suc n) h) ≡ arrivals (take n h) ++ placed_brought x.work =
+    ap (λ k. arrivals (take k h)) one ∙ ap arrivals (take_more h n d below) ∙ arrivals_push (take n h) x in
+    let split : (before || here) ≡ true =
+    sym (ap (list_any (is_hit q t)) all ∙ list_any-append (is_hit q t) (arrivals (take n h)) (placed_brought x.work)) ∙ e in
+    let spans : met_at q h (suc n) ≡ met_here =
+    ap (λ o. met_or_none q (option_and_then (λ (y : Entry). batch_brought y.work) o)) (slice_get-get_or h n d below) in
     elim own as (λ b. own ≡ b → list_any (is_of t) (flat_map (met_at q h) (if b then suc n ∷ rest else rest)) ≡ true) [
       | true ↦ λ _.
           list_any-append (is_of t) (met_at q h (suc n)) (flat_map (met_at q h) rest)
@@ -140,18 +153,23 @@ reported q t h d (suc n) le e =
     ] refl
 
 -- a span of a shown trace that matches is an arrival
-matched_arrival : (q : Find) (n : ℕ) (es : List (Event Placed)) (t : TraceId) → list_any (matches q) (spans_of_trace n es t) ≡ true → list_any (is_hit q t) (without_limits es) ≡ true
+matched_arrival : (q : Find) (n : ℕ) (es : List (Event Placed)) (t : TraceId) → list_any (matches q) (spans_of_trace n es t) ≡ true
+    → list_any (is_hit q t) (without_limits es) ≡ true
 matched_arrival q n es t e =
     let own : Placed → Bool = λ p. same_trace t (trace_of p) in
     any_lasting (λ p. own p && matches q p) (is_in_ring trace_of n) [] es (sym (any_filter (matches q) own (shown n es)) ∙ e)
 
-covered : (q : Find) (n : ℕ) (h : List Entry) (t : TraceId) → list_any (matches q) (spans_of_trace n (events h) t) ≡ true → reaches (met_along q h (places_of h q.service)) t ≡ true
+covered : (q : Find) (n : ℕ) (h : List Entry) (t : TraceId) → list_any (matches q) (spans_of_trace n (events h) t) ≡ true
+    → reaches (met_along q h (places_of h q.service)) t ≡ true
 covered q n [] t e = absurd (false≢true (matched_arrival q n [] t e))
 covered q n (x ∷ xs) t e =
     let h : List Entry = x ∷ xs in
-    reported q t h x (length h) (omega arith) (ap (λ l. list_any (is_hit q t) (arrivals l)) (take_all (length h) h (omega arith)) ∙ ap (list_any (is_hit q t)) (sym (came_of h)) ∙ matched_arrival q n (events h) t e)
+    reported q t h x (length h) (omega arith)
+    (ap (λ l. list_any (is_hit q t) (arrivals l)) (take_all (length h) h (omega arith)) ∙ ap (list_any (is_hit q t)) (sym (came_of h))
+    ∙ matched_arrival q n (events h) t e)
 
-match_among : (q : Find) (f : TraceId → List Placed) (p : TraceId → Bool) → ((t : TraceId) → list_any (matches q) (f t) ≡ true → p t ≡ true) → (r : List TraceId) → matching q (map f (filter p r)) ≡ matching q (map f r)
+match_among : (q : Find) (f : TraceId → List Placed) (p : TraceId → Bool) → ((t : TraceId) → list_any (matches q) (f t) ≡ true → p t ≡ true)
+    → (r : List TraceId) → matching q (map f (filter p r)) ≡ matching q (map f r)
 match_among q f p h [] = refl
 match_among q f p h (x ∷ xs) =
     let rest = match_among q f p h xs in
@@ -166,9 +184,12 @@ match_among q f p h (x ∷ xs) =
 
 -- a search finds the same among the traces that are near as among all
 pub found_near : (q : Find) (n : ℕ) (h : List Entry) (r : List TraceId)
-    → found_in q (map (spans_of_trace n (events h)) (filter (reaches (near_along q h (places_of h q.service))) r)) ≡ found_in q (map (spans_of_trace n (events h)) r)
+    → found_in q (map (spans_of_trace n (events h)) (filter (reaches (near_along q h (places_of h q.service))) r))
+    ≡ found_in q (map (spans_of_trace n (events h)) r)
 found_near q n h r =
-    ap (λ l. cut q.limit (ranked_by_start first_start l)) (match_among q (spans_of_trace n (events h)) (reaches (near_along q h (places_of h q.service))) (λ t e. near_covers q h (places_of h q.service) t (covered q n h t e)) r)
+    ap (λ l. cut q.limit (ranked_by_start first_start l))
+    (match_among q (spans_of_trace n (events h)) (reaches (near_along q h (places_of h q.service)))
+    (λ t e. near_covers q h (places_of h q.service) t (covered q n h t e)) r)
 
 -- ---- the traces of a service by its number
 -- the number of a service is the one that is found
@@ -198,7 +219,8 @@ module _ (q : Find) (h : List Entry) (groups : List ℕ) (k : ℕ) (kept : AreGr
   own_spots [] e = absurd (false≢true e)
   own_spots (s ∷ ss) e = by (own_spots ss) (span_at h s) refl e
     where
-      by : (list_any (matches q) (spans_named h ss) ≡ true → are_reported h groups k ss ≡ true) → (o : Option Placed) → span_at h s ≡ o → list_any (matches q) (cons_option o (spans_named h ss)) ≡ true → (is_reported h groups k s || are_reported h groups k ss) ≡ true
+      by : (list_any (matches q) (spans_named h ss) ≡ true → are_reported h groups k ss ≡ true) → (o : Option Placed) → span_at h s ≡ o
+          → list_any (matches q) (cons_option o (spans_named h ss)) ≡ true → (is_reported h groups k s || are_reported h groups k ss) ≡ true
       by later None at e = or_right (is_reported h groups k s) (are_reported h groups k ss) (later e)
       by later (Some p) at e = or_cases (matches q p) (list_any (matches q) (spans_named h ss)) e
           (λ m. ap (λ b. b || are_reported h groups k ss) (own_spot s p at m))
@@ -208,11 +230,15 @@ module _ (q : Find) (h : List Entry) (groups : List ℕ) (k : ℕ) (kept : AreGr
   pub found_reported : (n : ℕ) (spots : TraceId → List Spot) (r : List TraceId) → ((t : TraceId) → spans_named h (spots t) ≡ spans_of_trace n (events h) t)
       → found_in q (map (spans_of_trace n (events h)) (filter (λ t. are_reported h groups k (spots t)) r)) ≡ found_in q (map (spans_of_trace n (events h)) r)
   found_reported n spots r is_in_ring =
-      ap (λ l. cut q.limit (ranked_by_start first_start l)) (match_among q (spans_of_trace n (events h)) (λ t. are_reported h groups k (spots t)) (λ t e. own_spots (spots t) (ap (list_any (matches q)) (is_in_ring t) ∙ e)) r)
+      ap (λ l. cut q.limit (ranked_by_start first_start l))
+      (match_among q (spans_of_trace n (events h)) (λ t. are_reported h groups k (spots t))
+      (λ t e. own_spots (spots t) (ap (list_any (matches q)) (is_in_ring t) ∙ e)) r)
 
 -- ---- if no arrival has the service, or the operation of the service, nothing is found
 pub nothing_found : (q : Find) → found_in q [] ≡ []
-nothing_found q = let none : List (List Placed) = [] in elim (q.limit == 0) as (λ b. (if b then none else take q.limit none) ≡ none) [ true ↦ refl | false ↦ take-nil q.limit ]
+nothing_found q =
+    let none : List (List Placed) = [] in
+    elim (q.limit == 0) as (λ b. (if b then none else take q.limit none) ≡ none) [ true ↦ refl | false ↦ take-nil q.limit ]
 
 -- by contraposition
 denied : (a b : Bool) → (a ≡ true → b ≡ true) → b ≡ false → a ≡ false
@@ -226,17 +252,26 @@ none_matches q f h (x ∷ xs) = ap (λ b. cond b (f x ∷ matching q (map f xs))
 -- no arrival has the names of the search
 unnamed : (q : Find) (n : ℕ) (es : List (Event Placed)) → list_any (is_named q) (without_limits es) ≡ false → found_in q (traces n es) ≡ []
 unnamed q n es e =
-    ap (λ l. cut q.limit (ranked_by_start first_start l)) (none_matches q (spans_of_trace n es) (λ t. denied (list_any (matches q) (spans_of_trace n es t)) (list_any (is_named q) (without_limits es)) (λ m. any_weaker (λ p. same_trace t (trace_of p) && matches q p) (is_named q) (λ p own. name_of p (and_parts (same_trace t (trace_of p)) (matches q p) own).1) (without_limits es) (matched_arrival q n es t m)) e) (ring n es))
+    ap (λ l. cut q.limit (ranked_by_start first_start l))
+    (none_matches q (spans_of_trace n es)
+    (λ t. denied (list_any (matches q) (spans_of_trace n es t)) (list_any (is_named q) (without_limits es))
+    (λ m. any_weaker (λ p. same_trace t (trace_of p) && matches q p) (is_named q)
+    (λ p own. name_of p (and_parts (same_trace t (trace_of p)) (matches q p) own).1) (without_limits es) (matched_arrival q n es t m)) e) (ring n es))
     ∙ nothing_found q
   where
     name_of : (p : Placed) → matches q p ≡ true → is_named q p ≡ true
     name_of p m = first_true (is_named q p) (is_timed q p) (list_all (has_tag p) q.tags) m
 
 pub unknown_service : (q : Find) (n : ℕ) (es : List (Event Placed)) → reports_service q.service (without_limits es) ≡ false → found_in q (traces n es) ≡ []
-unknown_service q n es e = unnamed q n es (denied (list_any (is_named q) (without_limits es)) (reports_service q.service (without_limits es)) (any_weaker (is_named q) (λ p. same_text q.service p.process.service)
-    (λ p m. (and_parts (same_text q.service p.process.service) (same_text q.operation [] || same_text q.operation p.span.operation) m).0) (without_limits es)) e)
+unknown_service q n es e =
+    unnamed q n es (denied (list_any (is_named q) (without_limits es)) (reports_service q.service (without_limits es))
+    (any_weaker (is_named q) (λ p. same_text q.service p.process.service)
+    (λ p m. (and_parts (same_text q.service p.process.service) (same_text q.operation [] || same_text q.operation p.span.operation) m).0) (without_limits es))
+    e)
 
-pub unknown_operation : (q : Find) (n : ℕ) (es : List (Event Placed)) → same_text q.operation [] ≡ false → reports_operation q.service q.operation (without_limits es) ≡ false → found_in q (traces n es) ≡ []
-unknown_operation q n es asked e = unnamed q n es (denied (list_any (is_named q) (without_limits es)) (reports_operation q.service q.operation (without_limits es))
+pub unknown_operation : (q : Find) (n : ℕ) (es : List (Event Placed)) → same_text q.operation [] ≡ false
+    → reports_operation q.service q.operation (without_limits es) ≡ false → found_in q (traces n es) ≡ []
+unknown_operation q n es asked e =
+    unnamed q n es (denied (list_any (is_named q) (without_limits es)) (reports_operation q.service q.operation (without_limits es))
     (any_weaker (is_named q) (λ p. same_text q.service p.process.service && same_text q.operation p.span.operation)
     (λ p m. ap (λ b. same_text q.service p.process.service && (b || same_text q.operation p.span.operation)) (sym asked) ∙ m) (without_limits es)) e)

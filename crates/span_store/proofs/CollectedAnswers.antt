@@ -12,7 +12,8 @@ use Rattle.trace_model.specs.declared.query.Find.{Find}
 use Rattle.trace_model.specs.declared.query.Query.TheVariants as ask
 use Rattle.span_store.specs.Found.{found_answer}
 
-pub found_is : (held : Held) (q : Find) (ids_alone : Bool) (ts : List (List Placed)) → found_in q ts ≡ found_in q (traces held.limits.traces (events held.entries))
+pub found_is : (held : Held) (q : Find) (ids_alone : Bool) (ts : List (List Placed))
+    → found_in q ts ≡ found_in q (traces held.limits.traces (events held.entries))
     → found_answer held.limits q ids_alone ts ≡ answer held.limits held.entries (if ids_alone then ask.FindIds q else ask.Find q)
 found_is held q true ts same = ap (λ found. say.Ids (ids_of found)) same
 found_is held q false ts same = ap (λ found. say.Traces (map (adjusted held.limits.max_skew) found)) same

@@ -18,11 +18,11 @@ use Rattle.trace_assembly.specs.declared.spot.Spot.{Spot}
 use Rattle.trace_assembly.specs.Rows.{Assembled, spots_of}
 use Rattle.trace_assembly.specs.Located.{located_events, shown_spots}
 use Rattle.trace_assembly.proofs.Places.{events-located}
-use Rattle.arrival_names.specs.Kept.{Kept as Names}
-use Rattle.arrival_names.proofs.Numbering.{length-arrivals}
-use Rattle.service_places.specs.Reported.{Reported}
+use Rattle.service_index.specs.NamesKept.{Kept as Names}
+use Rattle.service_index.proofs.Numbering.{length-arrivals}
+use Rattle.service_index.specs.Reported.{Reported}
 use Rattle.journal_traces.specs.Standing.{spans_named, traces_named}
-use Rattle.first_starts.specs.Starting.{Starts}
+use Rattle.trace_ring.specs.Starting.{Starts}
 use Rattle.span_store.specs.Opening.{AreFirst, IsCounted, IsRanged}
 use Rattle.span_store.specs.Kept.{Follows, IsWithin, IsKept, IsNamed, IsPlaced}
 use Rattle.span_store.proofs.RingFollowsEvents.{follows_within, trace_stands}
@@ -44,7 +44,8 @@ kept_more old held e shown shown' starts starts' index index' reported reported'
     let back : now ≡ held = sym h in
     record {
       room = grows.room ∙ k.room ∙ ap (λ (v : Held). v.limits.spans) back;
-      used = grows.used ∙ ap (λ n. n + length (spans_brought e.work)) k.used ∙ sym (span_count_push old.entries e) ∙ ap (λ (v : Held). span_count v.entries) back;
+      used =
+          grows.used ∙ ap (λ n. n + length (spans_brought e.work)) k.used ∙ sym (span_count_push old.entries e) ∙ ap (λ (v : Held). span_count v.entries) back;
       follows = subst (λ (v : Held). Follows v.limits.traces (located_events v.entries) shown'.newest (spots_of shown')) back f;
       first = subst (λ (v : Held). AreFirst v.limits.traces (located_events v.entries) starts'.starts) back first;
       counted = counted;
@@ -69,11 +70,14 @@ pub kept_room : (held : Held) (e : Entry) (shown : Assembled) (starts : Starts) 
 kept_room held e shown starts index reported k may = omega (arith, k.room, k.used, spans_within held e may)
 
 -- nor are there more arrivals with them than the spans that there may be
-pub arrivals_fit : (held now : Held) (e : Entry) (h : List Entry) (room : ℕ) → now ≡ followed_by held e → IsLegal now.limits now.entries → h ≡ now.entries → room ≡ held.limits.spans → length (arrivals h) ≤ room
-arrivals_fit held now e h room appended legal same is = omega (arith, length-arrivals h ∙ ap span_count same, legal.spans, ap (λ (v : Held). v.limits.spans) appended, is)
+pub arrivals_fit : (held now : Held) (e : Entry) (h : List Entry) (room : ℕ) → now ≡ followed_by held e → IsLegal now.limits now.entries → h ≡ now.entries
+    → room ≡ held.limits.spans → length (arrivals h) ≤ room
+arrivals_fit held now e h room appended legal same is =
+    omega (arith, length-arrivals h ∙ ap span_count same, legal.spans, ap (λ (v : Held). v.limits.spans) appended, is)
 
 -- the ring is within the current limit
-pub kept_within : (held : Held) (shown : Assembled) (starts : Starts) (index : Names) (reported : Reported) → IsKept held shown starts index reported → IsWithin shown.newest
+pub kept_within : (held : Held) (shown : Assembled) (starts : Starts) (index : Names) (reported : Reported) → IsKept held shown starts index reported
+    → IsWithin shown.newest
 kept_within held shown starts index reported k = follows_within held.limits.traces (located_events held.entries) shown.newest (spots_of shown) k.follows
 
 -- ---- the indexes obey the limits of the entries
@@ -88,12 +92,14 @@ kept_ring held shown starts index reported k = k.follows.ring ∙ ap (ring held.
 -- the traces of the ring are those that are shown
 pub kept_traces : (held : Held) (shown : Assembled) (starts : Starts) (index : Names) (reported : Reported) → IsKept held shown starts index reported
     → map (spans_of_trace held.limits.traces (events held.entries)) shown.newest.ids ≡ traces held.limits.traces (events held.entries)
-kept_traces held shown starts index reported k = ap (map (spans_of_trace held.limits.traces (events held.entries))) (kept_ring held shown starts index reported k)
+kept_traces held shown starts index reported k =
+    ap (map (spans_of_trace held.limits.traces (events held.entries))) (kept_ring held shown starts index reported k)
 
 -- a search finds among the spots of some traces what it finds among all, if it does so among these traces
 pub found_kept : (q : Find) (held : Held) (shown : Assembled) (starts : Starts) (index : Names) (reported : Reported) → IsKept held shown starts index reported
     → (ids : List TraceId) (spots : List (List Spot)) → spots ≡ map (spots_of shown) ids
-    → found_in q (map (spans_of_trace held.limits.traces (events held.entries)) ids) ≡ found_in q (map (spans_of_trace held.limits.traces (events held.entries)) shown.newest.ids)
+    → found_in q (map (spans_of_trace held.limits.traces (events held.entries)) ids)
+    ≡ found_in q (map (spans_of_trace held.limits.traces (events held.entries)) shown.newest.ids)
     → found_in q (traces_named held.entries spots) ≡ found_in q (traces held.limits.traces (events held.entries))
 found_kept q held shown starts index reported k ids spots are same =
     let stands = trace_stands held.limits.traces held.entries (spots_of shown) (kept_spots held shown starts index reported k) in

@@ -18,9 +18,9 @@ use Rattle.trace_model.proofs.Ranking.{ranked-filter}
 use Rattle.trace_assembly.specs.declared.spot.Spot.{Spot}
 use Rattle.trace_assembly.specs.Rows.{Assembled, spots_of}
 use Rattle.trace_assembly.proofs.Places.{events-located}
-use Rattle.first_starts.specs.Starting.{Starts}
-use Rattle.arrival_names.specs.Kept.{Kept as Names}
-use Rattle.service_places.specs.Reported.{Reported}
+use Rattle.trace_ring.specs.Starting.{Starts}
+use Rattle.service_index.specs.NamesKept.{Kept as Names}
+use Rattle.service_index.specs.Reported.{Reported}
 use Rattle.journal_traces.specs.Standing.{spans_named, traces_named}
 use Rattle.span_store.specs.Kept.{IsKept}
 use Rattle.span_store.proofs.RingFollowsEvents.{trace_stands}
@@ -44,7 +44,9 @@ module _ {X : Type 0} (start : X → ℤ) (time : ℤ) where
   first_after (suc n) [] falls long = refl
   first_after (suc n) (x ∷ xs) falls long = by (first_after n xs falls.1) (after x) refl long
     where
-      by : (length (take n (filter after xs)) ≡ n → take n (filter after xs) ≡ take n xs) → (b : Bool) → after x ≡ b → length (take (suc n) (cond b (x ∷ filter after xs) (filter after xs))) ≡ suc n → take (suc n) (cond b (x ∷ filter after xs) (filter after xs)) ≡ x ∷ take n xs
+      by : (length (take n (filter after xs)) ≡ n → take n (filter after xs) ≡ take n xs) → (b : Bool) → after x ≡ b
+          → length (take (suc n) (cond b (x ∷ filter after xs) (filter after xs))) ≡ suc n
+          → take (suc n) (cond b (x ∷ filter after xs) (filter after xs)) ≡ x ∷ take n xs
       by rest true e l = ap (λ ys. x ∷ ys) (rest (omega arith))
       by rest false e l =
           let none : filter after xs ≡ [] = none_after x xs e falls.0 in
@@ -55,8 +57,11 @@ swapped : {X : Type 0} (p q : X → Bool) (xs : List X) → filter p (filter q x
 swapped p q [] = refl
 swapped p q (x ∷ xs) = by (swapped p q xs) (p x) (q x) refl refl
   where
-    by : filter p (filter q xs) ≡ filter q (filter p xs) → (a b : Bool) → p x ≡ a → q x ≡ b → filter p (cond b (x ∷ filter q xs) (filter q xs)) ≡ filter q (cond a (x ∷ filter p xs) (filter p xs))
-    by rest true true e f = ap (λ c. cond c (x ∷ filter p (filter q xs)) (filter p (filter q xs))) e ∙ ap (λ l. x ∷ l) rest ∙ sym (ap (λ c. cond c (x ∷ filter q (filter p xs)) (filter q (filter p xs))) f)
+    by : filter p (filter q xs) ≡ filter q (filter p xs) → (a b : Bool) → p x ≡ a → q x ≡ b
+        → filter p (cond b (x ∷ filter q xs) (filter q xs)) ≡ filter q (cond a (x ∷ filter p xs) (filter p xs))
+    by rest true true e f =
+        ap (λ c. cond c (x ∷ filter p (filter q xs)) (filter p (filter q xs))) e ∙ ap (λ l. x ∷ l) rest
+        ∙ sym (ap (λ c. cond c (x ∷ filter q (filter p xs)) (filter q (filter p xs))) f)
     by rest true false e f = rest ∙ sym (ap (λ c. cond c (x ∷ filter q (filter p xs)) (filter q (filter p xs))) f)
     by rest false true e f = ap (λ c. cond c (x ∷ filter p (filter q xs)) (filter p (filter q xs))) e ∙ rest
     by rest false false e f = rest
@@ -65,7 +70,8 @@ chosen_map : {X Y : Type 0} (f : X → Y) (p : Y → Bool) (xs : List X) → fil
 chosen_map f p [] = refl
 chosen_map f p (x ∷ xs) = by (chosen_map f p xs) (p (f x))
   where
-    by : filter p (map f xs) ≡ map f (filter (λ y. p (f y)) xs) → (b : Bool) → cond b (f x ∷ filter p (map f xs)) (filter p (map f xs)) ≡ map f (cond b (x ∷ filter (λ y. p (f y)) xs) (filter (λ y. p (f y)) xs))
+    by : filter p (map f xs) ≡ map f (filter (λ y. p (f y)) xs) → (b : Bool)
+        → cond b (f x ∷ filter p (map f xs)) (filter p (map f xs)) ≡ map f (cond b (x ∷ filter (λ y. p (f y)) xs) (filter (λ y. p (f y)) xs))
     by rest true = ap (λ l. f x ∷ l) rest
     by rest false = rest
 
@@ -77,14 +83,17 @@ module _ (q : Find) (time : ℤ) where
   abbrev pub late : List Placed → Bool
   late ts = int_lt time (first_start ts)
 
-  ranked_late : (ts : List (List Placed)) → ranked_by_start first_start (matching q (filter late ts)) ≡ filter late (ranked_by_start first_start (matching q ts))
+  ranked_late : (ts : List (List Placed))
+      → ranked_by_start first_start (matching q (filter late ts)) ≡ filter late (ranked_by_start first_start (matching q ts))
   ranked_late ts = ap (ranked_by_start first_start) (swapped (list_any (matches q)) late ts) ∙ sym (ranked-filter first_start late (matching q ts))
 
   pub found_late : (ts : List (List Placed)) → 0 < q.limit → length (found_in q (filter late ts)) ≡ q.limit → found_in q (filter late ts) ≡ found_in q ts
   found_late ts some all =
       let ranking : List (List Placed) = ranked_by_start first_start (matching q ts) in
-      let is : found_in q (filter late ts) ≡ take q.limit (filter late ranking) = ap (cut q.limit) (ranked_late ts) ∙ cut_some q.limit (filter late ranking) some in
-      is ∙ first_after first_start time q.limit ranking (ranked-falls first_start (matching q ts)) (ap length (sym is) ∙ all) ∙ sym (cut_some q.limit ranking some)
+      let is : found_in q (filter late ts) ≡ take q.limit (filter late ranking) =
+      ap (cut q.limit) (ranked_late ts) ∙ cut_some q.limit (filter late ranking) some in
+      is ∙ first_after first_start time q.limit ranking (ranked-falls first_start (matching q ts)) (ap length (sym is) ∙ all)
+      ∙ sym (cut_some q.limit ranking some)
 
 -- ---- of a store
 -- the stored starts are those of the traces of the ring
@@ -102,7 +111,8 @@ as_many held shown starts index reported k =
     let f : TraceId → ℤ = λ t. first_start (spans_of_trace held.limits.traces (events held.entries) t) in
     ap (λ (l : List ℤ). length l) (kept_first held shown starts index reported k) ∙ length-map shown.newest.ids f
 
-pub found_latest : (q : Find) (held : Held) (shown : Assembled) (starts : Starts) (index : Names) (reported : Reported) → IsKept held shown starts index reported → (time : ℤ) (spots : List (List Spot))
+pub found_latest : (q : Find) (held : Held) (shown : Assembled) (starts : Starts) (index : Names) (reported : Reported)
+    → IsKept held shown starts index reported → (time : ℤ) (spots : List (List Spot))
     → spots ≡ map (spots_of shown) (filter (λ t. int_lt time (first_start (spans_of_trace held.limits.traces (events held.entries) t))) shown.newest.ids)
     → 0 < q.limit → length (found_in q (traces_named held.entries spots)) ≡ q.limit
     → found_in q (traces_named held.entries spots) ≡ found_in q (traces held.limits.traces (events held.entries))
@@ -111,7 +121,8 @@ found_latest q held shown starts index reported k time spots are some all =
     let late_ids : List TraceId = filter (λ t. int_lt time (first_start (f t))) shown.newest.ids in
     let stands = trace_stands held.limits.traces held.entries (spots_of shown) (kept_spots held shown starts index reported k) in
     let named : traces_named held.entries spots ≡ filter (late q time) (map f shown.newest.ids) =
-    ap (map (spans_named held.entries)) are ∙ map-map (spans_named held.entries) (spots_of shown) late_ids ∙ (λ i. map (λ t. stands t i) late_ids) ∙ sym (chosen_map f (late q time) shown.newest.ids) in
+    ap (map (spans_named held.entries)) are ∙ map-map (spans_named held.entries) (spots_of shown) late_ids ∙ (λ i. map (λ t. stands t i) late_ids)
+    ∙ sym (chosen_map f (late q time) shown.newest.ids) in
     found_kept q held shown starts index reported k late_ids spots are
     (ap (found_in q) (sym (chosen_map f (late q time) shown.newest.ids))
     ∙ found_late q time (map f shown.newest.ids) some (ap (λ ts. length (found_in q ts)) (sym named) ∙ all))

@@ -29,16 +29,19 @@ newest_tail (suc m) x r some more =
 -- one more leaves
 one_left : (first r : List TraceId) (gone : TraceId) (spots : TraceId → List Spot) (t : TraceId) → holds r gone ≡ false → holds first gone ≡ true
     → without_spots gone (without_left first (gone ∷ r) spots) t ≡ without_left first r spots t
-one_left first r gone spots t out old = elim (same_trace t gone) as (λ s. same_trace t gone ≡ s → (if s then [] else (if holds first t && not (s || holds r t) then [] else spots t)) ≡ (if holds first t && not (holds r t) then [] else spots t)) [
-  | true ↦ λ e.
-      let is = same_is t gone e in
-      sym ((λ i. if (ap (holds first) is ∙ old) i && not ((ap (holds r) is ∙ out) i) then [] else spots t))
-  | false ↦ λ _. refl
-] refl
+one_left first r gone spots t out old =
+    elim (same_trace t gone) as (λ s. same_trace t gone ≡ s
+    → (if s then [] else (if holds first t && not (s || holds r t) then [] else spots t)) ≡ (if holds first t && not (holds r t) then [] else spots t)) [
+      | true ↦ λ e.
+          let is = same_is t gone e in
+          sym ((λ i. if (ap (holds first) is ∙ old) i && not ((ap (holds r) is ∙ out) i) then [] else spots t))
+      | false ↦ λ _. refl
+    ] refl
 
 -- the oldest of too many leaves
 pub lowering_more : (m : ℕ) (before now next : Assembled) (gone : TraceId) → IsLowering m before now
-    → next.newest.limit ≡ now.newest.limit → now.newest.ids ≡ gone ∷ next.newest.ids → 0 < now.newest.limit → now.newest.limit < length now.newest.ids → holds next.newest.ids gone ≡ false
+    → next.newest.limit ≡ now.newest.limit → now.newest.ids ≡ gone ∷ next.newest.ids → 0 < now.newest.limit → now.newest.limit < length now.newest.ids
+    → holds next.newest.ids gone ≡ false
     → ((t : TraceId) → spots_of next t ≡ without_spots gone (spots_of now) t) → next.used ≡ now.used → next.room ≡ now.room → IsLowering m before next
 lowering_more m before now next gone h limit ids some many out spots used room =
     let first = before.newest.ids in

@@ -38,8 +38,10 @@ arrived_within old new t short same is some =
     subst (λ k. length new.ids ≤ k) (sym same) (subst (λ (r : List TraceId). length r ≤ old.limit) (sym is) most)
 
 -- one more arrival: its trace enters the ring, the spots of the trace that leaves are removed, the spot is added
-pub follows_more : (n : ℕ) (es : List (Event (Spot × Placed))) (spot : Spot) (p : Placed) (own : TraceId) (left : Option TraceId) (old new : Window) (spots spots' : TraceId → List Spot)
-    → Follows n es old spots → trace_of p ≡ own → new.limit ≡ old.limit → new.ids ≡ arrive old.limit old.ids own → opened_by old.ids own ≡ option_to_list left ++ new.ids → IfSome left (λ gone. holds new.ids gone ≡ false)
+pub follows_more : (n : ℕ) (es : List (Event (Spot × Placed))) (spot : Spot) (p : Placed) (own : TraceId) (left : Option TraceId) (old new : Window)
+    (spots spots' : TraceId → List Spot)
+    → Follows n es old spots → trace_of p ≡ own → new.limit ≡ old.limit → new.ids ≡ arrive old.limit old.ids own
+    → opened_by old.ids own ≡ option_to_list left ++ new.ids → IfSome left (λ gone. holds new.ids gone ≡ false)
     → ((t : TraceId) → spots' t ≡ with_spot own spot (after_leaving left spots) t)
     → Follows n (es ++ came (spot, p) ∷ []) new spots'
 follows_more n es spot p own left old new spots spots' f same steady is opened gone changed =
@@ -55,12 +57,14 @@ follows_more n es spot p own left old new spots spots' f same steady is opened g
     }
 
 -- ---- the spans of one batch, one by one
-pub follows_none : (n : ℕ) (h : List Entry) (b : Batch) (newest : Window) (spots : TraceId → List Spot) → Follows n (located_events h) newest spots → Follows n (located_upto h b 0) newest spots
+pub follows_none : (n : ℕ) (h : List Entry) (b : Batch) (newest : Window) (spots : TraceId → List Spot) → Follows n (located_events h) newest spots
+    → Follows n (located_upto h b 0) newest spots
 follows_none n h b newest spots f = subst (λ es. Follows n es newest spots) (sym (upto_none h b)) f
 
 pub upto_end : (h : List Entry) (b : Batch) (i : ℕ) → length b.spans ≤ i → located_upto h b i ≡ located_upto h b (length b.spans)
 upto_end h b i past =
-    ap (λ ss. located_events h ++ map came (located_in (length h + 1) 0 (map (placed b) ss))) (take_all i b.spans past ∙ sym (take_all (length b.spans) b.spans (omega arith)))
+    ap (λ ss. located_events h ++ map came (located_in (length h + 1) 0 (map (placed b) ss)))
+    (take_all i b.spans past ∙ sym (take_all (length b.spans) b.spans (omega arith)))
 
 pub follows_batch : (n : ℕ) (h : List Entry) (e : Entry) (b : Batch) → e.work ≡ brings.Batch b → (newest : Window) (spots : TraceId → List Spot)
     → Follows n (located_upto h b (length b.spans)) newest spots → Follows n (located_events (h ++ e ∷ [])) newest spots
@@ -85,7 +89,8 @@ pub spots_name : (n : ℕ) (h : List Entry) (newest : Window) (spots : TraceId �
     → Follows n (located_events h) newest spots → found ≡ spots t → map (span_at h) found ≡ map Some (spans_of_trace n (events h) t)
 spots_name n h newest spots t found f is = ap (map (span_at h)) (is ∙ f.spots t) ∙ spans_at_shown_law n h t
 
-pub none_found : (f : List Placed → List Shown) (h : List Entry) (found : List Spot) (spans : List Placed) → map (span_at h) found ≡ map Some spans → length found ≡ 0 → None ≡ option_map f (if_any spans)
+pub none_found : (f : List Placed → List Shown) (h : List Entry) (found : List Spot) (spans : List Placed) → map (span_at h) found ≡ map Some spans
+    → length found ≡ 0 → None ≡ option_map f (if_any spans)
 none_found f h [] [] same none = refl
 none_found f h [] (p ∷ spans) same none = absurd cc
 none_found f h (s ∷ found) spans same none = absurd (omega (arith, none))
@@ -97,5 +102,6 @@ some_found f h (s ∷ found) [] items shown same got some is = absurd cc
 some_found f h (s ∷ found) (p ∷ spans) items shown same got some is = ap Some (is ∙ ap f (got ∙ named_is h (s ∷ found) (p ∷ spans) same))
 
 -- ---- the spans of a trace at their spots
-pub trace_stands : (n : ℕ) (h : List Entry) (spots : TraceId → List Spot) → ((t : TraceId) → spots t ≡ shown_spots n (located_events h) t) → (t : TraceId) → trace_named h spots t ≡ spans_of_trace n (events h) t
+pub trace_stands : (n : ℕ) (h : List Entry) (spots : TraceId → List Spot) → ((t : TraceId) → spots t ≡ shown_spots n (located_events h) t) → (t : TraceId)
+    → trace_named h spots t ≡ spans_of_trace n (events h) t
 trace_stands n h spots all t = named_is h (spots t) (spans_of_trace n (events h) t) (ap (map (span_at h)) (all t) ∙ spans_at_shown_law n h t)

@@ -1,5 +1,6 @@
 -- The first starts follow the events.
-use Rattle.std.proofs.Common.{◌≡◌, ℕ, ℤ, ◌+◌, ◌<◌, Bool, true, false, List, [], ◌∷◌, ◌++◌, map, drop, length, get_or, Some, None, refl, sym, ap, subst, ◌∙◌, arith}
+use Rattle.std.proofs.Common.{◌≡◌, ℕ, ℤ, ◌+◌, ◌<◌, Bool, true, false, List, [], ◌∷◌, ◌++◌, map, drop, length, get_or, Some, None, refl, sym, ap, subst, ◌∙◌}
+use Rattle.std.proofs.Common.{arith}
 use Rattle.std.specs.Prelude.{Option, not, is_some, option_to_list, if◌then◌else◌}
 use Rattle.std.proofs.lemmas.Bool.{false≢true}
 use Rattle.std.proofs.lemmas.List.{map_push}
@@ -32,7 +33,9 @@ use Rattle.span_store.specs.Opening.{AreFirst, first_with}
 
 -- functions that agree on the traces of a ring have the same results on them
 agree : (f g : TraceId → ℤ) (r : List TraceId) → ((t : TraceId) → holds r t ≡ true → f t ≡ g t) → map f r ≡ map g r
-agree f g r h = map_agree f g r (All-from_get_or (λ t. f t ≡ g t) r no_id (λ i l. h (get_or r i no_id) (list_any_at (same_trace (get_or r i no_id)) r i no_id l (same_self (get_or r i no_id)))))
+agree f g r h =
+    map_agree f g r (All-from_get_or (λ t. f t ≡ g t) r no_id
+    (λ i l. h (get_or r i no_id) (list_any_at (same_trace (get_or r i no_id)) r i no_id l (same_self (get_or r i no_id)))))
 
 -- ---- what an arrival does to the starts of a ring
 opened_starts : (ids : List TraceId) (t : TraceId) (start : ℤ) (first : TraceId → ℤ) (starts : List ℤ) → starts ≡ map first ids
@@ -48,7 +51,8 @@ opened_starts ids t start first starts are = by (holds ids t) refl
         let own : first_with ids start first t ≡ start = ap (λ b. if b then first t else start) e in
         (λ i. (are ∙ kept) i ++ sym own i ∷ []) ∙ sym (map_push (first_with ids start first) ids t)
 
-dropped : (f : TraceId → ℤ) (left : Option Evicted) (all : List ℤ) (new opened : List TraceId) → all ≡ map f opened → opened ≡ option_to_list (evicted_trace left) ++ new
+dropped : (f : TraceId → ℤ) (left : Option Evicted) (all : List ℤ) (new opened : List TraceId) → all ≡ map f opened
+    → opened ≡ option_to_list (evicted_trace left) ++ new
     → (if is_some left then drop 1 all else all) ≡ map f new
 dropped f None all new opened are split = are ∙ ap (map f) split
 dropped f (Some gone) all new opened are split = ap (drop 1) (are ∙ ap (map f) split)
@@ -58,7 +62,8 @@ pub arrived_starts : (ids new : List TraceId) (t : TraceId) (start : ℤ) (opene
     → mid ≡ (if opened then starts ++ start ∷ [] else starts) → after ≡ (if is_some left then drop 1 mid else mid)
     → (first : TraceId → ℤ) → starts ≡ map first ids → after ≡ map (first_with ids start first) new
 arrived_starts ids new t start opened left starts mid after is split pushed left_is first are =
-    left_is ∙ dropped (first_with ids start first) left mid new (opened_by ids t) (pushed ∙ ap (λ b. if b then starts ++ start ∷ [] else starts) is ∙ opened_starts ids t start first starts are) split
+    left_is ∙ dropped (first_with ids start first) left mid new (opened_by ids t)
+    (pushed ∙ ap (λ b. if b then starts ++ start ∷ [] else starts) is ∙ opened_starts ids t start first starts are) split
 
 -- ---- the first start of a trace that stays
 first_stays : (xs ys : List Placed) → 0 < length xs → first_start (xs ++ ys) ≡ first_start xs
@@ -69,7 +74,8 @@ module _ (n : ℕ) (es : List (Event Placed)) where
   abbrev first : TraceId → ℤ
   first t = first_start (spans_of_trace n es t)
 
-  came_first : (p : Placed) (t : TraceId) → holds (ring n (es ++ came p ∷ [])) t ≡ true → first_with (ring n es) p.span.start first t ≡ first_start (spans_of_trace n (es ++ came p ∷ []) t)
+  came_first : (p : Placed) (t : TraceId) → holds (ring n (es ++ came p ∷ [])) t ≡ true
+      → first_with (ring n es) p.span.start first t ≡ first_start (spans_of_trace n (es ++ came p ∷ []) t)
   came_first p t h = by (holds (ring n es) t) refl
     where
       after : List (Event Placed)
@@ -87,22 +93,27 @@ module _ (n : ℕ) (es : List (Event Placed)) where
           sym (ap (λ u. first_start (spans_of_trace n after u)) is ∙ ap first_start (opened_alone n es p (ap (holds (ring n es)) (sym is) ∙ e))))
 
   limited_first : (m : ℕ) (t : TraceId) → holds (ring n (es ++ limited m ∷ [])) t ≡ true → first t ≡ first_start (spans_of_trace n (es ++ limited m ∷ []) t)
-  limited_first m t h = sym (ap first_start (spans_limited n es m t ∙ ap (λ b. if b then spans_of_trace n es t else []) (ap (λ r. holds r t) (sym (ring_limited n es m)) ∙ h)))
+  limited_first m t h =
+      sym (ap first_start (spans_limited n es m t ∙ ap (λ b. if b then spans_of_trace n es t else []) (ap (λ r. holds r t) (sym (ring_limited n es m)) ∙ h)))
 
   -- the starts by what each trace of the ring has
   first_of : map first_start (traces n es) ≡ map first (ring n es)
   first_of = map-map first_start (spans_of_trace n es) (ring n es)
 
-  pub first_came : (p : Placed) (start : ℤ) (ids new : List TraceId) (starts after : List ℤ) → p.span.start ≡ start → ids ≡ ring n es → new ≡ ring n (es ++ came p ∷ [])
-      → ((f : TraceId → ℤ) → starts ≡ map f ids → after ≡ map (first_with ids start f) new) → starts ≡ map first_start (traces n es) → after ≡ map first_start (traces n (es ++ came p ∷ []))
+  pub first_came : (p : Placed) (start : ℤ) (ids new : List TraceId) (starts after : List ℤ) → p.span.start ≡ start → ids ≡ ring n es
+      → new ≡ ring n (es ++ came p ∷ [])
+      → ((f : TraceId → ℤ) → starts ≡ map f ids → after ≡ map (first_with ids start f) new) → starts ≡ map first_start (traces n es)
+      → after ≡ map first_start (traces n (es ++ came p ∷ []))
   first_came p start ids new starts after own before now step are =
       step first (are ∙ first_of ∙ ap (map first) (sym before))
       ∙ (λ i. map (first_with (before i) (sym own i) first) (now i))
-      ∙ agree (first_with (ring n es) p.span.start first) (λ t. first_start (spans_of_trace n (es ++ came p ∷ []) t)) (ring n (es ++ came p ∷ [])) (came_first p)
+      ∙ agree (first_with (ring n es) p.span.start first)
+      (λ t. first_start (spans_of_trace n (es ++ came p ∷ []) t)) (ring n (es ++ came p ∷ [])) (came_first p)
       ∙ sym (map-map first_start (spans_of_trace n (es ++ came p ∷ [])) (ring n (es ++ came p ∷ [])))
 
   pub first_limited : (m : ℕ) (ids new : List TraceId) (starts after : List ℤ) → ids ≡ ring n es → new ≡ ring n (es ++ limited m ∷ [])
-      → ((f : TraceId → ℤ) → starts ≡ map f ids → after ≡ map f new) → starts ≡ map first_start (traces n es) → after ≡ map first_start (traces n (es ++ limited m ∷ []))
+      → ((f : TraceId → ℤ) → starts ≡ map f ids → after ≡ map f new) → starts ≡ map first_start (traces n es)
+      → after ≡ map first_start (traces n (es ++ limited m ∷ []))
   first_limited m ids new starts after before now step are =
       step first (are ∙ first_of ∙ ap (map first) (sym before))
       ∙ ap (map first) now
@@ -110,12 +121,15 @@ module _ (n : ℕ) (es : List (Event Placed)) where
       ∙ sym (map-map first_start (spans_of_trace n (es ++ limited m ∷ [])) (ring n (es ++ limited m ∷ [])))
 
 -- ---- the same for spans with spots
-pub starts_came : (n : ℕ) (es : List (Event (Spot × Placed))) (l : Spot × Placed) (start : ℤ) (ids new : List TraceId) (starts after : List ℤ) → l.1.span.start ≡ start
-    → ids ≡ ring n (events_in es) → new ≡ ring n (events_in (es ++ came l ∷ [])) → ((f : TraceId → ℤ) → starts ≡ map f ids → after ≡ map (first_with ids start f) new)
+pub starts_came : (n : ℕ) (es : List (Event (Spot × Placed))) (l : Spot × Placed) (start : ℤ) (ids new : List TraceId) (starts after : List ℤ)
+    → l.1.span.start ≡ start
+    → ids ≡ ring n (events_in es) → new ≡ ring n (events_in (es ++ came l ∷ []))
+    → ((f : TraceId → ℤ) → starts ≡ map f ids → after ≡ map (first_with ids start f) new)
     → AreFirst n es starts → AreFirst n (es ++ came l ∷ []) after
 starts_came n es l start ids new starts after own before now step are =
     let push = events-push es (came l) in
-    first_came n (events_in es) l.1 start ids new starts after own before (now ∙ ap (ring n) push) step are ∙ ap (λ xs. map first_start (traces n xs)) (sym push)
+    first_came n (events_in es) l.1 start ids new starts after own before (now ∙ ap (ring n) push) step are
+    ∙ ap (λ xs. map first_start (traces n xs)) (sym push)
 
 pub starts_limited : (n : ℕ) (h : List Entry) (e : Entry) (m : ℕ) → e.work ≡ brings.TraceLimit m → (ids new : List TraceId) (starts after : List ℤ)
     → ids ≡ ring n (events_in (located_events h)) → new ≡ newest m ids → ((f : TraceId → ℤ) → starts ≡ map f ids → after ≡ map f new)
@@ -129,7 +143,12 @@ starts_limited n h e m set ids new starts after before lowered step are =
 
 -- ---- a span keeps its start in the store
 pub start_stays : (b : Batch) (s : Span) → (placed b s).span.start ≡ s.start
-start_stays b s = elim (needs_no_reference s) as (λ c. (if c then s else record s { references = parent_reference s ∷ s.references }).start ≡ s.start) [ true ↦ refl | false ↦ refl ]
+start_stays b s =
+    elim (needs_no_reference s) as (λ c. (if c then s else record s { references = parent_reference s ∷ s.references }).start ≡ s.start) [
+      | true ↦ refl
+      | false ↦
+          refl
+    ]
 
 -- ---- the spans of one batch
 pub first_none : (n : ℕ) (h : List Entry) (b : Batch) (starts : List ℤ) → AreFirst n (located_events h) starts → AreFirst n (located_upto h b 0) starts

@@ -8,15 +8,16 @@ use Rattle.jaeger_model.specs.declared.placed.Placed.{Placed}
 use Rattle.trace_model.specs.declared.query.Find.{Find}
 use Rattle.trace_model.specs.Held.{Held}
 use Rattle.trace_model.specs.Histories.{events}
-use Rattle.trace_model.specs.Searching.{at_least, at_most, bound, cut, first_start, found_in, has_tag, is_named, is_timed, matches, matching, ranked_by_start, traces}
+use Rattle.trace_model.specs.Searching.{at_least, at_most, bound, cut, first_start, found_in, has_tag, is_named, is_timed, matches, matching, ranked_by_start}
+use Rattle.trace_model.specs.Searching.{traces}
 use Rattle.trace_assembly.specs.declared.spot.Spot.{Spot}
 use Rattle.trace_assembly.specs.Rows.{Assembled, spots_of}
 use Rattle.trace_assembly.proofs.Lists.{map_filter}
-use Rattle.first_starts.specs.declared.ranges.Range.{Range}
-use Rattle.first_starts.specs.Starting.{Starts}
-use Rattle.first_starts.specs.Ranges.{IsIn, begins_before, ends_after, range_at, reaches}
-use Rattle.arrival_names.specs.Kept.{Kept as Names}
-use Rattle.service_places.specs.Reported.{Reported}
+use Rattle.trace_ring.specs.declared.first_starts.ranges.Range.{Range}
+use Rattle.trace_ring.specs.Starting.{Starts}
+use Rattle.trace_ring.specs.StartRanges.{IsIn, begins_before, ends_after, range_at, reaches}
+use Rattle.service_index.specs.NamesKept.{Kept as Names}
+use Rattle.service_index.specs.Reported.{Reported}
 use Rattle.journal_traces.specs.Ranged.{FailsOutside, StartsIn, search_window}
 use Rattle.journal_traces.specs.Standing.{spans_named, traces_named}
 use Rattle.span_store.specs.Kept.{IsKept}
@@ -56,7 +57,8 @@ none_match q r [] none all = refl
 none_match q r (p ∷ ps) none all = ap (λ b. b || list_any (matches q) ps) (no_match q r p none all.0) ∙ none_match q r ps none all.1
 
 -- ---- of a store
-module _ (q : Find) (held : Held) (shown : Assembled) (starts : Starts) (index : Names) (reported : Reported) (k : IsKept held shown starts index reported) where
+module _ (q : Find) (held : Held) (shown : Assembled) (starts : Starts) (index : Names) (reported : Reported)
+    (k : IsKept held shown starts index reported) where
   -- a span at the spots matches
   abbrev pub is_hit : List Spot → Bool
   is_hit ss = list_any (matches q) (spans_named held.entries ss)
@@ -64,7 +66,8 @@ module _ (q : Find) (held : Held) (shown : Assembled) (starts : Starts) (index :
   pub outside_fails : FailsOutside (search_window q) starts shown is_hit
   outside_fails place t at none =
       none_match q (range_at starts place) (spans_named held.entries (spots_of shown t)) none
-      (named_ranged held.limits.traces held.entries (spots_of shown) shown.newest.ids starts (kept_spots held shown starts index reported k) k.ranged place t at)
+      (named_ranged held.limits.traces held.entries (spots_of shown) shown.newest.ids starts (kept_spots held shown starts index reported k)
+      k.ranged place t at)
 
   pub found_within : (spots : List (List Spot)) → filter is_hit spots ≡ filter is_hit (map (spots_of shown) shown.newest.ids)
       → found_in q (traces_named held.entries spots) ≡ found_in q (traces held.limits.traces (events held.entries))
@@ -72,5 +75,6 @@ module _ (q : Find) (held : Held) (shown : Assembled) (starts : Starts) (index :
       let named : List (List Spot) → List (List Placed) = map (spans_named held.entries) in
       let all : List (List Spot) = map (spots_of shown) shown.newest.ids in
       let matched : matching q (named spots) ≡ matching q (named all) =
-      sym (map_filter (spans_named held.entries) (list_any (matches q)) spots) ∙ ap named same ∙ map_filter (spans_named held.entries) (list_any (matches q)) all in
+      sym (map_filter (spans_named held.entries) (list_any (matches q)) spots) ∙ ap named same
+      ∙ map_filter (spans_named held.entries) (list_any (matches q)) all in
       ap (λ ts. cut q.limit (ranked_by_start first_start ts)) matched ∙ found_kept q held shown starts index reported k shown.newest.ids all refl refl

@@ -10,10 +10,10 @@ use Rattle.trace_ring.specs.Windows.{Window}
 use Rattle.trace_assembly.specs.declared.spot.Spot.{Spot}
 use Rattle.trace_assembly.specs.Rows.{Assembled, spots_of}
 use Rattle.trace_assembly.specs.Located.{located_events, events_in, shown_spots}
-use Rattle.service_places.specs.Reported.{Reported, IsKept as PlacesKept}
-use Rattle.first_starts.specs.Starting.{Starts}
+use Rattle.service_index.specs.Reported.{Reported, IsKept as PlacesKept}
+use Rattle.trace_ring.specs.Starting.{Starts}
 use Rattle.span_store.specs.Opening.{AreFirst, IsCounted, IsRanged}
-use Rattle.arrival_names.specs.Kept.{Kept as Names, IsKept as NamesKept}
+use Rattle.service_index.specs.NamesKept.{Kept as Names, IsKept as NamesKept}
 
 -- the ring and its limit are those of these events, if the limit was n before them, and each trace has the spots of
 -- its shown spans

@@ -9,7 +9,7 @@ use Rattle.trace_model.specs.Showing.{spans_of_trace}
 use Rattle.trace_assembly.specs.declared.spot.Spot.{Spot}
 use Rattle.trace_assembly.specs.Rows.{Assembled}
 use Rattle.trace_assembly.specs.Located.{events_in}
-use Rattle.first_starts.specs.Starting.{Starts}
+use Rattle.trace_ring.specs.Starting.{Starts}
 use Rattle.journal_traces.specs.Ranged.{AreRanged}
 
 -- these are the starts of the first spans of the traces that are shown after these events

@@ -12,16 +12,15 @@ ghost use Rattle.trace_model.specs.Works.{spans_brought};
 ghost use Rattle.trace_assembly.specs.declared.spot.Spot.{Spot as SpotValue};
 ghost use Rattle.trace_assembly.specs.Rows.{spots_of};
 ghost use Rattle.trace_assembly.specs.Located.{located_events, located_upto, without_left};
-ghost use Rattle.first_starts.specs.Ranges.{IsWider, range_at};
+ghost use Rattle.trace_ring.specs.StartRanges.{IsWider, range_at};
 ghost use Rattle.journal_traces.specs.Ranged.{AreRanged};
 ghost use Rattle.span_store.specs.Kept.{Follows, IsWithin};
 ghost use Rattle.span_store.specs.Opening.{AreFirst, IsCounted, IsRanged, first_with};
 
-use first_starts::FirstStarts;
 use jaeger_model::{Batch, Span};
 use trace_assembly::{Assembly, Spot};
 use trace_model::{Entry, Work};
-use trace_ring::Evicted;
+use trace_ring::{Evicted, FirstStarts};
 
 /// Appends the start of the span that opened a trace, if it did.
 fn add_opened(starts: &mut FirstStarts, opened: bool, start: i64)

@@ -15,7 +15,7 @@ ghost use Rattle.trace_assembly.specs.Located.{located_events, shown_spots};
 ghost use Rattle.call_links.specs.Seen.{links_in, AreNumbered};
 ghost use Rattle.journal_traces.specs.Standing.{traces_named};
 ghost use Rattle.journal_traces.specs.Taking.{placed_taken};
-ghost use Rattle.service_places.specs.Reported.{group_of};
+ghost use Rattle.service_index.specs.Reported.{group_of};
 ghost use Rattle.span_store.specs.Collecting.{form_answer};
 ghost use Rattle.span_store.specs.Kept.{IsNamed, IsPlaced};
 ghost use Rattle.span_store.specs.NextEntry.{next_entry};
@@ -31,21 +31,20 @@ use crate::found_traces::FoundTraces;
 use crate::tag_search::TagSearch;
 use crate::window_calls::WindowCalls;
 use arrival_journal::{Journal, Record};
-use arrival_names::ArrivalNames;
 use find_traces::PreparedSearch;
-use first_starts::FirstStarts;
 use jaeger_model::{Batch, Seq, Text, TraceId};
 use journal_traces::{
     Candidates, WindowTraces, gather, ring_ids, search_window, spots_after, spots_along,
     spots_reported, spots_within, take_candidates, take_within,
 };
-use service_places::ServicePlaces;
+use service_index::{ArrivalNames, ServicePlaces};
 use std::alloc::{AllocError, Global};
 use std::hash::RandomState;
 use std::marker::Model;
 use std::sync::Arc;
 use trace_assembly::{Assembly, Spots};
 use trace_model::{Admission, Answer, AnsweredTrace, Entry, Find, Limits, Query, Refusal, Work};
+use trace_ring::FirstStarts;
 
 /// The accepted entries of one store, and fast answers from them.
 ///
@@ -68,7 +67,7 @@ pub struct SpanStore {
 
 impl Model for SpanStore {
     ghost use Rattle.trace_model.specs.Held.{Held};
-    ghost use Rattle.service_places.specs.Reported.{group_of};
+    ghost use Rattle.service_index.specs.Reported.{group_of};
     ghost use Rattle.span_store.specs.Kept.{IsKept};
 
     ghost Value = { Held };

@@ -1,5 +1,6 @@
 -- The endpoint of a path and its part, as the facts of paths have them.
-use Rattle.std.proofs.Common.{◌≡◌, ◌≢◌, ℕ, ◌==◌, ◌⊎◌, inl, inr, Bool, true, false, ◌&&◌, not, List, [], ◌∷◌, ◌++◌, length, Option, Some, None, codes, if◌then◌else◌, refl, sym, ap, ◌∙◌, subst, arith, length-append, Result, Err, nat_lt}
+use Rattle.std.proofs.Common.{◌≡◌, ◌≢◌, ℕ, ◌==◌, ◌⊎◌, inl, inr, Bool, true, false, ◌&&◌, not, List, [], ◌∷◌, ◌++◌, length, Option, Some, None, codes}
+use Rattle.std.proofs.Common.{if◌then◌else◌, refl, sym, ap, ◌∙◌, subst, arith, length-append, Result, Err, nat_lt}
 use Rattle.std.specs.List.{AllByRecursion, list_all}
 use Rattle.std.specs.Option.{option_map_or}
 use Rattle.std.proofs.lemmas.Bool.{lt-ltb}
@@ -24,7 +25,8 @@ plain_is : (part : List ℕ) → list_all (λ b. not (b == 47)) part ≡ true �
 plain_is [] h = tt
 plain_is (b ∷ part) h = by (b == 47) refl h (plain_is part)
   where
-    by : (v : Bool) → (b == 47) ≡ v → (not v && list_all (λ b. not (b == 47)) part) ≡ true → (list_all (λ b. not (b == 47)) part ≡ true → AllByRecursion (λ b. b ≢ 47) part) → AllByRecursion (λ b. b ≢ 47) (b ∷ part)
+    by : (v : Bool) → (b == 47) ≡ v → (not v && list_all (λ b. not (b == 47)) part) ≡ true
+        → (list_all (λ b. not (b == 47)) part ≡ true → AllByRecursion (λ b. b ≢ 47) part) → AllByRecursion (λ b. b ≢ 47) (b ∷ part)
     by true e h ih = absurd cc
     by false e h ih = let other : b ≢ 47 = λ q. grind (arith, nat_tests) in (other, ih h)
 
@@ -63,7 +65,8 @@ whole_found text path part h = rw ((bytes_eq-Decides path text).1 h.1, h.0) refl
 part_if_is : (front end path p part : List ℕ) → part_if front end path p ≡ Some part → IsPart part × (path ≡ front ++ (part ++ end))
 part_if_is front end path p part h = by (is_part p) (same_text path (front ++ (p ++ end))) refl refl h
   where
-    by : (v w : Bool) → is_part p ≡ v → same_text path (front ++ (p ++ end)) ≡ w → (if v && w then Some p else None) ≡ Some part → IsPart part × (path ≡ front ++ (part ++ end))
+    by : (v w : Bool) → is_part p ≡ v → same_text path (front ++ (p ++ end)) ≡ w → (if v && w then Some p else None) ≡ Some part → IsPart part
+        × (path ≡ front ++ (part ++ end))
     by true true i s h =
         let same : p ≡ part = cc in
         (subst IsPart same (IsPart-from p i), (bytes_eq-Decides path (front ++ (p ++ end))).0 s ∙ ap (λ (x : List ℕ). front ++ (x ++ end)) same)
@@ -87,13 +90,15 @@ part_is Trace path part h =
     let is = part_if_is (codes "/api/traces/") [] path (cut (length (codes "/api/traces/")) (length {A = ℕ} []) path) part h in
     (is.0, is.1 ∙ ap (λ (x : List ℕ). codes "/api/traces/" ++ x) (append-nil part))
 part_is Services path part h = whole_is _ path part h
-part_is OperationNames path part h = part_if_is (codes "/api/services/") (codes "/operations") path (cut (length (codes "/api/services/")) (length (codes "/operations")) path) part h
+part_is OperationNames path part h =
+    part_if_is (codes "/api/services/") (codes "/operations") path (cut (length (codes "/api/services/")) (length (codes "/operations")) path) part h
 part_is Operations path part h = whole_is _ path part h
 part_is Dependencies path part h = whole_is _ path part h
 
 part_found : (e : Endpoint) (path part : List ℕ) → IsPath e part path → part_at e path ≡ Some part
 part_found Traces path part h = whole_found _ path part h
-part_found Trace path part h = between_found (codes "/api/traces/") [] path part h.0 (h.1 ∙ ap (λ (x : List ℕ). codes "/api/traces/" ++ x) (sym (append-nil part)))
+part_found Trace path part h =
+    between_found (codes "/api/traces/") [] path part h.0 (h.1 ∙ ap (λ (x : List ℕ). codes "/api/traces/" ++ x) (sym (append-nil part)))
 part_found Services path part h = whole_found _ path part h
 part_found OperationNames path part h = between_found (codes "/api/services/") (codes "/operations") path part h.0 h.1
 part_found Operations path part h = whole_found _ path part h

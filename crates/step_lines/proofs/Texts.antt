@@ -1,5 +1,6 @@
 -- Texts of a step: pieces joined, and targets.
-use Rattle.std.proofs.Common.{◌≡◌, ℕ, ◌==◌, not, Bool, true, false, List, [], ◌∷◌, ◌++◌, length, map, ◌≢◌, cond, codes, ne_eqb, Ok, Err, refl, sym, ap, ◌∙◌, Bor}
+use Rattle.std.proofs.Common.{◌≡◌, ℕ, ◌==◌, not, Bool, true, false, List, [], ◌∷◌, ◌++◌, length, map, ◌≢◌, cond, codes, ne_eqb, Ok, Err, refl, sym, ap, ◌∙◌}
+use Rattle.std.proofs.Common.{Bor}
 use Rattle.std.proofs.lemmas.Bool.{false_from_ne_true}
 use Rattle.std.specs.List.{All, AllZip, concat, filter, flat_map, onto_first}
 use Rattle.std.specs.Prelude.{if◌then◌else◌}

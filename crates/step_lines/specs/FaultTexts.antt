@@ -1,6 +1,6 @@
 -- Why a line is no step, as text.
 use Rattle.std.specs.Prelude.{ℕ, List, ◌++◌, codes}
-use Rattle.hex_batches.specs.FaultTexts.{fault_text as hex_fault_text}
+use Rattle.batch_codec.specs.HexFaultTexts.{fault_text as hex_fault_text}
 use Rattle.query_http.specs.Faults.{parameter_name}
 use Rattle.step_lines.specs.declared.fault.StepFault.{StepFault}
 use Rattle.step_lines.specs.declared.fault.StepFault.TheVariants.{BadStep, NoBatch, NoSuchPath, BadParameter}

@@ -6,7 +6,8 @@ use Rattle.trace_model.specs.declared.answer.Answer.{Answer}
 use Rattle.trace_model.specs.RefusalTexts.{refusal_text}
 use Rattle.query_json.specs.Trees.{answer_tree}
 use Rattle.schedule_core.specs.declared.outcome.Outcome.{Outcome}
-use Rattle.schedule_core.specs.declared.outcome.Outcome.TheVariants.{Put, Taken, Again, Refused, Idle, Published, Held, Entered, Answered, Learnt, Left, Inside, Outside, Unknown}
+use Rattle.schedule_core.specs.declared.outcome.Outcome.TheVariants.{Put, Taken, Again, Refused, Idle, Published, Held, Entered, Answered, Learnt, Left, Inside}
+use Rattle.schedule_core.specs.declared.outcome.Outcome.TheVariants.{Outside, Unknown}
 
 -- the body of the answer's HTTP response: for a trace that isn't found, that of the error
 abbrev pub json_of : Answer → List ℕ

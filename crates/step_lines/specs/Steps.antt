@@ -5,8 +5,8 @@ use Rattle.std.specs.Str.{is_utf8}
 use Rattle.query_http.specs.Queries.{◌>>=◌}
 use Rattle.jaeger_model.specs.declared.batch.Batch.{Batch}
 use Rattle.jaeger_model.specs.Texts.{same_text}
-use Rattle.hex_batches.specs.declared.fault.HexFault.{HexFault}
-use Rattle.hex_batches.specs.Spelling.{batch_in}
+use Rattle.batch_codec.specs.declared.hex_fault.HexFault.{HexFault}
+use Rattle.batch_codec.specs.HexSpelling.{batch_in}
 use Rattle.schedule_core.specs.declared.step.Step.{Step}
 use Rattle.schedule_core.specs.declared.step.Step.TheVariants.{Put, Limit, Take, Publish, Enter, Read, Learn, Leave}
 use Rattle.step_lines.specs.declared.fault.StepFault.{StepFault}

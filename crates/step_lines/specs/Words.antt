@@ -1,7 +1,7 @@
 -- The words of a line, and numbers among them.
 use Rattle.std.specs.Prelude.{ℕ, ◌==◌, Bool, List, Result, Ok, Err, if◌then◌else◌}
 use Rattle.std.specs.List.{slice_split}
-use Rattle.decimal_digits.specs.Digits.{is_digits, number_of}
+use Rattle.jaeger_model.specs.Decimal.{is_digits, number_of}
 use Rattle.step_lines.specs.declared.fault.StepFault.{StepFault}
 use Rattle.step_lines.specs.declared.fault.StepFault.TheVariants.{BadStep}
 

@@ -1,11 +1,11 @@
 //! The batch of a hexadecimal text.
 ghost use Rattle.step_lines.specs.Steps.{as_batch};
 ghost use Rattle.step_lines.specs.Reading.{Reads};
-ghost use Rattle.hex_batches.specs.Spelling.{batch_in};
+ghost use Rattle.batch_codec.specs.HexSpelling.{batch_in};
 
 use crate::fault::StepFault;
 use crate::stop::Stop;
-use hex_batches::decode_hex;
+use batch_codec::decode_hex;
 use jaeger_model::Batch;
 use std::alloc::Global;
 

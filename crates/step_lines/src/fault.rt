@@ -1,7 +1,7 @@
 //! Why a line is no step.
 ghost use Rattle.std.specs.Prelude.{Some};
 
-use hex_batches::HexFault;
+use batch_codec::HexFault;
 use query_http::Parameter;
 use std::fmt;
 

@@ -3,7 +3,7 @@ ghost use Rattle.std.specs.Prelude.{◌≡◌, map, IfOk};
 ghost use Rattle.step_lines.specs.Words.{words_of, number_in};
 
 use crate::fault::StepFault;
-use decimal_digits::{is_number, value_of};
+use jaeger_model::decimal::{is_number, value_of};
 use std::alloc::{AllocError, Global};
 
 /// Splits a line into words, at each space.

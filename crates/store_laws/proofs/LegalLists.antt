@@ -26,12 +26,14 @@ legal_snoc limits h e l added =
 -- ---- splits
 -- the number of an entry of an ascending list is above all before it
 rises_at : (before h : List Entry) (e : Entry) (after : List Entry) → RisesAfter before (h ++ e ∷ after) → (0 < e.number) × AboveEach e (before ++ h)
-rises_at before h e after r = rises_pushed before h e (rises_front before (h ++ e ∷ []) after (subst (RisesAfter before) (sym (append_assoc h (e ∷ []) after)) r))
+rises_at before h e after r =
+    rises_pushed before h e (rises_front before (h ++ e ∷ []) after (subst (RisesAfter before) (sym (append_assoc h (e ∷ []) after)) r))
 
 pub rises_splits : (h : List Entry) → RisesAfter [] h → RisesBySplits h
 rises_splits h r before e after same = let a = rises_at [] before e after (subst (RisesAfter []) same r) in above_last e before a.0 a.1
 
-splits_after : (before h : List Entry) → ((front : List Entry) (e : Entry) (after : List Entry) → h ≡ front ++ e ∷ after → last_number e.seat (before ++ front) < e.number) → RisesAfter before h
+splits_after : (before h : List Entry)
+    → ((front : List Entry) (e : Entry) (after : List Entry) → h ≡ front ++ e ∷ after → last_number e.seat (before ++ front) < e.number) → RisesAfter before h
 splits_after before [] f = tt
 splits_after before (e ∷ h) f =
     let a = above_each e before (subst (λ l. last_number e.seat l < e.number) (append-nil before) (f [] e h refl)) in (

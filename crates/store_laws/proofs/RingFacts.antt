@@ -1,5 +1,6 @@
 -- What holds of every ring, and of what is found.
-use Rattle.std.proofs.Common.{◌≡◌, ℕ, suc, zero, ◌-◌, ◌<◌, ◌≤◌, Bool, true, false, cond, List, [], ◌∷◌, ◌++◌, length, drop, map, Some, None, inl, inr, refl, sym, ap, subst, ◌∙◌, arith, length-append}
+use Rattle.std.proofs.Common.{◌≡◌, ℕ, suc, zero, ◌-◌, ◌<◌, ◌≤◌, Bool, true, false, cond, List, [], ◌∷◌, ◌++◌, length, drop, map, Some, None, inl, inr, refl}
+use Rattle.std.proofs.Common.{sym, ap, subst, ◌∙◌, arith, length-append}
 use Rattle.std.specs.Prelude.{filter, fold, if◌then◌else◌}
 use Rattle.std.specs.List.{All, IsDistinct, list_all}
 use Rattle.std.specs.Cmp.{decided}
@@ -50,19 +51,23 @@ subsequence_skip : {X : Type 0} (xs ys : List X) (y : X) → IsSubsequence xs ys
 subsequence_skip [] ys y s = tt
 subsequence_skip (x ∷ xs) ys y s = inr s
 
-subsequence_came : {A : Type 0} (xs : List A) (es : List (Event A)) (e : Event A) → IsSubsequence xs (without_limits es) → IsSubsequence xs (without_limits (e ∷ es))
+subsequence_came : {A : Type 0} (xs : List A) (es : List (Event A)) (e : Event A) → IsSubsequence xs (without_limits es)
+    → IsSubsequence xs (without_limits (e ∷ es))
 subsequence_came xs es (came x) s = subsequence_skip xs (without_limits es) x s
 subsequence_came xs es (limited m) s = s
 
-subsequence_own : {A : Type 0} (xs es : List (Event A)) (e : Event A) → IsSubsequence (without_limits xs) (without_limits es) → IsSubsequence (without_limits (e ∷ xs)) (without_limits (e ∷ es))
+subsequence_own : {A : Type 0} (xs es : List (Event A)) (e : Event A) → IsSubsequence (without_limits xs) (without_limits es)
+    → IsSubsequence (without_limits (e ∷ xs)) (without_limits (e ∷ es))
 subsequence_own xs es (came x) s = inl (refl, s)
 subsequence_own xs es (limited m) s = s
 
-lasting_subsequence : {A : Type 0} (keeps : List (Event A) → Event A → Bool) (before rest : List (Event A)) → IsSubsequence (without_limits (lasting_after keeps before rest)) (without_limits rest)
+lasting_subsequence : {A : Type 0} (keeps : List (Event A) → Event A → Bool) (before rest : List (Event A))
+    → IsSubsequence (without_limits (lasting_after keeps before rest)) (without_limits rest)
 lasting_subsequence keeps before [] = tt
 lasting_subsequence keeps before (e ∷ rest) =
     let later = lasting_after keeps (before ++ e ∷ []) rest in
-    elim (list_all (λ xs. keeps xs e) (longer_prefixes before (e ∷ rest))) as (λ b. IsSubsequence (without_limits (if b then e ∷ later else later)) (without_limits (e ∷ rest))) [
+    elim (list_all (λ xs. keeps xs e) (longer_prefixes before (e ∷ rest))) as (λ b.
+    IsSubsequence (without_limits (if b then e ∷ later else later)) (without_limits (e ∷ rest))) [
       | true ↦ subsequence_own later rest e (lasting_subsequence keeps (before ++ e ∷ []) rest)
       | false ↦ subsequence_came (without_limits later) rest e (lasting_subsequence keeps (before ++ e ∷ []) rest)
     ]
@@ -84,9 +89,11 @@ found_is [] spans e = absurd cc
 found_is (x ∷ xs) spans e = let same : x ∷ xs ≡ spans = cc e in (same, subst (λ l. 0 < length l) same (omega arith))
 
 -- the spans found are some of the arrivals, in their order
-pub found_subsequence : (n : ℕ) (es : List (Event Placed)) (t : TraceId) (spans : List Placed) → trace_found n es t ≡ Some spans → IsSubsequence spans (without_limits es)
+pub found_subsequence : (n : ℕ) (es : List (Event Placed)) (t : TraceId) (spans : List Placed) → trace_found n es t ≡ Some spans
+    → IsSubsequence spans (without_limits es)
 found_subsequence n es t spans e =
-    subst (λ l. IsSubsequence l (without_limits es)) (found_is (spans_of_trace n es t) spans e).0 (subsequence_filter (λ p. same_trace t (trace_of p)) (shown n es) (without_limits es) (shown_subsequence n es))
+    subst (λ l. IsSubsequence l (without_limits es)) (found_is (spans_of_trace n es t) spans e).0
+    (subsequence_filter (λ p. same_trace t (trace_of p)) (shown n es) (without_limits es) (shown_subsequence n es))
 
 pub found_own : (n : ℕ) (es : List (Event Placed)) (t : TraceId) (spans : List Placed) → trace_found n es t ≡ Some spans → All (λ p. trace_of p ≡ t) spans
 found_own n es t spans e =
@@ -118,16 +125,19 @@ newest_all (suc m) r short = let fits : length r ≤ suc m = short (omega arith)
 pub raised_ring : (n : ℕ) (es : List (Event Placed)) (m : ℕ) → (0 < m → length (ring n es) ≤ m) → ring n (es ++ limited m ∷ []) ≡ ring n es
 raised_ring n es m short = ring_limited n es m ∙ newest_all m (ring n es) short
 
-held_or_gone : (n : ℕ) (es : List (Event Placed)) (t : TraceId) (b : Bool) → holds (ring n es) t ≡ b → (if b then spans_of_trace n es t else []) ≡ spans_of_trace n es t
+held_or_gone : (n : ℕ) (es : List (Event Placed)) (t : TraceId) (b : Bool) → holds (ring n es) t ≡ b
+    → (if b then spans_of_trace n es t else []) ≡ spans_of_trace n es t
 held_or_gone n es t true e = refl
 held_or_gone n es t false e = sym (spans_gone n es t e)
 
-pub raised_spans : (n : ℕ) (es : List (Event Placed)) (m : ℕ) (t : TraceId) → (0 < m → length (ring n es) ≤ m) → spans_of_trace n (es ++ limited m ∷ []) t ≡ spans_of_trace n es t
+pub raised_spans : (n : ℕ) (es : List (Event Placed)) (m : ℕ) (t : TraceId) → (0 < m → length (ring n es) ≤ m)
+    → spans_of_trace n (es ++ limited m ∷ []) t ≡ spans_of_trace n es t
 raised_spans n es m t short =
     spans_limited n es m t ∙ ap (λ r. if holds r t then spans_of_trace n es t else []) (newest_all m (ring n es) short)
     ∙ held_or_gone n es t (holds (ring n es) t) refl
 
-steps_alone : (r : LimitedRing) (ps : List Placed) → fold (ring_step trace_of) r (map came ps) ≡ record { limit = r.limit; ids = fold (arrive r.limit) r.ids (map trace_of ps) }
+steps_alone : (r : LimitedRing) (ps : List Placed)
+    → fold (ring_step trace_of) r (map came ps) ≡ record { limit = r.limit; ids = fold (arrive r.limit) r.ids (map trace_of ps) }
 steps_alone r [] = refl
 steps_alone r (p ∷ ps) = steps_alone (record r { ids = arrive r.limit r.ids (trace_of p) }) ps
 

@@ -2,7 +2,7 @@
 //!
 //! * `limits`: what a store may hold, and why it refuses an entry.
 //! * `journals`: `arrival_journal`.
-//! * `tables`: `id_table`.
+//! * `tables`: `IdTable`.
 //! * `rings`: `trace_ring`, `trace_assembly`, and which spans the plain store shows.
 //! * `names`: what a store names, compared with the plain store.
 //! * `stores`: `span_store`, queried as the plain store of its entries.

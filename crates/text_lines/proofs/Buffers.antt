@@ -1,5 +1,6 @@
 -- Text that waits in a buffer.
-use Rattle.std.proofs.Common.{◌≡◌, ℕ, ◌+◌, ◌-◌, List, [], ◌∷◌, ◌++◌, length, take, drop, Bool, true, false, Option, Result, Ok, Err, IfErr, OnOk, refl, sym, ap, subst, ◌∙◌, arith, append-nil, append_assoc, length-drop}
+use Rattle.std.proofs.Common.{◌≡◌, ℕ, ◌+◌, ◌-◌, List, [], ◌∷◌, ◌++◌, length, take, drop, Bool, true, false, Option, Result, Ok, Err, IfErr, OnOk, refl, sym, ap}
+use Rattle.std.proofs.Common.{subst, ◌∙◌, arith, append-nil, append_assoc, length-drop}
 use Rattle.std.proofs.lemmas.List.{take-append-drop, take_all, drop-drop}
 use Rattle.std.specs.Io.KnownBytes.{Appends}
 use Rattle.std.proofs.KnownBytes.{Appends-nil, Appends-trans}
@@ -45,6 +46,7 @@ flushed a b w0 w1 text failed (Err h) is m none works err =
     (subst (WritesSome a b) is (some_written a b w0 w1 m), rw err.0 err.1)
 
 -- memory ran out before anything was written
-pub nothing_said : (a : Option (List ℕ)) (failed : Bool) (text : List ℕ) (r : Result (Unit {0}) RunError) → IsErrAnd r (λ h. h ≡ Memory) → failed ≡ false → WritesText a a failed text r
+pub nothing_said : (a : Option (List ℕ)) (failed : Bool) (text : List ℕ) (r : Result (Unit {0}) RunError) → IsErrAnd r (λ h. h ≡ Memory) → failed ≡ false
+    → WritesText a a failed text r
 nothing_said a failed text (Ok u) e works = absurd e
 nothing_said a failed text (Err h) e works = (([], Appends-nil a, (text, refl)), rw e works)

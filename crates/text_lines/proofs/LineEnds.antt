@@ -38,7 +38,11 @@ within_line c d xs p q = rw (p, q) (neither (c == 13) _ _)
 
 before_feed : (c : ℕ) (rest : List ℕ) → (c == 10) ≡ false → lines_of (c ∷ 10 ∷ rest) ≡ without_return (c ∷ []) ∷ lines_of rest
 before_feed c rest p =
-    rw p (elim (c == 13) as (λ b. (if b && true then [] ∷ lines_of rest else (c ∷ []) ∷ lines_of rest) ≡ (if b then [] else c ∷ []) ∷ lines_of rest) [ true ↦ refl | false ↦ refl ])
+    rw p (elim (c == 13) as (λ b. (if b && true then [] ∷ lines_of rest else (c ∷ []) ∷ lines_of rest) ≡ (if b then [] else c ∷ []) ∷ lines_of rest) [
+      | true ↦
+          refl
+      | false ↦ refl
+    ])
 
 -- a line that is followed by a line feed is the first
 pub line_first : (line rest : List ℕ) → HasNoFeed line → lines_of (line ++ 10 ∷ rest) ≡ without_return line ∷ lines_of rest

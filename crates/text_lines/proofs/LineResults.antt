@@ -5,7 +5,8 @@ use Rattle.text_lines.specs.Results.{LineResult, result_of_lines}
 
 module _ {S : Type 0} (of_line : ℕ → S → List ℕ → LineResult S) where
   -- the reply to lines starts with the reply to the first of them
-  pub said_append : (n : ℕ) (s : S) (xs ys : List (List ℕ)) → (more : List ℕ) × ((result_of_lines of_line n s (xs ++ ys)).reply.text ≡ (result_of_lines of_line n s xs).reply.text ++ more)
+  pub said_append : (n : ℕ) (s : S) (xs ys : List (List ℕ)) → (more : List ℕ)
+      × ((result_of_lines of_line n s (xs ++ ys)).reply.text ≡ (result_of_lines of_line n s xs).reply.text ++ more)
   said_append n s [] ys = ((result_of_lines of_line n s ys).reply.text, refl)
   said_append n s (x ∷ xs) ys =
       let here : LineResult S = of_line n s x in
@@ -14,7 +15,8 @@ module _ {S : Type 0} (of_line : ℕ → S → List ℕ → LineResult S) where
 
   -- if each line that is handled has the result of the function, however the state is represented
   module _ {W : Type 0} (StandsFor : W → S → Type 0) (takes : Takes W)
-      (each : (w : W) (n : ℕ) (line : List ℕ) (reply : LineReply) (v : W) → takes w n line reply v → (s : S) → StandsFor w s → StandsFor v (of_line n s line).held × (reply ≡ (of_line n s line).reply)) where
+      (each : (w : W) (n : ℕ) (line : List ℕ) (reply : LineReply) (v : W) → takes w n line reply v → (s : S) → StandsFor w s
+      → StandsFor v (of_line n s line).held × (reply ≡ (of_line n s line).reply)) where
     pub lines_come_to : (w : W) (s : S) (n : ℕ) (lines : List (List ℕ)) (reply : LineReply) (v : W) → StandsFor w s → TakesEach takes w n lines reply v
         → StandsFor v (result_of_lines of_line n s lines).held × (reply ≡ (result_of_lines of_line n s lines).reply)
     lines_come_to w s n [] reply v stands e = (subst (λ x. StandsFor x s) (sym e.0) stands, e.1)

@@ -1,5 +1,6 @@
 -- Lines that are handled one after the other.
-use Rattle.std.proofs.Common.{◌≡◌, ℕ, ◌+◌, ◌≤◌, Bool, true, false, ◌||◌, inl, inr, List, [], ◌∷◌, ◌++◌, length, Option, Some, None, refl, sym, ap, ◌∙◌, subst, arith, append-nil, append_assoc, length-append}
+use Rattle.std.proofs.Common.{◌≡◌, ℕ, ◌+◌, ◌≤◌, Bool, true, false, ◌||◌, inl, inr, List, [], ◌∷◌, ◌++◌, length, Option, Some, None, refl, sym, ap, ◌∙◌, subst}
+use Rattle.std.proofs.Common.{arith, append-nil, append_assoc, length-append}
 use Rattle.std.specs.Io.KnownBytes.{Appends, Consumes, IsAtEnd}
 use Rattle.std.proofs.KnownBytes.{Consumes-nil, Consumes-trans}
 use Rattle.std.proofs.Math.Bool.{or-false, or_assoc}
@@ -57,7 +58,8 @@ begins takes in0 out0 s feed buffer is none = rw (is, none) record {
   faulty_is = refl;
 }
 
-module _ {S : Type 0} (takes : Takes S) (in0 in1 in2 out0 out1 out2 out3 : Option (List ℕ)) (s t u : S) (feed feed2 : Feed) (w1 w2 w3 w4 : List ℕ) (n : ℕ) (faulty here : Bool) (line text : List ℕ) where
+module _ {S : Type 0} (takes : Takes S) (in0 in1 in2 out0 out1 out2 out3 : Option (List ℕ)) (s t u : S) (feed feed2 : Feed) (w1 w2 w3 w4 : List ℕ) (n : ℕ)
+    (faulty here : Bool) (line text : List ℕ) where
   pub goes_on : SoFar takes in0 in1 out0 out1 s t feed w1 n faulty → TakesLine in1 in2 feed feed2 line → Moves out1 out2 w1 w2
       → takes t (n + 1) line (record { text = text; faulty = here }) u → w3 ≡ w2 ++ text → Moves out2 out3 w3 w4
       → SoFar takes in0 in2 out0 out3 s u feed2 w4 (n + 1) (faulty || here)
@@ -65,7 +67,8 @@ module _ {S : Type 0} (takes : Takes S) (in0 in1 in2 out0 out1 out2 out3 : Optio
       let x : LineReply = record { text = text; faulty = here } in
       let size : n + 1 ≡ 1 + length f.lines = omega (arith, f.count) in
       let before : Moves out0 out2 f.reply.text w2 = moves_then out0 out1 out2 f.reply.text w1 w2 f.wrote first in
-      let more : Moves out0 out2 (f.reply.text ++ text) w3 = subst (Moves out0 out2 (f.reply.text ++ text)) (sym says) (moves_more out0 out2 f.reply.text w2 text before) in
+      let more : Moves out0 out2 (f.reply.text ++ text) w3 =
+      subst (Moves out0 out2 (f.reply.text ++ text)) (sym says) (moves_more out0 out2 f.reply.text w2 text before) in
       record {
         taken = f.taken ++ l.taken;
         lines = f.lines ++ line ∷ [];
@@ -149,7 +152,8 @@ why_weaker Device i o A B f (inr (inl e)) = inr (inl e)
 why_weaker Device i o A B f (inr (inr a)) = inr (inr (f a))
 why_weaker Memory i o A B f e = e
 
-pub stops : {S : Type 0} (takes : Takes S) (in0 in1 in2 out0 out1 out2 : Option (List ℕ)) (s t : S) (feed : Feed) (w1 w2 : List ℕ) (n : ℕ) (faulty i o : Bool) (h : RunError)
+pub stops : {S : Type 0} (takes : Takes S) (in0 in1 in2 out0 out1 out2 : Option (List ℕ)) (s t : S) (feed : Feed) (w1 w2 : List ℕ) (n : ℕ) (faulty i o : Bool)
+    (h : RunError)
     → SoFar takes in0 in1 out0 out1 s t feed w1 n faulty → StopsReading in1 in2 feed i o h → Moves out1 out2 w1 w2 → TookSome takes in0 in2 out0 out2 s w2 i o h
 stops takes in0 in1 in2 out0 out1 out2 s t feed w1 w2 n faulty i o h f l last =
     let rest = rest_after in0 in2 in
@@ -227,7 +231,8 @@ all_lost takes in0 in1 out0 out1 out2 s t w w2 faulty i o h a last is failed = r
 }
 
 pub some_answered : {S : Type 0} (takes : Takes S) (in0 in1 out0 out1 out2 : Option (List ℕ)) (s : S) (w w2 : List ℕ) (i o o2 : Bool) (h h2 : RunError)
-    → (a : TookSome takes in0 in1 out0 out1 s w i o h) → Moves out1 out2 w w2 → (IsWhy h i o (MAX_READS ≤ length a.first.taken) → IsWhy h2 i o2 (MAX_READS ≤ length a.first.taken)) → AnswersSome takes in0 in1 out0 out2 s i o2 h2
+    → (a : TookSome takes in0 in1 out0 out1 s w i o h) → Moves out1 out2 w w2
+    → (IsWhy h i o (MAX_READS ≤ length a.first.taken) → IsWhy h2 i o2 (MAX_READS ≤ length a.first.taken)) → AnswersSome takes in0 in1 out0 out2 s i o2 h2
 some_answered takes in0 in1 out0 out1 out2 s w w2 i o o2 h h2 a last why = record {
   first = record {
     taken = a.first.taken;

@@ -1,5 +1,6 @@
 -- Removing a line from the bytes that were read.
-use Rattle.std.proofs.Common.{◌≡◌, ℕ, suc, zero, ◌+◌, ◌≤◌, ◌<◌, ◌==◌, true, false, not, MatchBool, List, [], ◌∷◌, ◌++◌, length, take, drop, Option, refl, sym, ap, ◌∙◌, subst, arith, slice_index, append_assoc, append-nil, length-append, length-drop, add-one}
+use Rattle.std.proofs.Common.{◌≡◌, ℕ, suc, zero, ◌+◌, ◌≤◌, ◌<◌, ◌==◌, true, false, not, MatchBool, List, [], ◌∷◌, ◌++◌, length, take, drop, Option, refl, sym}
+use Rattle.std.proofs.Common.{ap, ◌∙◌, subst, arith, slice_index, append_assoc, append-nil, length-append, length-drop, add-one}
 use Rattle.std.proofs.Math.Seq.{take-length}
 use Rattle.std.proofs.lemmas.Bool.{false_from_ne_true}
 use Rattle.std.proofs.KnownBytes.{Consumes-nil, Consumes-trans}
@@ -60,13 +61,16 @@ takes_line in0 in1 old now line k g below is none =
       taken = g.taken;
       read = g.read;
       end = g.end;
-      first = λ more come. ap (λ l. lines_of (l ++ more)) joined ∙ ap lines_of (append_assoc (line ++ w) (10 ∷ rest) more) ∙ line_first (line ++ w) (rest ++ more) plain;
+      first =
+          λ more come. ap (λ l. lines_of (l ++ more)) joined ∙ ap lines_of (append_assoc (line ++ w) (10 ∷ rest) more)
+          ∙ line_first (line ++ w) (rest ++ more) plain;
       stays = g.stays;
       shorter = omega (arith, length-drop (suc k) now.waiting, g.shorter);
       least = g.least;
     }
 
-ends_line : (in0 in1 : Option (List ℕ)) (old now : Feed) (line all : List ℕ) → line ++ now.waiting ≡ all → Gathers in0 in1 old now line → HasNoFeed now.waiting → now.ended ≡ true
+ends_line : (in0 in1 : Option (List ℕ)) (old now : Feed) (line all : List ℕ) → line ++ now.waiting ≡ all → Gathers in0 in1 old now line → HasNoFeed now.waiting
+    → now.ended ≡ true
     → MatchBool (not (length all == 0)) (TakesLine in0 in1 old (record now { waiting = [] }) all) (TakesNone in0 in1 old (record now { waiting = [] }))
 ends_line in0 in1 old now line [] e g plain done = record {
   taken = g.taken;
@@ -81,12 +85,15 @@ ends_line in0 in1 old now line (c ∷ all) e g plain done =
       taken = g.taken;
       read = g.read;
       end = g.end;
-      first = λ more come. ap (λ l. lines_of (l ++ more)) (g.joined ∙ e) ∙ rw (come done) (ap lines_of (append-nil (c ∷ all)) ∙ line_last c all (subst HasNoFeed e (HasNoFeed-append line now.waiting g.plain plain)));
+      first =
+          λ more come. ap (λ l. lines_of (l ++ more)) (g.joined ∙ e)
+          ∙ rw (come done) (ap lines_of (append-nil (c ∷ all)) ∙ line_last c all (subst HasNoFeed e (HasNoFeed-append line now.waiting g.plain plain)));
       stays = g.stays;
       shorter = omega (arith, size, g.shorter);
       least = g.least;
     }
 
 pub ends : (in0 in1 : Option (List ℕ)) (old now : Feed) (line : List ℕ) → Gathers in0 in1 old now line → HasNoFeed now.waiting → now.ended ≡ true
-    → MatchBool (not (length (line ++ now.waiting) == 0)) (TakesLine in0 in1 old (record now { waiting = [] }) (line ++ now.waiting)) (TakesNone in0 in1 old (record now { waiting = [] }))
+    → MatchBool (not (length (line ++ now.waiting) == 0)) (TakesLine in0 in1 old (record now { waiting = [] }) (line ++ now.waiting))
+    (TakesNone in0 in1 old (record now { waiting = [] }))
 ends in0 in1 old now line g plain done = ends_line in0 in1 old now line (line ++ now.waiting) refl g plain done

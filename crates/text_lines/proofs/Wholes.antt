@@ -23,7 +23,8 @@ why_by Device i o Met e ie = inr (inl e)
 why_by Memory i o Met e ie = (ie, e)
 
 -- all lines were taken, and then something stopped the run
-pub stops_all : {S : Type 0} (takes : Takes S) (in0 in1 out0 out1 out2 : Option (List ℕ)) (s t : S) (faulty i o : Bool) (h : RunError) (output_of : List ℕ → List ℕ)
+pub stops_all : {S : Type 0} (takes : Takes S) (in0 in1 out0 out1 out2 : Option (List ℕ)) (s t : S) (faulty i o : Bool) (h : RunError)
+    (output_of : List ℕ → List ℕ)
     → (a : AnswersAll takes in0 in1 out0 out1 s t faulty) → WritesSome out0 out2 (output_of a.all.input) → IsWhyOf h o → i ≡ false
     → StopsShort in0 in1 out0 out2 i o output_of (status_by h)
 stops_all takes in0 in1 out0 out1 out2 s t faulty i o h output_of a some why ie = record {
@@ -39,7 +40,8 @@ stops_all takes in0 in1 out0 out1 out2 s t faulty i o h output_of a some why ie 
 
 -- not all lines were taken
 pub stops_some : {S : Type 0} (takes : Takes S) (in0 in1 out0 out1 : Option (List ℕ)) (s : S) (i o : Bool) (h : RunError) (output_of : List ℕ → List ℕ)
-    → (a : AnswersSome takes in0 in1 out0 out1 s i o h) → WritesSome out0 out1 (output_of (a.first.taken ++ a.first.rest)) → StopsShort in0 in1 out0 out1 i o output_of (status_by h)
+    → (a : AnswersSome takes in0 in1 out0 out1 s i o h) → WritesSome out0 out1 (output_of (a.first.taken ++ a.first.rest))
+    → StopsShort in0 in1 out0 out1 i o output_of (status_by h)
 stops_some takes in0 in1 out0 out1 s i o h output_of a some = record {
   error = h;
   taken = a.first.taken;
@@ -52,7 +54,8 @@ stops_some takes in0 in1 out0 out1 s i o h output_of a some = record {
 }
 
 -- memory ran out before anything was read
-pub stops_at_once : (in0 out0 : Option (List ℕ)) (i o : Bool) (output_of : List ℕ → List ℕ) → i ≡ false → o ≡ false → StopsShort in0 in0 out0 out0 i o output_of 5
+pub stops_at_once : (in0 out0 : Option (List ℕ)) (i o : Bool) (output_of : List ℕ → List ℕ) → i ≡ false → o ≡ false
+    → StopsShort in0 in0 out0 out0 i o output_of 5
 stops_at_once in0 out0 i o output_of ie oe = record {
   error = Memory;
   taken = [];

@@ -45,7 +45,8 @@ Holds (Some known) bytes = known ≡ bytes
 -- ---- complete runs, whose output is a function of their input
 
 -- all of the input was read, and exactly its output was written
-pub record Finishes (in0 in1 out0 out1 : Option (List ℕ)) (in_failed out_failed : Bool) (output_of : List ℕ → List ℕ) (status_of : List ℕ → ℕ) (status : ℕ) : Type 0 where
+pub record Finishes (in0 in1 out0 out1 : Option (List ℕ)) (in_failed out_failed : Bool) (output_of : List ℕ → List ℕ) (status_of : List ℕ → ℕ)
+    (status : ℕ) : Type 0 where
   pub input : List ℕ
   pub read : Consumes in0 in1 input
   pub whole : IsAtEnd in1

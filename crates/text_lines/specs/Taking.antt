@@ -57,14 +57,16 @@ pub record FirstLines {S : Type 0} (takes : Takes S) (in0 in1 : Option (List ℕ
   pub why : IsWhy error in_failed out_failed (MAX_READS ≤ length taken)
 
 -- the first lines of the input were handled, and a prefix of the replies was written
-pub record AnswersSome {S : Type 0} (takes : Takes S) (in0 in1 out0 out1 : Option (List ℕ)) (s : S) (in_failed out_failed : Bool) (error : RunError) : Type 0 where
+pub record AnswersSome {S : Type 0} (takes : Takes S) (in0 in1 out0 out1 : Option (List ℕ)) (s : S) (in_failed out_failed : Bool)
+    (error : RunError) : Type 0 where
   pub first : FirstLines takes in0 in1 s in_failed out_failed error
   pub written : WritesSome out0 out1 first.reply.text
 
 -- ---- on the way, with a buffer of text that waits to be written
 
 -- these lines were removed from the bytes read, and the replies were written or wait
-pub record SoFar {S : Type 0} (takes : Takes S) (in0 in1 out0 out1 : Option (List ℕ)) (s t : S) (feed : Feed) (waits : List ℕ) (number : ℕ) (faulty : Bool) : Type 0 where
+pub record SoFar {S : Type 0} (takes : Takes S) (in0 in1 out0 out1 : Option (List ℕ)) (s t : S) (feed : Feed) (waits : List ℕ) (number : ℕ)
+    (faulty : Bool) : Type 0 where
   pub taken : List ℕ
   pub lines : List (List ℕ)
   pub reply : LineReply
@@ -84,6 +86,7 @@ pub record TookAll {S : Type 0} (takes : Takes S) (in0 in1 out0 out1 : Option (L
   pub wrote : Moves out0 out1 all.reply.text waits
 
 -- the first lines of the input were handled, and a prefix of the replies was written or waits
-pub record TookSome {S : Type 0} (takes : Takes S) (in0 in1 out0 out1 : Option (List ℕ)) (s : S) (waits : List ℕ) (in_failed out_failed : Bool) (error : RunError) : Type 0 where
+pub record TookSome {S : Type 0} (takes : Takes S) (in0 in1 out0 out1 : Option (List ℕ)) (s : S) (waits : List ℕ) (in_failed out_failed : Bool)
+    (error : RunError) : Type 0 where
   pub first : FirstLines takes in0 in1 s in_failed out_failed error
   pub wrote : Moves out0 out1 first.reply.text waits

@@ -1,5 +1,6 @@
 //! Reads the lines of an input one at a time.
-ghost use Rattle.std.specs.Prelude.{◌≡◌, ℕ, ◌≤◌, ◌<◌, ◌+◌, ◌*◌, ◌⊎◌, true, false, List, [], ◌∷◌, ◌++◌, IfErr, IfOk, OnOk, drop, take, vec_len, MatchBool, length};
+ghost use Rattle.std.specs.Prelude.{◌≡◌, ℕ, ◌≤◌, ◌<◌, ◌+◌, ◌*◌, ◌⊎◌, true, false, List, [], ◌∷◌, ◌++◌, IfErr, IfOk, OnOk, drop, take, vec_len, MatchBool};
+ghost use Rattle.std.specs.Prelude.{length};
 ghost use Rattle.std.specs.Io.KnownBytes.{Keeps};
 ghost use Rattle.text_lines.specs.Lines.{without_return};
 ghost use Rattle.text_lines.specs.Reading.{Feed, Fills, StopsReading, TakesLine, TakesNone};

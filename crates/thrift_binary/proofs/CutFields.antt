@@ -1,5 +1,6 @@
 -- The faults of fields up to the stop byte have places if those of each field's value have.
-use Rattle.std.proofs.Common.{◌≡◌, ℕ, ℤ, zero, suc, ◌<◌, ◌≤◌, List, [], ◌∷◌, ◌++◌, length, take, Option, Some, None, Result, Ok, Err, refl, ap, arith, length-append}
+use Rattle.std.proofs.Common.{◌≡◌, ℕ, ℤ, zero, suc, ◌<◌, ◌≤◌, List, [], ◌∷◌, ◌++◌, length, take, Option, Some, None, Result, Ok, Err, refl, ap, arith}
+use Rattle.std.proofs.Common.{length-append}
 use Rattle.thrift_binary.specs.declared.fault.WireError.{WireError}
 use Rattle.thrift_binary.specs.declared.fault.WireError.TheVariants.{Truncated}
 use Rattle.thrift_binary.specs.Reading.{◌>>=◌, lift, Read, field_at}
@@ -16,7 +17,9 @@ head_shorter w (Some f) r e = let h = field_found w f.0 f.1 r e in omega (arith,
 
 module _ {S E : Type 0} (wire : WireError → E) (gets : Take S E) (safe : (s : S) (c : ℕ) (i : ℤ) → IsCutSafe (wire Truncated) (gets s c i)) where
   value_no_longer : (s : S) (c : ℕ) (i : ℤ) (w : List ℕ) (t : S) (r : List ℕ) → gets s c i w ≡ Ok (t, r) → length r ≤ length w
-  value_no_longer s c i w t r e = let h = values_have_ends (wire Truncated) (gets s c i) (safe s c i) w t r e in omega (arith, ap length h.1, length-append h.0 r)
+  value_no_longer s c i w t r e =
+      let h = values_have_ends (wire Truncated) (gets s c i) (safe s c i) w t r e in
+      omega (arith, ap length h.1, length-append h.0 r)
 
   -- after a first field two readings agree if they agree on fewer bytes
   same_behind : (one other : S → List ℕ → Result (S × List ℕ) E) (s : S) (w : List ℕ) → ((t : S) (v : List ℕ) → length v < length w → one t v ≡ other t v)
@@ -28,7 +31,8 @@ module _ {S E : Type 0} (wire : WireError → E) (gets : Take S E) (safe : (s : 
       after r lt (Ok y) shorter = let le : length y.1 ≤ length r = shorter y.0 y.1 refl in same y.0 y.1 (omega arith)
       after r lt (Err e) shorter = refl
 
-      by : (x : Read (Option (ℕ × ℤ))) → field_at w ≡ x → (lift wire x >>= λ h. behind_field one gets s h.0 h.1) ≡ (lift wire x >>= λ h. behind_field other gets s h.0 h.1)
+      by : (x : Read (Option (ℕ × ℤ))) → field_at w ≡ x
+          → (lift wire x >>= λ h. behind_field one gets s h.0 h.1) ≡ (lift wire x >>= λ h. behind_field other gets s h.0 h.1)
       by (Err e) head = refl
       by (Ok (None, r)) head = refl
       by (Ok (Some f, r)) head = after r (head_shorter w (Some f) r head) (gets s f.0 f.1 r) (λ t v e. value_no_longer s f.0 f.1 r t v e)
@@ -44,11 +48,13 @@ module _ {S E : Type 0} (wire : WireError → E) (gets : Take S E) (safe : (s : 
   room (suc n) (suc m) s w p q = same_behind (fields_in wire gets n) (fields_in wire gets m) s w (λ t v lt. room n m t v (omega arith) (omega arith))
 
   -- the first field, and then the others
-  step_in : (n : ℕ) (s : S) (w : List ℕ) → length w ≤ n → fields_in wire gets n s w ≡ (lift wire (field_at w) >>= λ h. behind_field (λ t v. fields_in wire gets (length v) t v) gets s h.0 h.1)
+  step_in : (n : ℕ) (s : S) (w : List ℕ) → length w ≤ n
+      → fields_in wire gets n s w ≡ (lift wire (field_at w) >>= λ h. behind_field (λ t v. fields_in wire gets (length v) t v) gets s h.0 h.1)
   unfolding fields_in field_at
   step_in zero s [] le = refl
   step_in zero s (b ∷ w) le = absurd (omega arith)
-  step_in (suc n) s w le = same_behind (fields_in wire gets n) (λ t v. fields_in wire gets (length v) t v) s w (λ t v lt. room n (length v) t v (omega arith) (omega arith))
+  step_in (suc n) s w le =
+      same_behind (fields_in wire gets n) (λ t v. fields_in wire gets (length v) t v) s w (λ t v lt. room n (length v) t v (omega arith) (omega arith))
 
   abbrev stepped : S → List ℕ → Result (S × List ℕ) E
   stepped s w = lift wire (field_at w) >>= λ h. behind_field (fields_at wire gets) gets s h.0 h.1
@@ -67,10 +73,12 @@ module _ {S E : Type 0} (wire : WireError → E) (gets : Take S E) (safe : (s : 
       nothing (suc m) = refl
   fields_cut_in (suc k) s w le =
       cut_same (wire Truncated) (stepped s) (fields_at wire gets s) (fields_step s) w
-      (cut_then_at (wire Truncated) (λ v. lift wire (field_at v)) (behind_field (fields_at wire gets) gets s) w (cut_lift wire Truncated field_at w (field_cut w)) (by (λ t v lt. fields_cut_in k t v lt)))
+      (cut_then_at (wire Truncated) (λ v. lift wire (field_at v)) (behind_field (fields_at wire gets) gets s) w
+      (cut_lift wire Truncated field_at w (field_cut w)) (by (λ t v lt. fields_cut_in k t v lt)))
     where
       by : ((t : S) (v : List ℕ) → length v ≤ k → Cut (wire Truncated) (fields_at wire gets t) v)
-          → (h : Option (ℕ × ℤ)) (text rest : List ℕ) → w ≡ text ++ rest → lift wire (field_at w) ≡ Ok (h, rest) → Cut (wire Truncated) (behind_field (fields_at wire gets) gets s h) rest
+          → (h : Option (ℕ × ℤ)) (text rest : List ℕ) → w ≡ text ++ rest → lift wire (field_at w) ≡ Ok (h, rest)
+          → Cut (wire Truncated) (behind_field (fields_at wire gets) gets s h) rest
       by others None text rest parts e = cut_ok (wire Truncated) (behind_field (fields_at wire gets) gets s None) s (λ v. refl) rest
       by others (Some f) text rest parts e =
           let shorter : length rest < length w = head_shorter w (Some f) rest (lift_ok wire (field_at w) _ e) in

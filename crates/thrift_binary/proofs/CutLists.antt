@@ -17,11 +17,13 @@ items_cut {A = A} {E = E} short one safe (suc n) =
     cut_then short one next safe (λ x. cut_map short (items_at one n) (λ xs. x ∷ xs) (items_cut short one safe n))
 
 -- a list of a declared type
-pub list_cut : {A E : Type 0} (wire : WireError → E) (c : ℕ) (one : List ℕ → Result (A × List ℕ) E) → IsCutSafe (wire Truncated) one → IsCutSafe (wire Truncated) (list_of wire c one)
+pub list_cut : {A E : Type 0} (wire : WireError → E) (c : ℕ) (one : List ℕ → Result (A × List ℕ) E) → IsCutSafe (wire Truncated) one
+    → IsCutSafe (wire Truncated) (list_of wire c one)
 unfolding list_of
 list_cut {A = A} {E = E} wire c one safe =
     let head : List ℕ → Result ((ℕ × ℕ) × List ℕ) E = λ v. lift wire (list_at v) in
     let next : ℕ × ℕ → List ℕ → Result (List A × List ℕ) E = λ h v. cond (eqb h.1 0 || eqb h.0 c) (items_at one h.1 v) (Err (wire BadType)) in
     let other : List ℕ → Result (List A × List ℕ) E = λ v. Err (wire BadType) in
     cut_then (wire Truncated) head next (λ w. cut_lift wire Truncated list_at w (list_head_cut w))
-    (λ h w. cut_if (wire Truncated) (eqb h.1 0 || eqb h.0 c) (items_at one h.1) other w (items_cut (wire Truncated) one safe h.1 w) (cut_err (wire Truncated) other (wire BadType) (λ v. refl) w))
+    (λ h w. cut_if (wire Truncated) (eqb h.1 0 || eqb h.0 c) (items_at one h.1) other w (items_cut (wire Truncated) one safe h.1 w)
+    (cut_err (wire Truncated) other (wire BadType) (λ v. refl) w))

@@ -1,11 +1,13 @@
 -- The faults of each reading of this crate have places.
-use Rattle.std.proofs.Common.{◌≡◌, ℕ, ℤ, zero, suc, ◌^◌, Bool, true, false, cond, eqb, ltb, ◌&&◌, ◌||◌, List, [], ◌∷◌, take, Option, Some, None, Ok, Err, refl, sym, ap, ◌∙◌, append-nil, arith, w16}
+use Rattle.std.proofs.Common.{◌≡◌, ℕ, ℤ, zero, suc, ◌^◌, Bool, true, false, cond, eqb, ltb, ◌&&◌, ◌||◌, List, [], ◌∷◌, take, Option, Some, None, Ok, Err, refl}
+use Rattle.std.proofs.Common.{sym, ap, ◌∙◌, append-nil, arith, w16}
 use Rattle.std.proofs.lemmas.List.{length-take-le, take_at}
 use Rattle.std.specs.Int.{Width, cast_signed}
 use Rattle.byteorder.specs.Endian.{big_number}
 use Rattle.thrift_binary.specs.declared.fault.WireError.{WireError}
 use Rattle.thrift_binary.specs.declared.fault.WireError.TheVariants.{Truncated, BadLength, BadType, BadBool}
-use Rattle.thrift_binary.specs.Reading.{◌>>=◌, Read, byte_at, bool_at, bytes_at, number_at, signed_at, size_at, string_at, stopped, typed, field_at, field_behind, list_at, map_at, is_code}
+use Rattle.thrift_binary.specs.Reading.{◌>>=◌, Read, byte_at, bool_at, bytes_at, number_at, signed_at, size_at, string_at, stopped, typed, field_at}
+use Rattle.thrift_binary.specs.Reading.{field_behind, list_at, map_at, is_code}
 use Rattle.thrift_binary.specs.Skipping.{width}
 use Rattle.thrift_binary.specs.Cuts.{whole, unsettled, IsCutSafe}
 use Rattle.thrift_binary.proofs.ReadBytesSpell.{big_number-take}
@@ -42,7 +44,12 @@ behind b v = cond (eqb b 0) (said false v) (cond (eqb b 1) (said true v) (Err Ba
 
 pub bool_cut : IsCutSafe Truncated bool_at
 unfolding bool_at
-bool_cut = cut_then Truncated byte_at behind byte_cut (λ b w. cut_if Truncated (eqb b 0) (said false) (λ v. cond (eqb b 1) (said true v) (Err BadBool)) w (cut_ok Truncated (said false) false (λ v. refl) w) (cut_if Truncated (eqb b 1) (said true) (λ v. Err BadBool) w (cut_ok Truncated (said true) true (λ v. refl) w) (cut_err Truncated (λ v. Err BadBool) BadBool (λ v. refl) w)))
+bool_cut =
+    cut_then Truncated byte_at behind byte_cut
+    (λ b w. cut_if Truncated (eqb b 0) (said false)
+    (λ v. cond (eqb b 1) (said true v) (Err BadBool)) w (cut_ok Truncated (said false) false (λ v. refl) w)
+    (cut_if Truncated (eqb b 1) (said true)
+    (λ v. Err BadBool) w (cut_ok Truncated (said true) true (λ v. refl) w) (cut_err Truncated (λ v. Err BadBool) BadBool (λ v. refl) w)))
 
 -- what is read is x
 pass_cut : {A : Type 0} (x : A) → IsCutSafe Truncated (λ v. Ok (x, v))
@@ -57,7 +64,9 @@ test_cut {A = A} b x e w =
 
 pub size_cut : IsCutSafe Truncated size_at
 unfolding size_at
-size_cut = let next : ℕ → List ℕ → Read ℕ = λ n v. cond (ltb n (2 ^ 31)) (Ok (n, v)) (Err BadLength) in cut_then Truncated (number_at 4) next (number_cut 4) (λ n. test_cut (ltb n (2 ^ 31)) n BadLength)
+size_cut =
+    let next : ℕ → List ℕ → Read ℕ = λ n v. cond (ltb n (2 ^ 31)) (Ok (n, v)) (Err BadLength) in
+    cut_then Truncated (number_at 4) next (number_cut 4) (λ n. test_cut (ltb n (2 ^ 31)) n BadLength)
 
 pub string_cut : IsCutSafe Truncated string_at
 unfolding string_at
@@ -67,7 +76,8 @@ behind_cut : (c : ℕ) → IsCutSafe Truncated (field_behind c)
 behind_cut c w =
     let found : ℤ → List ℕ → Read (Option (ℕ × ℤ)) = λ z v. cond (is_code c) (Ok (Some (c, z), v)) (Err BadType) in
     let named : List ℕ → Read (Option (ℕ × ℤ)) = λ v. signed_at w16 2 v >>= typed c in
-    cut_if Truncated (eqb c 0) stopped named w (pass_cut None w) (cut_then Truncated (signed_at w16 2) found (signed_cut w16 2) (λ z. test_cut (is_code c) (Some (c, z)) BadType) w)
+    cut_if Truncated (eqb c 0) stopped named w (pass_cut None w)
+    (cut_then Truncated (signed_at w16 2) found (signed_cut w16 2) (λ z. test_cut (is_code c) (Some (c, z)) BadType) w)
 
 pub field_cut : IsCutSafe Truncated field_at
 unfolding field_at
@@ -92,4 +102,6 @@ pub map_head_cut : IsCutSafe Truncated map_at
 unfolding map_at
 map_head_cut =
     let next : ℕ → List ℕ → Read ((ℕ × ℕ) × ℕ) = λ k v. byte_at v >>= λ c. map_keyed k c.0 c.1 in
-    cut_then Truncated byte_at next byte_cut (λ k. cut_then Truncated byte_at (map_keyed k) byte_cut (λ c. cut_then Truncated size_at (map_sized k c) size_cut (λ n. test_cut (eqb n 0 || (is_code k && is_code c)) ((k, c), n) BadType)))
+    cut_then Truncated byte_at next byte_cut
+    (λ k. cut_then Truncated byte_at (map_keyed k) byte_cut
+    (λ c. cut_then Truncated size_at (map_sized k c) size_cut (λ n. test_cut (eqb n 0 || (is_code k && is_code c)) ((k, c), n) BadType)))

@@ -35,7 +35,8 @@ text_cut = cut_map Truncated string_at (λ x. tt) string_cut
 leaf_cut : (c : ℕ) → IsCutSafe Truncated (leaf c)
 leaf_cut c w =
     let wide : Skip = λ v. cond (ltb 0 (width c)) (past (width c) v) (Err BadType) in
-    cut_if Truncated (eqb c 11) text wide w (text_cut w) (cut_if Truncated (ltb 0 (width c)) (past (width c)) (refused BadType) w (past_cut (width c) w) (refused_cut BadType w))
+    cut_if Truncated (eqb c 11) text wide w (text_cut w)
+    (cut_if Truncated (ltb 0 (width c)) (past (width c)) (refused BadType) w (past_cut (width c) w) (refused_cut BadType w))
 
 module _ (value : ℕ → Skip) (safe : (c : ℕ) → IsCutSafe Truncated (value c)) where
   struct_cut : IsCutSafe Truncated (struct value)
@@ -48,7 +49,9 @@ module _ (value : ℕ → Skip) (safe : (c : ℕ) → IsCutSafe Truncated (value
 
   pairs_cut : IsCutSafe Truncated (pairs value)
   unfolding pairs
-  pairs_cut = cut_then Truncated map_at (λ h. times h.1 (both (value h.0.0) (value h.0.1))) map_head_cut (λ h. times_cut (both (value h.0.0) (value h.0.1)) (both_cut (value h.0.0) (value h.0.1) (safe h.0.0) (safe h.0.1)) h.1)
+  pairs_cut =
+      cut_then Truncated map_at (λ h. times h.1 (both (value h.0.0) (value h.0.1))) map_head_cut
+      (λ h. times_cut (both (value h.0.0) (value h.0.1)) (both_cut (value h.0.0) (value h.0.1) (safe h.0.0) (safe h.0.1)) h.1)
 
   container_cut : (c : ℕ) → IsCutSafe Truncated (container value c)
   container_cut c w =
@@ -58,7 +61,8 @@ module _ (value : ℕ → Skip) (safe : (c : ℕ) → IsCutSafe Truncated (value
 pub value_cut : (levels c : ℕ) → IsCutSafe Truncated (value_at levels c)
 unfolding value_at
 value_cut zero c w = cut_if Truncated (is_container c) (refused TooDeep) (leaf c) w (refused_cut TooDeep w) (leaf_cut c w)
-value_cut (suc levels) c w = cut_if Truncated (is_container c) (container (value_at levels) c) (leaf c) w (container_cut (value_at levels) (λ d. value_cut levels d) c w) (leaf_cut c w)
+value_cut (suc levels) c w =
+    cut_if Truncated (is_container c) (container (value_at levels) c) (leaf c) w (container_cut (value_at levels) (λ d. value_cut levels d) c w) (leaf_cut c w)
 
 no_value_of_nothing : (levels c : ℕ) (x : Unit {0}) (r : List ℕ) → value_at levels c [] ≡ Ok (x, r) → ⊥
 no_value_of_nothing levels c x r e =

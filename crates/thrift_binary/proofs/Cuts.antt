@@ -1,5 +1,6 @@
 -- Readings whose faults have places: single readings, and compositions of them.
-use Rattle.std.proofs.Common.{◌≡◌, ℕ, zero, suc, ◌+◌, ◌-◌, ◌<◌, ◌≤◌, Bool, true, false, cond, eqb, ltb, List, [], ◌∷◌, ◌++◌, length, take, drop, Result, Ok, Err, refl, sym, ap, ◌∙◌, append_assoc, length-append, arith, inl, inr, ◌⊎◌}
+use Rattle.std.proofs.Common.{◌≡◌, ℕ, zero, suc, ◌+◌, ◌-◌, ◌<◌, ◌≤◌, Bool, true, false, cond, eqb, ltb, List, [], ◌∷◌, ◌++◌, length, take, drop, Result, Ok}
+use Rattle.std.proofs.Common.{Err, refl, sym, ap, ◌∙◌, append_assoc, length-append, arith, inl, inr, ◌⊎◌}
 use Rattle.std.proofs.Math.Seq.{take-append_seam, take-append-add, take-length}
 use Rattle.std.proofs.lemmas.List.{take-append-le, take-append-drop, length-take-le, length-take, take_at, drop_at}
 use Rattle.std.proofs.lemmas.Bool.{ltb-false, ltb-true, le-ltb, lt-ltb, ne_eqb}
@@ -26,7 +27,8 @@ module _ {A E : Type 0} (short : E) (read : List ℕ → Result (A × List ℕ) 
   settled_here w answer s = ap read s.parts ∙ s.same s.rest
 
   -- too short if the bytes end before the place, or if what follows it is too short
-  short_behind : (w : List ℕ) (answer : List ℕ → Result (A × List ℕ) E) (s : Settled short read w answer) (u : List ℕ) (m : ℕ) → (length s.text ≤ m → answer (take (m - length s.text) u) ≡ Err short) → read (take m (s.text ++ u)) ≡ Err short
+  short_behind : (w : List ℕ) (answer : List ℕ → Result (A × List ℕ) E) (s : Settled short read w answer) (u : List ℕ) (m : ℕ)
+      → (length s.text ≤ m → answer (take (m - length s.text) u) ≡ Err short) → read (take m (s.text ++ u)) ≡ Err short
   short_behind w answer s u m behind = by (ltb m (length s.text)) refl
     where
       by : (b : Bool) → ltb m (length s.text) ≡ b → read (take m (s.text ++ u)) ≡ Err short
@@ -34,8 +36,10 @@ module _ {A E : Type 0} (short : E) (read : List ℕ → Result (A × List ℕ) 
       by false e = let le : length s.text ≤ m = ltb-false _ _ e in ap read (take_past m s.text u le) ∙ s.same (take (m - length s.text) u) ∙ behind le
 
   pub cut_same : (other : List ℕ → Result (A × List ℕ) E) → ((v : List ℕ) → other v ≡ read v) → (w : List ℕ) → Cut short read w → Cut short other w
-  cut_same other is w (whole x s) = whole x (record { text = s.text; rest = s.rest; parts = s.parts; same = λ v. is _ ∙ s.same v; before = λ m lt. is _ ∙ s.before m lt })
-  cut_same other is w (faulty e s) = faulty e (record { text = s.text; rest = s.rest; parts = s.parts; same = λ v. is _ ∙ s.same v; before = λ m lt. is _ ∙ s.before m lt })
+  cut_same other is w (whole x s) =
+      whole x (record { text = s.text; rest = s.rest; parts = s.parts; same = λ v. is _ ∙ s.same v; before = λ m lt. is _ ∙ s.before m lt })
+  cut_same other is w (faulty e s) =
+      faulty e (record { text = s.text; rest = s.rest; parts = s.parts; same = λ v. is _ ∙ s.same v; before = λ m lt. is _ ∙ s.before m lt })
   cut_same other is w (unsettled b) = unsettled (λ m. is _ ∙ b m)
 
   pub faults_have_places : IsCutSafe short read → FaultsHavePlaces short read
@@ -57,7 +61,8 @@ module _ {A E : Type 0} (short : E) (read : List ℕ → Result (A × List ℕ) 
   pub values_have_ends : IsCutSafe short read → ValuesHaveEnds short read
   values_have_ends safe w x r is = by (safe w)
     where
-      by : Cut short read w → (text : List ℕ) × (w ≡ text ++ r) × ((m : ℕ) → m < length text → read (take m text) ≡ Err short) × ((v : List ℕ) → read (text ++ v) ≡ Ok (x, v))
+      by : Cut short read w → (text : List ℕ) × (w ≡ text ++ r) × ((m : ℕ) → m < length text → read (take m text) ≡ Err short)
+          × ((v : List ℕ) → read (text ++ v) ≡ Ok (x, v))
       by (whole y s) =
           let same = both_are {E = E} y x s.rest r (sym (settled_here w (λ v. Ok (y, v)) s) ∙ is) in
           (s.text, s.parts ∙ ap (λ (t : List ℕ). s.text ++ t) same.1, s.before, λ v. s.same v ∙ ap (λ (z : A). done {A = A × List ℕ} {E = E} (z, v)) same.0)
@@ -76,7 +81,8 @@ module _ {A E : Type 0} (short : E) (read : List ℕ → Result (A × List ℕ) 
 
   -- ---- what follows the place
 
-  settled_behind : (w : List ℕ) (behind : List ℕ → Result (A × List ℕ) E) (s : Settled short read w behind) (answer : List ℕ → Result (A × List ℕ) E) → Settled short behind s.rest answer → Settled short read w answer
+  settled_behind : (w : List ℕ) (behind : List ℕ → Result (A × List ℕ) E) (s : Settled short read w behind) (answer : List ℕ → Result (A × List ℕ) E)
+      → Settled short behind s.rest answer → Settled short read w answer
   settled_behind w behind s answer t = record {
     text = s.text ++ t.text;
     rest = t.rest;
@@ -88,7 +94,8 @@ module _ {A E : Type 0} (short : E) (read : List ℕ → Result (A × List ℕ) 
   cut_behind : (w : List ℕ) (behind : List ℕ → Result (A × List ℕ) E) (s : Settled short read w behind) → Cut short behind s.rest → Cut short read w
   cut_behind w behind s (whole x t) = whole x (settled_behind w behind s (λ v. Ok (x, v)) t)
   cut_behind w behind s (faulty e t) = faulty e (settled_behind w behind s (λ v. Err e) t)
-  cut_behind w behind s (unsettled h) = unsettled (λ m. ap (λ (v : List ℕ). read (take m v)) s.parts ∙ short_behind w behind s s.rest m (λ le. h (m - length s.text)))
+  cut_behind w behind s (unsettled h) =
+      unsettled (λ m. ap (λ (v : List ℕ). read (take m v)) s.parts ∙ short_behind w behind s s.rest m (λ le. h (m - length s.text)))
 
   -- ---- the smallest readings
 
@@ -120,7 +127,8 @@ cut_beginning {A = A} {E = E} short n value near w = by (ltb (length w) n) refl
           parts = sym (take-append-drop n w);
           same = λ v. (
               let long : ltb (length (take n w ++ v)) n ≡ false = le-ltb _ _ (omega (arith, length-append (take n w) v)) in
-              let there : value (take n w ++ v) ≡ value (take n w) = near (take n w ++ v) (omega (arith, length-append (take n w) v)) ∙ ap value (take_at (take n w) v n len) in
+              let there : value (take n w ++ v) ≡ value (take n w) =
+              near (take n w ++ v) (omega (arith, length-append (take n w) v)) ∙ ap value (take_at (take n w) v n len) in
               rw (long, there, drop_at (take n w) v n len) refl);
           before = λ m lt. less (take m (take n w)) (omega (arith, length-take m (take n w)));
         })
@@ -145,28 +153,49 @@ module _ {A B E : Type 0} (short : E) (read : List ℕ → Result (A × List ℕ
   }
 
   -- `next` is safe where it is called
-  pub cut_then_at : (w : List ℕ) → Cut short read w → ((x : A) (text rest : List ℕ) → w ≡ text ++ rest → read w ≡ Ok (x, rest) → Cut short (next x) rest) → Cut short (λ v. read v >>= λ y. next y.0 y.1) w
+  pub cut_then_at : (w : List ℕ) → Cut short read w → ((x : A) (text rest : List ℕ) → w ≡ text ++ rest → read w ≡ Ok (x, rest) → Cut short (next x) rest)
+      → Cut short (λ v. read v >>= λ y. next y.0 y.1) w
   unfolding first_settled
-  cut_then_at w (faulty e s) more = faulty e (record { text = s.text; rest = s.rest; parts = s.parts; same = λ v. first_err _ e (s.same v); before = λ m lt. first_err _ short (s.before m lt) })
+  cut_then_at w (faulty e s) more =
+      faulty e (record {
+        text = s.text;
+        rest = s.rest;
+        parts = s.parts;
+        same = λ v. first_err _ e (s.same v);
+        before = λ m lt. first_err _ short (s.before m lt);
+      })
   cut_then_at w (unsettled b) more = unsettled (λ m. first_err _ short (b m))
-  cut_then_at w (whole x s) more = cut_behind short (λ v. read v >>= λ y. next y.0 y.1) w (next x) (first_settled w x s) (more x s.text s.rest s.parts (settled_here short read w (λ v. Ok (x, v)) s))
+  cut_then_at w (whole x s) more =
+      cut_behind short (λ v. read v >>= λ y. next y.0 y.1) w (next x) (first_settled w x s)
+      (more x s.text s.rest s.parts (settled_here short read w (λ v. Ok (x, v)) s))
 
   pub cut_then : IsCutSafe short read → ((x : A) → IsCutSafe short (next x)) → IsCutSafe short (λ v. read v >>= λ y. next y.0 y.1)
   cut_then first more w = cut_then_at w (first w) (λ x text rest parts e. more x rest)
 
 -- the value mapped to another
-pub cut_map : {A B E : Type 0} (short : E) (read : List ℕ → Result (A × List ℕ) E) (f : A → B) → IsCutSafe short read → IsCutSafe short (λ v. read v >>= λ y. Ok (f y.0, y.1))
+pub cut_map : {A B E : Type 0} (short : E) (read : List ℕ → Result (A × List ℕ) E) (f : A → B) → IsCutSafe short read
+    → IsCutSafe short (λ v. read v >>= λ y. Ok (f y.0, y.1))
 cut_map short read f first = cut_then short read (λ x u. Ok (f x, u)) first (λ x. cut_ok short (λ u. Ok (f x, u)) (f x) (λ v. refl))
 
 -- a test that doesn't read the bytes
-pub cut_if : {A E : Type 0} (short : E) (b : Bool) (f g : List ℕ → Result (A × List ℕ) E) (w : List ℕ) → Cut short f w → Cut short g w → Cut short (λ v. cond b (f v) (g v)) w
+pub cut_if : {A E : Type 0} (short : E) (b : Bool) (f g : List ℕ → Result (A × List ℕ) E) (w : List ℕ) → Cut short f w → Cut short g w
+    → Cut short (λ v. cond b (f v) (g v)) w
 cut_if short true f g w one two = one
 cut_if short false f g w one two = two
 
 -- the faults of a larger table
-pub cut_lift : {A E : Type 0} (wire : WireError → E) (short : WireError) (read : List ℕ → Result (A × List ℕ) WireError) (w : List ℕ) → Cut short read w → Cut (wire short) (λ v. lift wire (read v)) w
-cut_lift wire short read w (whole x s) = whole x (record { text = s.text; rest = s.rest; parts = s.parts; same = λ v. ap (lift wire) (s.same v); before = λ m lt. ap (lift wire) (s.before m lt) })
-cut_lift wire short read w (faulty e s) = faulty (wire e) (record { text = s.text; rest = s.rest; parts = s.parts; same = λ v. ap (lift wire) (s.same v); before = λ m lt. ap (lift wire) (s.before m lt) })
+pub cut_lift : {A E : Type 0} (wire : WireError → E) (short : WireError) (read : List ℕ → Result (A × List ℕ) WireError) (w : List ℕ) → Cut short read w
+    → Cut (wire short) (λ v. lift wire (read v)) w
+cut_lift wire short read w (whole x s) =
+    whole x (record { text = s.text; rest = s.rest; parts = s.parts; same = λ v. ap (lift wire) (s.same v); before = λ m lt. ap (lift wire) (s.before m lt) })
+cut_lift wire short read w (faulty e s) =
+    faulty (wire e) (record {
+      text = s.text;
+      rest = s.rest;
+      parts = s.parts;
+      same = λ v. ap (lift wire) (s.same v);
+      before = λ m lt. ap (lift wire) (s.before m lt);
+    })
 cut_lift wire short read w (unsettled b) = unsettled (λ m. ap (lift wire) (b m))
 
 -- a reading that doesn't begin if no byte remains
@@ -185,7 +214,8 @@ module _ {A E : Type 0} (short : E) (read : List ℕ → Result (A × List ℕ) 
   early_unless [] e = refl
   early_unless (b ∷ v) e = begun (b ∷ v) (omega arith) ∙ e
 
-  settled_unless : (w : List ℕ) (answer : List ℕ → Result (A × List ℕ) E) (s : Settled short read w answer) → 0 < length s.text → Settled short (unless_empty short read) w answer
+  settled_unless : (w : List ℕ) (answer : List ℕ → Result (A × List ℕ) E) (s : Settled short read w answer) → 0 < length s.text
+      → Settled short (unless_empty short read) w answer
   settled_unless w answer s lt = record {
     text = s.text;
     rest = s.rest;

@@ -1,5 +1,6 @@
 -- Lists of values of one type: the bytes that are read spell the list, and every spelling of it is read.
-use Rattle.std.proofs.Common.{◌≡◌, ℕ, zero, suc, ◌<◌, Bool, true, false, cond, eqb, ◌||◌, List, [], ◌∷◌, ◌++◌, length, Result, Ok, Err, refl, sym, ap, subst, ◌∙◌, append_assoc, arith, inl, inr}
+use Rattle.std.proofs.Common.{◌≡◌, ℕ, zero, suc, ◌<◌, Bool, true, false, cond, eqb, ◌||◌, List, [], ◌∷◌, ◌++◌, length, Result, Ok, Err, refl, sym, ap, subst}
+use Rattle.std.proofs.Common.{◌∙◌, append_assoc, arith, inl, inr}
 use Rattle.std.proofs.lemmas.Bool.{eqb-true}
 use Rattle.std.proofs.lemmas.Bool.Decides.{eqb_tells}
 use Rattle.thrift_binary.specs.declared.fault.WireError.{WireError}
@@ -66,7 +67,8 @@ list_found {A = A} {E = E} wire c one Spells f w xs r e =
     let head = list_head_found w k.0.0.0 k.0.0.1 k.0.1 (lift_ok wire (list_at w) k.0 k.1) in
     by k.0.0.0 k.0.0.1 k.0.1 head.size head.parts head.spells (eqb k.0.0.1 0 || eqb k.0.0.0 c) refl k.2
   where
-    by : (a n : ℕ) (v size : List ℕ) → w ≡ a ∷ (size ++ v) → IsSize size n → (z : Bool) → (eqb n 0 || eqb a c) ≡ z → cond z (items_at one n v) (Err (wire BadType)) ≡ Ok (xs, r) → Beginning (λ t. IsTypedList c Spells t xs) w r
+    by : (a n : ℕ) (v size : List ℕ) → w ≡ a ∷ (size ++ v) → IsSize size n → (z : Bool) → (eqb n 0 || eqb a c) ≡ z
+        → cond z (items_at one n v) (Err (wire BadType)) ≡ Ok (xs, r) → Beginning (λ t. IsTypedList c Spells t xs) w r
     by a n v size parts spells true z h =
         let items = items_found one Spells f n v xs r h in
         let len : n ≡ length xs = sym items.0 in
@@ -86,7 +88,8 @@ eqb_same : (a b : ℕ) → a ≡ b → eqb a b ≡ true
 eqb_same a b e = rw e (elim (eqb_tells b b) [ inl (z, _) ↦ z | inr (_, never) ↦ absurd (never refl) ])
 
 -- the head of a list of the declared type
-pub list_head_again : {E : Type 0} (wire : WireError → E) (c n : ℕ) (t r : List ℕ) → is_code c ≡ true → IsListHead c n t → (e : ℕ) × (lift wire (list_at (t ++ r)) ≡ Ok ((e, n), r)) × ((eqb n 0 || eqb e c) ≡ true)
+pub list_head_again : {E : Type 0} (wire : WireError → E) (c n : ℕ) (t r : List ℕ) → is_code c ≡ true → IsListHead c n t → (e : ℕ)
+    × (lift wire (list_at (t ++ r)) ≡ Ok ((e, n), r)) × ((eqb n 0 || eqb e c) ≡ true)
 unfolding list_at
 list_head_again wire c n t r coded (e, h, kind, size, is) = (e, lifted, (open_to c (λ i. i)).1)
   where

@@ -1,5 +1,6 @@
 -- The bytes that are read spell the value that they are read as.
-use Rattle.std.proofs.Common.{◌≡◌, ℕ, ℤ, pos, zero, suc, ◌<◌, ◌≤◌, ◌^◌, Bool, true, false, cond, eqb, ltb, List, [], ◌∷◌, ◌++◌, length, take, drop, Option, Some, None, Result, Ok, Err, refl, sym, ap, subst, ◌∙◌, append_assoc, arith, w16, w32, w64}
+use Rattle.std.proofs.Common.{◌≡◌, ℕ, ℤ, pos, zero, suc, ◌<◌, ◌≤◌, ◌^◌, Bool, true, false, cond, eqb, ltb, List, [], ◌∷◌, ◌++◌, length, take, drop, Option}
+use Rattle.std.proofs.Common.{Some, None, Result, Ok, Err, refl, sym, ap, subst, ◌∙◌, append_assoc, arith, w16, w32, w64}
 use Rattle.std.specs.Prelude.{IfOk}
 use Rattle.std.specs.Int.{Width, cast_signed}
 use Rattle.std.proofs.lemmas.Bool.{ltb-false, eqb-true, ltb-true}
@@ -8,7 +9,8 @@ use Rattle.byteorder.specs.Endian.{big_number}
 use Rattle.byteorder.specs.Numbers.{big_from-append}
 use Rattle.thrift_binary.specs.declared.fault.WireError.{WireError}
 use Rattle.thrift_binary.specs.declared.fault.WireError.TheVariants.{Truncated, BadLength, BadType, BadBool}
-use Rattle.thrift_binary.specs.Reading.{◌>>=◌, lift, Read, Reads, stopped, typed, bool_at, bytes_at, number_at, signed_at, size_at, string_at, field_at, field_behind, is_code}
+use Rattle.thrift_binary.specs.Reading.{◌>>=◌, lift, Read, Reads, stopped, typed, bool_at, bytes_at, number_at, signed_at, size_at, string_at, field_at}
+use Rattle.thrift_binary.specs.Reading.{field_behind, is_code}
 use Rattle.thrift_binary.specs.Fields.{Take, fields_in, fields_at, behind_field}
 use Rattle.thrift_binary.specs.Spelling.{Beginning, IsBool, IsI32, IsI64, IsDouble, IsSize, IsString, Field, IsFieldHead, IsFields}
 
@@ -79,7 +81,8 @@ big_number-take n w le =
     ap (λ v. big_number n v) (sym (take-append-drop n w)) ∙ big_from-append n (take n w) (drop n w) long
 
 -- the first n bytes, on which f depends alone
-pub beginning_found : {A : Type 0} (n : ℕ) (f : List ℕ → A) → ((w : List ℕ) → n ≤ length w → f w ≡ f (take n w)) → (w : List ℕ) (x : A) (r : List ℕ) → cond {A = Result (A × List ℕ) WireError} (ltb (length w) n) (Err Truncated) (Ok (f w, drop n w)) ≡ Ok (x, r)
+pub beginning_found : {A : Type 0} (n : ℕ) (f : List ℕ → A) → ((w : List ℕ) → n ≤ length w → f w ≡ f (take n w)) → (w : List ℕ) (x : A) (r : List ℕ)
+    → cond {A = Result (A × List ℕ) WireError} (ltb (length w) n) (Err Truncated) (Ok (f w, drop n w)) ≡ Ok (x, r)
     → Beginning (λ t. (length t ≡ n) × (f t ≡ x)) w r
 beginning_found {A = A} n f front w x r e =
     let g = guard_ok (ltb (length w) n) Truncated (f w, drop n w) (x, r) e in
@@ -88,7 +91,8 @@ beginning_found {A = A} n f front w x r e =
     let r-is : drop n w ≡ r = ap (λ (p : A × List ℕ). p.1) g.1 in
     record { text = take n w; parts = rw (← r-is) (sym (take-append-drop n w)); spells = (omega (arith, length-take n w), sym (front w long) ∙ x-is) }
 
-signed_found : (width : Width) (n : ℕ) (w : List ℕ) (z : ℤ) (r : List ℕ) → signed_at width n w ≡ Ok (z, r) → Beginning (λ t. (length t ≡ n) × (cast_signed width (big_number n t) ≡ z)) w r
+signed_found : (width : Width) (n : ℕ) (w : List ℕ) (z : ℤ) (r : List ℕ) → signed_at width n w ≡ Ok (z, r)
+    → Beginning (λ t. (length t ≡ n) × (cast_signed width (big_number n t) ≡ z)) w r
 signed_found width n = beginning_found n (λ w. cast_signed width (big_number n w)) (λ w le. ap (cast_signed width) (big_number-take n w le))
 
 -- ---- one value of each kind
@@ -96,7 +100,8 @@ signed_found width n = beginning_found n (λ w. cast_signed width (big_number n 
 abbrev said : Bool → List ℕ → Read Bool
 said x v = Ok (x, v)
 
-bool_behind_found : (b : ℕ) (v : List ℕ) (x : Bool) (r : List ℕ) → cond (eqb b 0) (said false v) (cond (eqb b 1) (said true v) (Err BadBool)) ≡ Ok (x, r) → Beginning (λ t. IsBool t x) (b ∷ v) r
+bool_behind_found : (b : ℕ) (v : List ℕ) (x : Bool) (r : List ℕ) → cond (eqb b 0) (said false v) (cond (eqb b 1) (said true v) (Err BadBool)) ≡ Ok (x, r)
+    → Beginning (λ t. IsBool t x) (b ∷ v) r
 bool_behind_found b v x r e = by (eqb b 0) (eqb b 1) refl refl e
   where
     here : (k : ℕ) (y : Bool) → b ≡ k → IsBool (k ∷ []) y → said y v ≡ said x r → Beginning (λ t. IsBool t x) (b ∷ v) r
@@ -104,7 +109,8 @@ bool_behind_found b v x r e = by (eqb b 0) (eqb b 1) refl refl e
         let same = both_are y x v r h in
         record { text = k ∷ []; parts = ap (λ (a : ℕ). a ∷ v) b-is ∙ ap (λ (t : List ℕ). k ∷ t) same.1; spells = subst (λ z. IsBool (k ∷ []) z) same.0 is }
 
-    by : (p q : Bool) → eqb b 0 ≡ p → eqb b 1 ≡ q → cond p (said false v) (cond q (said true v) (Err BadBool)) ≡ Ok (x, r) → Beginning (λ t. IsBool t x) (b ∷ v) r
+    by : (p q : Bool) → eqb b 0 ≡ p → eqb b 1 ≡ q → cond p (said false v) (cond q (said true v) (Err BadBool)) ≡ Ok (x, r)
+        → Beginning (λ t. IsBool t x) (b ∷ v) r
     by true q zero_is one_is h = here 0 false (eqb-true b 0 zero_is) refl h
     by false true zero_is one_is h = here 1 true (eqb-true b 1 one_is) refl h
     by false false zero_is one_is h = absurd cc
@@ -141,7 +147,11 @@ size_found w m r e =
     let p = pass_ok (ltb b.0.0 (2 ^ 31)) BadLength (b.0.0, b.0.1) (m, r) b.2 in
     let m-is : b.0.0 ≡ m = ap (λ (p : ℕ × List ℕ). p.0) p.1 in
     let r-is : b.0.1 ≡ r = ap (λ (p : ℕ × List ℕ). p.1) p.1 in
-    record { text = n.text; parts = n.parts ∙ ap (λ (v : List ℕ). n.text ++ v) r-is; spells = (n.spells.0, n.spells.1 ∙ m-is, subst (λ k. k < 2 ^ 31) m-is (ltb-true b.0.0 (2 ^ 31) p.0)) }
+    record {
+      text = n.text;
+      parts = n.parts ∙ ap (λ (v : List ℕ). n.text ++ v) r-is;
+      spells = (n.spells.0, n.spells.1 ∙ m-is, subst (λ k. k < 2 ^ 31) m-is (ltb-true b.0.0 (2 ^ 31) p.0));
+    }
 
 pub record Stringed (w bytes r : List ℕ) : Type 0 where
   pub text : List ℕ
@@ -178,7 +188,13 @@ field_behind_found c d i w r e = by (eqb c 0) e
         let first : c ≡ d = ap first_of p.1 in
         let second : b.0.0 ≡ i = ap second_of p.1 in
         let third : b.0.1 ≡ r = ap rest_of p.1 in
-        record { text = s.text; parts = ap (λ (t : List ℕ). c ∷ t) (s.parts ∙ ap (λ (t : List ℕ). s.text ++ t) third) ∙ ap (λ (x : ℕ). (x ∷ s.text) ++ r) first; long = s.spells.0; value = s.spells.1 ∙ second; coded = subst (λ x. is_code x ≡ true) first p.0 }
+        record {
+          text = s.text;
+          parts = ap (λ (t : List ℕ). c ∷ t) (s.parts ∙ ap (λ (t : List ℕ). s.text ++ t) third) ∙ ap (λ (x : ℕ). (x ∷ s.text) ++ r) first;
+          long = s.spells.0;
+          value = s.spells.1 ∙ second;
+          coded = subst (λ x. is_code x ≡ true) first p.0;
+        }
 
     by : (z : Bool) → cond z (stopped w) (signed_at w16 2 w >>= typed c) ≡ Ok (Some (d, i), r) → Headed (c ∷ w) d i r
     by true h = let none : Option (ℕ × ℤ) × List ℕ = (None, w) in absurd (got_none d i r w (sym (ok_is none (got d i r) h)))
@@ -193,7 +209,10 @@ stop_behind_found : (c : ℕ) (w r : List ℕ) → field_behind c w ≡ Ok (None
 stop_behind_found c w r e = by (eqb c 0) refl e
   where
     by : (z : Bool) → eqb c 0 ≡ z → cond z (stopped w) (signed_at w16 2 w >>= typed c) ≡ Ok (None, r) → c ∷ w ≡ 0 ∷ r
-    by true z h = let first : c ≡ 0 = eqb-true c 0 z in let second : w ≡ r = (both_are {A = Option (ℕ × ℤ)} None None w r h).1 in ap (λ (x : ℕ). x ∷ w) first ∙ ap (λ (t : List ℕ). 0 ∷ t) second
+    by true z h =
+        let first : c ≡ 0 = eqb-true c 0 z in
+        let second : w ≡ r = (both_are {A = Option (ℕ × ℤ)} None None w r h).1 in
+        ap (λ (x : ℕ). x ∷ w) first ∙ ap (λ (t : List ℕ). 0 ∷ t) second
     by false z h =
         let b = bind_ok (signed_at w16 2 w) (typed c) (None, r) h in
         let p = pass_ok (is_code c) BadType (Some (c, b.0.0), b.0.1) (None, r) b.2 in
@@ -233,7 +252,8 @@ module _ {S E : Type 0} (wire : WireError → E) (take : Take S E) (P : S → Fi
       let b = bind_ok (lift wire (field_at w)) (λ h. behind_field (fields_in wire take n) take s h.0 h.1) (t, r) e in
       by (λ u v h. fields_in_found n u v t r h) b.0.0 b.0.1 (lift_ok wire (field_at w) b.0 b.1) b.2
     where
-      by : ((u : S) (v : List ℕ) → fields_in wire take n u v ≡ Ok (t, r) → Fielded P u v t r) → (o : Option (ℕ × ℤ)) (v : List ℕ) → field_at w ≡ Ok (o, v) → behind_field (fields_in wire take n) take s o v ≡ Ok (t, r) → Fielded P s w t r
+      by : ((u : S) (v : List ℕ) → fields_in wire take n u v ≡ Ok (t, r) → Fielded P u v t r) → (o : Option (ℕ × ℤ)) (v : List ℕ) → field_at w ≡ Ok (o, v)
+          → behind_field (fields_in wire take n) take s o v ≡ Ok (t, r) → Fielded P s w t r
       by others None v head h =
           let same = both_are s t v r h in
           record { fields = []; text = 0 ∷ []; parts = stop_found w v head ∙ ap (λ (x : List ℕ). 0 ∷ x) same.1; spells = refl; path = sym same.0 }
@@ -243,7 +263,8 @@ module _ {S E : Type 0} (wire : WireError → E) (take : Take S E) (P : S → Fi
           let k = takes s f.0 f.1 v x.0.0 x.0.1 x.1 in
           let rest = others x.0.0 x.0.1 x.2 in
           let field : Field = record { code = f.0; id = f.1; text = k.text } in
-          let whole : w ≡ ((f.0 ∷ hd.text) ++ (k.text ++ rest.text)) ++ r = hd.parts ∙ ap (λ (y : List ℕ). (f.0 ∷ hd.text) ++ y) (k.parts ∙ ap (λ (y : List ℕ). k.text ++ y) rest.parts) ∙ simp append_assoc in
+          let whole : w ≡ ((f.0 ∷ hd.text) ++ (k.text ++ rest.text)) ++ r =
+          hd.parts ∙ ap (λ (y : List ℕ). (f.0 ∷ hd.text) ++ y) (k.parts ∙ ap (λ (y : List ℕ). k.text ++ y) rest.parts) ∙ simp append_assoc in
           record {
             fields = field ∷ rest.fields;
             text = (f.0 ∷ hd.text) ++ (k.text ++ rest.text);
@@ -260,7 +281,8 @@ module _ {S E : Type 0} (wire : WireError → E) (take : Take S E) (P : S → Fi
 
 pub reads_spelled : {X Y : Type 0} (view : X → Y) (read : List ℕ → Read Y) (Spells : List ℕ → Y → Type 0)
     → ((w : List ℕ) (y : Y) (r : List ℕ) → read w ≡ Ok (y, r) → Beginning (λ t. Spells t y) w r)
-    → (old : List ℕ) (result : Result X WireError) (new : List ℕ) → Reads view read old result new → IfOk result (λ x. Beginning (λ t. Spells t (view x)) old new)
+    → (old : List ℕ) (result : Result X WireError) (new : List ℕ) → Reads view read old result new
+    → IfOk result (λ x. Beginning (λ t. Spells t (view x)) old new)
 reads_spelled view read Spells f old (Ok x) new h = f old (view x) new h
 reads_spelled view read Spells f old (Err e) new h = tt
 

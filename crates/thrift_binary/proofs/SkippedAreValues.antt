@@ -1,12 +1,14 @@
 -- The bytes that are skipped are a value.
-use Rattle.std.proofs.Common.{◌≡◌, ℕ, ℤ, zero, suc, ◌<◌, Bool, true, false, cond, eqb, ltb, ◌&&◌, ◌||◌, List, [], ◌∷◌, ◌++◌, length, Ok, Err, refl, sym, ap, subst, ◌∙◌, append_assoc}
+use Rattle.std.proofs.Common.{◌≡◌, ℕ, ℤ, zero, suc, ◌<◌, Bool, true, false, cond, eqb, ltb, ◌&&◌, ◌||◌, List, [], ◌∷◌, ◌++◌, length, Ok, Err, refl, sym, ap}
+use Rattle.std.proofs.Common.{subst, ◌∙◌, append_assoc}
 use Rattle.std.specs.Prelude.{MatchBool}
 use Rattle.std.specs.List.{AllByRecursion}
 use Rattle.std.proofs.lemmas.Bool.{ltb-true}
 use Rattle.thrift_binary.specs.declared.fault.WireError.TheVariants.{Truncated, BadType, TooDeep}
 use Rattle.thrift_binary.specs.Reading.{◌>>=◌, Read, size_at, string_at, list_at, map_at, is_code}
 use Rattle.thrift_binary.specs.Skipping.{Skip, past, both, times, text, struct, items, pairs, container, width, leaf, is_container, skip_at, value_at}
-use Rattle.thrift_binary.specs.Spelling.{Beginning, IsSize, IsString, Field, IsRun, IsLeaf, IsStructOf, IsListOf, IsPair, IsMapOf, IsContainer, IsValue, IsListHead}
+use Rattle.thrift_binary.specs.Spelling.{Beginning, IsSize, IsString, Field, IsRun, IsLeaf, IsStructOf, IsListOf, IsPair, IsMapOf, IsContainer, IsValue}
+use Rattle.thrift_binary.specs.Spelling.{IsListHead}
 use Rattle.thrift_binary.proofs.ReadBytesSpell.{bind_ok, pass_ok, both_are, beginning_found, Path, Took, fields_found, string_found, size_found}
 
 -- a reading that takes only such prefixes
@@ -27,7 +29,11 @@ both_found a b A B fa fb w r e =
     let k = bind_ok (a w) (λ x. b x.1) (tt, r) e in
     let one = fa w k.0.1 k.1 in
     let two = fb k.0.1 r k.2 in
-    record { text = one.text ++ two.text; parts = one.parts ∙ ap (λ (t : List ℕ). one.text ++ t) two.parts ∙ sym (append_assoc one.text two.text r); spells = (one.text, two.text, one.spells, two.spells, refl) }
+    record {
+      text = one.text ++ two.text;
+      parts = one.parts ∙ ap (λ (t : List ℕ). one.text ++ t) two.parts ∙ sym (append_assoc one.text two.text r);
+      spells = (one.text, two.text, one.spells, two.spells, refl);
+    }
 
 times_found : (one : Skip) (One : List ℕ → Type 0) → Finds one One → (n : ℕ) → Finds (times n one) (IsRun One n)
 unfolding times
@@ -36,7 +42,12 @@ times_found one One f (suc n) w r e =
     let k = bind_ok (one w) (λ x. times n one x.1) (tt, r) e in
     let first = f w k.0.1 k.1 in
     let others = times_found one One f n k.0.1 r k.2 in
-    record { text = first.text ++ others.text; parts = first.parts ∙ ap (λ (t : List ℕ). first.text ++ t) others.parts ∙ sym (append_assoc first.text others.text r); spells = (first.text, others.text, first.spells, refl, others.spells) }
+    record {
+      text = first.text ++ others.text;
+      parts = first.parts ∙ ap (λ (t : List ℕ). first.text ++ t) others.parts
+          ∙ sym (append_assoc first.text others.text r);
+      spells = (first.text, others.text, first.spells, refl, others.spells);
+    }
 
 text_found : Finds text (λ t. (bytes : List ℕ) × IsString t bytes)
 unfolding text
@@ -72,7 +83,8 @@ pub record Sized (codes : List ℕ) (n : ℕ) (w r : List ℕ) : Type 0 where
 abbrev head_of : {H : Type 0} → (ℕ → H) → Bool → ℕ × List ℕ → Read H
 head_of made known m = cond (eqb m.0 0 || known) (Ok (made m.0, m.1)) (Err BadType)
 
-sized_found : {H : Type 0} (made : ℕ → H) (known : Bool) (w : List ℕ) (h : H) (r : List ℕ) → (size_at w >>= head_of made known) ≡ Ok (h, r) → (n : ℕ) × (made n ≡ h) × Sized [] n w r
+sized_found : {H : Type 0} (made : ℕ → H) (known : Bool) (w : List ℕ) (h : H) (r : List ℕ) → (size_at w >>= head_of made known) ≡ Ok (h, r) → (n : ℕ)
+    × (made n ≡ h) × Sized [] n w r
 sized_found {H = H} made known w h r e =
     let k = bind_ok (size_at w) (head_of made known) (h, r) e in
     let p = pass_ok (eqb k.0.0 0 || known) BadType (made k.0.0, k.0.1) (h, r) k.2 in
@@ -137,14 +149,17 @@ leaf_found c w r e = by (eqb c 11) e
     fixed true z h = let f = past_found (width c) w r h in record { text = f.text; parts = f.parts; spells = (f.spells, ltb-true 0 (width c) z) }
     fixed false z h = absurd cc
 
-    by : (a : Bool) → cond a (text w) (cond (ltb 0 (width c)) (past (width c) w) (Err BadType)) ≡ Ok (tt, r) → Beginning (λ t. MatchBool a ((bytes : List ℕ) × IsString t bytes) ((length t ≡ width c) × (0 < width c))) w r
+    by : (a : Bool) → cond a (text w) (cond (ltb 0 (width c)) (past (width c) w) (Err BadType)) ≡ Ok (tt, r)
+        → Beginning (λ t. MatchBool a ((bytes : List ℕ) × IsString t bytes) ((length t ≡ width c) × (0 < width c))) w r
     by true h = text_found w r h
     by false h = fixed (ltb 0 (width c)) refl h
 
-container_found : (value : ℕ → Skip) (Value : ℕ → List ℕ → Type 0) → ((c : ℕ) → Finds (value c) (Value c)) → (c : ℕ) → Finds (container value c) (IsContainer Value c)
+container_found : (value : ℕ → Skip) (Value : ℕ → List ℕ → Type 0) → ((c : ℕ) → Finds (value c) (Value c)) → (c : ℕ)
+    → Finds (container value c) (IsContainer Value c)
 container_found value Value f c w r e = by (eqb c 12) (eqb c 13) e
   where
-    by : (a b : Bool) → cond a (struct value w) (cond b (pairs value w) (items value w)) ≡ Ok (tt, r) → Beginning (λ t. MatchBool a (IsStructOf Value t) (MatchBool b (IsMapOf Value t) (IsListOf Value t))) w r
+    by : (a b : Bool) → cond a (struct value w) (cond b (pairs value w) (items value w)) ≡ Ok (tt, r)
+        → Beginning (λ t. MatchBool a (IsStructOf Value t) (MatchBool b (IsMapOf Value t) (IsListOf Value t))) w r
     by true b h = struct_found value Value f w r h
     by false true h = pairs_found value Value f w r h
     by false false h = items_found value Value f w r h
@@ -158,7 +173,8 @@ value_found zero c w r e = by (is_container c) e
     by false h = leaf_found c w r h
 value_found (suc levels) c w r e = by (container_found (value_at levels) (IsValue levels) (λ d. value_found levels d) c) (is_container c) e
   where
-    by : Finds (container (value_at levels) c) (IsContainer (IsValue levels) c) → (a : Bool) → cond a (container (value_at levels) c w) (leaf c w) ≡ Ok (tt, r) → Beginning (λ t. MatchBool a (IsContainer (IsValue levels) c t) (IsLeaf c t)) w r
+    by : Finds (container (value_at levels) c) (IsContainer (IsValue levels) c) → (a : Bool) → cond a (container (value_at levels) c w) (leaf c w) ≡ Ok (tt, r)
+        → Beginning (λ t. MatchBool a (IsContainer (IsValue levels) c t) (IsLeaf c t)) w r
     by f true h = f w r h
     by f false h = leaf_found c w r h
 
@@ -173,4 +189,6 @@ skip_found c w r e = by (eqb (length w) 0) e
 
 -- the head of a list
 pub list_head_beginning : (w : List ℕ) (h : ℕ × ℕ) (r : List ℕ) → list_at w ≡ Ok (h, r) → Beginning (IsListHead h.0 h.1) w r
-list_head_beginning w (c, n) r e = let h = list_head_found w c n r e in record { text = c ∷ h.size; parts = h.parts; spells = (c, h.size, (λ some. refl), h.spells, refl) }
+list_head_beginning w (c, n) r e =
+    let h = list_head_found w c n r e in
+    record { text = c ∷ h.size; parts = h.parts; spells = (c, h.size, (λ some. refl), h.spells, refl) }

@@ -1,5 +1,6 @@
 -- Every spelling of a value is read as that value.
-use Rattle.std.proofs.Common.{◌≡◌, ℕ, ℤ, zero, suc, ◌≤◌, ◌^◌, Bool, true, false, eqb, ltb, List, [], ◌∷◌, ◌++◌, length, Some, None, Ok, refl, ap, subst, ◌∙◌, append_assoc, arith, length-append, w16, w32, w64}
+use Rattle.std.proofs.Common.{◌≡◌, ℕ, ℤ, zero, suc, ◌≤◌, ◌^◌, Bool, true, false, eqb, ltb, List, [], ◌∷◌, ◌++◌, length, Some, None, Ok, refl, ap, subst, ◌∙◌}
+use Rattle.std.proofs.Common.{append_assoc, arith, length-append, w16, w32, w64}
 use Rattle.std.specs.Int.{Width, cast_signed}
 use Rattle.std.proofs.lemmas.Bool.{eqb-true, le-ltb, lt-ltb}
 use Rattle.std.proofs.lemmas.List.{take_at, drop_at}
@@ -12,7 +13,8 @@ use Rattle.thrift_binary.specs.Spelling.{IsBool, IsI32, IsI64, IsDouble, IsSize,
 use Rattle.thrift_binary.specs.Writing.{stop_text}
 use Rattle.thrift_binary.proofs.ReadBytesSpell.{Path}
 
-pub signed_again : (width : Width) (n : ℕ) (t r : List ℕ) (z : ℤ) → length t ≡ n → cast_signed width (big_number n t) ≡ z → signed_at width n (t ++ r) ≡ Ok (z, r)
+pub signed_again : (width : Width) (n : ℕ) (t r : List ℕ) (z : ℤ) → length t ≡ n → cast_signed width (big_number n t) ≡ z
+    → signed_at width n (t ++ r) ≡ Ok (z, r)
 signed_again width n t r z len value =
     let long : ltb (length (t ++ r)) n ≡ false = le-ltb _ _ (omega (arith, length-append t r)) in
     let number : big_number n (t ++ r) ≡ big_number n t = big_from-append n t r (omega arith) in
@@ -81,7 +83,8 @@ stop_again r = refl
 
 module _ {S E : Type 0} (wire : WireError → E) (take : Take S E) (P : S → Field → S → Type 0)
     (again : (s : S) (f : Field) (t : S) (r : List ℕ) → P s f t → take s f.code f.id (f.text ++ r) ≡ Ok (t, r)) where
-  fields_in_again : (n : ℕ) (fs : List Field) (s t : S) (w r : List ℕ) → IsFields fs w → Path P s fs t → length w ≤ n → fields_in wire take n s (w ++ r) ≡ Ok (t, r)
+  fields_in_again : (n : ℕ) (fs : List Field) (s t : S) (w r : List ℕ) → IsFields fs w → Path P s fs t → length w ≤ n
+      → fields_in wire take n s (w ++ r) ≡ Ok (t, r)
   unfolding fields_in field_at
   fields_in_again zero [] s t w r is p le = absurd (omega (arith, ap length is))
   fields_in_again zero (f ∷ fs) s t w r (h, rest, head, is, more) p le =
@@ -99,5 +102,6 @@ module _ {S E : Type 0} (wire : WireError → E) (take : Take S E) (P : S → Fi
   unfolding fields_at
   fields_again fs s t w r is p = fields_in_longer fs s t w r is p
     where
-      fields_in_longer : (fs : List Field) (s t : S) (w r : List ℕ) → IsFields fs w → Path P s fs t → fields_in wire take (length (w ++ r)) s (w ++ r) ≡ Ok (t, r)
+      fields_in_longer : (fs : List Field) (s t : S) (w r : List ℕ) → IsFields fs w → Path P s fs t
+          → fields_in wire take (length (w ++ r)) s (w ++ r) ≡ Ok (t, r)
       fields_in_longer fs s t w r is p = fields_in_again (length (w ++ r)) fs s t w r is p (omega (arith, length-append w r))

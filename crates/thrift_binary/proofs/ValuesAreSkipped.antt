@@ -1,5 +1,6 @@
 -- Every value is skipped, whatever follows it.
-use Rattle.std.proofs.Common.{◌≡◌, ℕ, zero, suc, ◌<◌, Bool, true, false, cond, eqb, ltb, ◌&&◌, ◌||◌, List, [], ◌∷◌, ◌++◌, length, Result, Ok, Err, refl, sym, ap, ◌∙◌, append_assoc, length-append, arith}
+use Rattle.std.proofs.Common.{◌≡◌, ℕ, zero, suc, ◌<◌, Bool, true, false, cond, eqb, ltb, ◌&&◌, ◌||◌, List, [], ◌∷◌, ◌++◌, length, Result, Ok, Err, refl, sym}
+use Rattle.std.proofs.Common.{ap, ◌∙◌, append_assoc, length-append, arith}
 use Rattle.std.specs.Prelude.{MatchBool, OnOk}
 use Rattle.std.specs.List.{AllByRecursion}
 use Rattle.std.proofs.lemmas.Bool.{le-ltb, lt-ltb, ltb-true, eqb-true, ne_eqb, and_parts}
@@ -73,7 +74,10 @@ module _ (value : ℕ → Skip) (Value : ℕ → List ℕ → Type 0) (again : (
 
   first_pair_coded : (k c n : ℕ) (w : List ℕ) → IsRun (IsPair Value k c) n w → (eqb n 0 || (is_code k && is_code c)) ≡ true
   first_pair_coded k c zero w run = refl
-  first_pair_coded k c (suc n) w (first, rest, (a, b, va, vb, pair), is, more) = let one = coded k a va in let two = coded c b vb in rw one (rw two (or-true (eqb (suc n) 0)))
+  first_pair_coded k c (suc n) w (first, rest, (a, b, va, vb, pair), is, more) =
+      let one = coded k a va in
+      let two = coded c b vb in
+      rw one (rw two (or-true (eqb (suc n) 0)))
 
   pairs_again : Passes (pairs value) (IsMapOf Value)
   unfolding pairs map_at
@@ -87,7 +91,8 @@ module _ (value : ℕ → Skip) (Value : ℕ → List ℕ → Type 0) (again : (
   container_again : (c : ℕ) → Passes (container value c) (IsContainer Value c)
   container_again c t r is = by (eqb c 12) (eqb c 13) is
     where
-      by : (a b : Bool) → MatchBool a (IsStructOf Value t) (MatchBool b (IsMapOf Value t) (IsListOf Value t)) → cond a (struct value (t ++ r)) (cond b (pairs value (t ++ r)) (items value (t ++ r))) ≡ Ok (tt, r)
+      by : (a b : Bool) → MatchBool a (IsStructOf Value t) (MatchBool b (IsMapOf Value t) (IsListOf Value t))
+          → cond a (struct value (t ++ r)) (cond b (pairs value (t ++ r)) (items value (t ++ r))) ≡ Ok (tt, r)
       by true b h = struct_again t r h
       by false true h = pairs_again t r h
       by false false h = items_again t r h
@@ -97,7 +102,8 @@ module _ (value : ℕ → Skip) (Value : ℕ → List ℕ → Type 0) (again : (
 leaf_again : (c : ℕ) → Passes (leaf c) (IsLeaf c)
 leaf_again c t r is = by (eqb c 11) is
   where
-    by : (a : Bool) → MatchBool a ((bytes : List ℕ) × IsString t bytes) ((length t ≡ width c) × (0 < width c)) → cond a (text (t ++ r)) (cond (ltb 0 (width c)) (past (width c) (t ++ r)) (Err BadType)) ≡ Ok (tt, r)
+    by : (a : Bool) → MatchBool a ((bytes : List ℕ) × IsString t bytes) ((length t ≡ width c) × (0 < width c))
+        → cond a (text (t ++ r)) (cond (ltb 0 (width c)) (past (width c) (t ++ r)) (Err BadType)) ≡ Ok (tt, r)
     by true h = text_again h.0 t r h.1
     by false h = let some : ltb 0 (width c) ≡ true = lt-ltb _ _ h.1 in rw some (past_again (width c) t r h.0)
 
@@ -127,7 +133,8 @@ leaf_coded c t is = by (eqb c 11) refl is
     by false e h = wide_coded (eqb c 2) (eqb c 3) (eqb c 4) (eqb c 6) (eqb c 8) (eqb c 10) (ltb 10 c && ltb c 16) h.1
 
 -- what holds of a container's type and of a leaf's
-value_kinds : {P : Type 0} (levels c : ℕ) (t : List ℕ) → IsValue levels c t → ((Value : ℕ → List ℕ → Type 0) → is_container c ≡ true → IsContainer Value c t → P) → (IsLeaf c t → P) → P
+value_kinds : {P : Type 0} (levels c : ℕ) (t : List ℕ) → IsValue levels c t
+    → ((Value : ℕ → List ℕ → Type 0) → is_container c ≡ true → IsContainer Value c t → P) → (IsLeaf c t → P) → P
 unfolding IsValue
 value_kinds {P} zero c t is inside leaf = by (is_container c) is
   where
@@ -150,9 +157,11 @@ value_again zero c t r is = by (is_container c) is
     by : (a : Bool) → MatchBool a ⊥ (IsLeaf c t) → cond a (Err TooDeep) (leaf c (t ++ r)) ≡ Ok (tt, r)
     by true h = absurd h
     by false h = leaf_again c t r h
-value_again (suc levels) c t r is = by (container_again (value_at levels) (IsValue levels) (λ d. value_again levels d) (λ d u v. value_coded levels d u v) c) (is_container c) is
+value_again (suc levels) c t r is =
+    by (container_again (value_at levels) (IsValue levels) (λ d. value_again levels d) (λ d u v. value_coded levels d u v) c) (is_container c) is
   where
-    by : Passes (container (value_at levels) c) (IsContainer (IsValue levels) c) → (a : Bool) → MatchBool a (IsContainer (IsValue levels) c t) (IsLeaf c t) → cond a (container (value_at levels) c (t ++ r)) (leaf c (t ++ r)) ≡ Ok (tt, r)
+    by : Passes (container (value_at levels) c) (IsContainer (IsValue levels) c) → (a : Bool) → MatchBool a (IsContainer (IsValue levels) c t) (IsLeaf c t)
+        → cond a (container (value_at levels) c (t ++ r)) (leaf c (t ++ r)) ≡ Ok (tt, r)
     by f true h = f t r h
     by f false h = leaf_again c t r h
 
@@ -189,7 +198,8 @@ skip_again c t r is = rw some (value_again 64 c t r is)
 
 -- ---- the result of a call of `skip`
 
-pub skip_reads_found : (c : ℕ) (old : List ℕ) (result : Result (Unit {0}) WireError) (new : List ℕ) → Reads (λ x. tt) (skip_at c) old result new → OnOk result (Beginning (IsValue 64 c) old new)
+pub skip_reads_found : (c : ℕ) (old : List ℕ) (result : Result (Unit {0}) WireError) (new : List ℕ) → Reads (λ x. tt) (skip_at c) old result new
+    → OnOk result (Beginning (IsValue 64 c) old new)
 skip_reads_found c old (Ok x) new h = skip_found c old new h
 skip_reads_found c old (Err e) new h = tt
 

@@ -1,5 +1,6 @@
 ghost use Rattle.std.specs.Prelude.{◌≡◌, Some, List, ℕ, [], length};
-ghost use Rattle.thrift_binary.specs.Writing.{Writes, WritesSized, refusal_number, refusal_name, bool_text, i32_text, i64_text, string_text, field_text, stop_text, list_head_text};
+ghost use Rattle.thrift_binary.specs.Writing.{Writes, WritesSized, refusal_number, refusal_name, bool_text, i32_text, i64_text, string_text, field_text};
+ghost use Rattle.thrift_binary.specs.Writing.{stop_text, list_head_text};
 ghost use Rattle.thrift_binary.specs.declared.out.WriteError.TheVariants.{Memory};
 
 use byteorder::{BigEndian, ByteOrder};

@@ -1,6 +1,8 @@
 -- Numbers tell hosts apart, and clocks by numbers are the spans' clocks.
-use Rattle.std.proofs.Common.{Bor, eqb-true, ◌≡◌, ℕ, zero, suc, pos, ◌+◌, ◌<◌, Bool, true, false, List, [], ◌∷◌, ◌++◌, map, take, drop, length, get_or, set, refl, sym, ap, ◌∙◌, arith, subst}
-use Rattle.std.specs.Prelude.{Option, Some, None, IfSome, option_map, is_some, option_and_then, slice_get, not, ◌||◌, ◌==◌, cond, unwrap_or, codes, if◌then◌else◌}
+use Rattle.std.proofs.Common.{Bor, eqb-true, ◌≡◌, ℕ, zero, suc, pos, ◌+◌, ◌<◌, Bool, true, false, List, [], ◌∷◌, ◌++◌, map, take, drop, length, get_or, set}
+use Rattle.std.proofs.Common.{refl, sym, ap, ◌∙◌, arith, subst}
+use Rattle.std.specs.Prelude.{Option, Some, None, IfSome, option_map, is_some, option_and_then, slice_get, not, ◌||◌, ◌==◌, cond, unwrap_or, codes}
+use Rattle.std.specs.Prelude.{if◌then◌else◌}
 use Rattle.std.specs.Option.{option_or, option_copied}
 use Rattle.std.specs.Slice.{IsItemAt}
 use Rattle.std.specs.Ordering.{is_eq}
@@ -17,7 +19,8 @@ use Rattle.trace_model.specs.Adjusting.{host_of, new_delta, clock_at, clock_belo
 use Rattle.trace_adjust.specs.declared.clock.HostClock.{HostClock}
 use Rattle.trace_adjust.specs.Settling.{near, is_unset, written, clock_delta, delta_at, delta_or_none}
 use Rattle.trace_model.specs.Sharing.{ShareProcesses}
-use Rattle.trace_adjust.specs.Hosts.{hosts_of, number_in, kept_under, IsKept, AreKept, hosted, all_hosted, AreNumbers, IsNumber, IsNumbered, AreNumbered, clock_by, below_by, near_by, host_delta, delta_by}
+use Rattle.trace_adjust.specs.Hosts.{hosts_of, number_in, kept_under, IsKept, AreKept, hosted, all_hosted, AreNumbers, IsNumber, IsNumbered, AreNumbered}
+use Rattle.trace_adjust.specs.Hosts.{clock_by, below_by, near_by, host_delta, delta_by}
 use Rattle.trace_adjust.proofs.Places.{place_push, place_found}
 use Rattle.trace_model.proofs.NameLaws.{same_where, text_is, text_self, text_turned}
 use Rattle.trace_model.proofs.Chains.{is_some-map}
@@ -26,7 +29,9 @@ use Rattle.trace_model.proofs.Tables.{entered, kept}
 -- ---- numbers
 -- the host with the number
 pub number_there : (hosts : List (List ℕ)) (t : List ℕ) (n : ℕ) → number_in hosts t ≡ Some n → get_or hosts n [] ≡ t
-number_there hosts t n e = subst (λ o. IfSome o (λ h. h ≡ t)) (sym (place_found (same_text t) hosts []) ∙ ap (option_map (λ j. get_or hosts j [])) e) (IfSome-find_same bytes_decides t hosts)
+number_there hosts t n e =
+    subst (λ o. IfSome o (λ h. h ≡ t)) (sym (place_found (same_text t) hosts []) ∙ ap (option_map (λ j. get_or hosts j [])) e)
+    (IfSome-find_same bytes_decides t hosts)
 
 pub is_number : (hosts : List (List ℕ)) (t : List ℕ) (n : ℕ) → number_in hosts t ≡ Some n → IsNumber hosts n
 is_number hosts t n e = ap (number_in hosts) (number_there hosts t n e) ∙ e
@@ -38,7 +43,8 @@ same_number hosts t u n k e f =
     (λ one. let both : Some n ≡ Some k = sym e ∙ ap (number_in hosts) one ∙ f in cc both)
 
 -- ---- clocks by numbers are clocks
-pub below_hosted : (m : ℕ) (trace : List Placed) (c : HostClock) (n : ℕ) (p : Placed) → IsNumber (hosts_of trace) c.host → number_in (hosts_of trace) (host_of p) ≡ Some n
+pub below_hosted : (m : ℕ) (trace : List Placed) (c : HostClock) (n : ℕ) (p : Placed) → IsNumber (hosts_of trace) c.host
+    → number_in (hosts_of trace) (host_of p) ≡ Some n
     → hosted (hosts_of trace) (below_by m c n p.span) ≡ clock_below m (hosted (hosts_of trace) c) p
 below_hosted m trace c n p known number =
     let hosts = hosts_of trace in
@@ -46,15 +52,19 @@ below_hosted m trace c n p known number =
     let other : (n == c.host) ≡ same_text (host_of p) (get_or hosts c.host []) = same_number hosts (host_of p) (get_or hosts c.host []) n c.host number known in
     let own : get_or hosts n [] ≡ host_of p = number_there hosts (host_of p) n number in
     by_tests (n == 0) (n == c.host)
-    ∙ (λ i. if empty i || not (other i) then clock_at m (own i) (new_delta (hosted hosts c) p.span) p.span else clock_at m (get_or hosts c.host []) c.delta p.span)
+    ∙ (λ i. if empty i || not (other i) then clock_at m (own i) (new_delta (hosted hosts c) p.span) p.span else clock_at m (get_or hosts c.host [])
+    c.delta p.span)
   where
-    by_tests : (a b : Bool) → hosted (hosts_of trace) (if a || not b then clock_by m n (new_delta (hosted (hosts_of trace) c) p.span) p.span else clock_by m c.host c.delta p.span)
-        ≡ (if a || not b then clock_at m (get_or (hosts_of trace) n []) (new_delta (hosted (hosts_of trace) c) p.span) p.span else clock_at m (get_or (hosts_of trace) c.host []) c.delta p.span)
+    by_tests : (a b : Bool) → hosted (hosts_of trace)
+        (if a || not b then clock_by m n (new_delta (hosted (hosts_of trace) c) p.span) p.span else clock_by m c.host c.delta p.span)
+        ≡ (if a || not b then clock_at m (get_or (hosts_of trace) n []) (new_delta (hosted (hosts_of trace) c) p.span) p.span else clock_at m
+        (get_or (hosts_of trace) c.host []) c.delta p.span)
     by_tests true b = refl
     by_tests false true = refl
     by_tests false false = refl
 
-below_numbered : (m : ℕ) (hosts : List (List ℕ)) (c : HostClock) (n : ℕ) (s : Span) → IsNumber hosts c.host → IsNumber hosts n → IsNumber hosts (below_by m c n s).host
+below_numbered : (m : ℕ) (hosts : List (List ℕ)) (c : HostClock) (n : ℕ) (s : Span) → IsNumber hosts c.host → IsNumber hosts n
+    → IsNumber hosts (below_by m c n s).host
 below_numbered m hosts c n s known own = by_test ((n == 0) || not (n == c.host))
   where
     by_test : (b : Bool) → IsNumber hosts (if b then clock_by m n (new_delta (hosted hosts c) s) s else clock_by m c.host c.delta s).host
@@ -70,25 +80,33 @@ pub hosted_none : {X Y : Type 0} (f : X → Y) (o : Option X) → option_map f o
 hosted_none f None e = refl
 hosted_none f (Some x) e = absurd (false≢true (sym (ap is_some e)))
 
-pub written_hosted : {X Y : Type 0} (f : X → Y) (cs : List (Option X)) (i : ℕ) (o : Option X) → map (option_map f) (written cs i o) ≡ written (map (option_map f) cs) i (option_map f o)
+pub written_hosted : {X Y : Type 0} (f : X → Y) (cs : List (Option X)) (i : ℕ) (o : Option X)
+    → map (option_map f) (written cs i o) ≡ written (map (option_map f) cs) i (option_map f o)
 written_hosted f cs i o =
     by_test (is_unset (get_or cs i None))
-    ∙ ap (λ b. if not b then set (map (option_map f) cs) i (option_map f o) else map (option_map f) cs) (sym (ap is_some (hosted_at f cs i) ∙ is_some-map f (get_or cs i None)))
+    ∙ ap (λ b. if not b then set (map (option_map f) cs) i (option_map f o) else map (option_map f) cs)
+    (sym (ap is_some (hosted_at f cs i) ∙ is_some-map f (get_or cs i None)))
   where
-    by_test : (b : Bool) → map (option_map f) (if b then set cs i o else cs) ≡ (if b then set (map (option_map f) cs) i (option_map f o) else map (option_map f) cs)
+    by_test : (b : Bool) → map (option_map f) (if b then set cs i o else cs)
+        ≡ (if b then set (map (option_map f) cs) i (option_map f o) else map (option_map f) cs)
     by_test true = map-set (option_map f) cs i o
     by_test false = refl
 
-pub near_hosted : (m : ℕ) (trace : List Placed) (cs : List (Option HostClock)) (n : ℕ) (p : Placed) (o : Option ℕ) → AreNumbered (hosts_of trace) cs → number_in (hosts_of trace) (host_of p) ≡ Some n
+pub near_hosted : (m : ℕ) (trace : List Placed) (cs : List (Option HostClock)) (n : ℕ) (p : Placed) (o : Option ℕ) → AreNumbered (hosts_of trace) cs
+    → number_in (hosts_of trace) (host_of p) ≡ Some n
     → option_map (hosted (hosts_of trace)) (near_by m cs n p.span o) ≡ near m (all_hosted (hosts_of trace) cs) p o
 near_hosted m trace cs n p None known number = ap (λ h. Some (clock_at m h (pos 0) p.span)) (number_there (hosts_of trace) (host_of p) n number)
-near_hosted m trace cs n p (Some j) known number = by_above (get_or cs j None) (known j) ∙ ap (option_map (λ above. clock_below m above p)) (sym (hosted_at (hosted (hosts_of trace)) cs j))
+near_hosted m trace cs n p (Some j) known number =
+    by_above (get_or cs j None) (known j) ∙ ap (option_map (λ above. clock_below m above p)) (sym (hosted_at (hosted (hosts_of trace)) cs j))
   where
-    by_above : (c : Option HostClock) → IsNumbered (hosts_of trace) c → option_map (hosted (hosts_of trace)) (option_map (λ above. below_by m above n p.span) c) ≡ option_map (λ above. clock_below m above p) (option_map (hosted (hosts_of trace)) c)
+    by_above : (c : Option HostClock) → IsNumbered (hosts_of trace) c
+        → option_map (hosted (hosts_of trace)) (option_map (λ above. below_by m above n p.span) c) ≡ option_map
+        (λ above. clock_below m above p) (option_map (hosted (hosts_of trace)) c)
     by_above None k = refl
     by_above (Some c) k = ap Some (below_hosted m trace c n p k number)
 
-pub near_numbered : (m : ℕ) (trace : List Placed) (cs : List (Option HostClock)) (n : ℕ) (p : Placed) (o : Option ℕ) → AreNumbered (hosts_of trace) cs → number_in (hosts_of trace) (host_of p) ≡ Some n
+pub near_numbered : (m : ℕ) (trace : List Placed) (cs : List (Option HostClock)) (n : ℕ) (p : Placed) (o : Option ℕ) → AreNumbered (hosts_of trace) cs
+    → number_in (hosts_of trace) (host_of p) ≡ Some n
     → IsNumbered (hosts_of trace) (near_by m cs n p.span o)
 near_numbered m trace cs n p None known number = is_number (hosts_of trace) (host_of p) n number
 near_numbered m trace cs n p (Some j) known number = by_above (get_or cs j None) (known j)
@@ -97,7 +115,8 @@ near_numbered m trace cs n p (Some j) known number = by_above (get_or cs j None)
     by_above None k = tt
     by_above (Some c) k = below_numbered m (hosts_of trace) c n p.span k (is_number (hosts_of trace) (host_of p) n number)
 
-pub written_numbered : (hosts : List (List ℕ)) (cs : List (Option HostClock)) (i : ℕ) (o : Option HostClock) → AreNumbered hosts cs → IsNumbered hosts o → AreNumbered hosts (written cs i o)
+pub written_numbered : (hosts : List (List ℕ)) (cs : List (Option HostClock)) (i : ℕ) (o : Option HostClock) → AreNumbered hosts cs → IsNumbered hosts o
+    → AreNumbered hosts (written cs i o)
 written_numbered hosts cs i o known here = elim (is_unset (get_or cs i None)) as (λ b. AreNumbered hosts (if b then set cs i o else cs)) [
   | true ↦ set_numbered cs i known
   | false ↦ known
@@ -115,27 +134,35 @@ delta_hosted : (hosts : List (List ℕ)) (c : Option HostClock) → delta_or_non
 delta_hosted hosts None = refl
 delta_hosted hosts (Some c) = refl
 
-pub same_delta : (hosts : List (List ℕ)) (first : ℕ → Option ℕ) (cs : List (Option HostClock)) (i id : ℕ) → delta_by first cs i id ≡ delta_at first (all_hosted hosts cs) i id
-same_delta hosts first cs i id = ap (λ d. if unwrap_or (first id) i == i then d else pos 0) (delta_hosted hosts (get_or cs i None) ∙ ap (delta_or_none clock_delta) (sym (hosted_at (hosted hosts) cs i)))
+pub same_delta : (hosts : List (List ℕ)) (first : ℕ → Option ℕ) (cs : List (Option HostClock)) (i id : ℕ)
+    → delta_by first cs i id ≡ delta_at first (all_hosted hosts cs) i id
+same_delta hosts first cs i id =
+    ap (λ d. if unwrap_or (first id) i == i then d else pos 0)
+    (delta_hosted hosts (get_or cs i None) ∙ ap (delta_or_none clock_delta) (sym (hosted_at (hosted hosts) cs i)))
 
 -- ---- the table of numbers, with one more host
 -- a host that is there already changes nothing
 pub number_again : (hosts : List (List ℕ)) (h : List ℕ) (n : ℕ) → number_in hosts h ≡ Some n → (t : List ℕ) → number_in (hosts ++ h ∷ []) t ≡ number_in hosts t
-number_again hosts h n e t = place_push (same_text t) hosts h ∙ sym (kept (number_in hosts) h t (length hosts) (same_text t h) (λ s. sym (text_is t h s)) (ap is_some e))
+number_again hosts h n e t =
+    place_push (same_text t) hosts h ∙ sym (kept (number_in hosts) h t (length hosts) (same_text t h) (λ s. sym (text_is t h s)) (ap is_some e))
 
 pub number_stays : (hosts more : List (List ℕ)) (t : List ℕ) (n : ℕ) → number_in hosts t ≡ Some n → number_in (hosts ++ more) t ≡ Some n
 number_stays [] more t n e = absurd (false≢true (ap is_some e))
-number_stays (h ∷ hosts) more t n e = elim (same_text t h) as (λ b. (if b then Some 0 else option_map suc (number_in hosts t)) ≡ Some n → (if b then Some 0 else option_map suc (number_in (hosts ++ more) t)) ≡ Some n) [
-  | true ↦ λ q. q
-  | false ↦ λ q. later (λ k. number_stays hosts more t k) (number_in hosts t) refl q
-] e
+number_stays (h ∷ hosts) more t n e =
+    elim (same_text t h) as (λ b. (if b then Some 0 else option_map suc (number_in hosts t)) ≡ Some n
+    → (if b then Some 0 else option_map suc (number_in (hosts ++ more) t)) ≡ Some n) [
+      | true ↦ λ q. q
+      | false ↦ λ q. later (λ k. number_stays hosts more t k) (number_in hosts t) refl q
+    ] e
   where
-    later : ((k : ℕ) → number_in hosts t ≡ Some k → number_in (hosts ++ more) t ≡ Some k) → (o : Option ℕ) → number_in hosts t ≡ o → option_map suc o ≡ Some n → option_map suc (number_in (hosts ++ more) t) ≡ Some n
+    later : ((k : ℕ) → number_in hosts t ≡ Some k → number_in (hosts ++ more) t ≡ Some k) → (o : Option ℕ) → number_in hosts t ≡ o → option_map suc o ≡ Some n
+        → option_map suc (number_in (hosts ++ more) t) ≡ Some n
     later stays None r q = absurd (false≢true (ap is_some q))
     later stays (Some k) r q = ap (option_map suc) (stays k r) ∙ q
 
 -- the number at a place
-pub number_read : (hosts : List (List ℕ)) (trace : List Placed) (ns : List ℕ) (i : ℕ) (d : Placed) (e : ℕ) → i < length trace → AreNumbers hosts trace ns → number_in hosts (host_of (get_or trace i d)) ≡ Some (get_or ns i e)
+pub number_read : (hosts : List (List ℕ)) (trace : List Placed) (ns : List ℕ) (i : ℕ) (d : Placed) (e : ℕ) → i < length trace → AreNumbers hosts trace ns
+    → number_in hosts (host_of (get_or trace i d)) ≡ Some (get_or ns i e)
 number_read hosts [] ns i d e l are = absurd (omega arith)
 number_read hosts (p ∷ trace) [] i d e l are = absurd (cc are)
 number_read hosts (p ∷ trace) (n ∷ ns) zero d e l are = let first : Some n ≡ number_in hosts (host_of p) = cc are in sym first
@@ -164,14 +191,19 @@ module _ (ps : List Placed) (i : ℕ) (p : Placed) (l : i < length ps) (e : p �
       add_one : (k : ℕ) → k + 1 ≡ suc k
       add_one k = omega arith
 
-  pub table_more : (g : List ℕ → Option ℕ) → ((t : List ℕ) → g t ≡ number_in (before ++ host_of p ∷ []) t) → (t : List ℕ) → g t ≡ number_in (hosts_of (take (i + 1) ps)) t
+  pub table_more : (g : List ℕ → Option ℕ) → ((t : List ℕ) → g t ≡ number_in (before ++ host_of p ∷ []) t) → (t : List ℕ)
+      → g t ≡ number_in (hosts_of (take (i + 1) ps)) t
   table_more g is t = is t ∙ ap (λ hs. number_in hs t) (sym before_more)
 
-  pub numbers_more : (ns new : List ℕ) (n : ℕ) → AreNumbers all (take i ps) ns → new ≡ ns ++ n ∷ [] → number_in (before ++ host_of p ∷ []) (host_of p) ≡ Some n → AreNumbers all (take (i + 1) ps) new
+  pub numbers_more : (ns new : List ℕ) (n : ℕ) → AreNumbers all (take i ps) ns → new ≡ ns ++ n ∷ [] → number_in (before ++ host_of p ∷ []) (host_of p) ≡ Some n
+      → AreNumbers all (take (i + 1) ps) new
   numbers_more ns new n are put is =
-      let known : number_in all (host_of p) ≡ Some n = ap (λ hs. number_in hs (host_of p)) (all_is ∙ ap (λ hs. hs ++ map host_of (drop (i + 1) ps)) before_more) ∙ number_stays (before ++ host_of p ∷ []) _ (host_of p) n is in
+      let known : number_in all (host_of p) ≡ Some n =
+      ap (λ hs. number_in hs (host_of p)) (all_is ∙ ap (λ hs. hs ++ map host_of (drop (i + 1) ps)) before_more)
+      ∙ number_stays (before ++ host_of p ∷ []) _ (host_of p) n is in
       ap (map Some) put ∙ map_push Some ns n ∙ (λ j. are j ++ (sym known) j ∷ [])
-      ∙ sym (map_more (λ q. number_in all (host_of q)) ps i p l ∙ ap (λ x. map (λ q. number_in all (host_of q)) (take i ps) ++ number_in all (host_of x) ∷ []) (sym e))
+      ∙ sym (map_more (λ q. number_in all (host_of q)) ps i p l
+      ∙ ap (λ x. map (λ q. number_in all (host_of q)) (take i ps) ++ number_in all (host_of x) ∷ []) (sym e))
 
   pub fresh_is : length before ≡ i + 1
   fresh_is = let a = length-map (take i ps) host_of in let c = length-take-le i ps (omega (arith, l)) in omega (arith, a, c)
@@ -207,7 +239,8 @@ module _ (ps : List Placed) (i : ℕ) (p : Placed) (l : i < length ps) (e : p �
       }
 
   -- a span has the host of each span whose entry is at its place
-  pub same_host : (places : List ℕ) (j place : ℕ) → ShareProcesses ps places → j < i → slice_get places j ≡ Some place → slice_get places i ≡ Some place → get_or all (j + 1) [] ≡ host_of p
+  pub same_host : (places : List ℕ) (j place : ℕ) → ShareProcesses ps places → j < i → slice_get places j ≡ Some place → slice_get places i ≡ Some place
+      → get_or all (j + 1) [] ≡ host_of p
   same_host places j place share above there own =
       let one : get_or places j 0 ≡ get_or places i 0 = get_or_from_slice_get places j place 0 there ∙ sym (get_or_from_slice_get places i place 0 own) in
       let next : j + 1 ≡ suc j = omega arith in
@@ -217,7 +250,8 @@ module _ (ps : List Placed) (i : ℕ) (p : Placed) (l : i < length ps) (e : p �
       ∙ ap host_of (sym e)
 
   -- the number that is stored for a span's place is its host's
-  pub own_number : (places : List ℕ) (own : Option ℕ) (m : ℕ → Option ℕ) (n : ℕ) → ShareProcesses ps places → own ≡ slice_get places i → AreKept ps places i m → option_and_then m own ≡ Some n
+  pub own_number : (places : List ℕ) (own : Option ℕ) (m : ℕ → Option ℕ) (n : ℕ) → ShareProcesses ps places → own ≡ slice_get places i → AreKept ps places i m
+      → option_and_then m own ≡ Some n
       → number_in before (host_of p) ≡ Some n
   own_number places None m n share at known found = absurd (cc found)
   own_number places (Some place) m n share at known found =
@@ -230,7 +264,8 @@ place_read places i None h = sym (slice_get_past places i h.3)
 place_read places i (Some x) h = ap Some (h.3.1 x.now) ∙ sym (slice_get-get_or places i x.now h.3.0)
 
 -- the number that a host gets
-pub number_given : (hosts : List (List ℕ)) (h : List ℕ) (o : Option ℕ) (n fresh : ℕ) → o ≡ number_in hosts h → n ≡ unwrap_or o fresh → length hosts ≡ fresh → number_in (hosts ++ h ∷ []) h ≡ Some n
+pub number_given : (hosts : List (List ℕ)) (h : List ℕ) (o : Option ℕ) (n fresh : ℕ) → o ≡ number_in hosts h → n ≡ unwrap_or o fresh → length hosts ≡ fresh
+    → number_in (hosts ++ h ∷ []) h ≡ Some n
 number_given hosts h o n fresh is given long =
     place_push (same_text h) hosts h ∙ (λ i. option_or ((sym is) i) (cond (text_self h i) (Some (long i)) None)) ∙ by_cases o ∙ ap Some (sym given)
   where
@@ -239,11 +274,15 @@ number_given hosts h o n fresh is given long =
     by_cases (Some k) = refl
 
 -- the table after that
-pub table_given : (hosts : List (List ℕ)) (h : List ℕ) (old new : List ℕ → Option ℕ) (fresh : ℕ) → ((t : List ℕ) → old t ≡ number_in hosts t) → length hosts ≡ fresh
+pub table_given : (hosts : List (List ℕ)) (h : List ℕ) (old new : List ℕ → Option ℕ) (fresh : ℕ) → ((t : List ℕ) → old t ≡ number_in hosts t)
+    → length hosts ≡ fresh
     → ((t : List ℕ) → new t ≡ option_or (old t) (cond (same_text t h) (Some fresh) None)) → (t : List ℕ) → new t ≡ number_in (hosts ++ h ∷ []) t
-table_given hosts h old new fresh is long put t = put t ∙ (λ i. option_or (is t i) (cond (same_text t h) (Some ((sym long) i)) None)) ∙ sym (place_push (same_text t) hosts h)
+table_given hosts h old new fresh is long put t =
+    put t ∙ (λ i. option_or (is t i) (cond (same_text t h) (Some ((sym long) i)) None)) ∙ sym (place_push (same_text t) hosts h)
 
 -- ---- one entry of the table of numbers
-pub entry_made : (g : List ℕ → Option ℕ) (h : List ℕ) (o : Option ℕ) (fresh : ℕ) (t : List ℕ) → g h ≡ None → o ≡ cond (is_eq (text_cmp h t)) (Some fresh) (g t) → o ≡ option_or (g t) (cond (same_text t h) (Some fresh) None)
+pub entry_made : (g : List ℕ → Option ℕ) (h : List ℕ) (o : Option ℕ) (fresh : ℕ) (t : List ℕ) → g h ≡ None → o ≡ cond (is_eq (text_cmp h t)) (Some fresh) (g t)
+    → o ≡ option_or (g t) (cond (same_text t h) (Some fresh) None)
 entry_made g h o fresh t none put =
-    put ∙ ap (λ b. cond b (Some fresh) (g t)) (sym (texts_ties h t) ∙ text_turned h t) ∙ entered g h t fresh (same_text t h) (λ s. sym (text_is t h s)) (ap is_some none)
+    put ∙ ap (λ b. cond b (Some fresh) (g t)) (sym (texts_ties h t) ∙ text_turned h t)
+    ∙ entered g h t fresh (same_text t h) (λ s. sym (text_is t h s)) (ap is_some none)

@@ -1,5 +1,6 @@
 -- First places, as a table of them grows, and what is there.
-use Rattle.std.proofs.Common.{◌≡◌, ℕ, zero, suc, ◌+◌, ◌<◌, nat_lt, Bool, true, false, ◌||◌, cond, List, [], ◌∷◌, ◌++◌, map, take, length, get_or, refl, sym, ap, ◌∙◌, arith, eqb-true, eq-eqb}
+use Rattle.std.proofs.Common.{◌≡◌, ℕ, zero, suc, ◌+◌, ◌<◌, nat_lt, Bool, true, false, ◌||◌, cond, List, [], ◌∷◌, ◌++◌, map, take, length, get_or, refl, sym, ap}
+use Rattle.std.proofs.Common.{◌∙◌, arith, eqb-true, eq-eqb}
 use Rattle.std.proofs.lemmas.Bool.Decides.{nat_tests}
 use Rattle.std.specs.Prelude.{Option, Some, None, option_map, is_some, find, not, unwrap_or, ◌==◌, if◌then◌else◌}
 use Rattle.std.specs.Option.{option_or}
@@ -18,12 +19,15 @@ use Rattle.trace_adjust.specs.Settling.{place_of, first_at, place_in, parent_at}
 use Rattle.trace_model.proofs.Chains.{parent_there, parent_within}
 
 -- in a list with one item more
-pub place_push : {X : Type 0} (test : X → Bool) (xs : List X) (x : X) → place_of test (xs ++ x ∷ []) ≡ option_or (place_of test xs) (cond (test x) (Some (length xs)) None)
+pub place_push : {X : Type 0} (test : X → Bool) (xs : List X) (x : X)
+    → place_of test (xs ++ x ∷ []) ≡ option_or (place_of test xs) (cond (test x) (Some (length xs)) None)
 place_push test [] x = refl
-place_push test (y ∷ xs) x = elim (test y) as (λ b. cond b (Some 0) (option_map suc (place_of test (xs ++ x ∷ []))) ≡ option_or (cond b (Some 0) (option_map suc (place_of test xs))) (cond (test x) (Some (suc (length xs))) None)) [
-  | true ↦ refl
-  | false ↦ ap (option_map suc) (place_push test xs x) ∙ entry_map suc (place_of test xs) (test x) (length xs)
-]
+place_push test (y ∷ xs) x =
+    elim (test y) as (λ b. cond b (Some 0) (option_map suc (place_of test (xs ++ x ∷ [])))
+    ≡ option_or (cond b (Some 0) (option_map suc (place_of test xs))) (cond (test x) (Some (suc (length xs))) None)) [
+      | true ↦ refl
+      | false ↦ ap (option_map suc) (place_push test xs x) ∙ entry_map suc (place_of test xs) (test x) (length xs)
+    ]
 
 first_more : (id : ℕ) (xs : List Placed) (i : ℕ) (x : Placed) (before : Option ℕ) → i < length xs → x ≡ get_or xs i x → before ≡ first_at id (take i xs)
     → option_or before (cond (x.span.id.0 == id) (Some i) None) ≡ first_at id (take (i + 1) xs)
@@ -33,7 +37,8 @@ first_more id xs i x before l e inv =
 
 -- the table with one more span, whose id it did not have
 pub place_entered : (q : ℕ) (g : ℕ → Option ℕ) (o : Option ℕ) (xs : List Placed) (i : ℕ) (x : Placed) → i < length xs → x ≡ get_or xs i x
-    → ((id : ℕ) → g id ≡ first_at id (take i xs)) → is_some (g x.span.id.0) ≡ false → o ≡ cond (is_eq (nat_cmp x.span.id.0 q)) (Some i) (g q) → o ≡ first_at q (take (i + 1) xs)
+    → ((id : ℕ) → g id ≡ first_at id (take i xs)) → is_some (g x.span.id.0) ≡ false → o ≡ cond (is_eq (nat_cmp x.span.id.0 q)) (Some i) (g q)
+    → o ≡ first_at q (take (i + 1) xs)
 place_entered q g o xs i x l e inv none put =
     let id = x.span.id.0 in
     put ∙ ap (λ b. cond b (Some i) (g q)) (sym (unsigned_ties id q)) ∙ entered g id q i (id == q) (eqb-true id q) none ∙ first_more q xs i x (g q) l e (inv q)
@@ -46,10 +51,12 @@ place_kept q g xs i x l e inv some = let id = x.span.id.0 in kept g id q i (id =
 -- ---- the item at a first place
 place_is : {X : Type 0} (test : X → Bool) (xs : List X) → place_of test xs ≡ position test xs
 place_is test [] = refl
-place_is test (x ∷ xs) = elim (test x) as (λ b. cond b (Some 0) (option_map suc (place_of test xs)) ≡ cond (nat_lt (cond (not b) (1 + position_or_len test xs) 0) (suc (length xs))) (Some (cond (not b) (1 + position_or_len test xs) 0)) None) [
-  | true ↦ grind (arith, nat_tests)
-  | false ↦ ap (option_map suc) (place_is test xs) ∙ one_later (position_or_len test xs) (length xs)
-]
+place_is test (x ∷ xs) =
+    elim (test x) as (λ b. cond b (Some 0) (option_map suc (place_of test xs))
+    ≡ cond (nat_lt (cond (not b) (1 + position_or_len test xs) 0) (suc (length xs))) (Some (cond (not b) (1 + position_or_len test xs) 0)) None) [
+      | true ↦ grind (arith, nat_tests)
+      | false ↦ ap (option_map suc) (place_is test xs) ∙ one_later (position_or_len test xs) (length xs)
+    ]
   where
     one_later : (n m : ℕ) → option_map suc (cond (nat_lt n m) (Some n) None) ≡ cond (nat_lt (1 + n) (suc m)) (Some (1 + n)) None
     one_later n m = grind (arith, nat_tests)
@@ -77,11 +84,14 @@ one_on None k = same_more k k
 one_on (Some j) k = same_more j k
 
 -- ---- a span is the first of its id if no span before it has it
-pub is_first : (ps : List Placed) (i : ℕ) (d : Placed) → i < length ps → (unwrap_or (first_at (get_or ps i d).span.id.0 ps) i == i) ≡ not (list_any (has_id (get_or ps i d).span.id) (take i ps))
+pub is_first : (ps : List Placed) (i : ℕ) (d : Placed) → i < length ps
+    → (unwrap_or (first_at (get_or ps i d).span.id.0 ps) i == i) ≡ not (list_any (has_id (get_or ps i d).span.id) (take i ps))
 is_first [] i d l = absurd (omega arith)
 is_first (p ∷ ps) zero d l = ap (λ b. unwrap_or (cond b (Some 0) (option_map suc (first_at p.span.id.0 ps))) 0 == 0) (eq-eqb p.span.id.0 p.span.id.0 refl)
 is_first (p ∷ ps) (suc k) d l =
-    elim (p.span.id.0 == (get_or ps k d).span.id.0) as (λ b. (unwrap_or (cond b (Some 0) (option_map suc (first_at (get_or ps k d).span.id.0 ps))) (suc k) == suc k) ≡ not (b || list_any (has_id (get_or ps k d).span.id) (take k ps))) [
+    elim (p.span.id.0 == (get_or ps k d).span.id.0) as (λ b.
+    (unwrap_or (cond b (Some 0) (option_map suc (first_at (get_or ps k d).span.id.0 ps))) (suc k) == suc k)
+    ≡ not (b || list_any (has_id (get_or ps k d).span.id) (take k ps))) [
       | true ↦ not_zero k
       | false ↦ one_on (first_at (get_or ps k d).span.id.0 ps) k ∙ is_first ps k d (omega arith)
     ]

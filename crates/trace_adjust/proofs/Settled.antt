@@ -1,5 +1,6 @@
 -- Clocks that are set from above are the spans' clocks; if none can be set any more, all are known.
-use Rattle.std.proofs.Common.{◌≡◌, ℕ, zero, suc, ◌+◌, ◌<◌, ◌⊎◌, inl, inr, ⊎_elim, Bool, true, false, ◌&&◌, cond, List, [], map, length, get_or, set, refl, sym, ap, ◌∙◌, arith, subst, length-set, get_or-set_same, get_or-set_other}
+use Rattle.std.proofs.Common.{◌≡◌, ℕ, zero, suc, ◌+◌, ◌<◌, ◌⊎◌, inl, inr, ⊎_elim, Bool, true, false, ◌&&◌, cond, List, [], map, length, get_or, set, refl, sym}
+use Rattle.std.proofs.Common.{ap, ◌∙◌, arith, subst, length-set, get_or-set_same, get_or-set_other}
 use Rattle.std.proofs.lemmas.List.{length-map, get_or_default, set-get_or, get_or-map}
 use Rattle.std.proofs.lemmas.List.Elements.{All-from_recursion}
 use Rattle.std.specs.Prelude.{Option, Some, None, option_map, is_some, if◌then◌else◌}
@@ -31,64 +32,81 @@ module _ (max_skew : ℕ) (trace : List Placed) where
       by_place None e = inr (sym (law ∙ ap (clock_by max_skew clock p) (sym (place_there trace p d) ∙ ap (option_map (λ j. get_or trace j d)) e)))
       by_place (Some j) e = ⊎_elim
           (λ n. inl (ap (option_map (λ a. clock_below max_skew a p)) n))
-          (λ r. inr (ap (option_map (λ a. clock_below max_skew a p)) r ∙ sym (law ∙ ap (clock_by max_skew clock p) (sym (place_there trace p d) ∙ ap (option_map (λ j. get_or trace j d)) e))))
+          (λ r. inr (ap (option_map (λ a. clock_below max_skew a p)) r
+          ∙ sym (law ∙ ap (clock_by max_skew clock p) (sym (place_there trace p d) ∙ ap (option_map (λ j. get_or trace j d)) e))))
           (right.1 j d (place_below trace p j e))
 
   -- a step keeps what is right
-  pub settle_right : (cs : List (Option Clock)) (i : ℕ) (p : Placed) → i < length trace → p ≡ get_or trace i p → AreRight max_skew trace cs → AreRight max_skew trace (written cs i (near max_skew cs p (place_in trace p)))
-  settle_right cs i p l e right = elim (is_unset (get_or cs i None)) as (λ b. AreRight max_skew trace (if b then set cs i (near max_skew cs p (place_in trace p)) else cs)) [
-    | true ↦ (
-      length-set cs i (near max_skew cs p (place_in trace p)) ∙ right.0,
-      λ k d lk. ⊎_elim
-          (λ (same : k ≡ i). here k d same)
-          (λ (other : k ≡ i → ⊥). subst (λ o. (o ≡ None) ⊎ (o ≡ clock (get_or trace k d))) (sym (get_or-set_other cs i k (near max_skew cs p (place_in trace p)) None other)) (right.1 k d lk))
-          (cases_eq k i),
-    )
-    | false ↦ right
-  ]
+  pub settle_right : (cs : List (Option Clock)) (i : ℕ) (p : Placed) → i < length trace → p ≡ get_or trace i p → AreRight max_skew trace cs
+      → AreRight max_skew trace (written cs i (near max_skew cs p (place_in trace p)))
+  settle_right cs i p l e right =
+      elim (is_unset (get_or cs i None)) as (λ b. AreRight max_skew trace (if b then set cs i (near max_skew cs p (place_in trace p)) else cs)) [
+        | true ↦ (
+          length-set cs i (near max_skew cs p (place_in trace p)) ∙ right.0,
+          λ k d lk. ⊎_elim
+              (λ (same : k ≡ i). here k d same)
+              (λ (other : k ≡ i → ⊥). subst (λ o. (o ≡ None) ⊎ (o ≡ clock (get_or trace k d)))
+              (sym (get_or-set_other cs i k (near max_skew cs p (place_in trace p)) None other)) (right.1 k d lk))
+              (cases_eq k i),
+        )
+        | false ↦ right
+      ]
     where
       law : clock p ≡ clock_by max_skew clock p (parent_in trace p)
-      law = subst (λ q. clock q ≡ clock_by max_skew clock q (parent_in trace q)) (sym e) (All-from_recursion (λ q. clock q ≡ clock_by max_skew clock q (parent_in trace q)) trace (clocks max_skew trace) i p l)
+      law =
+          subst (λ q. clock q ≡ clock_by max_skew clock q (parent_in trace q)) (sym e)
+          (All-from_recursion (λ q. clock q ≡ clock_by max_skew clock q (parent_in trace q)) trace (clocks max_skew trace) i p l)
 
-      here : (k : ℕ) (d : Placed) → k ≡ i → (get_or (set cs i (near max_skew cs p (place_in trace p))) k None ≡ None) ⊎ (get_or (set cs i (near max_skew cs p (place_in trace p))) k None ≡ clock (get_or trace k d))
+      here : (k : ℕ) (d : Placed) → k ≡ i → (get_or (set cs i (near max_skew cs p (place_in trace p))) k None ≡ None)
+          ⊎ (get_or (set cs i (near max_skew cs p (place_in trace p))) k None ≡ clock (get_or trace k d))
       here k d same =
           let n = near max_skew cs p (place_in trace p) in
           let at : get_or (set cs i n) k None ≡ n = ap (λ j. get_or (set cs i n) j None) same ∙ get_or-set_same cs i n None (omega (arith, right.0)) in
           let q : p ≡ get_or trace k d = e ∙ get_or_default trace i p d l ∙ ap (λ j. get_or trace j d) (sym same) in
           ⊎_elim (λ z. inl (at ∙ z)) (λ r. inr (at ∙ r ∙ ap clock q)) (near_right cs p p right law)
 
-  none_near : (cs : List (Option Clock)) (d p : Placed) (n : ℕ) (o : Option ℕ) → place_in trace p ≡ o → ((j : ℕ) → j < length trace → get_or cs j None ≡ None → clock_within max_skew n trace (get_or trace j d) ≡ None)
+  none_near : (cs : List (Option Clock)) (d p : Placed) (n : ℕ) (o : Option ℕ) → place_in trace p ≡ o
+      → ((j : ℕ) → j < length trace → get_or cs j None ≡ None → clock_within max_skew n trace (get_or trace j d) ≡ None)
       → near max_skew cs p o ≡ None → clock_by max_skew (clock_within max_skew n trace) p (option_map (λ j. get_or trace j d) o) ≡ None
   none_near cs d p n None q up h = absurd (false≢true (sym (ap is_some h)))
-  none_near cs d p n (Some j) q up h = ap (option_map (λ a. clock_below max_skew a p)) (up j (place_below trace p j q) (hosted_none (λ a. clock_below max_skew a p) (get_or cs j None) h))
+  none_near cs d p n (Some j) q up h =
+      ap (option_map (λ a. clock_below max_skew a p)) (up j (place_below trace p j q) (hosted_none (λ a. clock_below max_skew a p) (get_or cs j None) h))
 
   -- if nothing is set any more, a clock that is not set is none
-  none_within : (cs : List (Option Clock)) (d : Placed) → AreClosed max_skew trace (length trace) cs → (n k : ℕ) → k < length trace → get_or cs k None ≡ None → clock_within max_skew n trace (get_or trace k d) ≡ None
+  none_within : (cs : List (Option Clock)) (d : Placed) → AreClosed max_skew trace (length trace) cs → (n k : ℕ) → k < length trace → get_or cs k None ≡ None
+      → clock_within max_skew n trace (get_or trace k d) ≡ None
   none_within cs d closed zero k l e = within_none max_skew trace (get_or trace k d)
   none_within cs d closed (suc n) k l e =
-      within_step max_skew n trace (get_or trace k d) ∙ ap (clock_by max_skew (clock_within max_skew n trace) (get_or trace k d)) (sym (place_there trace (get_or trace k d) d))
+      within_step max_skew n trace (get_or trace k d)
+      ∙ ap (clock_by max_skew (clock_within max_skew n trace) (get_or trace k d)) (sym (place_there trace (get_or trace k d) d))
       ∙ none_near cs d (get_or trace k d) n (place_in trace (get_or trace k d)) refl (none_within cs d closed n) (closed k l d e)
 
   pub all_known : (cs : List (Option Clock)) → AreRight max_skew trace cs → AreClosed max_skew trace (length trace) cs → AreClocks max_skew trace cs
   all_known cs right closed = (right.0, λ k d l. ⊎_elim (λ z. z ∙ sym (none_within cs d closed (length trace) k l z)) (λ r. r) (right.1 k d l))
 
 -- ---- one step of a pass
-pub written_same : {X : Type 0} (cs : List (Option X)) (i : ℕ) (n : Option X) → writes cs i n ≡ false → (written cs i n ≡ cs) × (get_or cs i None ≡ None → n ≡ None)
+pub written_same : {X : Type 0} (cs : List (Option X)) (i : ℕ) (n : Option X) → writes cs i n ≡ false → (written cs i n ≡ cs)
+    × (get_or cs i None ≡ None → n ≡ None)
 written_same {X} cs i n e = by_now (get_or cs i None) refl e
   where
     by_now : (c : Option X) → get_or cs i None ≡ c → (is_unset c && is_some n) ≡ false → ((if is_unset c then set cs i n else cs) ≡ cs) × (c ≡ None → n ≡ None)
     by_now None q h = let none : n ≡ None = none_is n h in (ap (set cs i) (none ∙ sym q) ∙ set-get_or cs i None, λ _. none)
     by_now (Some c) q h = (refl, λ z. absurd (false≢true (sym (ap is_some z))))
 
-pub written_fewer : {X : Type 0} (cs : List (Option X)) (i : ℕ) (n : Option X) → i < length cs → unset_count (written cs i n) + cond (writes cs i n) 1 0 ≡ unset_count cs
+pub written_fewer : {X : Type 0} (cs : List (Option X)) (i : ℕ) (n : Option X) → i < length cs
+    → unset_count (written cs i n) + cond (writes cs i n) 1 0 ≡ unset_count cs
 written_fewer {X} cs i n l = by_now (get_or cs i None) refl
   where
     set_there : (n : Option X) → get_or cs i None ≡ None → unset_count (set cs i n) + cond (is_some n) 1 0 ≡ unset_count cs
     set_there n q =
-        let s : unset_count (set cs i n) + cond (is_unset (get_or cs i None)) 1 0 ≡ unset_count cs + cond (is_unset n) 1 0 = sum_by-set (λ c. cond (is_unset c) 1 0) cs i n None l in
-        elim n as (λ n. unset_count (set cs i n) + cond (is_unset (get_or cs i None)) 1 0 ≡ unset_count cs + cond (is_unset n) 1 0 → unset_count (set cs i n) + cond (is_some n) 1 0 ≡ unset_count cs) [
-          | None ↦ λ s. let one : unset_count (set cs i None) + 1 ≡ unset_count cs + 1 = ap (λ c. unset_count (set cs i None) + cond (is_unset c) 1 0) (sym q) ∙ s in omega arith
-          | Some c ↦ λ s. let one : unset_count (set cs i (Some c)) + 1 ≡ unset_count cs + 0 = ap (λ x. unset_count (set cs i (Some c)) + cond (is_unset x) 1 0) (sym q) ∙ s in omega arith
+        let s : unset_count (set cs i n) + cond (is_unset (get_or cs i None)) 1 0 ≡ unset_count cs + cond (is_unset n) 1 0 =
+        sum_by-set (λ c. cond (is_unset c) 1 0) cs i n None l in
+        elim n as (λ n. unset_count (set cs i n) + cond (is_unset (get_or cs i None)) 1 0 ≡ unset_count cs + cond (is_unset n) 1 0
+        → unset_count (set cs i n) + cond (is_some n) 1 0 ≡ unset_count cs) [
+          | None ↦ λ s. let one : unset_count (set cs i None) + 1 ≡ unset_count cs + 1 =
+              ap (λ c. unset_count (set cs i None) + cond (is_unset c) 1 0) (sym q) ∙ s in omega arith
+          | Some c ↦ λ s. let one : unset_count (set cs i (Some c)) + 1 ≡ unset_count cs + 0 =
+              ap (λ x. unset_count (set cs i (Some c)) + cond (is_unset x) 1 0) (sym q) ∙ s in omega arith
         ] s
 
     by_now : (c : Option X) → get_or cs i None ≡ c → unset_count (if is_unset c then set cs i n else cs) + cond (is_unset c && is_some n) 1 0 ≡ unset_count cs
@@ -105,18 +123,21 @@ none_set m trace cs len none = (
   λ k. subst (IsNumbered (hosts_of trace)) (sym (none k)) tt,
 )
 
-pub closed_more : (m : ℕ) (trace : List Placed) (i : ℕ) (cs new : List (Option HostClock)) → new ≡ cs → AreClosed m trace i (all_hosted (hosts_of trace) cs) → IsClosed m trace i (all_hosted (hosts_of trace) new) → AreClosed m trace (i + 1) (all_hosted (hosts_of trace) new)
+pub closed_more : (m : ℕ) (trace : List Placed) (i : ℕ) (cs new : List (Option HostClock)) → new ≡ cs → AreClosed m trace i (all_hosted (hosts_of trace) cs)
+    → IsClosed m trace i (all_hosted (hosts_of trace) new) → AreClosed m trace (i + 1) (all_hosted (hosts_of trace) new)
 closed_more m trace i cs new e before here k l = ⊎_elim
     (λ (same : k ≡ i). subst (λ j. IsClosed m trace j (all_hosted (hosts_of trace) new)) (sym same) here)
     (λ (other : k ≡ i → ⊥). subst (IsClosed m trace k) (sym (ap (all_hosted (hosts_of trace)) e)) (before k (omega arith)))
     (cases_eq k i)
 
 -- the step at a place of the trace, whose parent's place is in the list of those
-pub parent_read : (trace : List Placed) (parents : List (Option ℕ)) (i : ℕ) (d : Placed) → i < length trace → parents ≡ map (place_in trace) trace → get_or parents i None ≡ place_in trace (get_or trace i d)
+pub parent_read : (trace : List Placed) (parents : List (Option ℕ)) (i : ℕ) (d : Placed) → i < length trace → parents ≡ map (place_in trace) trace
+    → get_or parents i None ≡ place_in trace (get_or trace i d)
 parent_read trace parents i d l e = ap (λ ps. get_or ps i None) e ∙ get_or-map (place_in trace) trace i d None l
 
 -- ---- the step at one place
-module _ (m : ℕ) (trace : List Placed) (old new : List (Option HostClock)) (i n : ℕ) (p : Placed) (o : Option ℕ) (l : i < length trace) (here : p ≡ get_or trace i p) (parent : o ≡ place_in trace (get_or trace i p))
+module _ (m : ℕ) (trace : List Placed) (old new : List (Option HostClock)) (i n : ℕ) (p : Placed) (o : Option ℕ) (l : i < length trace)
+    (here : p ≡ get_or trace i p) (parent : o ≡ place_in trace (get_or trace i p))
     (number : number_in (hosts_of trace) (host_of p) ≡ Some n) (after : new ≡ written old i (near_by m old n p.span o)) (is_set : AreSet m trace old) where
   abbrev known : List (Option HostClock) → List (Option Clock)
   known cs = all_hosted (hosts_of trace) cs
@@ -132,7 +153,8 @@ module _ (m : ℕ) (trace : List Placed) (old new : List (Option HostClock)) (i 
   pub step_set : AreSet m trace new
   step_set = (
     subst (AreRight m trace) (sym as_known) (settle_right m trace (known old) i p l here is_set.0),
-    subst (AreNumbered (hosts_of trace)) (sym after) (written_numbered (hosts_of trace) old i (near_by m old n p.span o) is_set.1 (near_numbered m trace old n p o is_set.1 number)),
+    subst (AreNumbered (hosts_of trace)) (sym after)
+        (written_numbered (hosts_of trace) old i (near_by m old n p.span o) is_set.1 (near_numbered m trace old n p o is_set.1 number)),
   )
 
   pub step_closed : writes old i (near_by m old n p.span o) ≡ false → (new ≡ old) × IsClosed m trace i (known new)
@@ -142,9 +164,13 @@ module _ (m : ℕ) (trace : List Placed) (old new : List (Option HostClock)) (i 
         same,
         λ d z.
             let q : p ≡ get_or trace i d = here ∙ get_or_default trace i p d l in
-            let unset : get_or old i None ≡ None = hosted_none (hosted (hosts_of trace)) (get_or old i None) (sym (hosted_at (hosted (hosts_of trace)) old i) ∙ ap (λ c. get_or (known c) i None) (sym same) ∙ z) in
-            let none : near m (known old) p o ≡ None = sym (near_hosted m trace old n p o is_set.1 number) ∙ ap (option_map (hosted (hosts_of trace))) (s.1 unset) in
-            ap (λ c. near m (known c) (get_or trace i d) (place_in trace (get_or trace i d))) same ∙ ap (λ x. near m (known old) x (place_in trace x)) (sym q) ∙ ap (near m (known old) p) (sym own_parent) ∙ none,
+            let unset : get_or old i None ≡ None =
+            hosted_none (hosted (hosts_of trace)) (get_or old i None)
+            (sym (hosted_at (hosted (hosts_of trace)) old i) ∙ ap (λ c. get_or (known c) i None) (sym same) ∙ z) in
+            let none : near m (known old) p o ≡ None =
+            sym (near_hosted m trace old n p o is_set.1 number) ∙ ap (option_map (hosted (hosts_of trace))) (s.1 unset) in
+            ap (λ c. near m (known c) (get_or trace i d) (place_in trace (get_or trace i d))) same ∙ ap (λ x. near m (known old) x (place_in trace x)) (sym q)
+            ∙ ap (near m (known old) p) (sym own_parent) ∙ none,
       )
 
   pub step_fewer : (b : Bool) → b ≡ writes old i (near_by m old n p.span o) → unset_count new + cond b 1 0 ≡ unset_count old

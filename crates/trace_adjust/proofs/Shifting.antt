@@ -1,5 +1,6 @@
 -- One more span of the trace as it is shown.
-use Rattle.std.proofs.Common.{◌≡◌, ℕ, zero, suc, pos, ◌+◌, ◌<◌, ◌≤◌, Bool, true, false, List, [], ◌∷◌, ◌++◌, map, take, drop, length, get_or, set, refl, sym, ap, ◌∙◌, arith, append_assoc}
+use Rattle.std.proofs.Common.{◌≡◌, ℕ, zero, suc, pos, ◌+◌, ◌<◌, ◌≤◌, Bool, true, false, List, [], ◌∷◌, ◌++◌, map, take, drop, length, get_or, set, refl, sym}
+use Rattle.std.proofs.Common.{ap, ◌∙◌, arith, append_assoc}
 use Rattle.std.proofs.lemmas.List.{append-nil, drop_all, take_all, drop_more, take_more, length-take-le, get_or_at, set_at}
 use Rattle.std.specs.Prelude.{Option, Some, None, unwrap_or, not, ◌==◌, if◌then◌else◌}
 use Rattle.std.specs.List.{list_any}
@@ -7,7 +8,8 @@ use Rattle.jaeger_model.specs.declared.placed.Placed.{Placed}
 use Rattle.trace_model.specs.declared.answer.Shown.{Shown}
 use Rattle.trace_model.specs.declared.clock.Clock.{Clock}
 use Rattle.trace_model.specs.Linking.{has_id}
-use Rattle.trace_model.specs.Adjusting.{clock_of, unadjusted, shifted, shifted_by, shown_after, skew_adjusted_after, skew_adjusted, spans_of, said_after, shown_adjusted_after, shown_adjusted}
+use Rattle.trace_model.specs.Adjusting.{clock_of, unadjusted, shifted, shifted_by, shown_after, skew_adjusted_after, skew_adjusted, spans_of, said_after}
+use Rattle.trace_model.specs.Adjusting.{shown_adjusted_after, shown_adjusted}
 use Rattle.trace_adjust.specs.Settling.{first_at, clock_delta, delta_at, delta_or_none, AreClocks}
 use Rattle.trace_model.proofs.SharingShown.{same_spans}
 use Rattle.trace_adjust.proofs.Places.{is_first, as_many, placed_at}
@@ -16,15 +18,18 @@ by_delta : (m : ℕ) (p : Placed) (o : Option Clock) → shifted m (delta_or_non
 by_delta m p None = refl
 by_delta m p (Some c) = refl
 
-by_test : (m : ℕ) (p : Placed) (o : Option Clock) (taken : Bool) → shifted m (if not taken then delta_or_none clock_delta o else pos 0) p ≡ (if taken then unadjusted p else shifted_by m p o)
+by_test : (m : ℕ) (p : Placed) (o : Option Clock) (taken : Bool)
+    → shifted m (if not taken then delta_or_none clock_delta o else pos 0) p ≡ (if taken then unadjusted p else shifted_by m p o)
 by_test m p o true = refl
 by_test m p o false = by_delta m p o
 
-one_shifted : (m : ℕ) (all : List Placed) (cs : List (Option Clock)) (g : ℕ → Option ℕ) (i : ℕ) (p : Placed) → i < length all → p ≡ get_or all i p → AreClocks m all cs → ((id : ℕ) → g id ≡ first_at id all)
+one_shifted : (m : ℕ) (all : List Placed) (cs : List (Option Clock)) (g : ℕ → Option ℕ) (i : ℕ) (p : Placed) → i < length all → p ≡ get_or all i p
+    → AreClocks m all cs → ((id : ℕ) → g id ≡ first_at id all)
     → shifted m (delta_at g cs i p.span.id.0) p ≡ shown_after m all (take i all) p
 one_shifted m all cs g i p l e known first =
     let test : (unwrap_or (g p.span.id.0) i == i) ≡ not (list_any (has_id p.span.id) (take i all)) =
-    ap (λ o. unwrap_or o i == i) (first p.span.id.0) ∙ ap (λ q. unwrap_or (first_at q.span.id.0 all) i == i) e ∙ is_first all i p l ∙ ap (λ q. not (list_any (has_id q.span.id) (take i all))) (sym e) in
+    ap (λ o. unwrap_or o i == i) (first p.span.id.0) ∙ ap (λ q. unwrap_or (first_at q.span.id.0 all) i == i) e ∙ is_first all i p l
+    ∙ ap (λ q. not (list_any (has_id q.span.id) (take i all))) (sym e) in
     let clock : get_or cs i None ≡ clock_of m all p = known.1 i p l ∙ ap (clock_of m all) (sym e) in
     ap (λ b. shifted m (if b then delta_or_none clock_delta (get_or cs i None) else pos 0) p) test
     ∙ ap (λ c. shifted m (if not (list_any (has_id p.span.id) (take i all)) then delta_or_none clock_delta c else pos 0) p) clock
@@ -96,7 +101,8 @@ many_skewed : (m : ℕ) (all before rest : List Placed) → length (skew_adjuste
 many_skewed m all before [] = refl
 many_skewed m all before (p ∷ rest) = ap suc (many_skewed m all (before ++ p ∷ []) rest)
 
-skewed_at : (m : ℕ) (all before rest : List Placed) (i : ℕ) (p : Placed) (d : Shown) → i < length rest → p ≡ get_or rest i p → get_or (skew_adjusted_after m all before rest) i d ≡ shown_after m all (before ++ take i rest) p
+skewed_at : (m : ℕ) (all before rest : List Placed) (i : ℕ) (p : Placed) (d : Shown) → i < length rest → p ≡ get_or rest i p
+    → get_or (skew_adjusted_after m all before rest) i d ≡ shown_after m all (before ++ take i rest) p
 skewed_at m all before [] i p d l e = absurd (omega arith)
 skewed_at m all before (q ∷ rest) zero p d l e = (λ j. shown_after m all (sym (append-nil before) j) (sym e j))
 skewed_at m all before (q ∷ rest) (suc i) p d l e =
@@ -104,7 +110,8 @@ skewed_at m all before (q ∷ rest) (suc i) p d l e =
     ∙ ap (λ b. shown_after m all b p) (append_assoc before (q ∷ []) (take i rest))
 
 -- v is what the span at the place is shown as
-pub lent_more : (m : ℕ) (ps : List Placed) (cs : List (Option Clock)) (g : ℕ → Option ℕ) (i : ℕ) (p : Placed) (v : Shown) (had has : List Shown) → i < length ps → p ≡ get_or ps i p
+pub lent_more : (m : ℕ) (ps : List Placed) (cs : List (Option Clock)) (g : ℕ → Option ℕ) (i : ℕ) (p : Placed) (v : Shown) (had has : List Shown) → i < length ps
+    → p ≡ get_or ps i p
     → AreClocks m ps cs → ((id : ℕ) → g id ≡ first_at id ps) → v ≡ shifted m (delta_at g cs i p.span.id.0) p
     → had ≡ take i (skew_adjusted m ps) → has ≡ had ++ v ∷ [] → has ≡ take (i + 1) (skew_adjusted m ps)
 lent_more m ps cs g i p v had has l here known first one inv put =

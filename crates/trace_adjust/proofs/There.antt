@@ -26,7 +26,8 @@ there_count (None ∷ ks) there = absurd (none_first (spans_there ks) ks there)
 there_count (Some p ∷ ks) there = ap suc (there_count ks (cc (there)))
 
 -- what is read there, whatever is read past them
-pub there_at : (ks : List (Option Placed)) (i : ℕ) (k : Option Placed) (p : Placed) → AreThere ks → i < length ks → get_or ks i k ≡ Some (get_or (spans_there ks) i p)
+pub there_at : (ks : List (Option Placed)) (i : ℕ) (k : Option Placed) (p : Placed) → AreThere ks → i < length ks
+    → get_or ks i k ≡ Some (get_or (spans_there ks) i p)
 there_at ks i k p there within = ap (λ os. get_or os i k) (sym there) ∙ get_or-map Some (spans_there ks) i p k (omega (arith, within, there_count ks there))
 
 pub never_none : (ks : List (Option Placed)) (i : ℕ) (k : Option Placed) → AreThere ks → i < length ks → k ≡ get_or ks i k → k ≡ None → ⊥
@@ -36,7 +37,8 @@ never_none (Some p ∷ ks) zero k there within at none = cc (at, none)
 never_none (Some p ∷ ks) (suc i) k there within at none = never_none ks i k (cc (there)) (omega (arith, within)) at none
 
 -- one of them, as it is borrowed
-pub lent_there : (raw : Bool) (ks : List (Option Placed)) (i : ℕ) (p : Placed) → AreThere ks → i < length ks → Some p ≡ option_map (placed_as raw) (get_or ks i None) → p ≡ get_or (map (placed_as raw) (spans_there ks)) i p
+pub lent_there : (raw : Bool) (ks : List (Option Placed)) (i : ℕ) (p : Placed) → AreThere ks → i < length ks
+    → Some p ≡ option_map (placed_as raw) (get_or ks i None) → p ≡ get_or (map (placed_as raw) (spans_there ks)) i p
 lent_there raw ks i p there within is =
     let here : Some p ≡ Some (placed_as raw (get_or (spans_there ks) i p)) = is ∙ ap (option_map (placed_as raw)) (there_at ks i None p there within) in
     let same : p ≡ placed_as raw (get_or (spans_there ks) i p) = cc (here) in

@@ -1,5 +1,6 @@
 -- Numbers for the hosts of the spans of a trace, and clocks with these numbers.
-use Rattle.std.specs.Prelude.{◌≡◌, ◌+◌, ◌<◌, ℕ, pos, List, [], ◌∷◌, get_or, slice_get, map, take, not, ◌||◌, ◌==◌, Option, Some, None, option_map, ℤ, if◌then◌else◌}
+use Rattle.std.specs.Prelude.{◌≡◌, ◌+◌, ◌<◌, ℕ, pos, List, [], ◌∷◌, get_or, slice_get, map, take, not, ◌||◌, ◌==◌, Option, Some, None, option_map, ℤ}
+use Rattle.std.specs.Prelude.{if◌then◌else◌}
 use Rattle.jaeger_model.specs.declared.placed.Placed.{Placed}
 use Rattle.jaeger_model.specs.declared.span.Span.{Span}
 use Rattle.jaeger_model.specs.Texts.{same_text}
@@ -63,7 +64,8 @@ abbrev pub clock_by : ℕ → ℕ → ℤ → Span → HostClock
 clock_by max_skew n delta s = record { host = n; delta = delta; start = start_at max_skew delta s; duration = s.duration }
 
 abbrev pub below_by : ℕ → HostClock → ℕ → Span → HostClock
-below_by max_skew c n s = if (n == 0) || not (n == c.host) then clock_by max_skew n (delta_between c.start c.duration s.start s.duration) s else clock_by max_skew c.host c.delta s
+below_by max_skew c n s =
+    if (n == 0) || not (n == c.host) then clock_by max_skew n (delta_between c.start c.duration s.start s.duration) s else clock_by max_skew c.host c.delta s
 
 abbrev pub near_by : ℕ → List (Option HostClock) → ℕ → Span → Option ℕ → Option HostClock
 near_by max_skew cs n s o = near_in (clock_by max_skew n (pos 0) s) (λ (above : HostClock). below_by max_skew above n s) cs o

@@ -1,5 +1,6 @@
 -- Clocks of the spans of a trace by their places, as far as they are known.
-use Rattle.std.specs.Prelude.{◌≡◌, ℕ, suc, pos, ◌<◌, ◌⊎◌, Bool, not, ◌&&◌, List, [], ◌∷◌, length, get_or, set, count_by, Option, Some, None, option_map, is_some, unwrap_or, ℤ, ◌==◌, cond, if◌then◌else◌}
+use Rattle.std.specs.Prelude.{◌≡◌, ℕ, suc, pos, ◌<◌, ◌⊎◌, Bool, not, ◌&&◌, List, [], ◌∷◌, length, get_or, set, count_by, Option, Some, None, option_map}
+use Rattle.std.specs.Prelude.{is_some, unwrap_or, ℤ, ◌==◌, cond, if◌then◌else◌}
 use Rattle.jaeger_model.specs.declared.placed.Placed.{Placed}
 use Rattle.jaeger_model.specs.Parents.{parent}
 use Rattle.trace_model.specs.declared.clock.Clock.{Clock}
@@ -40,7 +41,9 @@ writes cs i o = is_unset (get_or cs i None) && is_some o
 
 -- each clock that is set is the span's
 abbrev pub AreRight : ℕ → List Placed → List (Option Clock) → Type 0
-AreRight max_skew trace cs = (length cs ≡ length trace) × ((k : ℕ) (d : Placed) → k < length trace → (get_or cs k None ≡ None) ⊎ (get_or cs k None ≡ clock_of max_skew trace (get_or trace k d)))
+AreRight max_skew trace cs =
+    (length cs ≡ length trace) × ((k : ℕ) (d : Placed) → k < length trace → (get_or cs k None ≡ None)
+    ⊎ (get_or cs k None ≡ clock_of max_skew trace (get_or trace k d)))
 
 -- the span at the place has a clock, or none can be set there
 abbrev pub IsClosed : ℕ → List Placed → ℕ → List (Option Clock) → Type 0
@@ -52,7 +55,8 @@ AreClosed max_skew trace n cs = (k : ℕ) → k < n → IsClosed max_skew trace 
 
 -- each span has its clock, or None if it has none
 abbrev pub AreClocks : ℕ → List Placed → List (Option Clock) → Type 0
-AreClocks max_skew trace cs = (length cs ≡ length trace) × ((k : ℕ) (d : Placed) → k < length trace → get_or cs k None ≡ clock_of max_skew trace (get_or trace k d))
+AreClocks max_skew trace cs =
+    (length cs ≡ length trace) × ((k : ℕ) (d : Placed) → k < length trace → get_or cs k None ≡ clock_of max_skew trace (get_or trace k d))
 
 abbrev pub unset_count : {X : Type 0} → List (Option X) → ℕ
 unset_count cs = count_by is_unset cs

@@ -18,7 +18,8 @@ use Rattle.trace_model.proofs.Traces.{same_is, filter_within, spans_gone, arrive
 use Rattle.trace_ring.specs.Windows.{opened_by}
 use Rattle.trace_assembly.specs.declared.spot.Spot.{Spot}
 use Rattle.trace_assembly.specs.Rows.{with_spot}
-use Rattle.trace_assembly.specs.Located.{spans_in, spots_in, located_trace, events_in, shown_in, own_of, shown_spots, with_event, without_left, located_events, span_at, after_leaving, after_arrival, AreShown, ComesIn, Lowers}
+use Rattle.trace_assembly.specs.Located.{spans_in, spots_in, located_trace, events_in, shown_in, own_of, shown_spots, with_event, without_left, located_events}
+use Rattle.trace_assembly.specs.Located.{span_at, after_leaving, after_arrival, AreShown, ComesIn, Lowers}
 use Rattle.trace_assembly.proofs.Lists.{map_filter, map_nil}
 use Rattle.trace_assembly.proofs.Places.{at_spots, shown-lies, events-located}
 
@@ -34,18 +35,22 @@ ring_in n es = sym (ap (λ (r : LimitedRing). r.ids) (limited_ring-mapped trace_
 
 shown_in-push : (n : ℕ) (es : List (Event (Spot × Placed))) (e : Event (Spot × Placed))
     → shown_in n (es ++ e ∷ []) ≡ in_ring_by located_trace (ring n (events_in (es ++ e ∷ []))) (shown_in n es ++ without_limits (e ∷ []))
-shown_in-push n es e = shown_by_push located_trace n es e ∙ ap (λ r. in_ring_by located_trace r (shown_in n es ++ without_limits (e ∷ []))) (ring_in n (es ++ e ∷ []))
+shown_in-push n es e =
+    shown_by_push located_trace n es e ∙ ap (λ r. in_ring_by located_trace r (shown_in n es ++ without_limits (e ∷ []))) (ring_in n (es ++ e ∷ []))
 
-spots_of_own : (t : TraceId) (ls : List (Spot × Placed)) (l : Spot × Placed) → spots_in (own_of t (ls ++ l ∷ [])) ≡ (if same_trace t (trace_of l.1) then spots_in (own_of t ls) ++ l.0 ∷ [] else spots_in (own_of t ls))
+spots_of_own : (t : TraceId) (ls : List (Spot × Placed)) (l : Spot × Placed)
+    → spots_in (own_of t (ls ++ l ∷ [])) ≡ (if same_trace t (trace_of l.1) then spots_in (own_of t ls) ++ l.0 ∷ [] else spots_in (own_of t ls))
 spots_of_own t ls l =
     ap spots_in (filter-append (λ (k : Spot × Placed). same_trace t (trace_of k.1)) ls (l ∷ []))
     ∙ map-append spot_of (own_of t ls) (own_of t (l ∷ []))
-    ∙ elim (same_trace t (trace_of l.1)) as (λ s. spots_in (own_of t ls) ++ spots_in (cond s (l ∷ []) []) ≡ (if s then spots_in (own_of t ls) ++ l.0 ∷ [] else spots_in (own_of t ls))) [
+    ∙ elim (same_trace t (trace_of l.1)) as (λ s. spots_in (own_of t ls) ++ spots_in (cond s (l ∷ []) [])
+    ≡ (if s then spots_in (own_of t ls) ++ l.0 ∷ [] else spots_in (own_of t ls))) [
       | true ↦ refl
       | false ↦ append-nil (spots_in (own_of t ls))
     ]
 
-spots_of_event : (t : TraceId) (ls : List (Spot × Placed)) (e : Event (Spot × Placed)) → spots_in (own_of t (ls ++ without_limits (e ∷ []))) ≡ with_event e (λ u. spots_in (own_of u ls)) t
+spots_of_event : (t : TraceId) (ls : List (Spot × Placed)) (e : Event (Spot × Placed))
+    → spots_in (own_of t (ls ++ without_limits (e ∷ []))) ≡ with_event e (λ u. spots_in (own_of u ls)) t
 spots_of_event t ls (came l) = spots_of_own t ls l
 spots_of_event t ls (limited m) = ap (λ k. spots_in (own_of t k)) (append-nil ls)
 
@@ -55,8 +60,10 @@ pub shown_spots_push_law : (n : ℕ) (es : List (Event (Spot × Placed))) (e : E
 shown_spots_push_law n es e t =
     let r = ring n (events_in (es ++ e ∷ [])) in
     ap (λ k. spots_in (own_of t k)) (shown_in-push n es e)
-    ∙ ap spots_in (filter_within (λ (k : Spot × Placed). same_trace t (trace_of k.1)) (λ (k : Spot × Placed). holds r (trace_of k.1)) (holds r t) (λ k e. ap (holds r) (sym (same_is t (trace_of k.1) e))) (shown_in n es ++ without_limits (e ∷ [])))
-    ∙ elim (holds r t) as (λ b. spots_in (if b then own_of t (shown_in n es ++ without_limits (e ∷ [])) else []) ≡ (if b then with_event e (shown_spots n es) t else [])) [
+    ∙ ap spots_in (filter_within (λ (k : Spot × Placed). same_trace t (trace_of k.1)) (λ (k : Spot × Placed). holds r (trace_of k.1)) (holds r t)
+    (λ k e. ap (holds r) (sym (same_is t (trace_of k.1) e))) (shown_in n es ++ without_limits (e ∷ [])))
+    ∙ elim (holds r t) as (λ b. spots_in (if b then own_of t (shown_in n es ++ without_limits (e ∷ [])) else [])
+    ≡ (if b then with_event e (shown_spots n es) t else [])) [
       | true ↦ spots_of_event t (shown_in n es) e
       | false ↦ refl
     ]
@@ -83,7 +90,8 @@ spans-own : (n : ℕ) (es : List (Event (Spot × Placed))) (t : TraceId) → spa
 spans-own n es t = map_filter span_of (λ p. same_trace t (trace_of p)) (shown_in n es) ∙ ap (of_trace t) (spans-shown_in n es)
 
 -- the spans at a trace's shown spots are its shown spans
-pub spans_at_shown_law : (n : ℕ) (h : List Entry) (t : TraceId) → map (span_at h) (shown_spots n (located_events h) t) ≡ map (λ p. Some p) (spans_of_trace n (events h) t)
+pub spans_at_shown_law : (n : ℕ) (h : List Entry) (t : TraceId)
+    → map (span_at h) (shown_spots n (located_events h) t) ≡ map (λ p. Some p) (spans_of_trace n (events h) t)
 spans_at_shown_law n h t =
     at_spots h (own_of t (shown_in n (located_events h))) (shown-lies h n t)
     ∙ ap (map (λ p. Some p)) (spans-own n (located_events h) t ∙ ap (λ es. spans_of_trace n es t) (events-located h))
@@ -99,7 +107,8 @@ before_too r t u e = elim (holds r t) as (λ b. holds (if b then r else r ++ t �
   | false ↦ λ e. (or_parts (holds r u) (holds (t ∷ []) u) (sym (list_any-append (same_trace u) r (t ∷ [])) ∙ e)).0
 ] e
 
-kept : (left : Option TraceId) (r : List TraceId) (spots : TraceId → List Spot) (t : TraceId) → IfSome left (λ gone. holds r gone ≡ false) → holds r t ≡ true → after_leaving left spots t ≡ spots t
+kept : (left : Option TraceId) (r : List TraceId) (spots : TraceId → List Spot) (t : TraceId) → IfSome left (λ gone. holds r gone ≡ false) → holds r t ≡ true
+    → after_leaving left spots t ≡ spots t
 kept None r spots t out held = refl
 kept (Some gone) r spots t out held = elim (same_trace t gone) as (λ s. same_trace t gone ≡ s → (if s then [] else spots t) ≡ spots t) [
   | true ↦ λ same. absurd (false≢true (sym out ∙ ap (holds r) (sym (same_is t gone same)) ∙ held))
@@ -107,24 +116,30 @@ kept (Some gone) r spots t out held = elim (same_trace t gone) as (λ s. same_tr
 ] refl
 
 -- the trace isn't in the ring after an arrival, so it had no spots or is the one that left
-gone : (left : Option TraceId) (old r : List TraceId) (spots : TraceId → List Spot) (t : TraceId) → old ≡ option_to_list left ++ r → holds r t ≡ false → (holds old t ≡ false → spots t ≡ []) → after_leaving left spots t ≡ []
+gone : (left : Option TraceId) (old r : List TraceId) (spots : TraceId → List Spot) (t : TraceId) → old ≡ option_to_list left ++ r → holds r t ≡ false
+    → (holds old t ≡ false → spots t ≡ []) → after_leaving left spots t ≡ []
 gone None old r spots t split out none = none (ap (λ x. holds x t) split ∙ out)
 gone (Some g) old r spots t split out none = elim (same_trace t g) as (λ s. same_trace t g ≡ s → (if s then [] else spots t) ≡ []) [
   | true ↦ λ _. refl
   | false ↦ λ other. none (ap (λ x. holds x t) split ∙ ap (λ b. b || holds r t) other ∙ out)
 ] refl
 
-pub comes_in_law : (n limit : ℕ) (es : List (Event (Spot × Placed))) (l : Spot × Placed) (left : Option TraceId) (old new : List TraceId) (spots : TraceId → List Spot)
+pub comes_in_law : (n limit : ℕ) (es : List (Event (Spot × Placed))) (l : Spot × Placed) (left : Option TraceId) (old new : List TraceId)
+    (spots : TraceId → List Spot)
     → ComesIn n limit es l left old new → AreShown n es spots → AreShown n (es ++ came l ∷ []) (after_arrival l left spots)
 comes_in_law n limit es l left old new spots comes same t =
     let now : new ≡ ring n (events_in (es ++ came l ∷ [])) =
-    comes.after ∙ (λ i. arrive (comes.limit_is i) (comes.before i) (trace_of l.1)) ∙ sym (ring_came n (events_in es) l.1) ∙ ap (ring n) (sym (events-push es (came l))) in
+    comes.after ∙ (λ i. arrive (comes.limit_is i) (comes.before i) (trace_of l.1)) ∙ sym (ring_came n (events_in es) l.1)
+    ∙ ap (ring n) (sym (events-push es (came l))) in
     let own : holds new (trace_of l.1) ≡ true = ap (λ r. holds r (trace_of l.1)) comes.after ∙ arrived limit old (trace_of l.1) in
     elim (holds new t) as (λ b. holds new t ≡ b → after_arrival l left spots t ≡ (if b then with_spot (trace_of l.1) l.0 (shown_spots n es) t else [])) [
       | true ↦ λ held. ap (λ k. if same_trace t (trace_of l.1) then k ++ l.0 ∷ [] else k) (kept left new spots t comes.gone held ∙ same t)
       | false ↦ λ lost.
-          let none : after_leaving left spots t ≡ [] = gone left (opened_by old (trace_of l.1)) new spots t comes.split lost (λ e. same t ∙ shown_spots-gone n es t (ap (λ r. holds r t) (sym comes.before) ∙ before_too old (trace_of l.1) t e)) in
-          elim (same_trace t (trace_of l.1)) as (λ s. same_trace t (trace_of l.1) ≡ s → (if s then after_leaving left spots t ++ l.0 ∷ [] else after_leaving left spots t) ≡ []) [
+          let none : after_leaving left spots t ≡ [] =
+          gone left (opened_by old (trace_of l.1)) new spots t comes.split lost
+          (λ e. same t ∙ shown_spots-gone n es t (ap (λ r. holds r t) (sym comes.before) ∙ before_too old (trace_of l.1) t e)) in
+          elim (same_trace t (trace_of l.1)) as (λ s. same_trace t (trace_of l.1) ≡ s
+          → (if s then after_leaving left spots t ++ l.0 ∷ [] else after_leaving left spots t) ≡ []) [
             | true ↦ λ e. absurd (false≢true (sym lost ∙ ap (holds new) (same_is t (trace_of l.1) e) ∙ own))
             | false ↦ λ _. none
           ] refl
@@ -137,10 +152,15 @@ comes_in_law n limit es l left old new spots comes same t =
 pub lowers_law : (n m : ℕ) (es : List (Event (Spot × Placed))) (old new : List TraceId) (spots : TraceId → List Spot)
     → Lowers n m es old new → AreShown n es spots → AreShown n (es ++ limited m ∷ []) (without_left old new spots)
 lowers_law n m es old new spots lowers same t =
-    let now : new ≡ ring n (events_in (es ++ limited m ∷ [])) = lowers.after ∙ ap (newest m) lowers.before ∙ sym (ring_limited n (events_in es) m) ∙ ap (ring n) (sym (events-push es (limited m))) in
+    let now : new ≡ ring n (events_in (es ++ limited m ∷ [])) =
+    lowers.after ∙ ap (newest m) lowers.before ∙ sym (ring_limited n (events_in es) m) ∙ ap (ring n) (sym (events-push es (limited m))) in
     elim (holds new t) as (λ b. (if holds old t && not b then [] else spots t) ≡ (if b then shown_spots n es t else [])) [
       | true ↦ elim (holds old t) as (λ a. (if a && false then [] else spots t) ≡ shown_spots n es t) [ true ↦ same t | false ↦ same t ]
-      | false ↦ elim (holds old t) as (λ a. holds old t ≡ a → (if a && true then [] else spots t) ≡ []) [ true ↦ λ _. refl | false ↦ λ e. same t ∙ shown_spots-gone n es t (ap (λ r. holds r t) (sym lowers.before) ∙ e) ] refl
+      | false ↦ elim (holds old t) as (λ a. holds old t ≡ a → (if a && true then [] else spots t) ≡ []) [
+        | true ↦ λ _. refl
+        | false ↦
+            λ e. same t ∙ shown_spots-gone n es t (ap (λ r. holds r t) (sym lowers.before) ∙ e)
+      ] refl
     ]
     ∙ ap (λ r. if holds r t then shown_spots n es t else []) now
     ∙ sym (shown_spots_push_law n es (limited m) t)

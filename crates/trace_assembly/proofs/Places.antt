@@ -1,5 +1,6 @@
 -- Where the spans of a history are.
-use Rattle.std.proofs.Common.{◌≡◌, ℕ, suc, ◌+◌, List, [], ◌∷◌, ◌++◌, length, map, refl, sym, ap, subst, ◌∙◌, arith, append_assoc, length-append, Some, ◌<◌, take, get_or}
+use Rattle.std.proofs.Common.{◌≡◌, ℕ, suc, ◌+◌, List, [], ◌∷◌, ◌++◌, length, map, refl, sym, ap, subst, ◌∙◌, arith, append_assoc, length-append, Some, ◌<◌}
+use Rattle.std.proofs.Common.{take, get_or}
 use Rattle.std.specs.List.{AllByRecursion}
 use Rattle.std.specs.Prelude.{slice_get}
 use Rattle.std.specs.Option.{option_and_then}
@@ -19,7 +20,8 @@ use Rattle.trace_model.specs.Histories.{arrivals, events}
 use Rattle.trace_model.specs.Works.{events_brought, placed_brought}
 use Rattle.trace_model.specs.Showing.{is_in_ring}
 use Rattle.trace_assembly.specs.declared.spot.Spot.{Spot}
-use Rattle.trace_assembly.specs.Located.{located_in, located_by, located_from, located_events, span_at, spans_in, spots_in, events_in, located_trace, shown_in, own_of, located_upto}
+use Rattle.trace_assembly.specs.Located.{located_in, located_by, located_from, located_events, span_at, spans_in, spots_in, events_in, located_trace, shown_in}
+use Rattle.trace_assembly.specs.Located.{own_of, located_upto}
 use Rattle.trace_assembly.proofs.Lists.{OfCame, each_came, each_filter, each_lasting, each_without_limits, slice_get_middle}
 
 spans-located_in : (place index : ℕ) (ps : List Placed) → spans_in (located_in place index ps) ≡ ps
@@ -47,7 +49,8 @@ events-located_from place (e ∷ es) =
 pub events-located : (h : List Entry) → events_in (located_events h) ≡ events h
 events-located h = events-located_from 1 h
 
-located_from-push : (place last : ℕ) (h : List Entry) (e : Entry) → last ≡ place + length h → located_from place (h ++ e ∷ []) ≡ located_from place h ++ located_by last e.work
+located_from-push : (place last : ℕ) (h : List Entry) (e : Entry) → last ≡ place + length h
+    → located_from place (h ++ e ∷ []) ≡ located_from place h ++ located_by last e.work
 located_from-push place last [] e at = append-nil (located_by place e.work) ∙ ap (λ k. located_by k e.work) (let same : place ≡ last = omega arith in same)
 located_from-push place last (d ∷ h) e at =
     ap (λ l. located_by place d.work ++ l) (located_from-push (suc place) last h e (omega arith))
@@ -58,23 +61,32 @@ pub located_push_law : (h : List Entry) (e : Entry) → located_events (h ++ e �
 located_push_law h e = located_from-push 1 (length h + 1) h e (omega arith)
 
 -- one more span of a batch
-pub located_in-push : (place index last : ℕ) (ps : List Placed) (p : Placed) → last ≡ index + length ps → located_in place index (ps ++ p ∷ []) ≡ located_in place index ps ++ (record { place = place; index = last }, p) ∷ []
+pub located_in-push : (place index last : ℕ) (ps : List Placed) (p : Placed) → last ≡ index + length ps
+    → located_in place index (ps ++ p ∷ []) ≡ located_in place index ps ++ (record { place = place; index = last }, p) ∷ []
 located_in-push place index last [] p at = let same : index ≡ last = omega arith in ap (λ k. located_in place k (p ∷ [])) same
-located_in-push place index last (q ∷ ps) p at = ap (λ l. (record { place = place; index = index }, q) ∷ l) (located_in-push place (suc index) last ps p (omega arith))
+located_in-push place index last (q ∷ ps) p at =
+    ap (λ l. (record { place = place; index = index }, q) ∷ l) (located_in-push place (suc index) last ps p (omega arith))
 
 abbrev pub LiesIn : List Entry → Spot × Placed → Type 0
 LiesIn h l = span_at h l.0 ≡ Some l.1
 
-located_in-lies : (h : List Entry) (e : Entry) (before : ℕ) → slice_get h before ≡ Some e → (done ps : List Placed) → placed_brought e.work ≡ done ++ ps → AllByRecursion (LiesIn h) (located_in (suc before) (length done) ps)
+located_in-lies : (h : List Entry) (e : Entry) (before : ℕ) → slice_get h before ≡ Some e → (done ps : List Placed) → placed_brought e.work ≡ done ++ ps
+    → AllByRecursion (LiesIn h) (located_in (suc before) (length done) ps)
 located_in-lies h e before at done [] all = tt
 located_in-lies h e before at done (p ∷ ps) all =
     let here : span_at h (record { place = suc before; index = length done }) ≡ Some p =
-    ap (option_and_then (λ (e : Entry). slice_get (placed_brought e.work) (length done))) at ∙ ap (λ ds. slice_get ds (length done)) all ∙ slice_get_middle done p ps in
-    let long : length (done ++ p ∷ []) ≡ suc (length done) = omega (arith, length-append done (p ∷ [])) in
-    (here, subst (λ k. AllByRecursion (LiesIn h) (located_in (suc before) k ps)) long (located_in-lies h e before at (done ++ p ∷ []) ps (all ∙ sym (append_assoc done (p ∷ []) ps))))
+    ap (option_and_then (λ (e : Entry). slice_get (placed_brought e.work) (length done))) at ∙ ap (λ ds. slice_get ds (length done)) all
+    ∙ slice_get_middle done p ps in
+    let long : length (done ++ p ∷ []) ≡ suc (length done) = omega (arith, length-append done (p ∷ [])) in (
+      here,
+      subst (λ k. AllByRecursion (LiesIn h) (located_in (suc before) k ps)) long
+          (located_in-lies h e before at (done ++ p ∷ []) ps (all ∙ sym (append_assoc done (p ∷ []) ps))),
+    )
 
-located_by-lies : (h : List Entry) (e : Entry) (before : ℕ) (c : Work) → e.work ≡ c → slice_get h before ≡ Some e → AllByRecursion (OfCame (LiesIn h)) (located_by (suc before) c)
-located_by-lies h e before (brings.Batch b) is at = each_came (LiesIn h) (located_in (suc before) 0 (domain b)) (located_in-lies h e before at [] (domain b) (ap placed_brought is))
+located_by-lies : (h : List Entry) (e : Entry) (before : ℕ) (c : Work) → e.work ≡ c → slice_get h before ≡ Some e
+    → AllByRecursion (OfCame (LiesIn h)) (located_by (suc before) c)
+located_by-lies h e before (brings.Batch b) is at =
+    each_came (LiesIn h) (located_in (suc before) 0 (domain b)) (located_in-lies h e before at [] (domain b) (ap placed_brought is))
 located_by-lies h e before (brings.TraceLimit n) is at = (tt, tt)
 
 located_from-lies : (before rest : List Entry) → AllByRecursion (OfCame (LiesIn (before ++ rest))) (located_from (suc (length before)) rest)
@@ -83,7 +95,8 @@ located_from-lies before (e ∷ es) =
     let long : length (before ++ e ∷ []) ≡ suc (length before) = omega (arith, length-append before (e ∷ [])) in
     let later : AllByRecursion (OfCame (LiesIn (before ++ e ∷ es))) (located_from (suc (suc (length before))) es) =
     subst (λ k. AllByRecursion (OfCame (LiesIn (before ++ e ∷ es))) (located_from (suc k) es)) long
-    (subst (λ h. AllByRecursion (OfCame (LiesIn h)) (located_from (suc (length (before ++ e ∷ []))) es)) (append_assoc before (e ∷ []) es) (located_from-lies (before ++ e ∷ []) es)) in
+    (subst (λ h. AllByRecursion (OfCame (LiesIn h)) (located_from (suc (length (before ++ e ∷ []))) es)) (append_assoc before (e ∷ []) es)
+    (located_from-lies (before ++ e ∷ []) es)) in
     each_append (OfCame (LiesIn (before ++ e ∷ es))) (located_by (suc (length before)) e.work) (located_from (suc (suc (length before))) es)
     (located_by-lies (before ++ e ∷ es) e (length before) e.work refl (slice_get_middle before e es)) later
 
@@ -109,7 +122,8 @@ spans_at_located_law h =
 
 pub shown-lies : (h : List Entry) (n : ℕ) (t : TraceId) → AllByRecursion (LiesIn h) (own_of t (shown_in n (located_events h)))
 shown-lies h n t =
-    each_filter (LiesIn h) _ (shown_in n (located_events h)) (each_without_limits (LiesIn h) _ (each_lasting (OfCame (LiesIn h)) (is_in_ring located_trace n) [] (located_events h) (located-lies h)))
+    each_filter (LiesIn h) _ (shown_in n (located_events h))
+    (each_without_limits (LiesIn h) _ (each_lasting (OfCame (LiesIn h)) (is_in_ring located_trace n) [] (located_events h) (located-lies h)))
 
 -- ---- one more batch, span by span
 pub upto_none : (h : List Entry) (b : Batch) → located_upto h b 0 ≡ located_events h
@@ -120,7 +134,8 @@ pub upto_more : (h : List Entry) (b : Batch) (i : ℕ) (s : Span) → i < length
 upto_more h b i s below at =
     let long : i ≡ 0 + length (map (placed b) (take i b.spans)) = omega (arith, length-map (take i b.spans) (placed b), length-take i b.spans) in
     let now = located_in (length h + 1) 0 (map (placed b) (take i b.spans)) in
-    ap (λ ps. located_events h ++ map came (located_in (length h + 1) 0 ps)) (map_more (placed b) b.spans i s below ∙ ap (λ x. map (placed b) (take i b.spans) ++ placed b x ∷ []) at)
+    ap (λ ps. located_events h ++ map came (located_in (length h + 1) 0 ps))
+    (map_more (placed b) b.spans i s below ∙ ap (λ x. map (placed b) (take i b.spans) ++ placed b x ∷ []) at)
     ∙ ap (λ ls. located_events h ++ map came ls) (located_in-push (length h + 1) 0 i (map (placed b) (take i b.spans)) (placed b s) long)
     ∙ ap (λ es. located_events h ++ es) (map-append came now ((record { place = length h + 1; index = i }, placed b s) ∷ []))
     ∙ sym (append_assoc (located_events h) (map came now) (came (record { place = length h + 1; index = i }, placed b s) ∷ []))

@@ -1,5 +1,6 @@
 -- Where the spans of a history are, and which spots are shown.
-use Rattle.std.specs.Prelude.{◌≡◌, ℕ, suc, Bool, false, List, [], ◌∷◌, ◌++◌, map, filter, Option, Some, None, IfSome, option_to_list, slice_get, ◌+◌, length, take, ◌&&◌, not, if◌then◌else◌}
+use Rattle.std.specs.Prelude.{◌≡◌, ℕ, suc, Bool, false, List, [], ◌∷◌, ◌++◌, map, filter, Option, Some, None, IfSome, option_to_list, slice_get, ◌+◌, length}
+use Rattle.std.specs.Prelude.{take, ◌&&◌, not, if◌then◌else◌}
 use Rattle.std.specs.Option.{option_and_then}
 use Rattle.jaeger_model.specs.declared.ids.TraceId.{TraceId}
 use Rattle.jaeger_model.specs.declared.batch.Batch.{Batch}

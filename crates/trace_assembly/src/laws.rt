@@ -10,7 +10,8 @@ ghost use Rattle.trace_model.specs.Showing.{ring, spans_of_trace};
 ghost use Rattle.trace_model.specs.Events.{Event, came, limited, without_limits};
 ghost use Rattle.trace_model.specs.Histories.{events};
 ghost use Rattle.trace_assembly.specs.declared.spot.Spot.{Spot as SpotValue};
-ghost use Rattle.trace_assembly.specs.Located.{located_by, located_events, events_in, span_at, spots_in, shown_spots, with_event, without_left, after_arrival, AreShown, ComesIn, Lowers};
+ghost use Rattle.trace_assembly.specs.Located.{located_by, located_events, events_in, span_at, spots_in, shown_spots, with_event, without_left, after_arrival};
+ghost use Rattle.trace_assembly.specs.Located.{AreShown, ComesIn, Lowers};
 
 #[tactic(auto, using(crate::proofs::Places::spans_at_located_law))]
 /// The spans at the spots of a history, in order, are its arrivals.

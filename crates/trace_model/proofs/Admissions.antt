@@ -70,20 +70,24 @@ IsSaid limits h e (Err (Conflict place)) = IsInConflict h e place
 IsSaid limits h e (Err why) = ⊥
 
 anew_said : (limits : Limits) (h : List Entry) (e : Entry) → is_sent h e ≡ false → IsSaid limits h e (admitted_anew limits h e)
-anew_said limits h e unsent = elim (nat_le e.number (last_number e.seat h)) as (λ b. nat_le e.number (last_number e.seat h) ≡ b → IsSaid limits h e (if b then Err (Stale (last_number e.seat h)) else if has_room limits h e then Ok Added else Err (JournalFull (length h) (span_count h)))) [
-  | true ↦ λ t. (refl, leb-true e.number (last_number e.seat h) t, unsent)
-  | false ↦ λ f. elim (has_room limits h e) as (λ b. has_room limits h e ≡ b → IsSaid limits h e (if b then Ok Added else Err (JournalFull (length h) (span_count h)))) [
-    | true ↦ λ r.
-        let rooms = and_parts (nat_le (length h + 1) limits.batches) (nat_le (span_count h + length (spans_brought e.work)) limits.spans) r in
-        record {
-          rises = leb-false e.number (last_number e.seat h) f;
-          unsent = unsent;
-          batches = let few = leb-true (length h + 1) limits.batches rooms.0 in omega arith;
-          spans = leb-true (span_count h + length (spans_brought e.work)) limits.spans rooms.1;
-        }
-    | false ↦ λ r. (refl, refl, unsent)
-  ] refl
-] refl
+anew_said limits h e unsent =
+    elim (nat_le e.number (last_number e.seat h)) as (λ b. nat_le e.number (last_number e.seat h) ≡ b
+    → IsSaid limits h e (if b then Err (Stale (last_number e.seat h)) else if has_room limits h e then Ok Added else Err
+    (JournalFull (length h) (span_count h)))) [
+      | true ↦ λ t. (refl, leb-true e.number (last_number e.seat h) t, unsent)
+      | false ↦ λ f. elim (has_room limits h e) as (λ b. has_room limits h e ≡ b
+          → IsSaid limits h e (if b then Ok Added else Err (JournalFull (length h) (span_count h)))) [
+            | true ↦ λ r.
+                let rooms = and_parts (nat_le (length h + 1) limits.batches) (nat_le (span_count h + length (spans_brought e.work)) limits.spans) r in
+                record {
+                  rises = leb-false e.number (last_number e.seat h) f;
+                  unsent = unsent;
+                  batches = let few = leb-true (length h + 1) limits.batches rooms.0 in omega arith;
+                  spans = leb-true (span_count h + length (spans_brought e.work)) limits.spans rooms.1;
+                }
+            | false ↦ λ r. (refl, refl, unsent)
+          ] refl
+    ] refl
 
 repeated_said : (limits : Limits) (h : List Entry) (e : Entry) (n : ℕ) → sent_before h e ≡ Some n → IsSaid limits h e (repeated h e n)
 repeated_said limits h e n at =
@@ -91,18 +95,32 @@ repeated_said limits h e n at =
     let found = position-Some p h n e at in
     let stands : entry_at h (suc n) ≡ Some (get_or h n e) = slice_get-get_or h n e found.0 in
     let sent = list_any_at p h n e found.0 found.1 in
-    elim (same_work e.work (get_or h n e).work) as (λ b. same_work e.work (get_or h n e).work ≡ b → IsSaid limits h e (if b then Ok (Resent (suc n)) else Err (Conflict (suc n)))) [
-      | true ↦ λ s. record { by = get_or h n e; stands = stands; resent = found.1; same = sym ((same_work-decides e.work (get_or h n e).work).0 s); sent = sent }
-      | false ↦ λ s. record { with_other = get_or h n e; stands = stands; resent = found.1; other = λ q. false≢true (sym s ∙ (same_work-decides e.work (get_or h n e).work).1 (sym q)); sent = sent }
+    elim (same_work e.work (get_or h n e).work) as (λ b. same_work e.work (get_or h n e).work ≡ b
+    → IsSaid limits h e (if b then Ok (Resent (suc n)) else Err (Conflict (suc n)))) [
+      | true ↦ λ s. record {
+        by = get_or h n e;
+        stands = stands;
+        resent = found.1;
+        same = sym ((same_work-decides e.work (get_or h n e).work).0 s);
+        sent = sent;
+      }
+      | false ↦ λ s. record {
+        with_other = get_or h n e;
+        stands = stands;
+        resent = found.1;
+        other = λ q. false≢true (sym s ∙ (same_work-decides e.work (get_or h n e).work).1 (sym q));
+        sent = sent;
+      }
     ] refl
 
 -- each answer has its meaning
 pub admission_says : (limits : Limits) (h : List Entry) (e : Entry) → IsSaid limits h e (admission limits h e)
 unfolding admission
-admission_says limits h e = elim (sent_before h e) as (λ o. sent_before h e ≡ o → IsSaid limits h e (option_map_or (repeated h e) o (admitted_anew limits h e))) [
-  | None ↦ λ at. anew_said limits h e (not_sent h e at)
-  | Some n ↦ λ at. repeated_said limits h e n at
-] refl
+admission_says limits h e =
+    elim (sent_before h e) as (λ o. sent_before h e ≡ o → IsSaid limits h e (option_map_or (repeated h e) o (admitted_anew limits h e))) [
+      | None ↦ λ at. anew_said limits h e (not_sent h e at)
+      | Some n ↦ λ at. repeated_said limits h e n at
+    ] refl
 
 -- ---- what makes each answer
 le_leb : (m n : ℕ) → m ≤ n → nat_le m n ≡ true
@@ -116,9 +134,12 @@ pub follows_added : (limits : Limits) (h : List Entry) (e : Entry) → MayFollow
 unfolding admission
 follows_added limits h e may =
     ap (λ o. option_map_or (repeated h e) o (admitted_anew limits h e)) (sent_nowhere h e may.unsent)
-    ∙ ap (λ b. if b then Err (Stale (last_number e.seat h)) else if has_room limits h e then Ok Added else Err (JournalFull (length h) (span_count h))) (lt_leb e.number (last_number e.seat h) may.rises)
-    ∙ ap (λ b. if (b && nat_le (span_count h + length (spans_brought e.work)) limits.spans) then Ok Added else Err (JournalFull (length h) (span_count h))) (le_leb (length h + 1) limits.batches (omega (arith, may.batches)))
-    ∙ ap (λ b. if b then Ok Added else Err (JournalFull (length h) (span_count h))) (le_leb (span_count h + length (spans_brought e.work)) limits.spans may.spans)
+    ∙ ap (λ b. if b then Err (Stale (last_number e.seat h)) else if has_room limits h e then Ok Added else Err (JournalFull (length h) (span_count h)))
+    (lt_leb e.number (last_number e.seat h) may.rises)
+    ∙ ap (λ b. if (b && nat_le (span_count h + length (spans_brought e.work)) limits.spans) then Ok Added else Err (JournalFull (length h) (span_count h)))
+    (le_leb (length h + 1) limits.batches (omega (arith, may.batches)))
+    ∙ ap (λ b. if b then Ok Added else Err (JournalFull (length h) (span_count h)))
+    (le_leb (span_count h + length (spans_brought e.work)) limits.spans may.spans)
 
 -- ---- how it is judged
 pub admission_repeated : (limits : Limits) (h : List Entry) (e : Entry) (n : ℕ) → sent_before h e ≡ Some n → admission limits h e ≡ repeated h e n

@@ -13,7 +13,8 @@ before_last-push h e =
     take_at h (e ∷ []) (length (h ++ e ∷ []) - 1) (omega arith)
 
 -- an entry that an `Arc` leads to
-pub entry_is : (entries : List (Arc Entry Global)) (k : ℕ) (a : Arc Entry Global) → k < length entries → a ≡ get_or entries k a → arc_value a ≡ get_or (map arc_value entries) k (arc_value a)
+pub entry_is : (entries : List (Arc Entry Global)) (k : ℕ) (a : Arc Entry Global) → k < length entries → a ≡ get_or entries k a
+    → arc_value a ≡ get_or (map arc_value entries) k (arc_value a)
 entry_is entries k a below is = ap arc_value is ∙ sym (get_or-map arc_value entries k a (arc_value a) below)
 
 -- all but the last, and the last
@@ -23,10 +24,12 @@ last_is h e some is =
     let all : k + 1 ≡ length h = omega arith in
     ap (λ x. take k h ++ x ∷ []) is ∙ sym (take_more h k e (omega arith)) ∙ take_all (k + 1) h (omega arith)
 
-pub last_entry : (entries : List (Arc Entry Global)) (a : Arc Entry Global) (e : Entry) → 0 < length entries → a ≡ get_or entries (length entries - 1) a → e ≡ arc_value a → before_last (map arc_value entries) ++ e ∷ [] ≡ map arc_value entries
+pub last_entry : (entries : List (Arc Entry Global)) (a : Arc Entry Global) (e : Entry) → 0 < length entries → a ≡ get_or entries (length entries - 1) a
+    → e ≡ arc_value a → before_last (map arc_value entries) ++ e ∷ [] ≡ map arc_value entries
 last_entry entries a e some is value =
     let long : length (map arc_value entries) ≡ length entries = length-map entries arc_value in
-    let here : arc_value a ≡ get_or (map arc_value entries) (length (map arc_value entries) - 1) (arc_value a) = entry_is entries (length entries - 1) a (omega arith) is ∙ ap (λ n. get_or (map arc_value entries) (n - 1) (arc_value a)) (sym long) in
+    let here : arc_value a ≡ get_or (map arc_value entries) (length (map arc_value entries) - 1) (arc_value a) =
+    entry_is entries (length entries - 1) a (omega arith) is ∙ ap (λ n. get_or (map arc_value entries) (n - 1) (arc_value a)) (sym long) in
     ap (λ x. before_last (map arc_value entries) ++ x ∷ []) value ∙ last_is (map arc_value entries) (arc_value a) (omega (arith, long)) here
 
 pub last_of : (h : List Entry) → 0 < length h → (e : Entry) × (before_last h ++ e ∷ [] ≡ h)

@@ -1,5 +1,6 @@
 -- Lists: what holds of each item, what is at an index, and one item more.
-use Rattle.std.proofs.Common.{◌≡◌, ℕ, zero, suc, ◌+◌, ◌<◌, nat_lt, Bool, true, false, cond, List, [], ◌∷◌, ◌++◌, map, length, take, get_or, refl, sym, ap, ◌∙◌, arith, inl, inr, Some, None, slice_get}
+use Rattle.std.proofs.Common.{◌≡◌, ℕ, zero, suc, ◌+◌, ◌<◌, nat_lt, Bool, true, false, cond, List, [], ◌∷◌, ◌++◌, map, length, take, get_or, refl, sym, ap, ◌∙◌}
+use Rattle.std.proofs.Common.{arith, inl, inr, Some, None, slice_get}
 use Rattle.std.specs.Prelude.{Option, option_map, is_some, find, filter_map, not, ◌==◌, if◌then◌else◌}
 use Rattle.std.specs.List.{All, AllByRecursion, cons_option, list_any, position, position_or_len}
 use Rattle.std.proofs.lemmas.Bool.{false≢true, lt-ltb, le-ltb, cases_lt}
@@ -56,7 +57,8 @@ none_is (Some x) e = absurd (false≢true (sym e))
 
 -- ---- what is at an index
 -- the list before an item, and the list after it
-pub split_at : {X : Type 0} (list : List X) (n : ℕ) (x : X) → slice_get list n ≡ Some x → (before : List X) × (after : List X) × (list ≡ before ++ x ∷ after) × (n ≡ length before)
+pub split_at : {X : Type 0} (list : List X) (n : ℕ) (x : X) → slice_get list n ≡ Some x → (before : List X) × (after : List X) × (list ≡ before ++ x ∷ after)
+    × (n ≡ length before)
 split_at [] n x h = absurd cc
 split_at (y ∷ list) zero x h = ([], list, cc h, refl)
 split_at (y ∷ list) (suc n) x h = let r = split_at list n x h in let long = r.3 in (y ∷ r.0, r.1, cc (r.2), omega (arith, long))
@@ -70,13 +72,17 @@ one_later n m = grind (arith, nat_tests)
 -- the item at the first place that passes
 pub found_at : {X : Type 0} (t : X → Bool) (xs : List X) (d : X) → option_map (λ j. get_or xs j d) (position t xs) ≡ find t xs
 found_at t [] d = refl
-found_at {X} t (x ∷ xs) d = elim (t x) as (λ b. option_map (λ j. get_or (x ∷ xs) j d) (cond (nat_lt (cond (not b) (1 + position_or_len t xs) 0) (suc (length xs))) (Some (cond (not b) (1 + position_or_len t xs) 0)) None) ≡ cond b (Some x) (find t xs)) [
-  | true ↦ ap (λ c. option_map (λ j. get_or (x ∷ xs) j d) (cond c (Some 0) None)) (zero_first (length xs))
-  | false ↦ ap (λ c. option_map (λ j. get_or (x ∷ xs) j d) (cond c (Some (1 + position_or_len t xs)) None)) (one_later (position_or_len t xs) (length xs))
-      ∙ past (nat_lt (position_or_len t xs) (length xs)) ∙ found_at t xs d
-]
+found_at {X} t (x ∷ xs) d =
+    elim (t x) as (λ b. option_map
+    (λ j. get_or (x ∷ xs) j d) (cond (nat_lt (cond (not b) (1 + position_or_len t xs) 0) (suc (length xs)))
+    (Some (cond (not b) (1 + position_or_len t xs) 0)) None) ≡ cond b (Some x) (find t xs)) [
+      | true ↦ ap (λ c. option_map (λ j. get_or (x ∷ xs) j d) (cond c (Some 0) None)) (zero_first (length xs))
+      | false ↦ ap (λ c. option_map (λ j. get_or (x ∷ xs) j d) (cond c (Some (1 + position_or_len t xs)) None)) (one_later (position_or_len t xs) (length xs))
+          ∙ past (nat_lt (position_or_len t xs) (length xs)) ∙ found_at t xs d
+    ]
   where
-    past : (b : Bool) → option_map (λ j. get_or (x ∷ xs) j d) (cond b (Some (1 + position_or_len t xs)) None) ≡ option_map (λ j. get_or xs j d) (cond b (Some (position_or_len t xs)) None)
+    past : (b : Bool) → option_map (λ j. get_or (x ∷ xs) j d) (cond b (Some (1 + position_or_len t xs)) None) ≡ option_map
+        (λ j. get_or xs j d) (cond b (Some (position_or_len t xs)) None)
     past false = refl
     past true = let e : 1 + position_or_len t xs ≡ suc (position_or_len t xs) = omega arith in ap (λ k. Some (get_or (x ∷ xs) k d)) e
 
@@ -88,7 +94,8 @@ module _ {X Y : Type 0} (f : X → Option Y) where
   pub kept_none : (xs : List X) (x : X) → f x ≡ None → filter_map f (xs ++ x ∷ []) ≡ filter_map f xs
   kept_none xs x e = filter_map-append f xs (x ∷ []) ∙ ap (λ o. filter_map f xs ++ cons_option o []) e ∙ append-nil (filter_map f xs)
 
-  pub read_some : (xs : List X) (i : ℕ) (d : X) (y : Y) → i < length xs → f (get_or xs i d) ≡ Some y → filter_map f (take (i + 1) xs) ≡ filter_map f (take i xs) ++ y ∷ []
+  pub read_some : (xs : List X) (i : ℕ) (d : X) (y : Y) → i < length xs → f (get_or xs i d) ≡ Some y
+      → filter_map f (take (i + 1) xs) ≡ filter_map f (take i xs) ++ y ∷ []
   read_some xs i d y h e = ap (filter_map f) (take_more xs i d h) ∙ kept_some (take i xs) (get_or xs i d) y e
 
   pub read_none : (xs : List X) (i : ℕ) (d : X) → i < length xs → f (get_or xs i d) ≡ None → filter_map f (take (i + 1) xs) ≡ filter_map f (take i xs)

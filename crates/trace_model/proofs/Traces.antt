@@ -1,5 +1,6 @@
 -- The shown spans of one trace, as they change with one more event.
-use Rattle.std.proofs.Common.{◌≡◌, ℕ, suc, zero, ◌+◌, ◌-◌, ◌<◌, ◌≤◌, Bool, true, false, ◌&&◌, ◌||◌, cond, List, [], ◌∷◌, ◌++◌, length, drop, refl, sym, ap, subst, ◌∙◌, arith, eqb-true, length-append, append_assoc}
+use Rattle.std.proofs.Common.{◌≡◌, ℕ, suc, zero, ◌+◌, ◌-◌, ◌<◌, ◌≤◌, Bool, true, false, ◌&&◌, ◌||◌, cond, List, [], ◌∷◌, ◌++◌, length, drop, refl, sym, ap}
+use Rattle.std.proofs.Common.{subst, ◌∙◌, arith, eqb-true, length-append, append_assoc}
 use Rattle.std.specs.Prelude.{filter, if◌then◌else◌}
 use Rattle.std.specs.List.{list_any, list_all}
 use Rattle.std.proofs.lemmas.Bool.{false≢true, false_from_ne_true}
@@ -15,7 +16,8 @@ use Rattle.trace_model.specs.Events.{Event, came, limited, without_limits}
 use Rattle.trace_model.specs.Limiting.{limits_none, comes_for}
 use Rattle.trace_model.specs.Rings.{holds, newest, arrive}
 use Rattle.trace_model.specs.Showing.{trace_of, ring, limit_after, shown, of_trace, spans_of_trace}
-use Rattle.trace_model.proofs.Shows.{by_pushes, all_push, in_ring, ring_came, ring_limited, limit_came, limit_limited, without_limits-append, shown_push, shown_in_ring}
+use Rattle.trace_model.proofs.Shows.{by_pushes, all_push, in_ring, ring_came, ring_limited, limit_came, limit_limited, without_limits-append, shown_push}
+use Rattle.trace_model.proofs.Shows.{shown_in_ring}
 
 -- the test decides equality
 pub same_is : (a b : TraceId) → same_trace a b ≡ true → a ≡ b
@@ -25,7 +27,8 @@ pub same_self : (a : TraceId) → same_trace a a ≡ true
 same_self a = (same_trace-decides a a).1 refl
 
 -- the second test has one result for all that pass the first
-pub filter_within : {X : Type 0} (f g : X → Bool) (b : Bool) → ((x : X) → f x ≡ true → g x ≡ b) → (xs : List X) → filter f (filter g xs) ≡ (if b then filter f xs else [])
+pub filter_within : {X : Type 0} (f g : X → Bool) (b : Bool) → ((x : X) → f x ≡ true → g x ≡ b) → (xs : List X)
+    → filter f (filter g xs) ≡ (if b then filter f xs else [])
 filter_within f g b h [] = elim b as (λ c. filter f (filter g []) ≡ (if c then filter f [] else [])) [ true ↦ refl | false ↦ refl ]
 filter_within {X} f g b h (x ∷ xs) =
     let rest : filter f (filter g xs) ≡ (if b then filter f xs else []) = filter_within f g b h xs in
@@ -37,13 +40,15 @@ filter_within {X} f g b h (x ∷ xs) =
       ]
     ] refl
   where
-    own : (c : Bool) → filter f (filter g xs) ≡ (if c then filter f xs else []) → f x ≡ true → filter f (cond c (x ∷ filter g xs) (filter g xs)) ≡ (if c then x ∷ filter f xs else [])
+    own : (c : Bool) → filter f (filter g xs) ≡ (if c then filter f xs else []) → f x ≡ true
+        → filter f (cond c (x ∷ filter g xs) (filter g xs)) ≡ (if c then x ∷ filter f xs else [])
     own true rest e = ap (λ s. cond s (x ∷ filter f (filter g xs)) (filter f (filter g xs))) e ∙ ap (λ l. x ∷ l) rest
     own false rest e = rest
 
 -- the spans of a trace that are left in a ring: all, or none
 pub of_trace-in_ring : (t : TraceId) (r : List TraceId) (ps : List Placed) → of_trace t (in_ring r ps) ≡ (if holds r t then of_trace t ps else [])
-of_trace-in_ring t r ps = filter_within (λ p. same_trace t (trace_of p)) (λ p. holds r (trace_of p)) (holds r t) (λ p e. ap (holds r) (sym (same_is t (trace_of p) e))) ps
+of_trace-in_ring t r ps =
+    filter_within (λ p. same_trace t (trace_of p)) (λ p. holds r (trace_of p)) (holds r t) (λ p e. ap (holds r) (sym (same_is t (trace_of p) e))) ps
 
 -- what a trace keeps after one more event: nothing if it isn't in the ring, else what it kept and the new span if
 -- one arrived that is its own
@@ -60,7 +65,8 @@ spans_gone n es t e =
 
 -- the newest trace is kept
 holds-newest : (n : ℕ) (r : List TraceId) (t : TraceId) → holds (newest n (r ++ t ∷ [])) t ≡ true
-holds-newest zero r t = list_any-append (same_trace t) r (t ∷ []) ∙ ap (λ b. list_any (same_trace t) r || (b || false)) (same_self t) ∙ or-true (list_any (same_trace t) r)
+holds-newest zero r t =
+    list_any-append (same_trace t) r (t ∷ []) ∙ ap (λ b. list_any (same_trace t) r || (b || false)) (same_self t) ∙ or-true (list_any (same_trace t) r)
 holds-newest (suc n) r t =
     let few : length (r ++ t ∷ []) - suc n ≤ length r = omega (arith, length-append r (t ∷ [])) in
     ap (list_any (same_trace t)) (drop-append-le (length (r ++ t ∷ []) - suc n) r (t ∷ []) few)
@@ -70,23 +76,36 @@ holds-newest (suc n) r t =
 
 -- the trace of the newest arrival is in the ring
 pub arrived : (n : ℕ) (r : List TraceId) (t : TraceId) → holds (arrive n r t) t ≡ true
-arrived n r t = elim (holds r t) as (λ h. holds r t ≡ h → holds (if h then r else newest n (r ++ t ∷ [])) t ≡ true) [ true ↦ λ e. e | false ↦ λ e. holds-newest n r t ] refl
+arrived n r t =
+    elim (holds r t) as (λ h. holds r t ≡ h → holds (if h then r else newest n (r ++ t ∷ [])) t ≡ true) [ true ↦ λ e. e | false ↦ λ e. holds-newest n r t ] refl
 
 -- a span of a trace that left, or that never was there, opens it with that span alone
-pub opened_alone : (n : ℕ) (es : List (Event Placed)) (p : Placed) → holds (ring n es) (trace_of p) ≡ false → spans_of_trace n (es ++ came p ∷ []) (trace_of p) ≡ p ∷ []
+pub opened_alone : (n : ℕ) (es : List (Event Placed)) (p : Placed) → holds (ring n es) (trace_of p) ≡ false
+    → spans_of_trace n (es ++ came p ∷ []) (trace_of p) ≡ p ∷ []
 opened_alone n es p e =
     spans_push n es (came p) (trace_of p)
-    ∙ ap (λ b. if b then spans_of_trace n es (trace_of p) ++ of_trace (trace_of p) (p ∷ []) else []) (ap (λ r. holds r (trace_of p)) (ring_came n es p) ∙ arrived (limit_after n es) (ring n es) (trace_of p))
+    ∙ ap (λ b. if b then spans_of_trace n es (trace_of p) ++ of_trace (trace_of p) (p ∷ []) else [])
+    (ap (λ r. holds r (trace_of p)) (ring_came n es p) ∙ arrived (limit_after n es) (ring n es) (trace_of p))
     ∙ ap (λ l. l ++ of_trace (trace_of p) (p ∷ [])) (spans_gone n es (trace_of p) e)
     ∙ ap (λ b. cond b (p ∷ []) []) (same_self (trace_of p))
 
 -- without a limit the ring only grows
 holds-arrive : (r : List TraceId) (t s : TraceId) → holds r t ≡ true → holds (arrive 0 r s) t ≡ true
-holds-arrive r t s e = elim (holds r s) as (λ h. holds (if h then r else r ++ s ∷ []) t ≡ true) [ true ↦ e | false ↦ list_any-append (same_trace t) r (s ∷ []) ∙ ap (λ b. b || list_any (same_trace t) (s ∷ [])) e ]
+holds-arrive r t s e =
+    elim (holds r s) as (λ h. holds (if h then r else r ++ s ∷ []) t ≡ true) [
+      | true ↦ e
+      | false ↦
+          list_any-append (same_trace t) r (s ∷ []) ∙ ap (λ b. b || list_any (same_trace t) (s ∷ [])) e
+    ]
 
 length-filter : {X : Type 0} (f : X → Bool) (xs : List X) → length (filter f xs) ≤ length xs
 length-filter f [] = omega arith
-length-filter f (x ∷ xs) = elim (f x) as (λ b. length (cond b (x ∷ filter f xs) (filter f xs)) ≤ suc (length xs)) [ true ↦ omega (arith, length-filter f xs) | false ↦ omega (arith, length-filter f xs) ]
+length-filter f (x ∷ xs) =
+    elim (f x) as (λ b. length (cond b (x ∷ filter f xs) (filter f xs)) ≤ suc (length xs)) [
+      | true ↦ omega (arith, length-filter f xs)
+      | false ↦
+          omega (arith, length-filter f xs)
+    ]
 
 -- each item of a list that a filter leaves unchanged passes its test
 passes : {X : Type 0} (f : X → Bool) (x : X) (xs : List X) → filter f (x ∷ xs) ≡ x ∷ xs → (f x ≡ true) × (filter f xs ≡ xs)
@@ -113,12 +132,14 @@ one_none : (e : Event Placed) (es : List (Event Placed)) → limits_none e ≡ t
 one_none (came p) es none zeros = limit_came 0 es p ∙ zeros
 one_none (limited m) es none zeros = limit_limited 0 es m ∙ eqb-true m 0 none
 
-one_more : (e : Event Placed) (es : List (Event Placed)) → limits_none e ≡ true → limit_after 0 es ≡ 0 → in_ring (ring 0 es) (without_limits es) ≡ without_limits es
+one_more : (e : Event Placed) (es : List (Event Placed)) → limits_none e ≡ true → limit_after 0 es ≡ 0
+    → in_ring (ring 0 es) (without_limits es) ≡ without_limits es
     → in_ring (ring 0 (es ++ e ∷ [])) (without_limits (es ++ e ∷ [])) ≡ without_limits (es ++ e ∷ [])
 one_more (came p) es none zeros all =
     let r = ring 0 (es ++ came p ∷ []) in
     let is : r ≡ arrive 0 (ring 0 es) (trace_of p) = ring_came 0 es p ∙ ap (λ k. arrive k (ring 0 es) (trace_of p)) zeros in
-    let old : in_ring r (without_limits es) ≡ without_limits es = ap (λ x. in_ring x (without_limits es)) is ∙ in_ring-more (ring 0 es) (trace_of p) (without_limits es) all in
+    let old : in_ring r (without_limits es) ≡ without_limits es =
+    ap (λ x. in_ring x (without_limits es)) is ∙ in_ring-more (ring 0 es) (trace_of p) (without_limits es) all in
     ap (in_ring r) (without_limits-append es (came p ∷ []))
     ∙ filter_all (λ q. holds r (trace_of q)) (without_limits es) p old (ap (λ x. holds x (trace_of p)) is ∙ arrived 0 (ring 0 es) (trace_of p))
     ∙ sym (without_limits-append es (came p ∷ []))
@@ -128,14 +149,19 @@ one_more (limited m) es none zeros all =
     let same : without_limits (es ++ limited m ∷ []) ≡ without_limits es = without_limits-append es (limited m ∷ []) ∙ append-nil (without_limits es) in
     (λ i. in_ring (is i) (same i)) ∙ all ∙ sym same
 
-all_stay : (es : List (Event Placed)) → list_all limits_none es ≡ true → (limit_after 0 es ≡ 0) × (in_ring (ring 0 es) (without_limits es) ≡ without_limits es) × (shown 0 es ≡ without_limits es)
-all_stay = by_pushes (λ es. list_all limits_none es ≡ true → (limit_after 0 es ≡ 0) × (in_ring (ring 0 es) (without_limits es) ≡ without_limits es) × (shown 0 es ≡ without_limits es)) (λ _. (refl, refl, refl)) (λ es e before none.
+all_stay : (es : List (Event Placed)) → list_all limits_none es ≡ true → (limit_after 0 es ≡ 0) × (in_ring (ring 0 es) (without_limits es) ≡ without_limits es)
+    × (shown 0 es ≡ without_limits es)
+all_stay =
+    by_pushes (λ es. list_all limits_none es ≡ true → (limit_after 0 es ≡ 0) × (in_ring (ring 0 es) (without_limits es) ≡ without_limits es)
+    × (shown 0 es ≡ without_limits es)) (λ _. (refl, refl, refl)) (λ es e before none.
     and_both (list_all limits_none es) (limits_none e) (sym (all_push limits_none es e) ∙ none) (λ olds own.
     let b = before olds in
     let stay = one_more e es own b.0 b.1 in (
       one_none e es own b.0,
       stay,
-      shown_push 0 es e ∙ ap (λ l. in_ring (ring 0 (es ++ e ∷ [])) (l ++ without_limits (e ∷ []))) b.2 ∙ ap (in_ring (ring 0 (es ++ e ∷ []))) (sym (without_limits-append es (e ∷ []))) ∙ stay ∙ without_limits-append es (e ∷ []) ∙ sym (without_limits-append es (e ∷ [])),
+      shown_push 0 es e ∙ ap (λ l. in_ring (ring 0 (es ++ e ∷ [])) (l ++ without_limits (e ∷ []))) b.2
+          ∙ ap (in_ring (ring 0 (es ++ e ∷ []))) (sym (without_limits-append es (e ∷ []))) ∙ stay ∙ without_limits-append es (e ∷ [])
+          ∙ sym (without_limits-append es (e ∷ [])),
     )))
 
 -- if no event sets a limit, limit 0 keeps all that arrived
@@ -157,16 +183,19 @@ holds-from_newest zero r t e = e
 holds-from_newest (suc n) r t e = drop_any (same_trace t) (length r - suc n) r e
 
 -- a trace of the ring after an arrival was in it before, or is the arrival's own trace
-pub old_or_own : {P : Type 0} (n : ℕ) (r : List TraceId) (s t : TraceId) → holds (arrive n r s) t ≡ true → (holds r t ≡ true → P) → (same_trace t s ≡ true → P) → P
+pub old_or_own : {P : Type 0} (n : ℕ) (r : List TraceId) (s t : TraceId) → holds (arrive n r s) t ≡ true → (holds r t ≡ true → P) → (same_trace t s ≡ true → P)
+    → P
 old_or_own {P} n r s t e old own = elim (holds r s) as (λ h. holds (if h then r else newest n (r ++ s ∷ [])) t ≡ true → P) [
   | true ↦ λ e. old e
-  | false ↦ λ e. or_cases (holds r t) (same_trace t s || false) (sym (list_any-append (same_trace t) r (s ∷ [])) ∙ holds-from_newest n (r ++ s ∷ []) t e) old (λ e. or_cases (same_trace t s) false e own (λ x. absurd (false≢true x)))
+  | false ↦ λ e. or_cases (holds r t) (same_trace t s || false) (sym (list_any-append (same_trace t) r (s ∷ [])) ∙ holds-from_newest n (r ++ s ∷ []) t e) old
+      (λ e. or_cases (same_trace t s) false e own (λ x. absurd (false≢true x)))
 ] e
 
 pub has_spans : (n : ℕ) (t : TraceId) (es : List (Event Placed)) → holds (ring n es) t ≡ true → 0 < length (spans_of_trace n es t)
 has_spans n t = by_pushes (λ es. holds (ring n es) t ≡ true → 0 < length (spans_of_trace n es t)) (λ e. absurd (false≢true e)) go
   where
-    go : (es : List (Event Placed)) (e : Event Placed) → (holds (ring n es) t ≡ true → 0 < length (spans_of_trace n es t)) → holds (ring n (es ++ e ∷ [])) t ≡ true → 0 < length (spans_of_trace n (es ++ e ∷ []) t)
+    go : (es : List (Event Placed)) (e : Event Placed) → (holds (ring n es) t ≡ true → 0 < length (spans_of_trace n es t))
+        → holds (ring n (es ++ e ∷ [])) t ≡ true → 0 < length (spans_of_trace n (es ++ e ∷ []) t)
     go es (came p) more e =
         let spans : spans_of_trace n (es ++ came p ∷ []) t ≡ spans_of_trace n es t ++ of_trace t (p ∷ []) =
         spans_push n es (came p) t ∙ ap (λ b. if b then spans_of_trace n es t ++ of_trace t (p ∷ []) else []) e in
@@ -183,13 +212,16 @@ has_spans n t = by_pushes (λ es. holds (ring n es) t ≡ true → 0 < length (s
 
 -- ---- limits
 -- after a limit of m the m newest traces keep their shown spans, and the others have none
-pub spans_limited : (n : ℕ) (es : List (Event Placed)) (m : ℕ) (t : TraceId) → spans_of_trace n (es ++ limited m ∷ []) t ≡ (if holds (newest m (ring n es)) t then spans_of_trace n es t else [])
+pub spans_limited : (n : ℕ) (es : List (Event Placed)) (m : ℕ) (t : TraceId)
+    → spans_of_trace n (es ++ limited m ∷ []) t ≡ (if holds (newest m (ring n es)) t then spans_of_trace n es t else [])
 spans_limited n es m t = spans_push n es (limited m) t ∙ (λ i. if holds (ring_limited n es m i) t then append-nil (spans_of_trace n es t) i else [])
 
 -- a trace that isn't in the ring stays out by an event that doesn't bring it, whatever the limit
-out_one : (n : ℕ) (es : List (Event Placed)) (t : TraceId) (e : Event Placed) → comes_for t e ≡ false → holds (ring n es) t ≡ false → holds (ring n (es ++ e ∷ [])) t ≡ false
+out_one : (n : ℕ) (es : List (Event Placed)) (t : TraceId) (e : Event Placed) → comes_for t e ≡ false → holds (ring n es) t ≡ false
+    → holds (ring n (es ++ e ∷ [])) t ≡ false
 out_one n es t (came p) other out = false_from_ne_true _ (λ h.
-    old_or_own (limit_after n es) (ring n es) (trace_of p) t (ap (λ r. holds r t) (sym (ring_came n es p)) ∙ h) (λ old. false≢true (sym out ∙ old)) (λ own. false≢true (sym other ∙ own)))
+    old_or_own (limit_after n es) (ring n es) (trace_of p) t (ap (λ r. holds r t) (sym (ring_came n es p)) ∙ h) (λ old. false≢true (sym out ∙ old))
+    (λ own. false≢true (sym other ∙ own)))
 out_one n es t (limited m) other out = false_from_ne_true _ (λ h.
     false≢true (sym out ∙ holds-from_newest m (ring n es) t (ap (λ r. holds r t) (sym (ring_limited n es m)) ∙ h)))
 
@@ -198,13 +230,15 @@ or_both true b e f = absurd (false≢true (sym e))
 or_both false b e f = f refl e
 
 -- a trace that left doesn't come back before one of its spans arrives
-pub stays_out : (n : ℕ) (es : List (Event Placed)) (t : TraceId) (more : List (Event Placed)) → list_any (comes_for t) more ≡ false → holds (ring n es) t ≡ false → holds (ring n (es ++ more)) t ≡ false
+pub stays_out : (n : ℕ) (es : List (Event Placed)) (t : TraceId) (more : List (Event Placed)) → list_any (comes_for t) more ≡ false
+    → holds (ring n es) t ≡ false → holds (ring n (es ++ more)) t ≡ false
 stays_out n es t [] none out = ap (λ xs. holds (ring n xs) t) (append-nil es) ∙ out
 stays_out n es t (e ∷ more) none out =
     or_both (comes_for t e) (list_any (comes_for t) more) none (λ own rest.
     ap (λ xs. holds (ring n xs) t) (sym (append_assoc es (e ∷ []) more)) ∙ stays_out n (es ++ e ∷ []) t more rest (out_one n es t e own out))
 
-pub none_shown : (n : ℕ) (es : List (Event Placed)) (t : TraceId) (more : List (Event Placed)) → list_any (comes_for t) more ≡ false → holds (ring n es) t ≡ false → spans_of_trace n (es ++ more) t ≡ []
+pub none_shown : (n : ℕ) (es : List (Event Placed)) (t : TraceId) (more : List (Event Placed)) → list_any (comes_for t) more ≡ false
+    → holds (ring n es) t ≡ false → spans_of_trace n (es ++ more) t ≡ []
 none_shown n es t more none out = spans_gone n (es ++ more) t (stays_out n es t more none out)
 
 -- ---- lengths
@@ -216,13 +250,15 @@ newest_short zero r some = absurd (omega arith)
 newest_short (suc m) r some = drop_short m r
 
 pub arrive_short : (m : ℕ) (r : List TraceId) (t : TraceId) → (0 < m → length r ≤ m) → 0 < m → length (arrive m r t) ≤ m
-arrive_short m r t short some = elim (holds r t) as (λ b. length (if b then r else newest m (r ++ t ∷ [])) ≤ m) [ true ↦ short some | false ↦ newest_short m (r ++ t ∷ []) some ]
+arrive_short m r t short some =
+    elim (holds r t) as (λ b. length (if b then r else newest m (r ++ t ∷ [])) ≤ m) [ true ↦ short some | false ↦ newest_short m (r ++ t ∷ []) some ]
 
 -- with a limit the ring is no longer than the current limit
 pub ring_within : (n : ℕ) (es : List (Event Placed)) → 0 < limit_after n es → length (ring n es) ≤ limit_after n es
 ring_within n = by_pushes (λ es. 0 < limit_after n es → length (ring n es) ≤ limit_after n es) (λ _. omega arith) go
   where
-    go : (es : List (Event Placed)) (e : Event Placed) → (0 < limit_after n es → length (ring n es) ≤ limit_after n es) → 0 < limit_after n (es ++ e ∷ []) → length (ring n (es ++ e ∷ [])) ≤ limit_after n (es ++ e ∷ [])
+    go : (es : List (Event Placed)) (e : Event Placed) → (0 < limit_after n es → length (ring n es) ≤ limit_after n es) → 0 < limit_after n (es ++ e ∷ [])
+        → length (ring n (es ++ e ∷ [])) ≤ limit_after n (es ++ e ∷ [])
     go es (came p) short some =
         let at : limit_after n (es ++ came p ∷ []) ≡ limit_after n es = limit_came n es p in
         let fits = arrive_short (limit_after n es) (ring n es) (trace_of p) short (omega arith) in

@@ -22,3 +22,4 @@ pub mod Sharing
 pub mod Keeping
 pub mod ServiceNames
 pub mod Taking
+pub mod Knowing

@@ -26,7 +26,9 @@ longer_prefixes before (x ∷ rest) = (before ++ x ∷ []) ∷ longer_prefixes (
 -- those of rest that pass the test in every prefix that holds them, counting those of `before` as earlier
 abbrev pub lasting_after : {X : Type 0} → (List X → X → Bool) → List X → List X → List X
 lasting_after keeps before [] = []
-lasting_after keeps before (x ∷ rest) = if list_all (λ xs. keeps xs x) (longer_prefixes before (x ∷ rest)) then x ∷ lasting_after keeps (before ++ x ∷ []) rest else lasting_after keeps (before ++ x ∷ []) rest
+lasting_after keeps before (x ∷ rest) =
+    if list_all (λ xs. keeps xs x) (longer_prefixes before (x ∷ rest)) then x ∷ lasting_after keeps (before ++ x ∷ []) rest else lasting_after keeps
+    (before ++ x ∷ []) rest
 
 -- after these events the trace of the item is in the ring
 abbrev pub is_in_ring : {A : Type 0} → (A → TraceId) → ℕ → List (Event A) → Event A → Bool

@@ -5,6 +5,7 @@
 //!   `answered_trace`: a trace of an answer, copied or in its entries; `service_name`: the name of a service in
 //!   an answer; `taken_span`: a span of a trace that was collected from a store.
 //! * `clock`: what a span passes to the spans below it, for the adjustment of clocks.
+//! * `backend`: the interface between a session and its store: the [`Backend`].
 //!
 //! `specs/` defines what is shown and answered. The program of crate `plain_store` computes it, and crate
 //! `store_laws` states what follows from it, in the terms of tracing.
@@ -13,6 +14,7 @@
 mod admission;
 mod answer;
 mod answered_trace;
+mod backend;
 mod clock;
 mod entry;
 mod limits;
@@ -25,6 +27,7 @@ mod taken_span;
 pub use admission::Admission;
 pub use answer::{Answer, Link, Operation, Shown, with_kind};
 pub use answered_trace::{AnsweredTrace, KeptSpan, KeptTrace, TraceForm, reported_in};
+pub use backend::Backend;
 pub use clock::Clock;
 pub use entry::{Entry, Work};
 pub use limits::Limits;

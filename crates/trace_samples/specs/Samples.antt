@@ -25,8 +25,21 @@ own_trace low = record { high = 0; low = low }
 
 -- a span without parent, as the first sample of batches has it
 abbrev pub root_span : ℕ → ℕ → Span
-root_span trace id = record { trace = own_trace trace; id = span_id id; parent = span_id 0; operation = codes "op"; references = []; flags = pos 1; start = pos 1000; duration = pos 50; tags = []; logs = [] }
+root_span trace id =
+    record {
+      trace = own_trace trace;
+      id = span_id id;
+      parent = span_id 0;
+      operation = codes "op";
+      references = [];
+      flags = pos 1;
+      start = pos 1000;
+      duration = pos 50;
+      tags = [];
+      logs = [];
+    }
 
 -- a search by a service, without any other condition and without a limit
 abbrev pub service_find : List ℕ → Find
-service_find service = record { service = service; operation = []; tags = []; start_min = None; start_max = None; duration_min = pos 0; duration_max = pos 0; limit = 0 }
+service_find service =
+    record { service = service; operation = []; tags = []; start_min = None; start_max = None; duration_min = pos 0; duration_max = pos 0; limit = 0 }

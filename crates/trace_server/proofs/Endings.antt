@@ -23,20 +23,24 @@ all_written : (a b : Option (List ℕ)) (text : List ℕ) → Appends a b text �
 all_written a b text all = (text, all, ([], append-nil text))
 
 -- the second of two lines was said, or was not
-pub said_both : (a b c : Option (List ℕ)) (failed : Bool) (first second : List ℕ) (r : Result (Unit {0}) RunError) → Appends a b first → WritesText b c failed second r → WritesText a c failed (first ++ second) r
+pub said_both : (a b c : Option (List ℕ)) (failed : Bool) (first second : List ℕ) (r : Result (Unit {0}) RunError) → Appends a b first
+    → WritesText b c failed second r → WritesText a c failed (first ++ second) r
 said_both a b c failed first second (Ok u) said s = (Appends-trans a b c first second said s.0, s.1)
 said_both a b c failed first second (Err h) said s = (some_after a b c first second said s.0, s.1)
 
 -- the first of two lines was not said whole
-pub said_some : (a b : Option (List ℕ)) (failed : Bool) (first second : List ℕ) (h : RunError) → WritesSome a b first → IsWhyOf h failed → WritesSome a b (first ++ second) × IsWhyOf h failed
+pub said_some : (a b : Option (List ℕ)) (failed : Bool) (first second : List ℕ) (h : RunError) → WritesSome a b first → IsWhyOf h failed
+    → WritesSome a b (first ++ second) × IsWhyOf h failed
 said_some a b failed first second h some why = (some_more a b first second (first ++ second) refl some, why)
 
 -- a text was not written whole
-pub stopped : (a b : Option (List ℕ)) (failed : Bool) (text : List ℕ) (h : RunError) (status : ℕ) → status ≡ status_by h → WritesSome a b text × IsWhyOf h failed → StopsIn a b failed text status
+pub stopped : (a b : Option (List ℕ)) (failed : Bool) (text : List ℕ) (h : RunError) (status : ℕ) → status ≡ status_by h → WritesSome a b text
+    × IsWhyOf h failed → StopsIn a b failed text status
 stopped a b failed text h status is w = (h, is, w.0, w.1)
 
 -- all of it was written, and then memory ran out
-pub wanting : (a b : Option (List ℕ)) (failed : Bool) (text : List ℕ) (status : ℕ) → status ≡ 5 → Appends a b text → failed ≡ false → StopsIn a b failed text status
+pub wanting : (a b : Option (List ℕ)) (failed : Bool) (text : List ℕ) (status : ℕ) → status ≡ 5 → Appends a b text → failed ≡ false
+    → StopsIn a b failed text status
 wanting a b failed text status is all works = (Memory, is, all_written a b text all, works)
 
 -- nothing was written, where memory or threads ran out
@@ -44,22 +48,26 @@ pub broken_off : (a : Option (List ℕ)) (failed : Bool) (text : List ℕ) → f
 broken_off a failed text works = (Memory, refl, none_written a text, works)
 
 -- the first line was not written whole
-pub unheard : (a b : Option (List ℕ)) (failed : Bool) (host : Host) (port : ℕ) (h : RunError) (status : ℕ) → status ≡ status_by h → WritesSome a b (listening_line host port) × IsWhyOf h failed → StopsEarly host a b failed status
+pub unheard : (a b : Option (List ℕ)) (failed : Bool) (host : Host) (port : ℕ) (h : RunError) (status : ℕ) → status ≡ status_by h
+    → WritesSome a b (listening_line host port) × IsWhyOf h failed → StopsEarly host a b failed status
 unheard a b failed host port h status is w = record {
   port = port;
   served = 0;
   stops = (h, is, some_more a b (listening_line host port) (served_line 0) (listening_line host port ++ served_line 0) refl w.0, w.1);
 }
 
-stopped_after : (a b c : Option (List ℕ)) (failed : Bool) (first text : List ℕ) (status : ℕ) → Appends a b first → StopsIn b c failed text status → StopsIn a c failed (first ++ text) status
+stopped_after : (a b c : Option (List ℕ)) (failed : Bool) (first text : List ℕ) (status : ℕ) → Appends a b first → StopsIn b c failed text status
+    → StopsIn a c failed (first ++ text) status
 stopped_after a b c failed first text status said s = (s.0, s.1, some_after a b c first text said s.2, s.3)
 
-ended_after : (a b c : Option (List ℕ)) (failed : Bool) (first text : List ℕ) (lost : Bool) (status : ℕ) → Appends a b first → Ends b c failed text lost status → Ends a c failed (first ++ text) lost status
+ended_after : (a b c : Option (List ℕ)) (failed : Bool) (first text : List ℕ) (lost : Bool) (status : ℕ) → Appends a b first → Ends b c failed text lost status
+    → Ends a c failed (first ++ text) lost status
 ended_after a b c failed first text lost status said (inl all) = inl (all.0, Appends-trans a b c first text said all.1, all.2)
 ended_after a b c failed first text lost status said (inr some) = inr (stopped_after a b c failed first text status said some)
 
 -- it listened, and then reported
-pub reported : (host : Host) (limits : Limits) (workers : ℕ) (desk : TableId) (opened : List SeatValue) (a b c : Option (List ℕ)) (failed : Bool) (port status : ℕ) → AreNew desk opened → Appends a b (listening_line host port)
+pub reported : (host : Host) (limits : Limits) (workers : ℕ) (desk : TableId) (opened : List SeatValue) (a b c : Option (List ℕ)) (failed : Bool)
+    (port status : ℕ) → AreNew desk opened → Appends a b (listening_line host port)
     → Reports limits workers opened b c failed status → Serves host limits workers a c failed status
 reported host limits workers desk opened a b c failed port status new said (inl early) = inr (inl (record {
   port = port;
@@ -82,6 +90,8 @@ reported host limits workers desk opened a b c failed port status new said (inr 
     gone_on = closes.gone_on;
     one_for_each = closes.one_for_each;
     books = closes.books;
-    ends = ended_after a b c failed (listening_line host port) (last_lines closes.served closes.acknowledged closes.refused closes.left) closes.failed status said closes.ends;
+    ends =
+        ended_after a b c failed (listening_line host port) (last_lines closes.served closes.acknowledged closes.refused closes.left)
+        closes.failed status said closes.ends;
   };
 }))

@@ -3,18 +3,19 @@ use Rattle.std.proofs.Common.{◌≡◌, ℕ, List, ap, refl, Result, Ok, Err, i
 use mathlib.Core.List.{IsPrefix}
 use Rattle.trace_model.specs.declared.limits.Limits.{Limits}
 use Rattle.trace_model.proofs.Prefixes.{prefix_trans}
-use Rattle.store_backend.specs.Knowing.{Keeps}
+use Rattle.trace_model.specs.Knowing.{Keeps}
 use Rattle.http_session.specs.Pieces.{AsksOnce}
 use Rattle.http_session.specs.Sessions.{Step}
 use Rattle.http_session.specs.declared.verdict.Verdict.{Verdict}
 use Rattle.http_session.specs.declared.verdict.Verdict.TheVariants.{Submit, Ask, Reject}
 use Rattle.http_session.specs.declared.reply.Reply.{Reply}
 use Rattle.http_session.specs.declared.reply.Reply.TheVariants.{Accepted, Answered, Refused, Error, Malformed}
-use Rattle.live_store.specs.Sharing.{LiveValue, LiveKnows, GoesOn, LiveSubmits, LiveReads}
-use Rattle.live_store.proofs.Seats.{stays_same, submit_goes_on, read_goes_on}
+use Rattle.intake.specs.LiveSharing.{LiveValue, LiveKnows, GoesOn, LiveSubmits, LiveReads}
+use Rattle.intake.proofs.LiveSeats.{stays_same, submit_goes_on, read_goes_on}
 use Rattle.trace_server.specs.Underway.{live_store}
 
-step_goes_on : (limits : Limits) (s : LiveValue) (v : Verdict) (r : Reply) (t : LiveValue) → Step (LiveSubmits limits) (LiveReads limits) s v r t → GoesOn s.seat t.seat
+step_goes_on : (limits : Limits) (s : LiveValue) (v : Verdict) (r : Reply) (t : LiveValue) → Step (LiveSubmits limits) (LiveReads limits) s v r t
+    → GoesOn s.seat t.seat
 step_goes_on limits s (Submit b) Accepted t d = submit_goes_on limits s b (Ok d.0) t d.1
 step_goes_on limits s (Submit b) (Refused why) t d = submit_goes_on limits s b (Err why) t d
 step_goes_on limits s (Submit b) (Answered a) t d = absurd d

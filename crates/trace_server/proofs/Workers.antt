@@ -1,5 +1,6 @@
 -- The workers' seats, before and after their work, and how they are taken in.
-use Rattle.std.proofs.Common.{◌≡◌, ℕ, suc, ◌+◌, ◌<◌, List, [], ◌∷◌, ◌++◌, length, map, get_or, refl, sym, ap, ◌∙◌, arith, append_assoc, subst, true, Some, Result, Ok, Err, IfOk}
+use Rattle.std.proofs.Common.{◌≡◌, ℕ, suc, ◌+◌, ◌<◌, List, [], ◌∷◌, ◌++◌, length, map, get_or, refl, sym, ap, ◌∙◌, arith, append_assoc, subst, true, Some}
+use Rattle.std.proofs.Common.{Result, Ok, Err, IfOk}
 use Rattle.std.proofs.lemmas.List.{length-map, map-append}
 use Rattle.std.specs.List.{All, range_with_len, AllZip}
 use Rattle.std.proofs.lemmas.List.Elements.{All-cons, All-pop}
@@ -12,7 +13,7 @@ use Rattle.intake.specs.declared.account.Account.{Account}
 use Rattle.intake.specs.declared.queue.EndedSeat.{EndedSeat}
 use Rattle.intake.specs.Seats.{SeatValue}
 use Rattle.intake.specs.Books.{AllTaken, HasEnded, MovesFor, StillEnded, StaysTaken}
-use Rattle.live_store.specs.Sharing.{GoesOn}
+use Rattle.intake.specs.LiveSharing.{GoesOn}
 use Rattle.trace_server.specs.Serving.{ClosesBooks}
 use Rattle.trace_server.specs.WorkerSeats.{AreNew, AreOpen, HasJudged, Moves, AreTaken}
 
@@ -30,7 +31,8 @@ each_given gives (j ∷ js) (x ∷ xs) len each =
       each_given gives js xs (omega (arith, len)) (λ i d lt. let next = each (suc i) d (omega (arith, lt)) in (next.0, (λ e. next.1 e), next.2)),
     )
 
-pub go_on : {J X : Type 0} (f : J → SeatValue) (g : X → SeatValue) (js : List J) (xs : List X) → AllZip (λ j x. GoesOn (f j) (g x)) js xs → AllZip GoesOn (map f js) (map g xs)
+pub go_on : {J X : Type 0} (f : J → SeatValue) (g : X → SeatValue) (js : List J) (xs : List X) → AllZip (λ j x. GoesOn (f j) (g x)) js xs
+    → AllZip GoesOn (map f js) (map g xs)
 go_on f g [] [] each = tt
 go_on f g [] (x ∷ xs) each = absurd each
 go_on f g (j ∷ js) [] each = absurd each
@@ -65,8 +67,10 @@ pub record SomeTakenIn (seats waiting : List SeatValue) (ended : List EndedSeat)
   pub split : seats ≡ waiting ++ others
   pub each : All (IsTakenIn ended taken) others
 
-pub one_taken_in : (seats waiting fewer : List SeatValue) (s : SeatValue) (ended ended' : List EndedSeat) (taken taken' : List Entry) → SomeTakenIn seats waiting ended taken
-    → waiting ≡ fewer ++ s ∷ [] → StillEnded ended ended' → StaysTaken ended taken taken' → HasEnded ended' s.seat s.jobs → AllTaken s.seat s.jobs taken' → SomeTakenIn seats fewer ended' taken'
+pub one_taken_in : (seats waiting fewer : List SeatValue) (s : SeatValue) (ended ended' : List EndedSeat) (taken taken' : List Entry)
+    → SomeTakenIn seats waiting ended taken
+    → waiting ≡ fewer ++ s ∷ [] → StillEnded ended ended' → StaysTaken ended taken taken' → HasEnded ended' s.seat s.jobs → AllTaken s.seat s.jobs taken'
+    → SomeTakenIn seats fewer ended' taken'
 one_taken_in seats waiting fewer s ended ended' taken taken' h last still stays here whole = record {
   others = s ∷ h.others;
   split = h.split ∙ (ap (λ z. z ++ h.others) last ∙ append_assoc fewer (s ∷ []) h.others);
@@ -81,10 +85,12 @@ moves_more s js t0 l0 t1 l1 t2 l2 a b = (
   b.left_is ∙ (ap (λ z. z ++ b.moved) a.2 ∙ append_assoc l0 a.0 b.moved),
 )
 
-pub last_popped : {X : Type 0} (f : X → SeatValue) (old fewer : List X) (x : X) (s : SeatValue) → old ≡ fewer ++ x ∷ [] → s ≡ f x → map f old ≡ map f fewer ++ s ∷ []
+pub last_popped : {X : Type 0} (f : X → SeatValue) (old fewer : List X) (x : X) (s : SeatValue) → old ≡ fewer ++ x ∷ [] → s ≡ f x
+    → map f old ≡ map f fewer ++ s ∷ []
 last_popped f old fewer x s e is = ap (map f) e ∙ (map-append f fewer (x ∷ []) ∙ ap (λ (z : SeatValue). map f fewer ++ z ∷ []) (sym is))
 
-pub last_open : (desk : TableId) (old fewer : List SeatValue) (s : SeatValue) → old ≡ fewer ++ s ∷ [] → AreOpen desk old → AreOpen desk fewer × (s.desk ≡ desk) × (s.hands_in ≡ true)
+pub last_open : (desk : TableId) (old fewer : List SeatValue) (s : SeatValue) → old ≡ fewer ++ s ∷ [] → AreOpen desk old → AreOpen desk fewer × (s.desk ≡ desk)
+    × (s.hands_in ≡ true)
 last_open desk old fewer s e free =
     let P : SeatValue → Type 0 = λ z. (z.desk ≡ desk) × (z.hands_in ≡ true) in
     let h = All-pop P old fewer (Some s) e free in
@@ -102,8 +108,10 @@ new_open desk seats each = λ k d lt. let n = each k d lt in (n.0, n.1)
 
 -- ---- the books
 
-pub books_closed : (limits : Limits) (lists : Lists) (seats : List SeatValue) (judged : List Entry) (accounts : List Account) (before taken left : List Entry) (a0 r0 a r l : ℕ)
-    → HasJudged limits judged accounts lists a0 r0 → a ≡ a0 → r ≡ r0 → before ≡ [] → Moves judged before taken left → AreTaken taken seats → l ≡ length left → ClosesBooks limits lists seats a r l
+pub books_closed : (limits : Limits) (lists : Lists) (seats : List SeatValue) (judged : List Entry) (accounts : List Account) (before taken left : List Entry)
+    (a0 r0 a r l : ℕ)
+    → HasJudged limits judged accounts lists a0 r0 → a ≡ a0 → r ≡ r0 → before ≡ [] → Moves judged before taken left → AreTaken taken seats → l ≡ length left
+    → ClosesBooks limits lists seats a r l
 books_closed limits lists seats judged accounts before taken left a0 r0 a r l h aa rr none moves whole ls = record {
   judged_jobs = judged;
   accounts = accounts;

@@ -16,7 +16,7 @@ use Rattle.serve_options.specs.Hosts.{url_host}
 use Rattle.text_lines.specs.declared.run_error.RunError.{RunError}
 use Rattle.text_lines.specs.RunErrors.{WritesSome, IsWhyOf, status_by}
 use Rattle.trace_server.specs.WorkerSeats.{AreNew}
-use Rattle.live_store.specs.Sharing.{GoesOn}
+use Rattle.intake.specs.LiveSharing.{GoesOn}
 
 abbrev pub listening_line : Host → ℕ → List ℕ
 listening_line host port = codes "listening " ++ url_host host ++ codes ":" ++ decimal port ++ codes "\n"
@@ -81,7 +81,8 @@ pub record StopsEarly (host : Host) (out0 out1 : Option (List ℕ)) (out_failed 
 
 -- it closed the books of the seats that these have become, and wrote the number of connections and the totals of the
 -- batches after this text
-pub record Closes (limits : Limits) (workers : ℕ) (opened : List SeatValue) (front : List ℕ) (out0 out1 : Option (List ℕ)) (out_failed : Bool) (status : ℕ) : Type 0 where
+pub record Closes (limits : Limits) (workers : ℕ) (opened : List SeatValue) (front : List ℕ) (out0 out1 : Option (List ℕ)) (out_failed : Bool)
+    (status : ℕ) : Type 0 where
   pub served : ℕ
   pub failed : Bool
   pub acknowledged : ℕ

@@ -2,7 +2,7 @@
 use Rattle.slab.specs.Slab.{Slab}
 use Rattle.trace_model.specs.declared.limits.Limits.{Limits}
 use Rattle.http_session.specs.Between.{Store, store_of}
-use Rattle.live_store.specs.Sharing.{LiveValue, LiveKnows, LiveSubmits, LiveReads}
+use Rattle.intake.specs.LiveSharing.{LiveValue, LiveKnows, LiveSubmits, LiveReads}
 use Rattle.open_connections.specs.Open.{AllOpen, socket_line}
 use Rattle.open_connections.specs.declared.open.OpenConnection.{OpenConnection}
 use Rattle.open_connections.specs.declared.socket.Socket.{Socket}

@@ -8,7 +8,7 @@ use Rattle.intake.specs.declared.account.Account.{Account}
 use Rattle.intake.specs.Seats.{SeatValue}
 use Rattle.intake.specs.Books.{Ran, AllTaken}
 use Rattle.intake.specs.Books.{acknowledged as acknowledged_of, refused as refused_of}
-use Rattle.live_store.specs.Sharing.{GoesOn}
+use Rattle.intake.specs.LiveSharing.{GoesOn}
 
 -- seats of this desk that may submit more
 abbrev pub AreOpen : TableId → List SeatValue → Type 0
@@ -27,7 +27,8 @@ pub record HasJudged (limits : Limits) (taken : List Entry) (accounts : List Acc
   pub refused_is : refused ≡ refused_of accounts
 
 -- it judged them at this desk, and left none
-pub record KeepsBooks {A : Type 0} (limits : Limits) (opened closed : TableId) (taken : List Entry) (accounts : List Account) (lists : Lists) (acknowledged refused : ℕ) (left : List A) : Type 0 where
+pub record KeepsBooks {A : Type 0} (limits : Limits) (opened closed : TableId) (taken : List Entry) (accounts : List Account) (lists : Lists)
+    (acknowledged refused : ℕ) (left : List A) : Type 0 where
   pub judged : HasJudged limits taken accounts lists acknowledged refused
   pub same_desk : closed ≡ opened
   pub none_left : left ≡ []

@@ -7,8 +7,7 @@ ghost use Rattle.trace_server.specs.Serving.{ClosesBooks};
 ghost use Rattle.trace_server.specs.WorkerSeats.{AreOpen, AreTaken, HasJudged, Moves};
 
 use crate::worker::WorkerOutcome;
-use intake::Books;
-use live_store::Live;
+use intake::{Books, Live};
 use read_side::StoreName;
 use std::sync::Wait;
 use trace_model::Refusal;

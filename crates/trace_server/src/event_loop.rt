@@ -1,7 +1,7 @@
 //! A worker's event loop: waits for its connections, and gives each one that is ready a turn.
 
 ghost use Rattle.std.specs.Prelude.{◌≡◌, IfOk};
-ghost use Rattle.live_store.specs.Sharing.{GoesOn};
+ghost use Rattle.intake.specs.LiveSharing.{GoesOn};
 ghost use Rattle.open_connections.specs.Open.{IsEmpty, IsRest};
 ghost use Rattle.trace_server.specs.Underway.{AllUnderway};
 

@@ -5,14 +5,13 @@ ghost use mathlib.Core.List.{IsPrefix};
 
 use crate::gate::Gate;
 use crate::notices::Notices;
+use intake::Live;
 use jaeger_model::Batch;
-use live_store::Live;
 use read_side::{Receipt, StoreName};
 use std::alloc::Global;
 use std::marker::Model;
 use std::sync::Wait;
-use store_backend::Backend;
-use trace_model::{Answer, Query, Refusal};
+use trace_model::{Answer, Backend, Query, Refusal};
 
 /// The number of batches that a worker submits between two growths of its heap.
 const GROWN_FOR: u64 = 16;
@@ -39,7 +38,7 @@ pub(crate) struct Gated<'a, N: StoreName, G, R> {
 }
 
 impl<'a, N: StoreName, G, R> Model for Gated<'a, N, G, R> {
-    ghost use Rattle.live_store.specs.Sharing.{LiveValue};
+    ghost use Rattle.intake.specs.LiveSharing.{LiveValue};
 
     ghost Value = { LiveValue };
 
@@ -93,8 +92,8 @@ impl<'a, N: StoreName, G, R> Gated<'a, N, G, R> {
 }
 
 impl<'a, N: StoreName, G: Gate, R: Wait + Eprint> Backend<R> for Gated<'a, N, G, R> {
-    ghost use Rattle.live_store.specs.Sharing.{LiveKnows, LiveSubmits, LiveReads};
-    ghost use Rattle.live_store.specs.SharingLaws.{submit_knows, read_knows};
+    ghost use Rattle.intake.specs.LiveSharing.{LiveKnows, LiveSubmits, LiveReads};
+    ghost use Rattle.intake.specs.LiveLaws.{submit_knows, read_knows};
 
     ghost limits = { λ s. N.limits };
 

@@ -8,7 +8,7 @@ ghost use Rattle.trace_server.specs.Serving.{listening_line, served_line, books_
 use crate::ending::Totals;
 use crate::notices::{explain_end, print_unwritten};
 use crate::worker::WorkerOutcome;
-use live_store::Live;
+use intake::Live;
 use read_side::StoreName;
 use serve_options::Host;
 use session_devices::Output;

@@ -1,6 +1,6 @@
 //! Serving on a socket.
 
-ghost use Rattle.live_store.specs.Sharing.{GoesOn};
+ghost use Rattle.intake.specs.LiveSharing.{GoesOn};
 ghost use Rattle.std.specs.List.{AllZip};
 ghost use Rattle.std.specs.Prelude.{◌≡◌, [], Some, false, map, IfOk};
 ghost use Rattle.read_side.specs.Keepers.{no_entries};
@@ -22,8 +22,7 @@ use crate::shared::SharedStore;
 use crate::threads::{OwnWork, beside, run_each};
 use crate::watch::Watch;
 use crate::worker::{Server, WorkerOutcome};
-use intake::{Books, Clerk, Desk};
-use live_store::Live;
+use intake::{Books, Clerk, Desk, Live};
 use read_side::{EmptyHistory, Keeper, StoreName};
 use session_devices::Output;
 use std::alloc::{AllocError, Global};
@@ -109,7 +108,7 @@ fn work_all<
 struct KeepSeats<N: StoreName>(Snapshot<Vec<(u32, Live<N>)>>);
 
 impl<N: StoreName> Promise<Outcomes<N>> for KeepSeats<N> {
-    ghost use Rattle.live_store.specs.Sharing.{GoesOn};
+    ghost use Rattle.intake.specs.LiveSharing.{GoesOn};
     ghost use Rattle.std.specs.List.{AllZip};
     ghost use Rattle.std.specs.Prelude.{map, IfOk};
 

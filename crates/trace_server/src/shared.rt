@@ -7,8 +7,7 @@ ghost use Rattle.trace_server.specs.Serving.{OneForEach};
 ghost use Rattle.trace_server.specs.WorkerSeats.{AreNew};
 
 use crate::config::ServerConfig;
-use intake::{Clerk, Desk, desk};
-use live_store::Live;
+use intake::{Clerk, Desk, Live, desk};
 use read_side::{EmptyHistory, Keeper, StoreName, open};
 use std::alloc::{AllocError, Global};
 use std::sync::Wait;

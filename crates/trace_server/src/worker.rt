@@ -1,6 +1,6 @@
 //! A worker, which serves many connections.
 
-ghost use Rattle.live_store.specs.Sharing.{GoesOn};
+ghost use Rattle.intake.specs.LiveSharing.{GoesOn};
 
 use crate::arrivals::Arrivals;
 use crate::event_loop::EventLoop;
@@ -11,8 +11,7 @@ use crate::notices::{Notices, print_accepts_no_more};
 use crate::sessions::Sessions;
 use crate::threads::Task;
 use crate::watch::Watch;
-use intake::Desk;
-use live_store::Live;
+use intake::{Desk, Live};
 use read_side::StoreName;
 use std::alloc::Global;
 use std::net::{Net, TcpListener, TcpStream};
@@ -77,7 +76,7 @@ impl<
     G: Gate,
     R: Wait + Clock + Eprint + Net<Stream = TcpStream, Listener = TcpListener>,
 > Task<R, (u32, Live<N>), (WorkerOutcome, Live<N>)> for Server<'a, N, G> {
-    ghost use Rattle.live_store.specs.Sharing.{GoesOn};
+    ghost use Rattle.intake.specs.LiveSharing.{GoesOn};
 
     ghost gives = { λ argument end. GoesOn argument.1.seat end.1.seat };
 

@@ -3,4 +3,5 @@
 mod answers;
 mod parts;
 mod responses;
+mod script_lines;
 mod targets;

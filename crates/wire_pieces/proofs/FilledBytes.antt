@@ -1,5 +1,6 @@
 -- Numbers and heads, whose bytes are buffered until all have arrived.
-use Rattle.std.proofs.Common.{◌≡◌, ℕ, ◌^◌, ◌<◌, ◌≤◌, true, false, ltb, List, [], ◌++◌, length, Result, Ok, Err, refl, ap, sym, ◌∙◌, arith, append_assoc, length-append, append-nil}
+use Rattle.std.proofs.Common.{◌≡◌, ℕ, ◌^◌, ◌<◌, ◌≤◌, true, false, ltb, List, [], ◌++◌, length, Result, Ok, Err, refl, ap, sym, ◌∙◌, arith, append_assoc}
+use Rattle.std.proofs.Common.{length-append, append-nil}
 use Rattle.std.proofs.lemmas.List.{take_at, drop_at}
 use Rattle.std.proofs.lemmas.Bool.{le-ltb, lt-ltb}
 use Rattle.std.specs.Int.{Width, cast_signed}
@@ -15,7 +16,8 @@ module _ {X E : Type 0} (read : List ℕ → Result X E) where
   same_bytes got g piece left rest e = sym (append_assoc got piece rest) ∙ ap (λ (v : List ℕ). v ++ rest) (sym e) ∙ append_assoc g left rest
 
   -- fewer than n bytes have arrived
-  pub filled-waits : (short : E) (n : ℕ) → ((w : List ℕ) → length w < n → read w ≡ Err short) → (got new piece left : List ℕ) → (new ≡ got ++ piece) × (left ≡ []) → length new < n
+  pub filled-waits : (short : E) (n : ℕ) → ((w : List ℕ) → length w < n → read w ≡ Err short) → (got new piece left : List ℕ) → (new ≡ got ++ piece)
+      × (left ≡ []) → length new < n
       → NeedsMore short (λ w. read (got ++ w)) (λ w. read (new ++ w)) piece left
   filled-waits short n few got new piece left e lt = record {
     comes = record { same = λ rest. ap read (same_bytes got new piece left rest (rw (e.1, append-nil new) e.0)) };
@@ -30,7 +32,8 @@ module _ {X E : Type 0} (read : List ℕ → Result X E) where
 
   pub filled-refuses : (short e : E) (got g piece left : List ℕ) → g ++ left ≡ got ++ piece → (e ≡ short → ⊥) → ((rest : List ℕ) → read (g ++ rest) ≡ Err e)
       → Refuses short (λ w. read (got ++ w)) piece e
-  filled-refuses short e got g piece left parts isnt same = record { same = λ rest. ap read (same_bytes got g piece left rest parts) ∙ same (left ++ rest); no_want = isnt }
+  filled-refuses short e got g piece left parts isnt same =
+      record { same = λ rest. ap read (same_bytes got g piece left rest parts) ∙ same (left ++ rest); no_want = isnt }
 
 -- ---- the readings
 
@@ -45,7 +48,9 @@ pub signed-whole : (width : Width) (n : ℕ) (g rest : List ℕ) → length g �
 signed-whole width n g rest e = signed_again width n g rest _ e refl
 
 number-whole : (n : ℕ) (g rest : List ℕ) → length g ≡ n → number_at n (g ++ rest) ≡ Ok (big_number n g, rest)
-number-whole n g rest e = let enough : ltb (length (g ++ rest)) n ≡ false = le-ltb _ _ (omega (arith, length-append g rest)) in rw (enough, same_number n g rest e, drop_at g rest n e) refl
+number-whole n g rest e =
+    let enough : ltb (length (g ++ rest)) n ≡ false = le-ltb _ _ (omega (arith, length-append g rest)) in
+    rw (enough, same_number n g rest e, drop_at g rest n e) refl
 
 pub size-short : (w : List ℕ) → length w < 4 → size_at w ≡ Err Truncated
 unfolding size_at

@@ -12,10 +12,16 @@ use Rattle.wire_pieces.specs.Pieces.{Comes}
 use Rattle.wire_pieces.specs.Numbers.{size_from}
 use Rattle.wire_pieces.specs.Heads.{id_from, head_from, sized, typed_size_from, list_head}
 
-pub head-typed : (h : FieldHead) (part : TypedId) (w v : List ℕ) → h.step ≡ field.First → w ≡ part.code ∷ v → (part.code ≡ 0 → ⊥) → part.id ≡ [] → Comes (head_from h) (id_from part) w v
+pub head-typed : (h : FieldHead) (part : TypedId) (w v : List ℕ) → h.step ≡ field.First → w ≡ part.code ∷ v → (part.code ≡ 0 → ⊥) → part.id ≡ []
+    → Comes (head_from h) (id_from part) w v
 unfolding field_at
-head-typed h part w v is e some fresh = record { same = λ rest. (let z : eqb part.code 0 ≡ false = ne_eqb part.code 0 some in rw (is, e, z) (ap (λ (g : List ℕ). signed_at w16 2 (g ++ (v ++ rest)) >>= typed part.code) (sym fresh))) }
+head-typed h part w v is e some fresh =
+    record {
+      same = λ rest. (let z : eqb part.code 0 ≡ false = ne_eqb part.code 0 some in
+          rw (is, e, z) (ap (λ (g : List ℕ). signed_at w16 2 (g ++ (v ++ rest)) >>= typed part.code) (sym fresh)));
+    }
 
-pub list-typed : (h : ListHead) (part : TypedSize) (w v : List ℕ) → h.step ≡ list.First → w ≡ part.code ∷ v → ((u : List ℕ) → size_from part.size u ≡ size_at u) → Comes (list_head h) (typed_size_from part) w v
+pub list-typed : (h : ListHead) (part : TypedSize) (w v : List ℕ) → h.step ≡ list.First → w ≡ part.code ∷ v → ((u : List ℕ) → size_from part.size u ≡ size_at u)
+    → Comes (list_head h) (typed_size_from part) w v
 unfolding list_at
 list-typed h part w v is e fresh = record { same = λ rest. rw (is, e) (ap (λ r. r >>= sized part.code) (sym (fresh (v ++ rest)))) }

@@ -14,11 +14,13 @@ module _ {A E : Type 0} (one : Reader A E) where
   abbrev after_of : List A → ℕ → A × List ℕ → Result (List A × List ℕ) E
   after_of items n x = with_beginning (items ++ x.0 ∷ []) (items_at one n x.1)
 
-  pub items-waits : (short : E) (items : List A) (n : ℕ) (now next : Reader A E) (w v : List ℕ) → NeedsMore short now next w v → NeedsMore short (items_from one items n now) (items_from one items n next) w v
+  pub items-waits : (short : E) (items : List A) (n : ℕ) (now next : Reader A E) (w v : List ℕ) → NeedsMore short now next w v
+      → NeedsMore short (items_from one items n now) (items_from one items n next) w v
   unfolding items_from
   items-waits short items n now next w v g = waits-inside (after_of items n) g
 
-  pub items-refuses : (short : E) (items : List A) (n : ℕ) (now : Reader A E) (w : List ℕ) (e : E) → Refuses short now w e → Refuses short (items_from one items n now) w e
+  pub items-refuses : (short : E) (items : List A) (n : ℕ) (now : Reader A E) (w : List ℕ) (e : E) → Refuses short now w e
+      → Refuses short (items_from one items n now) w e
   unfolding items_from
   items-refuses short items n now w e g = refuses-inside (after_of items n) g
 
@@ -27,5 +29,6 @@ module _ {A E : Type 0} (one : Reader A E) where
     unfolding list_of
     list-fresh got fresh w = ap (λ r. lift wire r >>= λ h. behind_head wire c one h.0 h.1) (fresh w)
 
-    pub list-waits : (got next : ListHead) (w v : List ℕ) → NeedsMore Truncated (list_head got) (list_head next) w v → NeedsMore (wire Truncated) (list_head_from wire c one got) (list_head_from wire c one next) w v
+    pub list-waits : (got next : ListHead) (w v : List ℕ) → NeedsMore Truncated (list_head got) (list_head next) w v
+        → NeedsMore (wire Truncated) (list_head_from wire c one got) (list_head_from wire c one next) w v
     list-waits got next w v g = waits-inside (λ h. behind_head wire c one h.0 h.1) (waits-lift wire g)

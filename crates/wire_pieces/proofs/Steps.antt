@@ -26,7 +26,8 @@ module _ {X Y E : Type 0} (then : X → Result Y E) where
   pub comes-inside : {a b : List ℕ → Result X E} {p q : List ℕ} → Comes a b p q → Comes (λ w. a w >>= then) (λ w. b w >>= then) p q
   comes-inside f = record { same = λ rest. ap (λ r. r >>= then) (f.same rest) }
 
-  pub waits-inside : {short : E} {a b : List ℕ → Result X E} {p q : List ℕ} → NeedsMore short a b p q → NeedsMore short (λ w. a w >>= then) (λ w. b w >>= then) p q
+  pub waits-inside : {short : E} {a b : List ℕ → Result X E} {p q : List ℕ} → NeedsMore short a b p q
+      → NeedsMore short (λ w. a w >>= then) (λ w. b w >>= then) p q
   waits-inside f = record { comes = comes-inside f.comes; want = ap (λ r. r >>= then) f.want; spent = f.spent }
 
   pub refuses-inside : {short e : E} {a : List ℕ → Result X E} {p : List ℕ} → Refuses short a p e → Refuses short (λ w. a w >>= then) p e
@@ -37,16 +38,19 @@ module _ {X E : Type 0} (wire : WireError → E) where
   pub comes-lift : {a b : List ℕ → Result X WireError} {p q : List ℕ} → Comes a b p q → Comes (λ w. lift wire (a w)) (λ w. lift wire (b w)) p q
   comes-lift f = record { same = λ rest. ap (lift wire) (f.same rest) }
 
-  pub waits-lift : {a b : List ℕ → Result X WireError} {p q : List ℕ} → NeedsMore Truncated a b p q → NeedsMore (wire Truncated) (λ w. lift wire (a w)) (λ w. lift wire (b w)) p q
+  pub waits-lift : {a b : List ℕ → Result X WireError} {p q : List ℕ} → NeedsMore Truncated a b p q
+      → NeedsMore (wire Truncated) (λ w. lift wire (a w)) (λ w. lift wire (b w)) p q
   waits-lift f = record { comes = comes-lift f.comes; want = ap (lift wire) f.want; spent = f.spent }
 
-  pub refuses-lift : {e : WireError} {a : List ℕ → Result X WireError} {p : List ℕ} → (wire e ≡ wire Truncated → e ≡ Truncated) → Refuses Truncated a p e → Refuses (wire Truncated) (λ w. lift wire (a w)) p (wire e)
+  pub refuses-lift : {e : WireError} {a : List ℕ → Result X WireError} {p : List ℕ} → (wire e ≡ wire Truncated → e ≡ Truncated) → Refuses Truncated a p e
+      → Refuses (wire Truncated) (λ w. lift wire (a w)) p (wire e)
   refuses-lift one x = record { same = λ rest. ap (lift wire) (x.same rest); no_want = λ h. x.no_want (one h) }
 
 -- ---- calls
 
 module _ {A X : Type 0} (view : A → X) {a b : List ℕ → Result (X × List ℕ) WireError} {p q : List ℕ} where
-  pub comes-reaches : (c : List ℕ → Result (X × List ℕ) WireError) (r : List ℕ) (o : Option A) → Comes a b p q → Reaches Truncated view b c q r o → Reaches Truncated view a c p r o
+  pub comes-reaches : (c : List ℕ → Result (X × List ℕ) WireError) (r : List ℕ) (o : Option A) → Comes a b p q → Reaches Truncated view b c q r o
+      → Reaches Truncated view a c p r o
   comes-reaches c r (Some x) f g = comes-trans f g
   comes-reaches c r None f g = comes-waits f g
 
@@ -55,7 +59,8 @@ module _ {A X : Type 0} (view : A → X) (a b : List ℕ → Result (X × List �
   reaches-none None e g = g
   reaches-none (Some x) e g = absurd cc
 
-pub reaches-some : (a b : List ℕ → Result (Unit {0} × List ℕ) WireError) (p q : List ℕ) (o : Option (Unit {0})) → is_some o ≡ true → Reaches Truncated (λ x. x) a b p q o → Comes a (λ w. Ok (tt, w)) p q
+pub reaches-some : (a b : List ℕ → Result (Unit {0} × List ℕ) WireError) (p q : List ℕ) (o : Option (Unit {0})) → is_some o ≡ true
+    → Reaches Truncated (λ x. x) a b p q o → Comes a (λ w. Ok (tt, w)) p q
 reaches-some a b p q None e g = absurd cc
 reaches-some a b p q (Some x) e g = g
 
@@ -65,7 +70,8 @@ module _ {X : Type 0} where
   comes-refused a b p q Memory f g = tt
 
   -- a fault inside a larger reading
-  pub refused-inside : {Y : Type 0} (then : X → Result Y WireError) (a : List ℕ → Result X WireError) (p : List ℕ) (e : PieceError) → Refused a p e → Refused (λ w. a w >>= then) p e
+  pub refused-inside : {Y : Type 0} (then : X → Result Y WireError) (a : List ℕ → Result X WireError) (p : List ℕ) (e : PieceError) → Refused a p e
+      → Refused (λ w. a w >>= then) p e
   refused-inside then a p (Wire e) g = refuses-inside then g
   refused-inside then a p Memory g = tt
 

@@ -1,5 +1,6 @@
 -- Bytes that arrive in pieces, after a length.
-use Rattle.std.proofs.Common.{◌≡◌, ℕ, ◌≤◌, ◌<◌, ◌+◌, ◌-◌, min, Bool, true, false, ltb, List, [], ◌∷◌, ◌++◌, length, Ok, Err, refl, ap, ◌∙◌, arith, append_assoc, length-append, append-nil}
+use Rattle.std.proofs.Common.{◌≡◌, ℕ, ◌≤◌, ◌<◌, ◌+◌, ◌-◌, min, Bool, true, false, ltb, List, [], ◌∷◌, ◌++◌, length, Ok, Err, refl, ap, ◌∙◌, arith, append_assoc}
+use Rattle.std.proofs.Common.{length-append, append-nil}
 use Rattle.std.proofs.Math.Seq.{take-append-add, drop-append-add}
 use Rattle.std.proofs.lemmas.Bool.{lt-ltb}
 use Rattle.thrift_binary.specs.declared.fault.WireError.TheVariants.{Truncated}
@@ -32,7 +33,8 @@ bytes_end-part got beginning w k = by (ltb (length w) k) refl
     by false e = rw (test-part beginning w k, e, take-append-add, drop-append-add, append_assoc) refl
 
 -- while some bytes are still to come: after the prefix, f continues as g
-waits : {A : Type 0} (f g : ℕ → List ℕ → Read A) (beginning piece left : List ℕ) (n : ℕ) → ((w : List ℕ) (k : ℕ) → f (length beginning + k) (beginning ++ w) ≡ g k w) → ((k : ℕ) → ltb 0 k ≡ true → g k [] ≡ Err Truncated)
+waits : {A : Type 0} (f g : ℕ → List ℕ → Read A) (beginning piece left : List ℕ) (n : ℕ)
+    → ((w : List ℕ) (k : ℕ) → f (length beginning + k) (beginning ++ w) ≡ g k w) → ((k : ℕ) → ltb 0 k ≡ true → g k [] ≡ Err Truncated)
     → piece ≡ beginning ++ left → length beginning ≡ min n (length piece) → 0 < n - length beginning
     → NeedsMore Truncated (f n) (g (n - length beginning)) piece left
 waits f g beginning piece left n goes_on short parts size more =
@@ -40,23 +42,30 @@ waits f g beginning piece left n goes_on short parts size more =
     let none : length left ≡ 0 = omega arith in
     let k : n ≡ length beginning + (n - length beginning) = omega arith in
     record {
-      comes = record { same = λ rest. rw (parts, append_assoc) (ap (λ m. f m (beginning ++ (left ++ rest))) k ∙ goes_on (left ++ rest) (n - length beginning)) };
+      comes =
+          record { same = λ rest. rw (parts, append_assoc) (ap (λ m. f m (beginning ++ (left ++ rest))) k ∙ goes_on (left ++ rest) (n - length beginning)) };
       want = short (n - length beginning) (lt-ltb _ _ more);
       spent = nothing left none;
     }
 
-pub body-waits : (got new beginning piece left : List ℕ) (n : ℕ) → new ≡ got ++ beginning → piece ≡ beginning ++ left → length beginning ≡ min n (length piece) → 0 < n - length beginning
+pub body-waits : (got new beginning piece left : List ℕ) (n : ℕ) → new ≡ got ++ beginning → piece ≡ beginning ++ left → length beginning ≡ min n (length piece)
+    → 0 < n - length beginning
     → NeedsMore Truncated (bytes_end got n) (bytes_end new (n - length beginning)) piece left
 unfolding bytes_end
-body-waits got new beginning piece left n is parts size more = rw is (waits (bytes_end got) (bytes_end (got ++ beginning)) beginning piece left n (bytes_end-part got beginning) (λ k few. rw few refl) parts size more)
+body-waits got new beginning piece left n is parts size more =
+    rw is (waits (bytes_end got) (bytes_end (got ++ beginning)) beginning piece left n (bytes_end-part got beginning) (λ k few. rw few refl) parts size more)
 
 -- once all bytes have arrived
-pub body-whole : (got new beginning piece left : List ℕ) (n : ℕ) → new ≡ got ++ beginning → piece ≡ beginning ++ left → length beginning ≡ min n (length piece) → n - length beginning ≤ 0
+pub body-whole : (got new beginning piece left : List ℕ) (n : ℕ) → new ≡ got ++ beginning → piece ≡ beginning ++ left → length beginning ≡ min n (length piece)
+    → n - length beginning ≤ 0
     → Comes (bytes_end got n) (λ w. Ok (new, w)) piece left
 unfolding bytes_end
 body-whole got new beginning piece left n is parts size done =
     let k : n ≡ length beginning + 0 = omega arith in
-    record { same = λ rest. rw (parts, is, append_assoc) (ap (λ m. bytes_end got m (beginning ++ (left ++ rest))) k ∙ bytes_end-part got beginning (left ++ rest) 0 ∙ last (left ++ rest)) }
+    record {
+      same = λ rest. rw (parts, is, append_assoc)
+          (ap (λ m. bytes_end got m (beginning ++ (left ++ rest))) k ∙ bytes_end-part got beginning (left ++ rest) 0 ∙ last (left ++ rest));
+    }
   where
     last : (w : List ℕ) → bytes_end (got ++ beginning) 0 w ≡ Ok (got ++ beginning, w)
     last w = rw (lt-whole (length w), append-nil) refl
@@ -98,7 +107,8 @@ text-is w = by (size_at w)
     by (Err e) = refl
 
 -- all of the bytes after a length, at once
-pub string-at-once : (a : List ℕ → Read ℕ) (p v left beginning got : List ℕ) (n m : ℕ) → m ≡ n → Comes a (λ w. Ok (n, w)) p v → v ≡ beginning ++ left → length beginning ≡ m → got ≡ beginning
+pub string-at-once : (a : List ℕ → Read ℕ) (p v left beginning got : List ℕ) (n m : ℕ) → m ≡ n → Comes a (λ w. Ok (n, w)) p v → v ≡ beginning ++ left
+    → length beginning ≡ m → got ≡ beginning
     → Comes (λ w. a w >>= λ x. bytes_end [] x.0 x.1) (λ w. Ok (got, w)) p left
 string-at-once a p v left beginning got n m same g parts size is =
     comes-trans (comes-inside (λ x. bytes_end [] x.0 x.1) g)

@@ -1,12 +1,17 @@
-//! Tests of the wire format and of the values of a trace: examples for `thrift_binary`, `jaeger_model` and
-//! `batch_codec`, whose expected values come from the protocol's description and from Apache Thrift.
+//! Tests of the wire format and of the values of a trace: examples for `thrift_binary`, `jaeger_model`,
+//! `batch_codec` and `batch_feeder`, whose expected values come from the protocol's description and from Apache Thrift.
 //! What `get` and `pipe` print for batches, each fault included, is in `cases/`.
 //!
 //! * `thrift_values`: single values of the protocol, read, written and skipped.
 //! * `trace_values`: ids, tags, texts and lists, and the form of a batch in the store.
-//! * `batch_bytes`: encoding batches, and running out of memory. `piece_tests` tests sizes that claim too much.
+//! * `batch_bytes`: encoding batches, and running out of memory. `piece_faults` tests sizes that claim too much.
 //! * `apache`: the numbers of batches as Apache Thrift encodes them.
 //! * `large`: a body of more than two megabytes.
+//! * `piece_cuts`: batches whose bytes arrive in pieces: the same bytes cut at each place, short ones at any two,
+//!   and each byte alone; a large batch in odd pieces.
+//! * `piece_faults`: the places of faults in pieces, prefixes, sizes that claim too much, levels of skipped
+//!   containers, and running out of memory. Each is compared with decoding.
+//! * `piece_samples`: the bytes.
 #![tactic(auto)]
 
 #[cfg(test)]

@@ -3,5 +3,8 @@
 mod apache;
 mod batch_bytes;
 mod large;
+mod piece_cuts;
+mod piece_faults;
+mod piece_samples;
 mod thrift_values;
 mod trace_values;

@@ -1,7 +1,7 @@
 //! Devices that fail.
 use crate::tests::host::Host;
 use crate::tests::runs::{HEAD, SPAN, TAIL};
-use program_run::run;
+use commands::run;
 use session_devices::{Input, MemoryInput, Watched};
 use std::alloc::Global;
 use std::io;

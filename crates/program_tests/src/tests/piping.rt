@@ -1,7 +1,7 @@
 //! `pipe`.
 use crate::tests::host::Host;
 use crate::tests::runs::{HEAD, LONGER, NUMBERED, TAIL};
-use program_run::run;
+use commands::run;
 use session_devices::{MemoryInput, MemoryOutput};
 use std::alloc::Global;
 use std::net::{Net, TcpListener, TcpStream};

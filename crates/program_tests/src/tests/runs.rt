@@ -1,6 +1,6 @@
 //! Runs of the program over memory.
 use crate::tests::host::Host;
-use program_run::run;
+use commands::run;
 use session_devices::Watched;
 use std::alloc::Global;
 use std::net::{Net, TcpListener, TcpStream};

@@ -1,6 +1,6 @@
 //! The lines about a store that are printed for the operator.
 
-use notice_lines::{Counted, FailureLine, FullnessLine, HeldText, TooLargeLine, level_of};
+use serve_options::{Counted, FailureLine, FullnessLine, HeldText, TooLargeLine, level_of};
 use std::test::*;
 use trace_model::Refusal;
 

@@ -3,11 +3,9 @@
 ghost use Rattle.std.specs.Prelude.{◌≡◌};
 
 use crate::tests::requests::{CUT, DELETE, NOWHERE, UNTYPED, joined};
-use direct_store::Direct;
 use http_session::session;
-use intake::{Books, Clerk, Desk, desk};
-use live_store::Live;
-use pipe_session::pipe;
+use intake::{Books, Clerk, Desk, Live, desk};
+use pipe_session::{Direct, pipe};
 use read_side::{EmptyHistory, Keeper, StoreName, open};
 use session_devices::{MemoryInput, MemoryOutput};
 use span_store::SpanStore;

@@ -1,7 +1,6 @@
 use batch_codec::decode;
-use direct_store::Direct;
 use http_session::{Ended, SessionError, SessionErrorKind};
-use pipe_session::pipe;
+use pipe_session::{Direct, pipe};
 use session_devices::{MemoryInput, MemoryOutput, Output};
 use span_store::SpanStore;
 use std::alloc::Global;

@@ -6,7 +6,7 @@ use std::alloc::Global;
 use std::hash::RandomState;
 use std::test::*;
 use std::time::Duration;
-use store_backend::Backend;
+use trace_model::Backend;
 
 /// A client that sends everything at once. It takes a few bytes at a time, and none every second time. After its last
 /// bytes the connection fails.

@@ -1,7 +1,7 @@
 use crate::tests::entries::entry;
 use crate::tests::replays::replayed;
 use crate::tests::sameness::same_answer;
-use id_table::IdTable;
+use hash_tables::IdTable;
 use jaeger_model::{Text, TraceId};
 use span_store::SpanStore;
 use std::alloc::{AllocError, Global};

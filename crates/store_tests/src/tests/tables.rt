@@ -1,4 +1,4 @@
-use id_table::{Entered, IdTable};
+use hash_tables::{Entered, IdTable};
 use jaeger_model::TraceId;
 use std::hash::RandomState;
 use std::test::*;

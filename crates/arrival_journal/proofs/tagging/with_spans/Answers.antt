@@ -9,9 +9,13 @@ use Rattle.arrival_journal.proofs.tagging.with_spans.Goals as goal
 pub loop-span-preserved : goal.loop-span-preserved
 loop-span-preserved c =
     let s = c.span-item.result in
-    c.with_logs-bits.ensures ∙ (λ i. fold with_tag ((c.with_tags.ensures ∙ (λ j. fold with_tag (c.loop-span.invariant j) (c.as_slice.ensures j))) i) (fields_of (c.as_slice-in-loop-span.ensures i)))
+    c.with_logs-bits.ensures ∙ (λ i.
+    fold with_tag ((c.with_tags.ensures ∙ (λ j. fold with_tag (c.loop-span.invariant j) (c.as_slice.ensures j))) i)
+    (fields_of (c.as_slice-in-loop-span.ensures i)))
     ∙ sym (fold-append with_tag (fold with_tag c.args.before (flat_map own_tags (take c.loop-span.span-index c.args.spans.now))) s.tags (fields_of s.logs))
     ∙ tags_more own_tags c.args.before c.args.spans.now c.loop-span.span-index s c.loop-span-test.true c.span-item.is
 
 pub returns : goal.returns
-returns c = c.loop-span.invariant ∙ ap (λ ss. fold with_tag c.args.before (flat_map own_tags ss)) (take_all c.loop-span.span-index c.args.spans.now c.loop-span-test.false)
+returns c =
+    c.loop-span.invariant ∙ ap (λ ss. fold with_tag c.args.before (flat_map own_tags ss))
+    (take_all c.loop-span.span-index c.args.spans.now c.loop-span-test.false)

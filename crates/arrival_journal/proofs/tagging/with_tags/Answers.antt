@@ -7,7 +7,8 @@ use Rattle.arrival_journal.proofs.tagging.with_tags.Goals as goal
 
 pub loop-tag-preserved : goal.loop-tag-preserved
 loop-tag-preserved c =
-    (λ i. bit_or (c.loop-tag.invariant i) (c.bit_of-bits.ensures i)) ∙ tag_more c.args.before c.args.tags.now c.loop-tag.tag-index c.tag-item.result c.loop-tag-test.true c.tag-item.is
+    (λ i. bit_or (c.loop-tag.invariant i) (c.bit_of-bits.ensures i))
+    ∙ tag_more c.args.before c.args.tags.now c.loop-tag.tag-index c.tag-item.result c.loop-tag-test.true c.tag-item.is
 
 pub returns : goal.returns
 returns c = c.loop-tag.invariant ∙ ap (fold with_tag c.args.before) (take_all c.loop-tag.tag-index c.args.tags.now c.loop-tag-test.false)

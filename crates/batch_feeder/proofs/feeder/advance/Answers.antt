@@ -8,15 +8,25 @@ pub returns-in-Err : goal.returns-in-Err
 returns-in-Err c = rw (← c.new-left.ensures.bytes) (reading-faults _ _ _ c.in-Reading.is c.requires _ _ c.in-Err.ensures.continues)
 
 pub returns-in-Ok-false : goal.returns-in-Ok-false
-returns-in-Ok-false c = rw (← c.new-left.ensures.bytes) (reading-waits _ _ _ c.in-Reading.is _ _ _ _ (rw c.in-Ok-false.field-0-test at c.in-Ok-false.ensures.continues))
+returns-in-Ok-false c =
+    rw (← c.new-left.ensures.bytes) (reading-waits _ _ _ c.in-Reading.is _ _ _ _ (rw c.in-Ok-false.field-0-test at c.in-Ok-false.ensures.continues))
 
 pub returns-in_err-batch-in-Reading : goal.returns-in_err-batch-in-Reading
 returns-in_err-batch-in-Reading c =
     let p = err_from_is_err_and c.from_residual.result c.from_residual.ensures.1 in
-    rw (p.1, p.2, ← c.new-left.ensures.bytes) (reading-faults _ _ _ c.in-Reading.is c.requires _ _ (arrived-faults _ _ _ _ _ (sym c.in_err-batch-in-Reading.ensures.value) (λ h. c.in_err-batch-in-Reading.ensures.no_want (c.in_err-batch-in-Reading.ensures.value ∙ h)) (rw c.in-Ok-true.field-0-test at c.in-Ok-true.ensures.continues)))
+    rw (p.1, p.2, ← c.new-left.ensures.bytes)
+    (reading-faults _ _ _ c.in-Reading.is c.requires _ _
+    (arrived-faults _ _ _ _ _ (sym c.in_err-batch-in-Reading.ensures.value)
+    (λ h. c.in_err-batch-in-Reading.ensures.no_want (c.in_err-batch-in-Reading.ensures.value ∙ h))
+    (rw c.in-Ok-true.field-0-test at c.in-Ok-true.ensures.continues)))
 
 pub returns-in_ok-batch-in-Reading : goal.returns-in_ok-batch-in-Reading
-returns-in_ok-batch-in-Reading c = rw (← c.new-left.ensures.bytes) (ends _ _ _ _ _ _ c.complete.ensures (reading-whole _ _ _ c.in-Reading.is _ _ _ (arrived-whole _ _ _ _ _ (sym c.in_ok-batch-in-Reading.ensures.value) (rw c.in-Ok-true.field-0-test at c.in-Ok-true.ensures.continues))) c.end_of.ensures)
+returns-in_ok-batch-in-Reading c =
+    rw (← c.new-left.ensures.bytes)
+    (ends _ _ _ _ _ _ c.complete.ensures
+    (reading-whole _ _ _ c.in-Reading.is _ _ _
+    (arrived-whole _ _ _ _ _ (sym c.in_ok-batch-in-Reading.ensures.value) (rw c.in-Ok-true.field-0-test at c.in-Ok-true.ensures.continues)))
+    c.end_of.ensures)
 
 pub returns-in-Whole : goal.returns-in-Whole
 returns-in-Whole c = rw (← c.new-left.ensures.bytes) (ends _ _ _ _ _ _ c.in-Whole.is (whole-comes _ _ _ c.in-Whole.is) c.end_of-in-Whole.ensures)

@@ -5,10 +5,20 @@ use Rattle.batch_feeder.proofs.feeder.advance_or_refuse.Goals as goal
 
 pub returns-in-Err : goal.returns-in-Err
 returns-in-Err c = record {
-  feeds = record { faults = c.in-Err.ensures.0; repeats = c.in-Err.ensures.2; stays = record { all = λ rest. refused-answers _ _ rest c.refuse.ensures; no_want = c.in-Err.ensures.1 } };
+  feeds =
+      record {
+        faults = c.in-Err.ensures.0;
+        repeats = c.in-Err.ensures.2;
+        stays = record { all = λ rest. refused-answers _ _ rest c.refuse.ensures; no_want = c.in-Err.ensures.1 };
+      };
   settled = refused-settled _ _ c.refuse.ensures c.in-Err.ensures.1;
   holds = holds-none _ 0 (λ some. absurd (omega (arith, some))) (omega arith);
 }
 
 pub returns-in-Ok : goal.returns-in-Ok
-returns-in-Ok c = record { feeds = c.in-Ok.ensures.0; settled = c.in-Ok.ensures.1; holds = holds-none _ _ c.wanted_between_fields.ensures.wants c.wanted_between_fields.ensures.one }
+returns-in-Ok c =
+    record {
+      feeds = c.in-Ok.ensures.0;
+      settled = c.in-Ok.ensures.1;
+      holds = holds-none _ _ c.wanted_between_fields.ensures.wants c.wanted_between_fields.ensures.one;
+    }

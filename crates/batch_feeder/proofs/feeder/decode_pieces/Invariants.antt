@@ -5,4 +5,5 @@ use Rattle.batch_feeder.specs.Answers.{answers}
 use Rattle.batch_feeder.proofs.feeder.decode_pieces.Given as goal
 
 abbrev pub invariant-loop-piece : goal.invariant-loop-piece
-invariant-loop-piece l = (w : List ℕ) → answers l.feeder (flat_map (λ p. p.items) (drop l.piece-index l.pieces) ++ w) ≡ decoded (flat_map (λ p. p.items) l.pieces ++ w)
+invariant-loop-piece l =
+    (w : List ℕ) → answers l.feeder (flat_map (λ p. p.items) (drop l.piece-index l.pieces) ++ w) ≡ decoded (flat_map (λ p. p.items) l.pieces ++ w)

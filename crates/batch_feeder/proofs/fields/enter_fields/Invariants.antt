@@ -5,7 +5,9 @@ use Rattle.batch_codec.specs.Decoding.{wire}
 use Rattle.batch_feeder.proofs.fields.enter_fields.Given as goal
 
 abbrev pub invariant-loop-error : goal.invariant-loop-error
-invariant-loop-error g l = Comes (fields_at wire g.S.PieceSlots.takes l.fn.slots) (fields_at wire g.S.PieceSlots.takes l.slots) l.fn.piece l.piece × (length l.piece ≤ length l.fn.piece)
+invariant-loop-error g l =
+    Comes (fields_at wire g.S.PieceSlots.takes l.fn.slots) (fields_at wire g.S.PieceSlots.takes l.slots) l.fn.piece l.piece
+    × (length l.piece ≤ length l.fn.piece)
 
 abbrev pub decreases-loop-error : goal.decreases-loop-error
 decreases-loop-error g l = length l.piece

@@ -6,13 +6,21 @@ use Rattle.batch_feeder.proofs.StructSteps.{head-is-fresh, head-typed, fresh-ste
 use Rattle.batch_feeder.proofs.fields.more_fields.Goals as goal
 
 pub read_on-requires : goal.read_on-requires
-read_on-requires g c = rw c.in-Head.is at (head-is-fresh g.S.PieceSlots.takes g.S.PieceSlots.resumes g.met.S.PieceSlots.safe c.args.step.now _ c.in-Head.is (c.is_first.ensures.first c.if-is_first.true))
+read_on-requires g c =
+    rw c.in-Head.is at (head-is-fresh g.S.PieceSlots.takes g.S.PieceSlots.resumes g.met.S.PieceSlots.safe c.args.step.now _ c.in-Head.is
+    (c.is_first.ensures.first c.if-is_first.true))
 
 pub returns-then-is_first-clause-continues : goal.returns-then-is_first-clause-continues
-returns-then-is_first-clause-continues g c = continues-to-after _ _ _ _ _ _ _ c.read_on.result (fresh-step g.S.PieceSlots.takes g.S.PieceSlots.resumes _ c.args.step.now _ (head-is-fresh g.S.PieceSlots.takes g.S.PieceSlots.resumes g.met.S.PieceSlots.safe c.args.step.now _ c.in-Head.is (c.is_first.ensures.first c.if-is_first.true))) c.read_on.ensures.continues
+returns-then-is_first-clause-continues g c =
+    continues-to-after _ _ _ _ _ _ _ c.read_on.result
+    (fresh-step g.S.PieceSlots.takes g.S.PieceSlots.resumes _ c.args.step.now _
+    (head-is-fresh g.S.PieceSlots.takes g.S.PieceSlots.resumes g.met.S.PieceSlots.safe c.args.step.now _ c.in-Head.is
+    (c.is_first.ensures.first c.if-is_first.true))) c.read_on.ensures.continues
 
 pub returns-in-Ok-Some-Some-clause-continues : goal.returns-in-Ok-Some-Some-clause-continues
 returns-in-Ok-Some-Some-clause-continues g c =
     let f : SFits w16 c.in-Ok-Some-Some.id = search rules in
     let continues = simp to_z-of_z at c.hold_field.ensures.continues in
-    continues-to-after _ _ _ _ _ _ _ _ (head-typed g.S.PieceSlots.takes g.S.PieceSlots.resumes _ _ _ _ _ _ _ c.in-Head.is (rw (c.in-Ok-Some-Some.field-0-is, c.in-Ok-Some-Some.field-0-0-is) at c.in-Ok-Some-Some.ensures.reads) (record { same = λ rest. refl })) continues
+    continues-to-after _ _ _ _ _ _ _ _
+    (head-typed g.S.PieceSlots.takes g.S.PieceSlots.resumes _ _ _ _ _ _ _ c.in-Head.is
+    (rw (c.in-Ok-Some-Some.field-0-is, c.in-Ok-Some-Some.field-0-0-is) at c.in-Ok-Some-Some.ensures.reads) (record { same = λ rest. refl })) continues

@@ -17,10 +17,13 @@ loop-span-preserved c = λ q.
       | in-Some+in_ok-insert w ↦
           let first = sym w.in-Some.is ∙ c.in_ok-before.ensures.old in
           ap (λ m. option_map service_seen (get nat_cmp m q)) w.first-is
-          ∙ ap (option_map service_seen) (put_back q id had (get nat_cmp c.insert.new.self q) (get nat_cmp w.insert-in-Some.new.self q) _ w.in-Some.before (c.in_ok-before.ensures.updates.0 q) (w.in_ok-insert.ensures.updates.0 q) first)
+          ∙ ap (option_map service_seen)
+          (put_back q id had (get nat_cmp c.insert.new.self q) (get nat_cmp w.insert-in-Some.new.self q) _ w.in-Some.before
+          (c.in_ok-before.ensures.updates.0 q) (w.in_ok-insert.ensures.updates.0 q) first)
           ∙ services_kept q id had xs i c.span-item.result (search rules) c.span-item.is c.span_id-id.ensures c.loop-span.invariant (ap is_some (sym first))
       | in_default w ↦
           ap (λ m. option_map service_seen (get nat_cmp m q)) w.first-is
-          ∙ services_entered q id had (get nat_cmp c.insert.new.self q) _ xs i c.span-item.result (search rules) c.span-item.is c.span_id-id.ensures c.loop-span.invariant
+          ∙ services_entered q id had (get nat_cmp c.insert.new.self q) _ xs i c.span-item.result (search rules)
+          c.span-item.is c.span_id-id.ensures c.loop-span.invariant
           (ap is_some (sym c.in_ok-before.ensures.old ∙ w.in_default.is)) (c.in_ok-before.ensures.updates.0 q) (search rules)
     ]

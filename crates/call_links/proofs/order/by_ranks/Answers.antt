@@ -23,4 +23,5 @@ loop-numbers-preserved c =
 pub returns : goal.returns
 returns c =
     let all : map (λ x. x) c.loop-numbers.yielded ≡ c.args.tallies.entries = search (rules, iter_end) in
-    c.loop-numbers.invariant ∙ ap (λ es. ranked (λ n. unwrap_or (get nat_cmp c.args.ranks.now n) 0) (tallies_seen es)) (sym (map-id c.loop-numbers.yielded) ∙ all)
+    c.loop-numbers.invariant ∙ ap (λ es. ranked (λ n. unwrap_or (get nat_cmp c.args.ranks.now n) 0) (tallies_seen es))
+    (sym (map-id c.loop-numbers.yielded) ∙ all)

@@ -9,4 +9,5 @@ use Rattle.call_links.proofs.order.linked.Goals as goal
 pub returns : goal.returns
 returns c =
     let all : map (λ x. x) c.loop-tally.yielded ≡ c.args.ordered.entries = search (rules, iter_end) in
-    c.loop-tally.invariant ∙ ap (map (λ e. link_of (tally_seen e).1)) (sym (map-id c.loop-tally.yielded) ∙ all) ∙ sym (map-map (λ e. link_of e.1) tally_seen c.args.ordered.entries)
+    c.loop-tally.invariant ∙ ap (map (λ e. link_of (tally_seen e).1)) (sym (map-id c.loop-tally.yielded) ∙ all)
+    ∙ sym (map-map (λ e. link_of e.1) tally_seen c.args.ordered.entries)

@@ -13,7 +13,8 @@ loop-rank-preserved c = λ n.
     elim c.if-not-contains_key.branch [
       | then-not-contains_key+in_ok-insert w ↦
           ap (λ m. get nat_cmp m n) w.ranks-is
-          ∙ rank_entered n had (get nat_cmp w.insert.new.self n) ks i _ (search rules) (search rules) c.loop-rank.invariant (sym c.contains_key.ensures ∙ w.if-not-contains_key.true) (w.in_ok-insert.ensures.updates.0 n)
+          ∙ rank_entered n had (get nat_cmp w.insert.new.self n) ks i _ (search rules) (search rules) c.loop-rank.invariant
+          (sym c.contains_key.ensures ∙ w.if-not-contains_key.true) (w.in_ok-insert.ensures.updates.0 n)
       | else-not-contains_key w ↦
           ap (λ m. get nat_cmp m n) w.ranks-is
           ∙ rank_kept n had ks i _ (search rules) refl c.loop-rank.invariant (sym c.contains_key.ensures ∙ w.if-not-contains_key.false)

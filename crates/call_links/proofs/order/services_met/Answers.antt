@@ -22,7 +22,8 @@ loop-numbers-preserved c =
     ap (map service_entry) c.in_ok-insert-2.ensures.entries
     ∙ service_put c.insert.new.self.entries numbers.1 c.again-in-loop-numbers.result
     ∙ (λ i. insert_entry nat_cmp (first i) numbers.1 (text_in (c.again-in-loop-numbers.ensures i).span))
-    ∙ sym (ap (λ es. services_met (tallies_seen es)) (map_push deref_pair c.loop-numbers.yielded _) ∙ ap services_met (map_push tally_seen done _) ∙ fold_push with_services [] (tallies_seen done) _)
+    ∙ sym (ap (λ es. services_met (tallies_seen es)) (map_push deref_pair c.loop-numbers.yielded _) ∙ ap services_met (map_push tally_seen done _)
+    ∙ fold_push with_services [] (tallies_seen done) _)
 
 pub returns : goal.returns
 returns c =

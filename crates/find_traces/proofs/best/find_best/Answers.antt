@@ -12,4 +12,5 @@ judge_popped-requires g c = λ κs h.
 
 pub returns-clause-places : goal.returns-clause-places
 returns-clause-places g c =
-    subst (λ (l : List ℕ). IfOk c.judge_popped.result (λ v. v.items ≡ l)) (ranking_found (g.T.Searched.query c.args.traces.now) (g.T.Searched.traces c.args.traces.now)) c.judge_popped.ensures.places
+    subst (λ (l : List ℕ). IfOk c.judge_popped.result (λ v. v.items ≡ l))
+    (ranking_found (g.T.Searched.query c.args.traces.now) (g.T.Searched.traces c.args.traces.now)) c.judge_popped.ensures.places

@@ -19,7 +19,9 @@ loop-key-init g c =
       all = refl;
       heap = c.requires.1.1.1;
       leaves = leaves_all best_total best_exact g.ranking (heap_items c.args.keys) c.requires.1.0 c.requires.1.1.0;
-      found = c.new-places.ensures.items ∙ sym (answer_none (key_judged (g.T.Searched.query c.args.traces.now) ts) key_place (g.T.Searched.query c.args.traces.now).limit);
+      found =
+          c.new-places.ensures.items ∙ sym
+          (answer_none (key_judged (g.T.Searched.query c.args.traces.now) ts) key_place (g.T.Searched.query c.args.traces.now).limit);
       same_traces = refl;
       same_query = refl;
     }
@@ -31,10 +33,13 @@ loop-key-preserved-in-Continue-branch-2 g c =
     let i = c.loop-key.invariant in
     let h = c.in-Some.ensures in
     let x : Key = c.in-Some.key in
-    let next : Next best_cmp i.rest (heap_items c.pop.new.self) x = popped best_total best_exact i.rest (heap_items c.loop-key.keys) (heap_items c.pop.new.self) x i.leaves h.permutation (h.below_top i.heap) in
+    let next : Next best_cmp i.rest (heap_items c.pop.new.self) x =
+    popped best_total best_exact i.rest (heap_items c.loop-key.keys) (heap_items c.pop.new.self) x i.leaves h.permutation (h.below_top i.heap) in
     let found : c.loop-key.places.items ≡ answer p key_place limit i.before = i.found in
     let count : length (answer p key_place limit i.before) ≡ c.len.result = sym (ap length found) ∙ (let l = c.len.ensures in omega arith) in
-    let room : is_full limit (length (answer p key_place limit i.before)) ≡ false = ap (is_full limit) count ∙ ap (λ l. is_full l c.len.result) (sym (c.limit.ensures ∙ ap (λ (f : Find). f.limit) i.same_query)) ∙ sym c.is_full.ensures ∙ c.if-is_full.false in
+    let room : is_full limit (length (answer p key_place limit i.before)) ≡ false =
+    ap (is_full limit) count ∙ ap (λ l. is_full l c.len.result) (sym (c.limit.ensures ∙ ap (λ (f : Find). f.limit) i.same_query)) ∙ sym c.is_full.ensures
+    ∙ c.if-is_full.false in
     let judged : c.in_ok-is_found_at.field-0 ≡ p x = c.in_ok-is_found_at.ensures.found ∙ (λ j. found_at (i.same_query j) (i.same_traces j) x.place) in
     record {
       before = i.before ++ x ∷ [];
@@ -42,7 +47,8 @@ loop-key-preserved-in-Continue-branch-2 g c =
       all = i.all ∙ ap (λ l. i.before ++ l) next.is ∙ sym (append_assoc i.before (x ∷ []) next.after);
       heap = (h.heap_order i.heap).0;
       leaves = next.leaves;
-      found = c.in_ok-push.ensures.items ∙ ap (λ l. l ++ x.place ∷ []) found ∙ sym (answer_hit p key_place limit i.before x (sym judged ∙ c.if-branch.true) room);
+      found =
+          c.in_ok-push.ensures.items ∙ ap (λ l. l ++ x.place ∷ []) found ∙ sym (answer_hit p key_place limit i.before x (sym judged ∙ c.if-branch.true) room);
       same_traces = c.in_ok-is_found_at.ensures.same_traces ∙ i.same_traces;
       same_query = c.in_ok-is_found_at.ensures.same_query ∙ i.same_query;
     }
@@ -53,7 +59,8 @@ loop-key-preserved g c =
     let i = c.loop-key.invariant in
     let h = c.in-Some.ensures in
     let x : Key = c.in-Some.key in
-    let next : Next best_cmp i.rest (heap_items c.pop.new.self) x = popped best_total best_exact i.rest (heap_items c.loop-key.keys) (heap_items c.pop.new.self) x i.leaves h.permutation (h.below_top i.heap) in
+    let next : Next best_cmp i.rest (heap_items c.pop.new.self) x =
+    popped best_total best_exact i.rest (heap_items c.loop-key.keys) (heap_items c.pop.new.self) x i.leaves h.permutation (h.below_top i.heap) in
     let judged : c.in_ok-is_found_at.field-0 ≡ p x = c.in_ok-is_found_at.ensures.found ∙ (λ j. found_at (i.same_query j) (i.same_traces j) x.place) in
     record {
       before = i.before ++ x ∷ [];
@@ -77,10 +84,13 @@ returns-clause-places g c =
     elim c.match-pop.branch [
       | in-Some+then-is_full w ↦
           let count : length (answer p key_place limit i.before) ≡ w.len.result = sym (ap length found) ∙ (let l = w.len.ensures in omega arith) in
-          let full : is_full limit (length (answer p key_place limit i.before)) ≡ true = ap (is_full limit) count ∙ ap (λ l. is_full l w.len.result) (sym (w.limit.ensures ∙ ap (λ (f : Find). f.limit) i.same_query)) ∙ sym w.is_full.ensures ∙ w.if-is_full.true in
+          let full : is_full limit (length (answer p key_place limit i.before)) ≡ true =
+          ap (is_full limit) count ∙ ap (λ l. is_full l w.len.result) (sym (w.limit.ensures ∙ ap (λ (f : Find). f.limit) i.same_query))
+          ∙ sym w.is_full.ensures ∙ w.if-is_full.true in
           found ∙ sym (answer_full p key_place limit i.before i.rest full) ∙ whole
       | in_default w ↦
           let empty : length (heap_items c.loop-key.keys) ≡ 0 = search rules in
-          let none : i.rest ≡ [] = leaves_nothing best_total best_exact i.rest (heap_items c.loop-key.keys) (nil_from_length (heap_items c.loop-key.keys) empty) i.leaves in
+          let none : i.rest ≡ [] = leaves_nothing best_total best_exact i.rest (heap_items c.loop-key.keys) (nil_from_length (heap_items c.loop-key.keys) empty)
+          i.leaves in
           found ∙ ap (answer p key_place limit) (sym (append-nil i.before) ∙ ap (λ l. i.before ++ l) (sym none)) ∙ whole
     ]

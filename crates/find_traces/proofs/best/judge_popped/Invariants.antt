@@ -13,7 +13,8 @@ invariant-loop-key g l = record {
   all : g.ranking ≡ before ++ rest;
   heap : IsHeap key_cmp (heap_items l.keys);
   leaves : Leaves best_cmp rest (heap_items l.keys);
-  found : l.places.items ≡ answer (key_judged (g.T.Searched.query l.fn.traces) (g.T.Searched.traces l.fn.traces)) key_place (g.T.Searched.query l.fn.traces).limit before;
+  found : l.places.items ≡ answer (key_judged (g.T.Searched.query l.fn.traces) (g.T.Searched.traces l.fn.traces)) key_place
+      (g.T.Searched.query l.fn.traces).limit before;
   same_traces : g.T.Searched.traces l.traces ≡ g.T.Searched.traces l.fn.traces;
   same_query : g.T.Searched.query l.traces ≡ g.T.Searched.query l.fn.traces;
 }

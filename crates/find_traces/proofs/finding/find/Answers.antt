@@ -11,10 +11,12 @@ pub returns-then-limit-eq0-clause-traces : goal.returns-then-limit-eq0-clause-tr
 returns-then-limit-eq0-clause-traces g c =
     let q : Find = (g.T.Searched.query c.args.traces.now) in
     let ts : List (List Placed) = g.T.Searched.traces c.args.traces.now in
-    IfOk-weaker c.find_all.result (λ v. v.items ≡ places_found q ts) (λ v. map (trace_at ts) v.items ≡ found_in q ts) (λ v e. ap (map (trace_at ts)) e ∙ traces_found q ts) c.find_all.ensures.places
+    IfOk-weaker c.find_all.result (λ v. v.items ≡ places_found q ts) (λ v. map (trace_at ts) v.items ≡ found_in q ts)
+    (λ v e. ap (map (trace_at ts)) e ∙ traces_found q ts) c.find_all.ensures.places
 
 pub returns-clause-traces : goal.returns-clause-traces
 returns-clause-traces g c =
     let q : Find = (g.T.Searched.query c.args.traces.now) in
     let ts : List (List Placed) = g.T.Searched.traces c.args.traces.now in
-    IfOk-weaker c.find_best.result (λ v. v.items ≡ places_found q ts) (λ v. map (trace_at ts) v.items ≡ found_in q ts) (λ v e. ap (map (trace_at ts)) e ∙ traces_found q ts) c.find_best.ensures.places
+    IfOk-weaker c.find_best.result (λ v. v.items ≡ places_found q ts) (λ v. map (trace_at ts) v.items ≡ found_in q ts)
+    (λ v e. ap (map (trace_at ts)) e ∙ traces_found q ts) c.find_best.ensures.places

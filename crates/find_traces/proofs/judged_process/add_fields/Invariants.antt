@@ -4,4 +4,6 @@ use Rattle.find_traces.proofs.Wanting.{fields_of}
 use Rattle.find_traces.proofs.judged_process.add_fields.Given as goal
 
 abbrev pub invariant-loop-log : goal.invariant-loop-log
-invariant-loop-log l = (a : List ℕ × List ℕ) → is_in l.pairs.keys a ≡ (is_in l.fn.pairs.keys a || (wants l.prepared l.others.keys a && has_pair (fields_of (take l.log-index l.logs)) a))
+invariant-loop-log l =
+    (a : List ℕ × List ℕ) → is_in l.pairs.keys a
+    ≡ (is_in l.fn.pairs.keys a || (wants l.prepared l.others.keys a && has_pair (fields_of (take l.log-index l.logs)) a))

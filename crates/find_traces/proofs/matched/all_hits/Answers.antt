@@ -15,7 +15,8 @@ loop-place-preserved g c =
     let kept = c.loop-place.invariant in
     let same_traces = c.in_ok-is_found_at.ensures.same_traces ∙ kept.same_traces in
     let below : k < length ts = omega arith in
-    let judged : c.in_ok-is_found_at.field-0 ≡ found_at q ts k = c.in_ok-is_found_at.ensures.found ∙ (λ i. found_at (kept.same_query i) (kept.same_traces i) k) in
+    let judged : c.in_ok-is_found_at.field-0 ≡ found_at q ts k =
+    c.in_ok-is_found_at.ensures.found ∙ (λ i. found_at (kept.same_query i) (kept.same_traces i) k) in
     record {
       found = elim c.if-branch.branch [
         | then-branch+in_ok-push w ↦

@@ -15,7 +15,10 @@ pub returns-clause-places : goal.returns-clause-places
 returns-clause-places g c =
     let q : Find = (g.T.Searched.query c.args.traces.now) in
     let ts : List (List Placed) = g.T.Searched.traces c.args.traces.now in
-    let moved : IsPermutation (map reverse_key_of (hits q ts)) c.sort_unstable.new.self.items = subst (λ (l : List (Reverse Key)). IsPermutation l c.sort_unstable.new.self.items) c.in_ok-found.ensures.found c.sort_unstable.ensures.permutation in
-    let sorted : c.deref.result.now ≡ map reverse_key_of (ranked_by_start start_of (hits q ts)) = c.deref.ensures.value ∙ sorted_hits q ts c.sort_unstable.new.self.items moved c.sort_unstable.ensures.sorted in
-    let whole : map reverse_key_of (ranked_by_start start_of (hits q ts)) ≡ cut q.limit (map reverse_key_of (ranked_by_start start_of (hits q ts))) = ap (λ n. cut n (map reverse_key_of (ranked_by_start start_of (hits q ts)))) (sym c.requires) in
+    let moved : IsPermutation (map reverse_key_of (hits q ts)) c.sort_unstable.new.self.items =
+    subst (λ (l : List (Reverse Key)). IsPermutation l c.sort_unstable.new.self.items) c.in_ok-found.ensures.found c.sort_unstable.ensures.permutation in
+    let sorted : c.deref.result.now ≡ map reverse_key_of (ranked_by_start start_of (hits q ts)) =
+    c.deref.ensures.value ∙ sorted_hits q ts c.sort_unstable.new.self.items moved c.sort_unstable.ensures.sorted in
+    let whole : map reverse_key_of (ranked_by_start start_of (hits q ts)) ≡ cut q.limit (map reverse_key_of (ranked_by_start start_of (hits q ts))) =
+    ap (λ n. cut n (map reverse_key_of (ranked_by_start start_of (hits q ts)))) (sym c.requires) in
     subst (λ (l : List ℕ). IfOk c.places_of.result (λ v. v.items ≡ l)) (ap (map reverse_key_place) (sorted ∙ whole) ∙ places_of_hits q ts) c.places_of.ensures

@@ -9,7 +9,8 @@ pub returns : goal.returns
 returns c =
     let w = c.requires in
     let e : w.prefix ≡ c.prefix_of-prefix.result.now = w.prefix_is ∙ sym c.prefix_of-prefix.ensures in
-    let pairs : c.new-fields.result ≡ pairs_of w.head = c.new-fields.ensures ∙ ap (λ l. map (header_bytes l) (take c.args.spans.headers c.args.headers.now)) (sym e) ∙ w.at.fields in
+    let pairs : c.new-fields.result ≡ pairs_of w.head =
+    c.new-fields.ensures ∙ ap (λ l. map (header_bytes l) (take c.args.spans.headers c.args.headers.now)) (sym e) ∙ w.at.fields in
     let method : c.method_of.result ≡ method_of w.head.method =
     c.method_of.ensures ∙ ap method_of (c.of.ensures ∙ ap (λ l. slice_range l c.args.spans.method.start c.args.spans.method.end) (sym e) ∙ w.at.method) in
     let batch : c.has_batch_type.result ≡ has_batch_type (pairs_of w.head) = c.has_batch_type.ensures ∙ ap has_batch_type pairs in

@@ -6,22 +6,29 @@ use Rattle.http_requests.proofs.PartByPart.{begins_body, more_body, malformed_bo
 use Rattle.http_requests.proofs.bodies.read_body.Goals as goal
 
 pub reads-init : goal.reads-init
-reads-init g c =
-    (begins_body g.S.Sink.takes (source_of g.R.Input.remaining g.R.Input.gives) g.met.S.Sink.takes_nothing _ _ _ _ _ c.new-reader.ensures.part, refl, c.new-reader.ensures.looked _)
+reads-init g c = (
+  begins_body g.S.Sink.takes (source_of g.R.Input.remaining g.R.Input.gives) g.met.S.Sink.takes_nothing _ _ _ _ _ c.new-reader.ensures.part,
+  refl,
+  c.new-reader.ensures.looked _,
+)
 
 pub returns-in-Malformed-clause-body : goal.returns-in-Malformed-clause-body
 returns-in-Malformed-clause-body g c =
-    malformed_body g.S.Sink.takes (source_of g.R.Input.remaining g.R.Input.gives) g.met.S.Sink.takes_joined _ _ _ _ _ _ _ c.take_from.new.sink _ _ c.take_from.new.self c.reads.invariant.0 c.in-Malformed.why c.in-Malformed.ensures.took
+    malformed_body g.S.Sink.takes (source_of g.R.Input.remaining g.R.Input.gives)
+    g.met.S.Sink.takes_joined _ _ _ _ _ _ _ c.take_from.new.sink _ _ c.take_from.new.self c.reads.invariant.0 c.in-Malformed.why c.in-Malformed.ensures.took
 
 pub returns-in-More-clause-body : goal.returns-in-More-clause-body
 returns-in-More-clause-body g c =
-    let part = more_body g.S.Sink.takes (source_of g.R.Input.remaining g.R.Input.gives) g.met.S.Sink.takes_joined _ _ _ _ _ _ _ _ _ _ _ c.reads.invariant.0 c.in-More.ensures.took in
+    let part = more_body g.S.Sink.takes (source_of g.R.Input.remaining g.R.Input.gives)
+    g.met.S.Sink.takes_joined _ _ _ _ _ _ _ _ _ _ _ c.reads.invariant.0 c.in-More.ensures.took in
     let at_end = part.reads.on.end c.requires.end (sym c.has_ended.ensures ∙ c.if-has_ended.true) in
-    ended_body g.S.Sink.takes (source_of g.R.Input.remaining g.R.Input.gives) _ _ c.reads.input _ _ c.take_from.new.received _ _ _ _ part c.in-More.ensures.leaves at_end
+    ended_body g.S.Sink.takes (source_of g.R.Input.remaining g.R.Input.gives)
+    _ _ c.reads.input _ _ c.take_from.new.received _ _ _ _ part c.in-More.ensures.leaves at_end
 
 pub reads-preserved : goal.reads-preserved
 reads-preserved g c =
-    let part = more_body g.S.Sink.takes (source_of g.R.Input.remaining g.R.Input.gives) g.met.S.Sink.takes_joined _ _ _ _ _ _ _ _ _ _ _ c.reads.invariant.0 c.in-More-2.ensures.took in
+    let part = more_body g.S.Sink.takes (source_of g.R.Input.remaining g.R.Input.gives)
+    g.met.S.Sink.takes_joined _ _ _ _ _ _ _ _ _ _ _ c.reads.invariant.0 c.in-More-2.ensures.took in
     let read = c.in_ok-read_more-in-More-2.ensures in (
       body_read_on g.S.Sink.takes (source_of g.R.Input.remaining g.R.Input.gives) _ _ _ _ _ _ _ _ _ _ part c.in-More-2.ensures.leaves read.ok read.read,
       read.same ∙ c.reads.invariant.1,
@@ -30,6 +37,8 @@ reads-preserved g c =
 
 pub returns-in_err-read_more-in-More-2-clause-err : goal.returns-in_err-read_more-in-More-2-clause-err
 returns-in_err-read_more-in-More-2-clause-err g c =
-    let part = more_body g.S.Sink.takes (source_of g.R.Input.remaining g.R.Input.gives) g.met.S.Sink.takes_joined _ _ _ _ _ _ _ _ _ _ _ c.reads.invariant.0 c.in-More-2.ensures.took in
+    let part = more_body g.S.Sink.takes (source_of g.R.Input.remaining g.R.Input.gives)
+    g.met.S.Sink.takes_joined _ _ _ _ _ _ _ _ _ _ _ c.reads.invariant.0 c.in-More-2.ensures.took in
     let p = err_from_is_err_and c.from_residual.result c.from_residual.ensures.1 in
-    rw (p.1, p.2) (body_stops_there g.S.Sink.takes (source_of g.R.Input.remaining g.R.Input.gives) _ _ _ _ _ c.take_from.new.received _ _ _ _ part c.in-More-2.ensures.leaves _ _ c.in_err-read_more-in-More-2.ensures.err)
+    rw (p.1, p.2) (body_stops_there g.S.Sink.takes (source_of g.R.Input.remaining g.R.Input.gives)
+    _ _ _ _ _ c.take_from.new.received _ _ _ _ part c.in-More-2.ensures.leaves _ _ c.in_err-read_more-in-More-2.ensures.err)

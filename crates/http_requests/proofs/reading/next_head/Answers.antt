@@ -9,8 +9,11 @@ use Rattle.http_requests.proofs.Wholes.{finds_head}
 use Rattle.http_requests.proofs.reading.next_head.Goals as goal
 
 pub reads-init : goal.reads-init
-reads-init g c =
-    (nothing_yet (source_of g.R.Input.remaining g.R.Input.gives) AwaitsHead _ _, refl, subst (λ (w : HeadWait). HasSeen w c.args.received.now.held) (sym c.new-wait.ensures) (omega arith, no_bytes_await))
+reads-init g c = (
+  nothing_yet (source_of g.R.Input.remaining g.R.Input.gives) AwaitsHead _ _,
+  refl,
+  subst (λ (w : HeadWait). HasSeen w c.args.received.now.held) (sym c.new-wait.ensures) (omega arith, no_bytes_await),
+)
 
 pub returns-in-Whole-clause-found : goal.returns-in-Whole-clause-found
 returns-in-Whole-clause-found g c =
@@ -22,7 +25,8 @@ reads-preserved g c =
     let read = c.in_ok-read_more-in-More.ensures.read in
     let awaits = c.in-More.ensures.found in
     let seen = c.in-More.ensures.seen in (
-      reads_more (source_of g.R.Input.remaining g.R.Input.gives) AwaitsHead _ _ _ _ _ _ _ so.0 c.as_slice.ensures awaits c.in_ok-read_more-in-More.ensures.ok read,
+      reads_more (source_of g.R.Input.remaining g.R.Input.gives)
+          AwaitsHead _ _ _ _ _ _ _ so.0 c.as_slice.ensures awaits c.in_ok-read_more-in-More.ensures.ok read,
       c.in_ok-read_more-in-More.ensures.same ∙ so.1,
       (
         subst (λ (n : ℕ). n ≤ length c.read_more.new.self.held) (sym seen) (fits_still _ _ _ read.0 c.as_slice.ensures read.2),

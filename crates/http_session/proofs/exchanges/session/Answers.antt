@@ -3,7 +3,8 @@ use Rattle.http_session.specs.Between.{store_of, devices_of, EndsBetween, FailsB
 use Rattle.http_session.proofs.exchanges.session.Goals as goal
 
 -- the connection began with the devices, and they are what it ended with
-carried : {R W : Type 0} {i0 j0 i1 j1 : R} {o0 p0 o1 p1 : W} (Held : R → R → W → W → Type 0) → i0 ≡ j0 → o0 ≡ p0 → i1 ≡ j1 → o1 ≡ p1 → Held i0 i1 o0 o1 → Held j0 j1 p0 p1
+carried : {R W : Type 0} {i0 j0 i1 j1 : R} {o0 p0 o1 p1 : W} (Held : R → R → W → W → Type 0) → i0 ≡ j0 → o0 ≡ p0 → i1 ≡ j1 → o1 ≡ p1 → Held i0 i1 o0 o1
+    → Held j0 j1 p0 p1
 carried {j0 = j0} {i1 = i1} {p0 = p0} {o1 = o1} Held input output input_left output_left held =
     subst₂ (λ i o. Held j0 i p0 o) input_left output_left (subst₂ (λ i o. Held i i1 o o1) input output held)
 

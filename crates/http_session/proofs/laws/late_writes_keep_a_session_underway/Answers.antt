@@ -6,4 +6,5 @@ use Rattle.http_session.proofs.laws.late_writes_keep_a_session_underway.Goals as
 pub returns : goal.returns
 returns g c =
     let line = line_of g.C.Input.remaining g.C.Input.gives g.C.Input.has_failed g.C.Output.contents g.C.Output.takes g.C.Output.has_failed in
-    outlasts_writes _ (promises_of g.met.B.Backend.submit_knows g.met.B.Backend.read_knows) line (two_way g.met.C.Connection.reads_leave g.met.C.Connection.writes_leave)
+    outlasts_writes _ (promises_of g.met.B.Backend.submit_knows g.met.B.Backend.read_knows) line
+    (two_way g.met.C.Connection.reads_leave g.met.C.Connection.writes_leave)

@@ -8,4 +8,5 @@ use Rattle.http_session.proofs.receiving.receive_body.Goals as goal
 pub returns-in-Whole-clause-incoming : goal.returns-in-Whole-clause-incoming
 returns-in-Whole-clause-incoming c = λ text incoming.
     let part = subst (λ (s : Stage). HasReceived s text) c.in-Body.is incoming in
-    receives_finished _ _ c.take_part.new.self (Body c.take_part.new.self) c.finish.new.stage c.finish.result refl c.finish.ensures.next (c.in-Whole.ensures.part text part) c.finish.ensures.finished
+    receives_finished _ _ c.take_part.new.self (Body c.take_part.new.self) c.finish.new.stage c.finish.result refl c.finish.ensures.next
+    (c.in-Whole.ensures.part text part) c.finish.ensures.finished

@@ -11,6 +11,8 @@ returns-in_ok-question-in-Whole-clause-incoming c =
     let n = c.in-Whole.length in
     let frames = rw c.as_slice.ensures at c.in-Whole.ensures.found in
     let asks = rw c.as_slice-in-Whole.ensures at c.in_ok-question-in-Whole.ensures.asks in
-    let part = begins_request old.held n c.in-Whole.request c.in-Whole.size c.in_ok-question-in-Whole.question c.new-partial.result frames asks c.new-partial.ensures.part c.new-partial.ensures.judged c.new-partial.ensures.closes in
+    let part = begins_request old.held n c.in-Whole.request c.in-Whole.size c.in_ok-question-in-Whole.question c.new-partial.result frames asks
+    c.new-partial.ensures.part c.new-partial.ensures.judged c.new-partial.ensures.closes in
     let incoming = subst (λ (s : Stage). HasReceived s (take n old.held)) (sym c.assign.ensures) part in
-    subst (λ (b : ReadBuffer). ReceivesOf b c.receive_body.new.received c.receive_body.new.stage c.receive_body.result) (cut_back old c.take.new.self n c.take.ensures) (c.receive_body.ensures.incoming (take n old.held) incoming)
+    subst (λ (b : ReadBuffer). ReceivesOf b c.receive_body.new.received c.receive_body.new.stage c.receive_body.result)
+    (cut_back old c.take.new.self n c.take.ensures) (c.receive_body.ensures.incoming (take n old.held) incoming)

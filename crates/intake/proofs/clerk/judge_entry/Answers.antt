@@ -4,7 +4,8 @@ use Rattle.intake.proofs.clerk.judge_entry.Goals as goal
 
 pub returns-in_default-clause-denied : goal.returns-in_default-clause-denied
 returns-in_default-clause-denied g c =
-    let away = turned-away g.N.StoreName.limits c.receipt.new.self c.args.entry c.refusal_without_receipt.result c.receipt.new.self c.refusal_without_receipt.ensures in
+    let away = turned-away g.N.StoreName.limits c.receipt.new.self c.args.entry c.refusal_without_receipt.result c.receipt.new.self
+    c.refusal_without_receipt.ensures in
     search (rules, away)
 
 pub returns-in-Err-clause-denied : goal.returns-in-Err-clause-denied

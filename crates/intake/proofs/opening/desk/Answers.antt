@@ -20,7 +20,8 @@ loop-number-preserved g c =
     let e = c.new-in-loop-number.ensures in
     let p = c.push_reserved.ensures in
     let size : ruled_capacity (arc_value c.in_ok-theirs.theirs).queue ≡ c.args.capacity = search rules in
-    let s = seated-on c.loop-number.end.table_id c.another-seat.new.pass.table_id c.another-seat.result.table_id _ c.args.capacity c.loop-number.number _ _ c.new-in-loop-number.result q.0.0 (search rules) size i.9 i.10 e.seat e.unused p.items in (
+    let s = seated-on c.loop-number.end.table_id c.another-seat.new.pass.table_id c.another-seat.result.table_id _ c.args.capacity c.loop-number.number _ _
+    c.new-in-loop-number.result q.0.0 (search rules) size i.9 i.10 e.seat e.unused p.items in (
       search rules,
       ap (λ z. z.takes) r.0 ∙ i.1,
       ap (λ z. z.submits) r.0 ∙ i.2,

@@ -4,7 +4,7 @@ use Rattle.std.proofs.lemmas.Int.{to_z-of_z}
 use Rattle.std.proofs.lemmas.List.{take_all, take_more, map_push}
 use Rattle.trace_assembly.specs.Rows.{spots_of}
 use Rattle.journal_traces.proofs.Spots.{no_id}
-use Rattle.first_starts.specs.Starting.{places_after}
+use Rattle.trace_ring.specs.Starting.{places_after}
 use Rattle.journal_traces.proofs.LateTraces.{placed, within}
 use Rattle.journal_traces.proofs.late_candidates.spots_after.Goals as goal
 
@@ -35,5 +35,7 @@ returns c = λ start are.
     let ids = c.args.assembly.now.newest.ids in
     let time : ℤ = to_z w64 (of_z w64 c.args.time) in
     let end : length c.deref-place-items.result.now ≤ c.loop-place.place-index = let h = c.loop-place-test.false in omega arith in
-    c.loop-place.invariant ∙ ap (map (λ p. f (get_or ids p no_id))) (take_all c.loop-place.place-index c.deref-place-items.result.now end ∙ c.deref-place-items.ensures.value ∙ c.in_ok-places.ensures ∙ ap (places_after time) are)
+    c.loop-place.invariant ∙ ap (map (λ p. f (get_or ids p no_id)))
+    (take_all c.loop-place.place-index c.deref-place-items.result.now end ∙ c.deref-place-items.ensures.value ∙ c.in_ok-places.ensures
+    ∙ ap (places_after time) are)
     ∙ placed f start time ids ∙ (λ i. map f (filter (λ t. int_lt (to_z-of_z w64 c.args.time c.ranges.time i) (start t)) ids))

@@ -41,6 +41,7 @@ returns-else-eq c = λ p before.
     let ss : List Span = c.in-Some.batch.now.spans in
     let looked = OnFalse_at c.if-is_skipped.false c.is_skipped.ensures.looked_at in
     let same : met (near q) o ss ≡ met_or_none (near q) (batch_at h c.args.place) = search rules in
-    let other : same_text q.service o.service ≡ false = ap (λ (f : Find). same_text f.service o.service) (sym c.query-query.ensures) ∙ sym c.eq.ensures ∙ c.if-eq.false in
+    let other : same_text q.service o.service ≡ false =
+    ap (λ (f : Find). same_text f.service o.service) (sym c.query-query.ensures) ∙ sym c.eq.ensures ∙ c.if-eq.false in
     before ∙ marked_none p c.args.ring.now.ids
     ∙ ap (λ (l : List Span). map (λ t. p t || reaches l t) c.args.ring.now.ids) (sym (of_another q o ss other) ∙ same ∙ sym looked)

@@ -25,12 +25,15 @@ loop-span-preserved c =
       | then-is_new_match w ↦
           let meeting : meets q o s ≡ true = news again (meets q o s) (sym c.is_new_match-is_new_match.ensures ∙ w.if-is_new_match.true) in
           record {
-            marks = λ p e. w.marks-is ∙ w.mark_trace.ensures (λ t. p t || reaches (met q o (take i ss)) t) (c.loop-span.invariant.marks p e) ∙ marked_more q o ss i s le is p r meeting;
+            marks =
+                λ p e. w.marks-is ∙ w.mark_trace.ensures (λ t. p t || reaches (met q o (take i ss)) t) (c.loop-span.invariant.marks p e)
+                ∙ marked_more q o ss i s le is p r meeting;
             before = λ t e. let own : Some s.trace ≡ Some t = sym w.before-is ∙ e in reached_own q o ss i s le is t meeting (cc own);
           }
       | else-is_new_match w ↦
           let there : meets q o s ≡ true → reaches (met q o (take i ss)) s.trace ≡ true =
-          λ m. c.loop-span.invariant.before s.trace (before_is c.loop-span.before s.trace (no_news again (meets q o s) (sym c.is_new_match-is_new_match.ensures ∙ w.if-is_new_match.false) m)) in
+          λ m. c.loop-span.invariant.before s.trace
+          (before_is c.loop-span.before s.trace (no_news again (meets q o s) (sym c.is_new_match-is_new_match.ensures ∙ w.if-is_new_match.false) m)) in
           record {
             marks = λ p e. w.marks-is ∙ c.loop-span.invariant.marks p e ∙ marked_again q o ss i s le is p r there;
             before = λ t e. reached_still q o ss i s le is t there (c.loop-span.invariant.before t (sym w.before-is ∙ e));
@@ -38,4 +41,6 @@ loop-span-preserved c =
     ]
 
 pub returns : goal.returns
-returns c = λ p e. c.loop-span.invariant.marks p e ∙ marked_all (near c.args.query.now) c.args.process.now p c.args.ring.now.ids c.args.spans.now c.loop-span.span-index c.loop-span-test.false
+returns c =
+    λ p e. c.loop-span.invariant.marks p e
+    ∙ marked_all (near c.args.query.now) c.args.process.now p c.args.ring.now.ids c.args.spans.now c.loop-span.span-index c.loop-span-test.false

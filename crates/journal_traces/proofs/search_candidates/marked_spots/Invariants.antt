@@ -5,4 +5,5 @@ use Rattle.trace_assembly.specs.Rows.{spots_of}
 use Rattle.journal_traces.proofs.search_candidates.marked_spots.Given as goal
 
 abbrev pub invariant-loop-place : goal.invariant-loop-place
-invariant-loop-place l = (p : TraceId → Bool) → l.marks ≡ map p l.assembly.newest.ids → l.spots.items ≡ map (spots_of l.assembly) (filter p (take l.place l.assembly.newest.ids))
+invariant-loop-place l =
+    (p : TraceId → Bool) → l.marks ≡ map p l.assembly.newest.ids → l.spots.items ≡ map (spots_of l.assembly) (filter p (take l.place l.assembly.newest.ids))

@@ -17,7 +17,8 @@ mark_entry-requires-clause-once c = c.len.ensures.once
 
 pub mark_entry-requires-clause-size : goal.mark_entry-requires-clause-size
 mark_entry-requires-clause-size c =
-    ap length (c.deref_mut.ensures.value ∙ c.loop-place.invariant.2) ∙ length-map c.ring-ring.result.now.ids (reaches (near_along c.new-filter.result c.args.journal.now.held.entries c.loop-place.invariant.0))
+    ap length (c.deref_mut.ensures.value ∙ c.loop-place.invariant.2)
+    ∙ length-map c.ring-ring.result.now.ids (reaches (near_along c.new-filter.result c.args.journal.now.held.entries c.loop-place.invariant.0))
 
 pub loop-place-preserved : goal.loop-place-preserved
 loop-place-preserved c =

@@ -3,4 +3,5 @@ use Rattle.journal_traces.specs.Picked.{reaches, near_along}
 use Rattle.journal_traces.proofs.search_candidates.marks_along.Given as goal
 
 abbrev pub invariant-loop-place : goal.invariant-loop-place
-invariant-loop-place l = (done : List ℕ) × (l.fn.places ≡ done ++ l.place-iterator) × (l.marks.items ≡ map (reaches (near_along l.filter l.journal.held.entries done)) l.ring.ids)
+invariant-loop-place l =
+    (done : List ℕ) × (l.fn.places ≡ done ++ l.place-iterator) × (l.marks.items ≡ map (reaches (near_along l.filter l.journal.held.entries done)) l.ring.ids)

@@ -19,7 +19,8 @@ returns-in_ok-push_spot-clause-taken c =
     let es = entries_seen mid.entries.items in
     let below : s.number < length (entries_in es) = below_got (entries_in es) s.number (arc_value c.in-Some.entry.now) c.in_ok-number.ensures.number in
     let short : s.number < length mid.entries.items = omega (arith, below, length-map es (λ (e : ServedEntry). e.0), length-map mid.entries.items entry_seen) in
-    pushed_known h mid c.push_spot.new.taken c.number_of.new.numbers c.in_ok-number.ensures.taken s c.push_spot.ensures.entries c.in_ok-push_spot.ensures.spots c.push_spot.ensures.starts short
+    pushed_known h mid c.push_spot.new.taken c.number_of.new.numbers c.in_ok-number.ensures.taken s c.push_spot.ensures.entries c.in_ok-push_spot.ensures.spots
+    c.push_spot.ensures.starts short
 
 pub returns-in_ok-push_spot-clause-traces : goal.returns-in_ok-push_spot-clause-traces
 returns-in_ok-push_spot-clause-traces c =
@@ -32,5 +33,6 @@ returns-in_ok-push_spot-clause-traces c =
     let there : Some e ≡ entry_at h c.args.spot.place = search (rules) in
     let at = placed_there h (entries_seen mid.entries.items) s c.args.spot e c.in_ok-number.ensures.number there refl in
     let adds : AddsSpan o (traces_reported mid) (traces_reported new) =
-    pushed_adds h mid new c.number_of.new.numbers c.in_ok-number.ensures.taken s o at c.push_spot.ensures.entries c.in_ok-push_spot.ensures.spots c.push_spot.ensures.starts in
+    pushed_adds h mid new c.number_of.new.numbers c.in_ok-number.ensures.taken s o at c.push_spot.ensures.entries c.in_ok-push_spot.ensures.spots
+    c.push_spot.ensures.starts in
     subst (λ (l : List (List Taken)). AddsSpan o l (traces_reported new)) c.in_ok-number.ensures.traces adds

@@ -15,7 +15,9 @@ loop-spot-init c =
     let begun = begun_traces h old now c.args.numbers.now c.requires.taken c.begin.ensures.entries c.begin.ensures.spots c.in_ok-begin.ensures.starts in
     record {
       taken = begun_known h old now c.args.numbers.now c.requires.taken c.begin.ensures.entries c.begin.ensures.spots c.in_ok-begin.ensures.starts;
-      taking = subst left (sym c.into_iter-spot-iterator.ensures.into_iter_gives) (taking_none Anything h (traces_reported old) (traces_reported now) c.args.spots begun);
+      taking =
+          subst left (sym c.into_iter-spot-iterator.ensures.into_iter_gives)
+          (taking_none Anything h (traces_reported old) (traces_reported now) c.args.spots begun);
     }
 
 pub loop-spot-preserved : goal.loop-spot-preserved
@@ -23,5 +25,8 @@ loop-spot-preserved c =
     let h = c.args.journal.now.held.entries in
     record {
       taken = c.in_ok-take_spot.ensures.taken;
-      taking = taking_added h (traces_reported c.args.taken.now) (traces_reported c.loop-spot.taken) (traces_reported c.take_spot.new.taken) c.in-Some.spot c.loop-spot.spot-iterator c.next.new.self c.args.spots c.in-Some.ensures.steps c.in_ok-take_spot.ensures.traces c.loop-spot.invariant.taking;
+      taking =
+          taking_added h (traces_reported c.args.taken.now) (traces_reported c.loop-spot.taken) (traces_reported c.take_spot.new.taken)
+          c.in-Some.spot c.loop-spot.spot-iterator c.next.new.self c.args.spots c.in-Some.ensures.steps c.in_ok-take_spot.ensures.traces
+          c.loop-spot.invariant.taking;
     }

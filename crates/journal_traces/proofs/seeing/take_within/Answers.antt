@@ -36,9 +36,12 @@ loop-place-init c =
       place = within;
       within = rw (e, l) (
           ap (map placed_taken) none
-          ∙ sym (skipped c.args.end_ms c.args.lookback_ms starts ids (trace_named h (spots_of c.args.assembly.now)) c.requires.ranged c.window_of-window.result (rw (e, l) at c.window_of-window.ensures)
+          ∙ sym (skipped c.args.end_ms c.args.lookback_ms starts ids (trace_named h (spots_of c.args.assembly.now)) c.requires.ranged c.window_of-window.result
+          (rw (e, l) at c.window_of-window.ensures)
           0 c.next_within-place.result first.from within first.skipped));
-      taken = new_known h c.new-taken.result c.in_ok-numbers.numbers.items c.new-taken.ensures.entries c.new-taken.ensures.spots c.new-taken.ensures.starts (zeros_known h c.in_ok-numbers.numbers.items (c.in_ok-numbers.ensures.items_if_clones_equal (λ y e. e) ∙ ap zeros long));
+      taken =
+          new_known h c.new-taken.result c.in_ok-numbers.numbers.items c.new-taken.ensures.entries c.new-taken.ensures.spots c.new-taken.ensures.starts
+          (zeros_known h c.in_ok-numbers.numbers.items (c.in_ok-numbers.ensures.items_if_clones_equal (λ y e. e) ∙ ap zeros long));
     }
 
 pub loop-place-preserved : goal.loop-place-preserved
@@ -54,13 +57,15 @@ loop-place-preserved c =
     let spots = ap (spans_named h) c.spots_at-spots.ensures in
     let e = to_z-of_z w64 c.args.end_ms c.ranges.end_ms in
     let l = to_z-of_z w64 c.args.lookback_ms c.ranges.lookback_ms in
-    let determined : c.reaches_window.result ≡ w (f (get_or ids i no_id)) = (rw (e, l) at c.reaches_window.ensures) ∙ ap (λ ss. w (spans_named h ss)) c.again.ensures ∙ ap w spots in
+    let determined : c.reaches_window.result ≡ w (f (get_or ids i no_id)) =
+    (rw (e, l) at c.reaches_window.ensures) ∙ ap (λ ss. w (spans_named h ss)) c.again.ensures ∙ ap w spots in
     let before : map placed_taken (traces_reported c.loop-place.taken) ≡ filter w (map f (take i ids)) = rw (e, l) at c.loop-place.invariant.within in
     let next = c.next_within-place-in-loop-place.ensures in
     let place = c.next_within-place-in-loop-place.result in
     let within : place ≤ length ids = omega (arith, next.within) in
     let skips : filter w (map f (take place ids)) ≡ filter w (map f (take (i + 1) ids)) =
-    skipped c.args.end_ms c.args.lookback_ms starts ids f c.requires.ranged c.window_of-window.result (rw (e, l) at c.window_of-window.ensures) (i + 1) place next.from within next.skipped in
+    skipped c.args.end_ms c.args.lookback_ms starts ids f c.requires.ranged c.window_of-window.result (rw (e, l) at c.window_of-window.ensures) (i + 1)
+    place next.from within next.skipped in
     record {
       place = within;
       within = rw (e, l) (elim c.if-reaches_window.branch [
@@ -68,16 +73,19 @@ loop-place-preserved c =
             ap (λ t. map placed_taken (traces_reported t)) v.taken-is ∙ v.in_ok-take_spots.ensures.spans
             ∙ (λ j. before j ++ spots j ∷ [])
             ∙ sym (kept_more w f ids i no_id le (sym determined ∙ v.if-reaches_window.true)) ∙ sym skips
-        | else-reaches_window v ↦ ap (λ t. map placed_taken (traces_reported t)) v.taken-is ∙ before ∙ sym (left_out w f ids i no_id le (sym determined ∙ v.if-reaches_window.false)) ∙ sym skips
+        | else-reaches_window v ↦ ap (λ t. map placed_taken (traces_reported t)) v.taken-is ∙ before
+            ∙ sym (left_out w f ids i no_id le (sym determined ∙ v.if-reaches_window.false)) ∙ sym skips
       ]);
       taken = elim c.if-reaches_window.branch [
         | then-reaches_window+in_ok-take_spots v ↦
             let numbers = v.take_spots.new.numbers in
             let long : length numbers ≡ c.loop-place.numbers.len = v.take_spots.auto.numbers ∙ v.deref_mut.ensures.len in
             let same : c.if-reaches_window.numbers.items ≡ numbers =
-            ap (λ n. n.items) v.numbers-is ∙ take-append-le c.loop-place.numbers.len numbers _ (omega (arith, long)) ∙ take_all c.loop-place.numbers.len numbers (omega (arith, long)) in
+            ap (λ n. n.items) v.numbers-is ∙ take-append-le c.loop-place.numbers.len numbers _ (omega (arith, long))
+            ∙ take_all c.loop-place.numbers.len numbers (omega (arith, long)) in
             subst (λ (x : WindowSpots × List ℕ). AreWindowed h x.0 x.1) (λ i. (sym v.taken-is i, sym same i)) v.in_ok-take_spots.ensures.taken
-        | else-reaches_window v ↦ subst (λ (x : WindowSpots × List ℕ). AreWindowed h x.0 x.1) (λ i. (sym v.taken-is i, (sym v.numbers-is i).items)) c.loop-place.invariant.taken
+        | else-reaches_window v ↦ subst (λ (x : WindowSpots × List ℕ). AreWindowed h x.0 x.1)
+            (λ i. (sym v.taken-is i, (sym v.numbers-is i).items)) c.loop-place.invariant.taken
       ];
     }
 
@@ -88,7 +96,8 @@ pub returns-clause-numbered : goal.returns-clause-numbered
 returns-clause-numbered c =
     let h = c.args.journal.now.held.entries in
     let taken = c.loop-place.taken in
-    subst (AreNumberedByService h) (sym c.new.ensures) (traces_numbered h (entries_seen taken.entries.items) (cut_at taken.spots.items taken.starts.items) c.loop-place.invariant.taken.services)
+    subst (AreNumberedByService h) (sym c.new.ensures)
+    (traces_numbered h (entries_seen taken.entries.items) (cut_at taken.spots.items taken.starts.items) c.loop-place.invariant.taken.services)
 
 pub returns-clause-within : goal.returns-clause-within
 returns-clause-within c =

@@ -11,7 +11,9 @@ use Rattle.journal_traces.proofs.seeing.take_within.Given as goal
 abbrev pub invariant-loop-place : goal.invariant-loop-place
 invariant-loop-place l = record {
   place : l.place ≤ length l.assembly.newest.ids;
-  within : map placed_taken (traces_reported l.taken) ≡ filter (list_any (in_window l.end_ms l.lookback_ms)) (map (trace_named l.journal.held.entries (spots_of l.assembly)) (take l.place l.assembly.newest.ids));
+  within : map placed_taken (traces_reported l.taken)
+      ≡ filter (list_any (in_window l.end_ms l.lookback_ms))
+      (map (trace_named l.journal.held.entries (spots_of l.assembly)) (take l.place l.assembly.newest.ids));
   taken : AreWindowed l.journal.held.entries l.taken l.numbers.items;
 }
 

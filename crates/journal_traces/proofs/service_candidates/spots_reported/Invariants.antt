@@ -5,4 +5,6 @@ use Rattle.journal_traces.specs.Reporting.{are_reported}
 use Rattle.journal_traces.proofs.service_candidates.spots_reported.Given as goal
 
 abbrev pub invariant-loop-place : goal.invariant-loop-place
-invariant-loop-place l = l.found.items ≡ map (spots_of l.assembly) (filter (λ t. are_reported l.journal.held.entries l.reported.groups l.service (spots_of l.assembly t)) (take l.place l.assembly.newest.ids))
+invariant-loop-place l =
+    l.found.items ≡ map (spots_of l.assembly)
+    (filter (λ t. are_reported l.journal.held.entries l.reported.groups l.service (spots_of l.assembly t)) (take l.place l.assembly.newest.ids))

@@ -6,7 +6,8 @@ use Rattle.journal_traces.proofs.spotted_spans.first_start.Goals as goal
 
 pub returns-in-Some : goal.returns-in-Some
 returns-in-Some c =
-    let e : c.start.result ≡ first_start (spans_named c.args.journal.now.held.entries c.args.spots) = c.start.ensures ∙ first_starts (spans_named c.args.journal.now.held.entries c.args.spots) c.in-Some.seen c.in-Some.ensures in
+    let e : c.start.result ≡ first_start (spans_named c.args.journal.now.held.entries c.args.spots) =
+    c.start.ensures ∙ first_starts (spans_named c.args.journal.now.held.entries c.args.spots) c.in-Some.seen c.in-Some.ensures in
     search rules
 
 pub returns-in-None : goal.returns-in-None

@@ -11,7 +11,8 @@ pub loop-spot-preserved : goal.loop-spot-preserved
 loop-spot-preserved c =
     let h = c.args.judging.1 in
     let own = matches c.args.judging.0 in
-    let met = c.in_ok-is_match.ensures.found ∙ ap (λ (j : Find × List Entry). list_any (matches j.0) (spans_named j.1 (c.in-Some.spot ∷ []))) c.loop-spot.invariant.judging in
+    let met = c.in_ok-is_match.ensures.found
+    ∙ ap (λ (j : Find × List Entry). list_any (matches j.0) (spans_named j.1 (c.in-Some.spot ∷ []))) c.loop-spot.invariant.judging in
     record {
       found =
           any_later h own c.in-Some.spot c.next.new.self (sym met ∙ c.if-is_match.false)
@@ -23,7 +24,8 @@ pub returns-then-is_match : goal.returns-then-is_match
 returns-then-is_match c =
     let h = c.args.judging.1 in
     let own = matches c.args.judging.0 in
-    let met = c.in_ok-is_match.ensures.found ∙ ap (λ (j : Find × List Entry). list_any (matches j.0) (spans_named j.1 (c.in-Some.spot ∷ []))) c.loop-spot.invariant.judging in
+    let met = c.in_ok-is_match.ensures.found
+    ∙ ap (λ (j : Find × List Entry). list_any (matches j.0) (spans_named j.1 (c.in-Some.spot ∷ []))) c.loop-spot.invariant.judging in
     any_here h own c.in-Some.spot c.next.new.self (sym met ∙ c.if-is_match.true)
     ∙ ap (λ l. list_any own (spans_named h l)) (sym c.in-Some.ensures.steps) ∙ c.loop-spot.invariant.found
 

@@ -20,4 +20,5 @@ pub returns : goal.returns
 returns c =
     let e = to_z-of_z w64 c.args.end_ms c.ranges.end_ms in
     let l = to_z-of_z w64 c.args.lookback_ms c.ranges.lookback_ms in
-    any_end c.args.journal.now.held.entries (in_window c.args.end_ms c.args.lookback_ms) c.loop-spot.spot-iterator c.in-None.ensures.steps.0 ∙ (rw (e, l) at c.loop-spot.invariant)
+    any_end c.args.journal.now.held.entries (in_window c.args.end_ms c.args.lookback_ms) c.loop-spot.spot-iterator c.in-None.ensures.steps.0
+    ∙ (rw (e, l) at c.loop-spot.invariant)

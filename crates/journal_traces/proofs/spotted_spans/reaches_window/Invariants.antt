@@ -5,4 +5,6 @@ use Rattle.journal_traces.specs.Standing.{spans_named}
 use Rattle.journal_traces.proofs.spotted_spans.reaches_window.Given as goal
 
 abbrev pub invariant-loop-spot : goal.invariant-loop-spot
-invariant-loop-spot l = list_any (in_window l.end_ms l.lookback_ms) (spans_named l.journal.held.entries l.spot-iterator) ≡ list_any (in_window l.end_ms l.lookback_ms) (spans_named l.journal.held.entries l.fn.spots)
+invariant-loop-spot l =
+    list_any (in_window l.end_ms l.lookback_ms) (spans_named l.journal.held.entries l.spot-iterator)
+    ≡ list_any (in_window l.end_ms l.lookback_ms) (spans_named l.journal.held.entries l.fn.spots)

@@ -31,7 +31,8 @@ loop-spot-preserved c =
           let x : Taken = w.in-Some.span in
           let at : x.span ≡ span_at es (spot_of s) = ap (option_and_then (λ (t : Taken). t.span)) (sym w.in-Some.is) ∙ c.in_ok-span.ensures.span in
           let number = subst (λ (o : Option Taken). IfSome o P) w.in-Some.is c.in_ok-span.ensures.number in
-          subst G (sym w.traces-is) (taking_more P es old c.loop-spot.traces w.push.new.self (spot_of s) left rest all x steps at number w.in_ok-push-in-Some.ensures c.loop-spot.invariant)
+          subst G (sym w.traces-is) (taking_more P es old c.loop-spot.traces w.push.new.self (spot_of s)
+          left rest all x steps at number w.in_ok-push-in-Some.ensures c.loop-spot.invariant)
       | in-None w ↦
           let none : None ≡ span_at es (spot_of s) = ap (option_and_then (λ (t : Taken). t.span)) (sym w.in-None.is) ∙ c.in_ok-span.ensures.span in
           subst G (sym w.traces-is) (taking_over P es old c.loop-spot.traces (spot_of s) left rest all steps none c.loop-spot.invariant)
@@ -41,5 +42,6 @@ pub returns-clause-spans : goal.returns-clause-spans
 returns-clause-spans c =
     let es = entries_shared c.args.entries.now in
     let ss = c.args.spots.now in
-    taken_spans (HasProcess (process_numbered es)) es c.args.traces.now c.loop-spot.traces (map spot_of (drop c.loop-spot.spot-index ss)) (map spot_of ss) (no_spots_left ss c.loop-spot.spot-index c.loop-spot-test.false) c.loop-spot.invariant
+    taken_spans (HasProcess (process_numbered es)) es c.args.traces.now c.loop-spot.traces (map spot_of (drop c.loop-spot.spot-index ss)) (map spot_of ss)
+    (no_spots_left ss c.loop-spot.spot-index c.loop-spot-test.false) c.loop-spot.invariant
     ∙ ap (λ l. map placed_taken c.args.traces.now ++ l ∷ []) (spots_named es ss)

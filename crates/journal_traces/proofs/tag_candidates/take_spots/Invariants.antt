@@ -5,4 +5,6 @@ use Rattle.journal_traces.proofs.TakingSpans.{IsTaking}
 use Rattle.journal_traces.proofs.tag_candidates.take_spots.Given as goal
 
 abbrev pub invariant-loop-spot : goal.invariant-loop-spot
-invariant-loop-spot l = IsTaking (HasProcess (process_numbered (entries_shared l.entries))) (entries_shared l.entries) l.fn.traces l.traces (map spot_of (drop l.spot-index l.spots)) (map spot_of l.spots)
+invariant-loop-spot l =
+    IsTaking (HasProcess (process_numbered (entries_shared l.entries))) (entries_shared l.entries) l.fn.traces l.traces
+    (map spot_of (drop l.spot-index l.spots)) (map spot_of l.spots)

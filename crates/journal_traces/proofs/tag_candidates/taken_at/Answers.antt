@@ -16,7 +16,10 @@ returns-in-Some-clause-number c =
     let s = c.args.spot.now in
     let t = c.in-Some.taken.now in
     let there : Some t ≡ slice_get ts s.number = sym (ap option_copied c.in-Some.is) ∙ lent_item ts s.number c.get.result c.get.ensures.lookup in
-    let at = IfOk-weaker c.new.result (λ (o : Option Taken). option_and_then (λ (x : Taken). x.span) o ≡ slice_get (placed_brought (entry_shared t).work) s.index) (λ (o : Option Taken). option_and_then (λ (x : Taken). x.span) o ≡ span_at (entries_shared ts) (spot_of s)) (λ o e. e ∙ there_shared ts s t there) c.new.ensures.span in
+    let at = IfOk-weaker c.new.result
+    (λ (o : Option Taken). option_and_then (λ (x : Taken). x.span) o ≡ slice_get (placed_brought (entry_shared t).work) s.index)
+    (λ (o : Option Taken). option_and_then (λ (x : Taken). x.span) o ≡ span_at (entries_shared ts) (spot_of s))
+    (λ o e. e ∙ there_shared ts s t there) c.new.ensures.span in
     numbered_result (entries_shared ts) s c.new.result at c.new.ensures.number
 
 pub returns-in-None-clause-span : goal.returns-in-None-clause-span

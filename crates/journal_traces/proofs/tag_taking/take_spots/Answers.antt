@@ -25,5 +25,7 @@ loop-spot-preserved c =
     record {
       numbers = c.in_ok-take_spot.ensures.numbers;
       query = c.take_spot.ensures.query ∙ c.loop-spot.invariant.query;
-      taking = taking_added h c.args.taken.now.traces c.loop-spot.taken.traces c.take_spot.new.taken.traces c.in-Some.spot c.loop-spot.spot-iterator c.next.new.self c.args.spots c.in-Some.ensures.steps c.in_ok-take_spot.ensures.traces c.loop-spot.invariant.taking;
+      taking =
+          taking_added h c.args.taken.now.traces c.loop-spot.taken.traces c.take_spot.new.taken.traces c.in-Some.spot c.loop-spot.spot-iterator c.next.new.self
+          c.args.spots c.in-Some.ensures.steps c.in_ok-take_spot.ensures.traces c.loop-spot.invariant.taking;
     }

@@ -7,7 +7,8 @@ use Rattle.journal_traces.proofs.taken_answer.kept_at.Goals as goal
 pub kept-requires : goal.kept-requires
 kept-requires c =
     let process_of = c.requires.process_of in
-    c.in_ok-trace.ensures.shared process_of (subst (HaveProcesses process_of) (sym c.trace.ensures) (processes_got process_of c.args.traces.now c.args.place c.requires.each)) c.requires.leads
+    c.in_ok-trace.ensures.shared process_of
+    (subst (HaveProcesses process_of) (sym c.trace.ensures) (processes_got process_of c.args.traces.now c.args.place c.requires.each)) c.requires.leads
 
 pub returns-clause-classes : goal.returns-clause-classes
 returns-clause-classes c =
@@ -15,5 +16,8 @@ returns-clause-classes c =
     record {
       process_of = process_of;
       each = c.requires.each;
-      leads = c.in_ok-trace.ensures.leads process_of (subst (HaveProcesses process_of) (sym c.trace.ensures) (processes_got process_of c.args.traces.now c.args.place c.requires.each)) c.requires.leads;
+      leads =
+          c.in_ok-trace.ensures.leads process_of
+          (subst (HaveProcesses process_of) (sym c.trace.ensures) (processes_got process_of c.args.traces.now c.args.place c.requires.each))
+          c.requires.leads;
     }

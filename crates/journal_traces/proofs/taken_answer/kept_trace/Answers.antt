@@ -21,13 +21,17 @@ loop-span-preserved c =
     let old = c.args.classes.now in
     let invariant = c.loop-span.invariant in
     let own = λ (process_of : ℕ → Option Process) (has : HaveProcesses process_of xs). has_process xs i x le c.span-item.is process_of has in
-    let place = λ (process_of : ℕ → Option Process) (has : HaveProcesses process_of xs) (known : Leads process_of old). c.in_ok-place.ensures.place process_of (own process_of has) (invariant.leads process_of has known) in
-    let leads = λ (process_of : ℕ → Option Process) (has : HaveProcesses process_of xs) (known : Leads process_of old). c.in_ok-place.ensures.leads process_of (own process_of has) (invariant.leads process_of has known) in
+    let place = λ (process_of : ℕ → Option Process) (has : HaveProcesses process_of xs) (known : Leads process_of old).
+    c.in_ok-place.ensures.place process_of (own process_of has) (invariant.leads process_of has known) in
+    let leads = λ (process_of : ℕ → Option Process) (has : HaveProcesses process_of xs) (known : Leads process_of old).
+    c.in_ok-place.ensures.leads process_of (own process_of has) (invariant.leads process_of has known) in
     let next_kept : IsKeptUpto old xs (i + 1) c.if-is_there.kept.items c.if-is_there.places.items = elim c.if-is_there.branch [
       | then-is_there+in_ok-push+in_ok-push-2 w ↦
           let there : is_some one ≡ true = sym c.is_there.ensures ∙ w.if-is_there.true in
-          let next = kept_more xs i x le c.span-item.is old kept places invariant.kept one w.push.new.self.items w.from.result w.push-then-is_there.new.self.items
-          c.in_ok-one.ensures there w.in_ok-push.ensures.items (λ process_of has known. ap process_of w.from.ensures ∙ place process_of has known) w.in_ok-push-2.ensures.items in
+          let next = kept_more xs i x le c.span-item.is old kept places invariant.kept one w.push.new.self.items w.from.result
+          w.push-then-is_there.new.self.items
+          c.in_ok-one.ensures there w.in_ok-push.ensures.items
+          (λ process_of has known. ap process_of w.from.ensures ∙ place process_of has known) w.in_ok-push-2.ensures.items in
           subst (λ (v : Vec (Option Placed) Global). IsKeptUpto old xs (i + 1) v.items c.if-is_there.places.items) (sym w.kept-is)
           (subst (λ (v : Vec ℕ Global). IsKeptUpto old xs (i + 1) w.push.new.self.items v.items) (sym w.places-is) next)
       | else-is_there w ↦

@@ -8,6 +8,8 @@ use Rattle.journal_traces.proofs.taken_search.is_found.Given as goal
 
 abbrev pub invariant-loop-span : goal.invariant-loop-span
 invariant-loop-span l = record {
-  judged : (process_of : ℕ → Option Process) → AreJudged l.prepared process_of l.fn.judged → HaveProcesses process_of l.spans → AreJudged l.prepared process_of l.judged;
-  none : (process_of : ℕ → Option Process) → AreJudged l.prepared process_of l.fn.judged → HaveProcesses process_of l.spans → list_any (matches l.prepared) (placed_taken (take l.span-index l.spans)) ≡ false;
+  judged : (process_of : ℕ → Option Process) → AreJudged l.prepared process_of l.fn.judged → HaveProcesses process_of l.spans
+      → AreJudged l.prepared process_of l.judged;
+  none : (process_of : ℕ → Option Process) → AreJudged l.prepared process_of l.fn.judged → HaveProcesses process_of l.spans
+      → list_any (matches l.prepared) (placed_taken (take l.span-index l.spans)) ≡ false;
 }

@@ -13,7 +13,9 @@ loop-place-init c =
     let within : c.next_within-place.result ≤ length ids = omega (arith, first.within) in
     record {
       place = within;
-      found = λ p fails. ap (filter p) c.new-spots.ensures.items ∙ sym (spots_skipped c.args.window c.args.starts.now c.args.assembly.now p fails 0 c.next_within-place.result first.from within first.skipped);
+      found =
+          λ p fails. ap (filter p) c.new-spots.ensures.items
+          ∙ sym (spots_skipped c.args.window c.args.starts.now c.args.assembly.now p fails 0 c.next_within-place.result first.from within first.skipped);
     }
 
 pub loop-place-preserved : goal.loop-place-preserved
@@ -29,7 +31,8 @@ loop-place-preserved c =
       found = λ p fails.
           ap (filter p) c.in_ok-push.ensures.items
           ∙ spots_more c.args.assembly.now p c.loop-place.spots.items c.spots_at.result i below c.spots_at.ensures (c.loop-place.invariant.found p fails)
-          ∙ sym (spots_skipped c.args.window c.args.starts.now c.args.assembly.now p fails (i + 1) c.next_within-place-in-loop-place.result next.from within next.skipped);
+          ∙ sym (spots_skipped c.args.window c.args.starts.now c.args.assembly.now p fails (i + 1)
+          c.next_within-place-in-loop-place.result next.from within next.skipped);
     }
 
 pub returns : goal.returns

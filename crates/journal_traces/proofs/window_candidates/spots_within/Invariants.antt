@@ -8,7 +8,8 @@ use Rattle.journal_traces.proofs.window_candidates.spots_within.Given as goal
 abbrev pub invariant-loop-place : goal.invariant-loop-place
 invariant-loop-place l = record {
   place : l.place ≤ length l.assembly.newest.ids;
-  found : (p : List Spot → Bool) → FailsOutside l.window l.starts l.assembly p → filter p l.spots.items ≡ filter p (map (spots_of l.assembly) (take l.place l.assembly.newest.ids));
+  found : (p : List Spot → Bool) → FailsOutside l.window l.starts l.assembly p
+      → filter p l.spots.items ≡ filter p (map (spots_of l.assembly) (take l.place l.assembly.newest.ids));
 }
 
 abbrev pub decreases-loop-place : goal.decreases-loop-place

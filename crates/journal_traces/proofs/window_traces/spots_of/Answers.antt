@@ -14,7 +14,8 @@ part-requires-clause-ordered c =
     let end : c.len-2.result ≡ length taken.spots.items = omega arith in
     let below : c.args.place < length taken.starts.items = omega arith in
     let start = c.index-start.ensures in
-    let next = c.next_start-end.ensures ∙ ap (λ ss. get_or ss (c.args.place + 1) c.len-2.result) c.deref.ensures.value ∙ ap (get_or taken.starts.items (c.args.place + 1)) end in
+    let next = c.next_start-end.ensures ∙ ap (λ ss. get_or ss (c.args.place + 1) c.len-2.result) c.deref.ensures.value
+    ∙ ap (get_or taken.starts.items (c.args.place + 1)) end in
     let ordered = (bounds (length taken.spots.items) taken.starts.items c.args.place c.index-start.result.now c.requires below).0 in
     omega (arith, start, next, ordered)
 
@@ -23,7 +24,8 @@ part-requires-clause-within c =
     let taken = c.args.taken.now in
     let end : c.len-2.result ≡ length taken.spots.items = omega arith in
     let below : c.args.place < length taken.starts.items = omega arith in
-    let next = c.next_start-end.ensures ∙ ap (λ ss. get_or ss (c.args.place + 1) c.len-2.result) c.deref.ensures.value ∙ ap (get_or taken.starts.items (c.args.place + 1)) end in
+    let next = c.next_start-end.ensures ∙ ap (λ ss. get_or ss (c.args.place + 1) c.len-2.result) c.deref.ensures.value
+    ∙ ap (get_or taken.starts.items (c.args.place + 1)) end in
     let within = (bounds (length taken.spots.items) taken.starts.items c.args.place 0 c.requires below).1 in
     omega (arith, next, within, c.deref-2.ensures.len)
 
@@ -32,6 +34,7 @@ returns c =
     let taken = c.args.taken.now in
     let end : c.len-2.result ≡ length taken.spots.items = omega arith in
     let below : c.args.place < length taken.starts.items = omega arith in
-    let next = c.next_start-end.ensures ∙ ap (λ ss. get_or ss (c.args.place + 1) c.len-2.result) c.deref.ensures.value ∙ ap (get_or taken.starts.items (c.args.place + 1)) end in
+    let next = c.next_start-end.ensures ∙ ap (λ ss. get_or ss (c.args.place + 1) c.len-2.result) c.deref.ensures.value
+    ∙ ap (get_or taken.starts.items (c.args.place + 1)) end in
     c.part.ensures ∙ (λ i. slice_range (c.deref-2.ensures.value i) (c.index-start.ensures i) (next i))
     ∙ cut_got taken.spots.items taken.starts.items c.args.place c.index-start.result.now below

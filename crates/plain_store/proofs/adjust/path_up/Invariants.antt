@@ -4,4 +4,5 @@ use Rattle.plain_store.specs.Climbing.{path}
 use Rattle.plain_store.proofs.adjust.path_up.Given as goal
 
 abbrev pub invariant-loop-step : goal.invariant-loop-step
-invariant-loop-step l = path (length l.parents) l.parents l.start ≡ option_map (λ above. l.path.items ++ above) (path (length l.parents - l._step) l.parents l.at)
+invariant-loop-step l =
+    path (length l.parents) l.parents l.start ≡ option_map (λ above. l.path.items ++ above) (path (length l.parents - l._step) l.parents l.at)

@@ -18,5 +18,6 @@ by_id trace id r some e = elim (id.0 == 0) as (λ b. (id.0 == 0) ≡ b → r ≡
 
 pub returns : goal.returns
 returns c =
-    let found = find_from_yields_List (has_id c.parent_of-parent.result) _ _ c.find.result c.find.ensures.ran (YieldsList-from_slice c.args.trace.now cc) (λ x b q k. search (rules, tests)) in
+    let found = find_from_yields_List (has_id c.parent_of-parent.result) _ _ c.find.result c.find.ensures.ran (YieldsList-from_slice c.args.trace.now cc)
+    (λ x b q k. search (rules, tests)) in
     by_id c.args.trace.now c.parent_of-parent.result _ c.if-parent-eq0.false found ∙ ap (found_by c.args.trace.now) c.parent_of-parent.ensures

@@ -58,20 +58,30 @@ returns-in_err-insert-3-clause-memory c =
 pub returns-in_err-insert-4-clause-memory : goal.returns-in_err-insert-4-clause-memory
 unfolding matchit_on_literals
 returns-in_err-insert-4-clause-memory c =
-    let none : nearest names_pattern c.insert-3.new.self ≡ None = rw (c.in_ok-insert-3.ensures.1, c.in_ok-insert-2.ensures.1, c.in_ok-insert.ensures.1, c.requires) refl in
+    let none : nearest names_pattern c.insert-3.new.self ≡ None =
+    rw (c.in_ok-insert-3.ensures.1, c.in_ok-insert-2.ensures.1, c.in_ok-insert.ensures.1, c.requires) refl in
     let memory = only_memory names_pattern c.insert-3.new.self c.in_err-insert-4.field-0.0 none c.in_err-insert-4.ensures.1 in
     handed_on c.from_residual-in_err-insert-4.result c.in_err-insert-4.field-0.0 c.from_residual-in_err-insert-4.ensures.1 memory
 
 pub returns-in_err-insert-5-clause-memory : goal.returns-in_err-insert-5-clause-memory
 unfolding matchit_on_literals
 returns-in_err-insert-5-clause-memory c =
-    let none : nearest (codes "/api/operations") c.insert-4.new.self ≡ None = rw (c.in_ok-insert-4.ensures.1, c.in_ok-insert-3.ensures.1, c.in_ok-insert-2.ensures.1, c.in_ok-insert.ensures.1, c.requires) refl in
+    let none : nearest (codes "/api/operations") c.insert-4.new.self ≡ None =
+    rw (c.in_ok-insert-4.ensures.1, c.in_ok-insert-3.ensures.1, c.in_ok-insert-2.ensures.1, c.in_ok-insert.ensures.1, c.requires) refl in
     let memory = only_memory (codes "/api/operations") c.insert-4.new.self c.in_err-insert-5.field-0.0 none c.in_err-insert-5.ensures.1 in
     handed_on c.from_residual-in_err-insert-5.result c.in_err-insert-5.field-0.0 c.from_residual-in_err-insert-5.ensures.1 memory
 
 pub returns-in_err-insert-6-clause-memory : goal.returns-in_err-insert-6-clause-memory
 unfolding matchit_on_literals
 returns-in_err-insert-6-clause-memory c =
-    let none : nearest (codes "/api/dependencies") c.insert-5.new.self ≡ None = rw (c.in_ok-insert-5.ensures.1, c.in_ok-insert-4.ensures.1, c.in_ok-insert-3.ensures.1, c.in_ok-insert-2.ensures.1, c.in_ok-insert.ensures.1, c.requires) refl in
+    let none : nearest (codes "/api/dependencies") c.insert-5.new.self ≡ None =
+    rw (
+      c.in_ok-insert-5.ensures.1,
+      c.in_ok-insert-4.ensures.1,
+      c.in_ok-insert-3.ensures.1,
+      c.in_ok-insert-2.ensures.1,
+      c.in_ok-insert.ensures.1,
+      c.requires,
+    ) refl in
     let memory = only_memory (codes "/api/dependencies") c.insert-5.new.self c.in_err-insert-6.field-0.0 none c.in_err-insert-6.ensures.1 in
     handed_on c.from_residual-in_err-insert-6.result c.in_err-insert-6.field-0.0 c.from_residual-in_err-insert-6.ensures.1 memory

@@ -19,7 +19,8 @@ loop-index-preserved c =
     let within : i < length spans = subst (λ (l : List Shown). i < length l) slice (search rules) in
     let is : s ≡ get_or spans i s = subst (λ (l : List Shown). s ≡ get_or l i s) slice c.shown-item.is in
     let entries = c.places-entries.result.now in
-    let next : ComesNext spans entries i s c.entry_at.result = record { within = within; is = is; stands = c.entry_at.ensures; shares = c.places-entries.ensures } in
+    let next : ComesNext spans entries i s c.entry_at.result =
+    record { within = within; is = is; stands = c.entry_at.ensures; shares = c.places-entries.ensures } in
     c.in_ok-add.ensures spans entries i s c.get.ensures next c.loop-index.invariant
 
 pub returns-clause-places : goal.returns-clause-places

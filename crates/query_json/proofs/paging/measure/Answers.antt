@@ -15,7 +15,8 @@ loop-at-preserved c =
     let rs = runs_of c.args.items.now in
     let none = c.without_room-page.ensures in
     let size = c.in_ok-size.ensures in
-    let long : c.in_ok-size.size ≡ length next.piece = omega (arith, size.lost, none.lost, next.puts.adds.counts none.full (omega (arith, size.lost, size.bound))) in
+    let long : c.in_ok-size.size ≡ length next.piece =
+    omega (arith, size.lost, none.lost, next.puts.adds.counts none.full (omega (arith, size.lost, size.bound))) in
     let both = length-append next.piece (text_of (left_at rs at.run at.piece)) in
     let larger = c.larger-largest.ensures in
     record {
@@ -27,12 +28,14 @@ pub returns-clause-left : goal.returns-clause-left
 returns-clause-left c =
     let l = c.loop-at in
     let rs = runs_of c.args.items.now in
-    let none : left_at rs l.at.run l.at.piece ≡ [] = left_none rs l.at.run l.at.piece (omega (arith, length_runs (item_pieces c.args.items.now), c.count.ensures.count, c.loop-at-test.false)) in
+    let none : left_at rs l.at.run l.at.piece ≡ [] =
+    left_none rs l.at.run l.at.piece (omega (arith, length_runs (item_pieces c.args.items.now), c.count.ensures.count, c.loop-at-test.false)) in
     omega (arith, l.invariant.left, ap (λ ls. length (text_of ls)) none)
 
 pub returns-clause-fit : goal.returns-clause-fit
 returns-clause-fit c =
     let l = c.loop-at in
     let rs = runs_of c.args.items.now in
-    let none : left_at rs l.at.run l.at.piece ≡ [] = left_none rs l.at.run l.at.piece (omega (arith, length_runs (item_pieces c.args.items.now), c.count.ensures.count, c.loop-at-test.false)) in
+    let none : left_at rs l.at.run l.at.piece ≡ [] =
+    left_none rs l.at.run l.at.piece (omega (arith, length_runs (item_pieces c.args.items.now), c.count.ensures.count, c.loop-at-test.false)) in
     l.invariant.bounds l.largest (omega arith) (subst (AllFit l.largest) (sym none) tt)

@@ -32,18 +32,24 @@ returns-then-at-count c =
     let last : c.args.at.run ≡ length rs = omega (arith, c.if-at-count.true, c.count.ensures.count) in
     let here = run_end rs c.args.at.run last in
     let only : c.args.at.piece ≡ 0 = omega (arith, c.requires.piece, ap length here) in
-    Puts-is c.write_end.ensures (sym (ap (λ n. get_or (get_or (runs_of c.args.items.now) c.args.at.run []) n []) only ∙ ap (λ (r : List (List ℕ)). get_or r 0 []) here))
+    Puts-is c.write_end.ensures (sym
+    (ap (λ n. get_or (get_or (runs_of c.args.items.now) c.args.at.run []) n []) only ∙ ap (λ (r : List (List ℕ)). get_or r 0 []) here))
 
 pub returns-then-at-eq0 : goal.returns-then-at-eq0
 returns-then-at-eq0 c =
     let rs = item_pieces c.args.items.now in
-    let inside = within rs c.args.at.run c.count.result (length (runs_of c.args.items.now)) c.requires.run (length_runs rs) c.count.ensures.count c.if-at-count.false in
+    let inside = within rs c.args.at.run c.count.result (length (runs_of c.args.items.now)) c.requires.run (length_runs rs)
+    c.count.ensures.count c.if-at-count.false in
     let here = run_at rs c.args.at.run inside in
-    Puts-is c.write_separator.ensures (sym (ap (λ n. get_or (get_or (runs_of c.args.items.now) c.args.at.run []) n []) c.if-at-eq0.true ∙ ap (λ (r : List (List ℕ)). get_or r 0 []) here))
+    Puts-is c.write_separator.ensures
+    (sym (ap (λ n. get_or (get_or (runs_of c.args.items.now) c.args.at.run []) n []) c.if-at-eq0.true ∙ ap (λ (r : List (List ℕ)). get_or r 0 []) here))
 
 pub returns-else-at-eq0 : goal.returns-else-at-eq0
 returns-else-at-eq0 c =
     let rs = item_pieces c.args.items.now in
-    let inside = within rs c.args.at.run c.count.result (length (runs_of c.args.items.now)) c.requires.run (length_runs rs) c.count.ensures.count c.if-at-count.false in
+    let inside = within rs c.args.at.run c.count.result (length (runs_of c.args.items.now)) c.requires.run (length_runs rs)
+    c.count.ensures.count c.if-at-count.false in
     let here = run_at rs c.args.at.run inside in
-    Puts-is c.write_piece.ensures (sym (ap (λ (r : List (List ℕ)). get_or r c.args.at.piece []) here ∙ behind (separator c.args.at.run) (get_or rs c.args.at.run []) c.args.at.piece c.if-at-eq0.false))
+    Puts-is c.write_piece.ensures (sym
+    (ap (λ (r : List (List ℕ)). get_or r c.args.at.piece []) here
+    ∙ behind (separator c.args.at.run) (get_or rs c.args.at.run []) c.args.at.piece c.if-at-eq0.false))

@@ -23,7 +23,8 @@ loop-made-init g c =
 pub loop-made-preserved : goal.loop-made-preserved
 loop-made-preserved g c =
     let empty : c.new-pass.result ≡ new_pass = search rules in (
-      (let P : List PassValue → Type 0 = λ z. All (λ p. p ≡ new_pass) z in subst P (sym c.push_reserved.ensures.items) (All-push (λ p. p ≡ new_pass) _ _ c.loop-made.invariant.0 empty)),
+      (let P : List PassValue → Type 0 = λ z. All (λ p. p ≡ new_pass) z in
+          subst P (sym c.push_reserved.ensures.items) (All-push (λ p. p ≡ new_pass) _ _ c.loop-made.invariant.0 empty)),
       c.push_reserved.ensures.len ∙ ap (λ n. n + 1) c.loop-made.invariant.1,
       rw c.push_reserved.ensures.capacity c.loop-made.invariant.2,
     )

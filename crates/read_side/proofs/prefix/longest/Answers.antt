@@ -12,7 +12,8 @@ loop-other-preserved g c =
     let before = c.loop-other.longest in
     let longer = c.longer-longest.result in (
       prefix_trans c.args.first.now before longer c.loop-other.invariant.0 c.longer-longest.ensures.own,
-      all_begin_more before longer c.args.others.now c.loop-other.other-index c.other-item.result c.loop-other-test.true c.other-item.is c.loop-other.invariant.1 c.longer-longest.ensures.own c.longer-longest.ensures.other,
+      all_begin_more before longer c.args.others.now c.loop-other.other-index c.other-item.result c.loop-other-test.true c.other-item.is
+          c.loop-other.invariant.1 c.longer-longest.ensures.own c.longer-longest.ensures.other,
     )
 
 pub returns-clause-others : goal.returns-clause-others

@@ -19,7 +19,9 @@ loop-step-preserved c m starts =
 
 pub returns : goal.returns
 returns c m starts =
-    let road = YieldsList-from_vec {s = c.into_iter-step-iterator.result} c.args.steps.items c.into_iter-step-iterator.ensures.into_iter_gives.0 (search rules) in
-    let all = YieldsList-end road c.loop-step.yielded c.loop-step.step-iterator c.loop-step.yielded_by c.next.result c.next.new.self c.in-None.is c.next.ensures.steps in
+    let road = YieldsList-from_vec {s =
+    c.into_iter-step-iterator.result} c.args.steps.items c.into_iter-step-iterator.ensures.into_iter_gives.0 (search rules) in
+    let all = YieldsList-end road c.loop-step.yielded c.loop-step.step-iterator c.loop-step.yielded_by c.next.result c.next.new.self c.in-None.is
+    c.next.ensures.steps in
     let steps : c.loop-step.yielded ≡ c.args.steps.items = sym (map-id c.loop-step.yielded) ∙ all.0 in
     subst (λ ss. PlaysAs m ss c.loop-step.outcomes.items) steps (c.loop-step.invariant m starts).plays

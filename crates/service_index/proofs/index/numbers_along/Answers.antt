@@ -12,7 +12,12 @@ pub loop-at-init : goal.loop-at-init
 loop-at-init c = record {
   within = c.requires.within;
   held = λ count all. subst (AreNumbers count) (sym c.new-along.ensures.items) (no_numbers count);
-  along = λ names chain s h. (h.own, ap (λ (ns : List ℕ). sorted_set operation_cmp (operations_at names ns)) c.new-along.ensures.items ∙ walk_start names c.args.numbers.now s c.args.newest h);
+  along =
+      λ names chain s h. (
+        h.own,
+        ap (λ (ns : List ℕ). sorted_set operation_cmp (operations_at names ns)) c.new-along.ensures.items
+            ∙ walk_start names c.args.numbers.now s c.args.newest h,
+      );
 }
 
 pub loop-at-preserved : goal.loop-at-preserved
@@ -28,7 +33,9 @@ loop-at-preserved c =
     let low = c.requires.falls.before row (omega arith) in
     record {
       within = omega arith;
-      held = λ count all. subst (AreNumbers count) (sym c.in_ok-push.ensures.items) (numbers_more count known n (c.loop-at.invariant.held count all) (all.held row (omega arith)));
+      held =
+          λ count all. subst (AreNumbers count) (sym c.in_ok-push.ensures.items)
+          (numbers_more count known n (c.loop-at.invariant.held count all) (all.held row (omega arith)));
       along = λ names chain s h.
           let kept = c.loop-at.invariant.along names chain s h in
           let own = kept.0 pos in

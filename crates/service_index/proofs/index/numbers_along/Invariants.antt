@@ -11,7 +11,8 @@ abbrev pub invariant-loop-at : goal.invariant-loop-at
 invariant-loop-at l = record {
   within : l.at ≤ length l.numbers;
   held : (count : ℕ) → AreNumbers count l.numbers → AreNumbers count l.along.items;
-  along : (names : Names) → IsChain (owners names l.numbers) l.earlier → (service : List ℕ) → IsNewest (owners names l.numbers) service l.newest (length l.numbers)
+  along : (names : Names) → IsChain (owners names l.numbers) l.earlier → (service : List ℕ)
+      → IsNewest (owners names l.numbers) service l.newest (length l.numbers)
       → (0 < l.at → get_or (owners names l.numbers) (l.at - 1) [] ≡ service)
       × (sorted_set operation_cmp (operations_at names l.along.items) ≡ sorted_set operation_cmp (operations_of service (map names.at (drop l.at l.numbers))));
 }

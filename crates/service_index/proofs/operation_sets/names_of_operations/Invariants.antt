@@ -4,4 +4,5 @@ use Rattle.std.specs.Vec.Iter.{into_iter_items}
 use Rattle.service_index.proofs.operation_sets.names_of_operations.Given as goal
 
 abbrev pub invariant-loop-operation : goal.invariant-loop-operation
-invariant-loop-operation l = l.names.items ++ map (λ (o : Operation). o.name) (into_iter_items l.operation-iterator) ≡ map (λ (o : Operation). o.name) l.fn.operations.items
+invariant-loop-operation l =
+    l.names.items ++ map (λ (o : Operation). o.name) (into_iter_items l.operation-iterator) ≡ map (λ (o : Operation). o.name) l.fn.operations.items

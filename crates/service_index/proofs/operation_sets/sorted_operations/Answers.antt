@@ -4,4 +4,6 @@ use Rattle.service_index.proofs.Ordering.{sorted_once}
 use Rattle.service_index.proofs.operation_sets.sorted_operations.Goals as goal
 
 pub returns : goal.returns
-returns c = sorted_once operation_total operation_exact same_operation_by_cmp c.args.operations.items _ c.dedup.new.self.items c.in_ok-sort.ensures.permutation c.in_ok-sort.ensures.sorted c.dedup.ensures.filtered
+returns c =
+    sorted_once operation_total operation_exact same_operation_by_cmp c.args.operations.items _ c.dedup.new.self.items c.in_ok-sort.ensures.permutation
+    c.in_ok-sort.ensures.sorted c.dedup.ensures.filtered

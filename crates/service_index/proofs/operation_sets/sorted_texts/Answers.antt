@@ -4,4 +4,6 @@ use Rattle.service_index.proofs.Ordering.{sorted_once}
 use Rattle.service_index.proofs.operation_sets.sorted_texts.Goals as goal
 
 pub returns : goal.returns
-returns c = sorted_once text_total text_exact texts_ties c.args.texts.items _ c.dedup.new.self.items c.in_ok-sort.ensures.permutation c.in_ok-sort.ensures.sorted c.dedup.ensures.filtered
+returns c =
+    sorted_once text_total text_exact texts_ties c.args.texts.items _ c.dedup.new.self.items c.in_ok-sort.ensures.permutation c.in_ok-sort.ensures.sorted
+    c.dedup.ensures.filtered

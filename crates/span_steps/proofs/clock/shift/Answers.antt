@@ -17,7 +17,8 @@ returns-in_default-warning-clause-ok c =
     let s = c.args.shown.now in
     let w = c.in-Some.warning in
     let put : c.push.new.self ≡ s.warnings ++ warning_text w ∷ [] = search rules in
-    unmoved_said c.args.max_skew c.args.delta s w c.push.new.self (sym c.in-Some.is ∙ (rw d at c.of_delta.ensures.warning)) c.in_default-warning.not-Adjusted put
+    unmoved_said c.args.max_skew c.args.delta s w c.push.new.self (sym c.in-Some.is ∙ (rw d at c.of_delta.ensures.warning))
+    c.in_default-warning.not-Adjusted put
 
 pub returns-in-Adjusted-clause-ok : goal.returns-in-Adjusted-clause-ok
 returns-in-Adjusted-clause-ok c =
@@ -27,4 +28,5 @@ returns-in-Adjusted-clause-ok c =
     let s = c.args.shown.now in
     let w = c.in-Some.warning in
     let put : c.push.new.self ≡ s.warnings ++ warning_text w ∷ [] = search rules in
-    moved_said c.args.max_skew c.args.delta by s w c.move_span.new.span c.push.new.self (sym c.in-Some.is ∙ (rw d at c.of_delta.ensures.warning)) c.in-Adjusted.is (rw (to_z-of_z w128 by fits) at c.move_span.ensures) put
+    moved_said c.args.max_skew c.args.delta by s w c.move_span.new.span c.push.new.self (sym c.in-Some.is ∙ (rw d at c.of_delta.ensures.warning))
+    c.in-Adjusted.is (rw (to_z-of_z w128 by fits) at c.move_span.ensures) put

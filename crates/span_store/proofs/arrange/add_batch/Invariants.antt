@@ -10,10 +10,13 @@ abbrev pub invariant-loop-span : goal.invariant-loop-span
 invariant-loop-span l = record {
   index : l.index ≡ l.span-index;
   within : IsWithin l.shown.newest;
-  follows : (n : ℕ) (h : List Entry) → l.place ≡ length h + 1 → Follows n (located_events h) l.initial.shown.newest (spots_of l.initial.shown) → Follows n (located_upto h l.batch l.span-index) l.shown.newest (spots_of l.shown);
-  first : (n : ℕ) (h : List Entry) → l.place ≡ length h + 1 → Follows n (located_events h) l.initial.shown.newest (spots_of l.initial.shown) → AreFirst n (located_events h) l.initial.starts.starts → AreFirst n (located_upto h l.batch l.span-index) l.starts.starts;
+  follows : (n : ℕ) (h : List Entry) → l.place ≡ length h + 1 → Follows n (located_events h) l.initial.shown.newest (spots_of l.initial.shown)
+      → Follows n (located_upto h l.batch l.span-index) l.shown.newest (spots_of l.shown);
+  first : (n : ℕ) (h : List Entry) → l.place ≡ length h + 1 → Follows n (located_events h) l.initial.shown.newest (spots_of l.initial.shown)
+      → AreFirst n (located_events h) l.initial.starts.starts → AreFirst n (located_upto h l.batch l.span-index) l.starts.starts;
   counted : IsCounted l.shown l.starts;
-  ranged : (n : ℕ) (h : List Entry) → l.place ≡ length h + 1 → Follows n (located_events h) l.initial.shown.newest (spots_of l.initial.shown) → IsRanged n (located_events h) l.initial.shown l.initial.starts → IsRanged n (located_upto h l.batch l.span-index) l.shown l.starts;
+  ranged : (n : ℕ) (h : List Entry) → l.place ≡ length h + 1 → Follows n (located_events h) l.initial.shown.newest (spots_of l.initial.shown)
+      → IsRanged n (located_events h) l.initial.shown l.initial.starts → IsRanged n (located_upto h l.batch l.span-index) l.shown l.starts;
   room : l.shown.room ≡ l.initial.shown.room;
   used : l.shown.used + (length l.batch.spans - l.span-index) ≡ l.initial.shown.used + length l.batch.spans;
 }

@@ -3,7 +3,7 @@ use Rattle.std.specs.Prelude.{if◌then◌else◌}
 use Rattle.std.proofs.lemmas.Option.{slice_get_within}
 use Rattle.trace_ring.specs.Windows.{NoneTwice, Window, evicted_trace}
 use Rattle.trace_assembly.specs.Rows.{spots_of}
-use Rattle.first_starts.specs.Ranges.{IsIn, range_at}
+use Rattle.trace_ring.specs.StartRanges.{IsIn, range_at}
 use Rattle.span_store.proofs.RingFollowsEvents.{follows_more}
 use Rattle.span_store.proofs.StartsFollowEvents.{arrived_starts}
 use Rattle.span_store.proofs.RangesFollowEvents.{Ranges, counted_came, one_place, ranged_came, some_pushed}
@@ -24,7 +24,8 @@ returns-clause-starts c = λ first are.
     let same : to_z w64 (of_z w64 c.args.span.now.start) ≡ c.args.span.now.start = search rules in
     let pushed = c.add_opened.ensures.starts ∙ ap (λ start. if arrived.opened then c.args.starts.now.starts ++ start ∷ [] else c.args.starts.now.starts) same in
     c.widen.ensures.starts
-    ∙ arrived_starts c.args.shown.now.newest.ids c.arrive_with_guess-arrived.new.self.newest.ids c.args.span.now.trace c.args.span.now.start arrived.opened arrived.left
+    ∙ arrived_starts c.args.shown.now.newest.ids c.arrive_with_guess-arrived.new.self.newest.ids c.args.span.now.trace c.args.span.now.start arrived.opened
+    arrived.left
     c.args.starts.now.starts c.add_opened.new.starts.starts c.drop_left.new.starts.starts came.opened came.left pushed c.drop_left.ensures.starts first are
 
 pub widen-requires : goal.widen-requires
@@ -34,7 +35,8 @@ widen-requires c =
     let within = slice_get_within c.arrive_with_guess-arrived.new.self.newest.ids arrived.place c.args.span.now.trace came.place in
     let many =
     counted_came c.args.shown.now.newest.ids c.arrive_with_guess-arrived.new.self.newest.ids c.args.span.now.trace arrived.opened arrived.left _
-    c.args.starts.now.starts c.add_opened.new.starts.starts c.drop_left.new.starts.starts c.requires.counted.as_many came.opened came.left c.add_opened.ensures.starts c.drop_left.ensures.starts in
+    c.args.starts.now.starts c.add_opened.new.starts.starts c.drop_left.new.starts.starts c.requires.counted.as_many came.opened came.left
+    c.add_opened.ensures.starts c.drop_left.ensures.starts in
     omega (arith, within, many)
 
 pub returns-clause-counted : goal.returns-clause-counted
@@ -49,7 +51,8 @@ returns-clause-counted c =
       as_many =
           ap (λ (l : List ℤ). length l) widened.starts
           ∙ counted_came c.args.shown.now.newest.ids c.arrive_with_guess-arrived.new.self.newest.ids c.args.span.now.trace arrived.opened arrived.left _
-          c.args.starts.now.starts c.add_opened.new.starts.starts c.drop_left.new.starts.starts counted.as_many came.opened came.left pushed.starts dropped.starts;
+          c.args.starts.now.starts c.add_opened.new.starts.starts c.drop_left.new.starts.starts counted.as_many came.opened came.left pushed.starts
+          dropped.starts;
       few = omega (arith, counted.few, pushed.used, dropped.used, widened.used, came.used);
       same_room = widened.room ∙ dropped.room ∙ pushed.room ∙ counted.same_room ∙ sym came.room;
     }
@@ -65,14 +68,16 @@ returns-clause-ranged c = λ n es p f ranged same start_is.
     let start : to_z w64 (of_z w64 c.args.span.now.start) ≡ c.args.span.now.start = search rules in
     let follows = follows_more n es c.args.spot p c.args.span.now.trace (evicted_trace arrived.left) before.newest after.newest
     (spots_of before) (spots_of after) f same came.limit came.ids came.left came.gone came.spots in
-    let ranges : Ranges before.newest.ids after.newest.ids c.args.span.now.trace arrived.left c.args.span.now.start c.args.starts.now c.add_opened.new.starts c.drop_left.new.starts c.widen.new.self = record {
+    let ranges : Ranges before.newest.ids after.newest.ids c.args.span.now.trace arrived.left c.args.span.now.start c.args.starts.now c.add_opened.new.starts
+    c.drop_left.new.starts c.widen.new.self = record {
       split = came.left;
       as_many = c.requires.counted.as_many;
       some = some_pushed arrived.opened c.args.starts.now.starts _ c.add_opened.new.starts.starts pushed.starts;
       wider = pushed.none_narrows;
       moved = dropped.ranges;
       still = counted_came before.newest.ids after.newest.ids c.args.span.now.trace arrived.opened arrived.left _
-          c.args.starts.now.starts c.add_opened.new.starts.starts c.drop_left.new.starts.starts c.requires.counted.as_many came.opened came.left pushed.starts dropped.starts;
+          c.args.starts.now.starts c.add_opened.new.starts.starts c.drop_left.new.starts.starts c.requires.counted.as_many came.opened came.left pushed.starts
+          dropped.starts;
       wider_still = c.widen.ensures.none_narrows;
       own = λ k at.
           let once : NoneTwice after.newest.ids = subst (λ (w : Window). NoneTwice w.ids) c.ring.ensures c.len-once.ensures.once in
@@ -80,5 +85,6 @@ returns-clause-ranged c = λ n es p f ranged same start_is.
           let own = subst (IsIn (range_at c.widen.new.self arrived.place)) start c.widen.ensures.own in
           subst (λ n. IsIn (range_at c.widen.new.self n) c.args.span.now.start) place own;
     } in
-    ranged_came before.newest.ids after.newest.ids c.args.span.now.trace arrived.left c.args.span.now.start c.args.starts.now c.add_opened.new.starts c.drop_left.new.starts c.widen.new.self ranges
+    ranged_came before.newest.ids after.newest.ids c.args.span.now.trace arrived.left c.args.span.now.start c.args.starts.now c.add_opened.new.starts
+    c.drop_left.new.starts c.widen.new.self ranges
     n es (c.args.spot, p) f.ring follows.ring same start_is ranged

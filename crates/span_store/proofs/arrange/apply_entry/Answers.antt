@@ -33,4 +33,5 @@ returns-in-Batch-clause-ranged c = λ n h at f ranged.
 
 pub returns-in-TraceLimit-clause-ranged : goal.returns-in-TraceLimit-clause-ranged
 returns-in-TraceLimit-clause-ranged c = λ n h at f ranged.
-    ranged_limited n h c.args.entry.now c.in-TraceLimit.limit c.in-TraceLimit.is c.apply_limit.new.shown c.apply_limit.new.starts (c.apply_limit.ensures.ranged (spans_of_trace n (events_in (located_events h))) ranged)
+    ranged_limited n h c.args.entry.now c.in-TraceLimit.limit c.in-TraceLimit.is c.apply_limit.new.shown c.apply_limit.new.starts
+    (c.apply_limit.ensures.ranged (spans_of_trace n (events_in (located_events h))) ranged)

@@ -16,7 +16,9 @@ loop-gone-preserved c =
       starts = λ first are. c.drop_oldest-in-Some.ensures.starts ∙ ap (drop 1) (before.invariant.starts first are ∙ ap (map first) out.ids);
       used = c.drop_oldest-in-Some.ensures.used ∙ before.invariant.used;
       room = c.drop_oldest-in-Some.ensures.room ∙ before.invariant.room;
-      as_many = one_fewer before.shown.newest.ids c.drop_oldest.new.self.newest.ids c.in-Some._gone.trace before.starts.starts c.drop_oldest-in-Some.new.self.starts before.invariant.as_many out.ids c.drop_oldest-in-Some.ensures.starts;
+      as_many =
+          one_fewer before.shown.newest.ids c.drop_oldest.new.self.newest.ids c.in-Some._gone.trace before.starts.starts c.drop_oldest-in-Some.new.self.starts
+          before.invariant.as_many out.ids c.drop_oldest-in-Some.ensures.starts;
       ranged = λ spans ranged.
           ranged_dropped before.starts c.drop_oldest-in-Some.new.self before.shown.newest.ids c.drop_oldest.new.self.newest.ids c.in-Some._gone.trace
           out.ids before.invariant.as_many c.drop_oldest-in-Some.ensures.ranges spans (before.invariant.ranged spans ranged);

@@ -6,5 +6,6 @@ use Rattle.span_store.proofs.finding.take_places.Given as goal
 
 abbrev pub invariant-loop-place : goal.invariant-loop-place
 invariant-loop-place l =
-    (map placed_taken l.taken ≡ map (λ i. slice_index_or (traces_named l.traces.journal.now.held.entries l.traces.spots.now) i []) (take l.place-index l.places))
+    (map placed_taken l.taken ≡ map
+    (λ i. slice_index_or (traces_named l.traces.journal.now.held.entries l.traces.spots.now) i []) (take l.place-index l.places))
     × AreNumberedByPlace l.traces.journal.now.held.entries l.taken

@@ -9,7 +9,8 @@ loop-place-preserved c =
     let traces = c.args.traces.now in
     let i = c.loop-place.place in
     let within : i < length traces = omega (arith, c.loop-place-test.true, c.count-place-end.ensures) in
-    c.in_ok-add.ensures ∙ (λ j. with_trace (c.loop-place.invariant j) ((c.deref.ensures.value ∙ c.in_ok-spans.ensures) j)) ∙ sym (fold_more with_trace [] traces i [] within)
+    c.in_ok-add.ensures ∙ (λ j. with_trace (c.loop-place.invariant j) ((c.deref.ensures.value ∙ c.in_ok-spans.ensures) j))
+    ∙ sym (fold_more with_trace [] traces i [] within)
 
 pub returns : goal.returns
 returns c =

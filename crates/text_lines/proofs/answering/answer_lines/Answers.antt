@@ -26,4 +26,5 @@ pub returns-clause-some : goal.returns-clause-some
 returns-clause-some g c = some_left g.T.LineHandler.takes _ _ _ _ _ _ _ _ _ Device c.in-Err-Device.field-0-is c.in-Err-Device.ensures.some
 
 pub returns-in-Ok-clause-all : goal.returns-in-Ok-clause-all
-returns-in-Ok-clause-all g c = all_answered g.T.LineHandler.takes _ _ _ _ _ _ _ _ _ c.in-Ok.ensures.all (rw c.in_ok-flush-in-Ok.ensures.ok at c.flush.ensures.moves)
+returns-in-Ok-clause-all g c =
+    all_answered g.T.LineHandler.takes _ _ _ _ _ _ _ _ _ c.in-Ok.ensures.all (rw c.in_ok-flush-in-Ok.ensures.ok at c.flush.ensures.moves)

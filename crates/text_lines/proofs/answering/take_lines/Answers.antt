@@ -29,19 +29,24 @@ pub returns-in_err-faulty-clause-some : goal.returns-in_err-faulty-clause-some
 returns-in_err-faulty-clause-some g c =
     let p = err_from_is_err_and c.from_residual-in_err-faulty.result c.from_residual-in_err-faulty.ensures.1 in
     rw (p.1, p.2) (stops g.T.LineHandler.takes _ _ _ _ _ _ _ _ _ _ _ _ _ _ _ Memory c.lines.invariant.so_far
-    (line_lost _ _ _ c.next.new.self c.next.new.line.items _ _ (rw c.if-branch.true at c.in_ok-next.ensures.line) c.in_ok-next.ensures.works.0 c.in_ok-next.ensures.works.1) c.next.ensures.buffer)
+    (line_lost _ _ _ c.next.new.self c.next.new.line.items _ _ (rw c.if-branch.true at c.in_ok-next.ensures.line)
+    c.in_ok-next.ensures.works.0 c.in_ok-next.ensures.works.1) c.next.ensures.buffer)
 
 pub returns-in_err-push-clause-some : goal.returns-in_err-push-clause-some
 returns-in_err-push-clause-some g c =
     let p = err_from_is_err_and c.from_residual-in_err-push.result c.from_residual-in_err-push.ensures.1 in
     rw (p.1, p.2, c.in_err-push.ensures.err) (stops g.T.LineHandler.takes _ _ _ _ _ _ _ _ _ _ _ _ _ _ _ Memory c.lines.invariant.so_far
-    (line_lost _ _ _ c.next.new.self c.next.new.line.items _ _ (rw c.if-branch.true at c.in_ok-next.ensures.line) c.in_ok-next.ensures.works.0 c.in_ok-next.ensures.works.1) c.next.ensures.buffer)
+    (line_lost _ _ _ c.next.new.self c.next.new.line.items _ _ (rw c.if-branch.true at c.in_ok-next.ensures.line)
+    c.in_ok-next.ensures.works.0 c.in_ok-next.ensures.works.1) c.next.ensures.buffer)
 
 pub lines-preserved : goal.lines-preserved
 lines-preserved g c =
-    let says : c.push.new.self ≡ c.next.new.buffer ++ c.handle_line.new.reply.items = c.in_ok-push.ensures.ok ∙ ap (λ x. c.next.new.buffer ++ x) c.as_slice.ensures.value in
+    let says : c.push.new.self ≡ c.next.new.buffer ++ c.handle_line.new.reply.items =
+    c.in_ok-push.ensures.ok ∙ ap (λ x. c.next.new.buffer ++ x) c.as_slice.ensures.value in
     record {
-      so_far = goes_on g.T.LineHandler.takes _ _ _ _ _ _ _ _ _ _ _ c.next.new.self _ _ c.push.new.self _ _ _ _ c.next.new.line.items c.handle_line.new.reply.items c.lines.invariant.so_far
+      so_far =
+          goes_on g.T.LineHandler.takes _ _ _ _ _ _ _ _ _ _ _ c.next.new.self _ _ c.push.new.self _ _ _ _ c.next.new.line.items c.handle_line.new.reply.items
+          c.lines.invariant.so_far
           (rw c.if-branch.true at c.in_ok-next.ensures.line) c.next.ensures.buffer c.in_ok-faulty.ensures says c.flush_if_large.ensures.moves;
       input_works = c.in_ok-next.ensures.works.0;
       output_works = c.in_ok-flush_if_large.ensures.works;
@@ -50,9 +55,11 @@ lines-preserved g c =
 pub returns-in_err-flush_if_large-clause-some : goal.returns-in_err-flush_if_large-clause-some
 returns-in_err-flush_if_large-clause-some g c =
     let p = err_from_is_err_and c.from_residual-in_err-flush_if_large.result c.from_residual-in_err-flush_if_large.ensures.1 in
-    let says : c.push.new.self ≡ c.next.new.buffer ++ c.handle_line.new.reply.items = c.in_ok-push.ensures.ok ∙ ap (λ x. c.next.new.buffer ++ x) c.as_slice.ensures.value in
+    let says : c.push.new.self ≡ c.next.new.buffer ++ c.handle_line.new.reply.items =
+    c.in_ok-push.ensures.ok ∙ ap (λ x. c.next.new.buffer ++ x) c.as_slice.ensures.value in
     rw (p.1, p.2, c.in_err-flush_if_large.ensures.err.0) (stops g.T.LineHandler.takes _ _ _ _ _ _ _ _ _ _ _ _ _ _ _ Device
-    (goes_on g.T.LineHandler.takes _ _ _ _ _ _ _ _ _ _ _ c.next.new.self _ _ c.push.new.self _ _ _ _ c.next.new.line.items c.handle_line.new.reply.items c.lines.invariant.so_far
+    (goes_on g.T.LineHandler.takes _ _ _ _ _ _ _ _ _ _ _ c.next.new.self _ _ c.push.new.self _ _ _ _ c.next.new.line.items c.handle_line.new.reply.items
+    c.lines.invariant.so_far
     (rw c.if-branch.true at c.in_ok-next.ensures.line) c.next.ensures.buffer c.in_ok-faulty.ensures says c.flush_if_large.ensures.moves)
     (stays _ c.next.new.self _ _ Device (inr (inl c.in_err-flush_if_large.ensures.err.1))) (moves_nothing _ c.flush_if_large.new.self))
 

@@ -5,7 +5,8 @@ use Rattle.text_lines.proofs.answering.take_lines.Given as goal
 
 abbrev pub invariant-lines : goal.invariant-lines
 invariant-lines g l = record {
-  so_far : SoFar g.T.LineHandler.takes (g.R.Input.remaining l.fn.input) (g.R.Input.remaining l.input) (g.W.Output.contents l.fn.output) (g.W.Output.contents l.output)
+  so_far : SoFar g.T.LineHandler.takes (g.R.Input.remaining l.fn.input) (g.R.Input.remaining l.input) (g.W.Output.contents l.fn.output)
+      (g.W.Output.contents l.output)
       l.fn.handler l.handler l.lines l.buffer l.number l.faulty;
   input_works : g.R.Input.has_failed l.input ≡ false;
   output_works : g.W.Output.has_failed l.output ≡ false;

@@ -1,4 +1,5 @@
-use Rattle.thrift_binary.proofs.Written.{bool_written, i32_written, i64_written, double_written, string_written, field_written, list_head_written, fields_written}
+use Rattle.thrift_binary.proofs.Written.{bool_written, i32_written, i64_written, double_written, string_written, field_written, list_head_written}
+use Rattle.thrift_binary.proofs.Written.{fields_written}
 use Rattle.thrift_binary.proofs.laws.written_values_spell.Goals as goal
 
 pub returns-clause-bool : goal.returns-clause-bool

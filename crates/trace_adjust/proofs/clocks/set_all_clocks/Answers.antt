@@ -19,13 +19,16 @@ loop-place-preserved c =
       ];
       fewer = elim c.if-set_clock_at.branch [
         | then-set_clock_at w ↦
-            let f : unset_count new + 1 ≡ unset_count old = ap (λ b. unset_count new + cond b 1 0) (sym w.if-set_clock_at.true) ∙ c.set_clock_at.ensures.fewer in
+            let f : unset_count new + 1 ≡ unset_count old =
+            ap (λ b. unset_count new + cond b 1 0) (sym w.if-set_clock_at.true) ∙ c.set_clock_at.ensures.fewer in
             let g : unset_count new + cond c.if-set_clock_at.changed 1 0 ≡ unset_count new + 1 = ap (λ b. unset_count new + cond b 1 0) w.changed-is in
             let h : unset_count old + cond c.loop-place.changed 1 0 ≤ unset_count c.args.clocks.now.items = c.loop-place.invariant.fewer in
             omega (arith, f, g, h)
         | else-set_clock_at w ↦
-            let f : unset_count new + 0 ≡ unset_count old = ap (λ b. unset_count new + cond b 1 0) (sym w.if-set_clock_at.false) ∙ c.set_clock_at.ensures.fewer in
-            let g : unset_count new + cond c.if-set_clock_at.changed 1 0 ≡ unset_count new + cond c.loop-place.changed 1 0 = ap (λ b. unset_count new + cond b 1 0) w.changed-is in
+            let f : unset_count new + 0 ≡ unset_count old =
+            ap (λ b. unset_count new + cond b 1 0) (sym w.if-set_clock_at.false) ∙ c.set_clock_at.ensures.fewer in
+            let g : unset_count new + cond c.if-set_clock_at.changed 1 0 ≡ unset_count new + cond c.loop-place.changed 1 0 =
+            ap (λ b. unset_count new + cond b 1 0) w.changed-is in
             let h : unset_count old + cond c.loop-place.changed 1 0 ≤ unset_count c.args.clocks.now.items = c.loop-place.invariant.fewer in
             omega (arith, f, g, h)
       ];

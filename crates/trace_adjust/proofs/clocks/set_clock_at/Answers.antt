@@ -12,9 +12,16 @@ returns c =
     let within = c.requires.within in
     let here = c.index-trace-place.is in
     let parent = parent_read all c.args.parents.now c.args.place p within c.requires.parents in
-    let number = ap (λ q. number_in (hosts_of all) (host_of q)) here ∙ number_read (hosts_of all) all c.args.hosts.now c.args.place p 0 within c.requires.hosts in
+    let number = ap (λ q. number_in (hosts_of all) (host_of q)) here
+    ∙ number_read (hosts_of all) all c.args.hosts.now c.args.place p 0 within c.requires.hosts in
     record {
-      set = step_set c.args.max_skew all c.args.clocks.now.items c.set_clock.new.clocks.items c.args.place _ p _ within here parent number c.set_clock.ensures.after c.requires.set;
-      closed = λ e. step_closed c.args.max_skew all c.args.clocks.now.items c.set_clock.new.clocks.items c.args.place _ p _ within here parent number c.set_clock.ensures.after c.requires.set (sym c.set_clock.ensures.set ∙ e);
-      fewer = step_fewer c.args.max_skew all c.args.clocks.now.items c.set_clock.new.clocks.items c.args.place _ p _ within here parent number c.set_clock.ensures.after c.requires.set c.set_clock.result c.set_clock.ensures.set;
+      set =
+          step_set c.args.max_skew all c.args.clocks.now.items c.set_clock.new.clocks.items c.args.place _ p _ within here parent number
+          c.set_clock.ensures.after c.requires.set;
+      closed =
+          λ e. step_closed c.args.max_skew all c.args.clocks.now.items c.set_clock.new.clocks.items c.args.place _ p _ within here parent number
+          c.set_clock.ensures.after c.requires.set (sym c.set_clock.ensures.set ∙ e);
+      fewer =
+          step_fewer c.args.max_skew all c.args.clocks.now.items c.set_clock.new.clocks.items c.args.place _ p _ within here parent number
+          c.set_clock.ensures.after c.requires.set c.set_clock.result c.set_clock.ensures.set;
     }

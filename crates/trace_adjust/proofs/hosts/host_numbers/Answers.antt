@@ -7,7 +7,8 @@ use Rattle.std.proofs.lemmas.List.{take_all}
 use Rattle.jaeger_model.specs.Texts.{same_text, text_cmp}
 use Rattle.trace_model.specs.Adjusting.{host_of}
 use Rattle.trace_adjust.specs.Hosts.{hosts_of, number_in, AreNumbers, AreKept}
-use Rattle.trace_adjust.proofs.Hosting.{table_more, numbers_more, kept_more, kept_put, own_number, place_read, fresh_is, number_again, number_stays, number_given, table_given}
+use Rattle.trace_adjust.proofs.Hosting.{table_more, numbers_more, kept_more, kept_put, own_number, place_read, fresh_is, number_again, number_stays}
+use Rattle.trace_adjust.proofs.Hosting.{number_given, table_given}
 use Rattle.trace_adjust.proofs.hosts.host_numbers.Goals as goal
 use Rattle.trace_adjust.proofs.hosts.host_numbers.Goals.{in-Some, in-None+in_ok-host-in-None+in_ok-number-in-None+in_ok-keep_number-in-None}
 
@@ -28,25 +29,43 @@ loop-index-preserved c =
           let new = get text_cmp w.number_of.new.numbers in
           let same = w.in_ok-host-in-None.ensures in
           let long = fresh_is ps i p l here in
-          let put : (t : List ℕ) → new t ≡ option_or (old t) (cond (same_text t host) (Some (i + 1)) None) = λ t. w.in_ok-number-in-None.ensures.numbers t ∙ ap (λ h. option_or (old t) (cond (same_text t h) (Some (i + 1)) None)) same in
-          let given = number_given before host (old host) w.in_ok-number-in-None.number (i + 1) (c.loop-index.invariant.table host) (w.in_ok-number-in-None.ensures.number ∙ ap (λ h. unwrap_or (old h) (i + 1)) same) long in
+          let put : (t : List ℕ) → new t ≡ option_or (old t) (cond (same_text t host) (Some (i + 1)) None) =
+          λ t. w.in_ok-number-in-None.ensures.numbers t ∙ ap (λ h. option_or (old t) (cond (same_text t h) (Some (i + 1)) None)) same in
+          let given = number_given before host (old host) w.in_ok-number-in-None.number (i + 1) (c.loop-index.invariant.table host)
+          (w.in_ok-number-in-None.ensures.number ∙ ap (λ h. unwrap_or (old h) (i + 1)) same) long in
           let known : number_in (before ++ host ∷ []) host ≡ Some c.match-kept_number.number = given ∙ ap Some (sym w.number-is) in
           record {
-            table = λ t. ap (λ m. get text_cmp m t) w.numbers-is ∙ table_more ps i p l here new (table_given before host old new (i + 1) c.loop-index.invariant.table long put) t;
-            hosts = numbers_more ps i p l here c.loop-index.hosts.items c.push.new.self.items c.match-kept_number.number c.loop-index.invariant.hosts c.in_ok-push.ensures.items known;
+            table =
+                λ t. ap (λ m. get text_cmp m t) w.numbers-is
+                ∙ table_more ps i p l here new (table_given before host old new (i + 1) c.loop-index.invariant.table long put) t;
+            hosts =
+                numbers_more ps i p l here c.loop-index.hosts.items c.push.new.self.items c.match-kept_number.number c.loop-index.invariant.hosts
+                c.in_ok-push.ensures.items known;
             kept = subst (λ m. AreKept ps places (i + 1) (get nat_cmp m)) (sym w.kept-is)
-                (kept_put ps i p l here places c.copied-place.result w.in_ok-number-in-None.number (get nat_cmp c.loop-index.kept) (get nat_cmp w.keep_number.new.kept) place w.in_ok-keep_number-in-None.ensures given c.loop-index.invariant.kept);
+                (kept_put ps i p l here places c.copied-place.result w.in_ok-number-in-None.number (get nat_cmp c.loop-index.kept)
+                (get nat_cmp w.keep_number.new.kept) place w.in_ok-keep_number-in-None.ensures given c.loop-index.invariant.kept);
           }
       | in-Some w ↦
           let own : number_in before host ≡ Some c.match-kept_number.number =
-          own_number ps i p l here places c.copied-place.result (get nat_cmp c.loop-index.kept) c.match-kept_number.number c.requires place c.loop-index.invariant.kept (sym w.in-Some.ensures ∙ ap Some (sym w.number-is)) in
-          let known : number_in (before ++ host ∷ []) host ≡ Some c.match-kept_number.number = number_stays before (host ∷ []) host c.match-kept_number.number own in
+          own_number ps i p l here places c.copied-place.result (get nat_cmp c.loop-index.kept)
+          c.match-kept_number.number c.requires place c.loop-index.invariant.kept (sym w.in-Some.ensures ∙ ap Some (sym w.number-is)) in
+          let known : number_in (before ++ host ∷ []) host ≡ Some c.match-kept_number.number =
+          number_stays before (host ∷ []) host c.match-kept_number.number own in
           record {
-            table = λ t. ap (λ m. get text_cmp m t) w.numbers-is ∙ table_more ps i p l here (get text_cmp c.loop-index.numbers) (λ u. c.loop-index.invariant.table u ∙ sym (number_again before host c.match-kept_number.number own u)) t;
-            hosts = numbers_more ps i p l here c.loop-index.hosts.items c.push.new.self.items c.match-kept_number.number c.loop-index.invariant.hosts c.in_ok-push.ensures.items known;
-            kept = subst (λ m. AreKept ps places (i + 1) (get nat_cmp m)) (sym w.kept-is) (kept_more ps i p l here places (get nat_cmp c.loop-index.kept) c.loop-index.invariant.kept);
+            table =
+                λ t. ap (λ m. get text_cmp m t) w.numbers-is
+                ∙ table_more ps i p l here (get text_cmp c.loop-index.numbers)
+                (λ u. c.loop-index.invariant.table u ∙ sym (number_again before host c.match-kept_number.number own u)) t;
+            hosts =
+                numbers_more ps i p l here c.loop-index.hosts.items c.push.new.self.items c.match-kept_number.number c.loop-index.invariant.hosts
+                c.in_ok-push.ensures.items known;
+            kept =
+                subst (λ m. AreKept ps places (i + 1) (get nat_cmp m)) (sym w.kept-is)
+                (kept_more ps i p l here places (get nat_cmp c.loop-index.kept) c.loop-index.invariant.kept);
           }
     ]
 
 pub returns : goal.returns
-returns c = subst (λ ps. AreNumbers (hosts_of c.args.trace.now) ps c.loop-index.hosts.items) (take_all c.loop-index.index c.args.trace.now c.loop-index-test.false) c.loop-index.invariant.hosts
+returns c =
+    subst (λ ps. AreNumbers (hosts_of c.args.trace.now) ps c.loop-index.hosts.items) (take_all c.loop-index.index c.args.trace.now c.loop-index-test.false)
+    c.loop-index.invariant.hosts

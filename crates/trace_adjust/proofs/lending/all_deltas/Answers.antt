@@ -21,12 +21,15 @@ loop-place-preserved c =
     let clocks = c.args.clocks.now in
     let hosts = hosts_of ps in
     let first : ℕ → Option ℕ = λ id. get nat_cmp clocks.first id in
-    let delta = c.delta_at.ensures ∙ ap (λ (id : SpanId). delta_by first clocks.clocks.items i id.0) c.id.ensures ∙ same_delta hosts first clocks.clocks.items i p.span.id.0 in
+    let delta = c.delta_at.ensures ∙ ap (λ (id : SpanId). delta_by first clocks.clocks.items i id.0) c.id.ensures
+    ∙ same_delta hosts first clocks.clocks.items i p.span.id.0 in
     let fits : SFits w128 c.delta_at.result = search rules in
     let put = rw (to_z-of_z w128 c.delta_at.result fits) at c.in_ok-push.ensures.items in
     record {
       many = one_longer c.loop-place.deltas.items c.push.new.self.items c.delta_at.result i c.loop-place.invariant.many put;
-      shown = λ m known. delta_more m ps (all_hosted hosts clocks.clocks.items) first i p c.delta_at.result c.loop-place.deltas.items c.push.new.self.items (search rules) c.index-trace-place.is known.clocks known.first delta c.loop-place.invariant.many (c.loop-place.invariant.shown m known) put;
+      shown =
+          λ m known. delta_more m ps (all_hosted hosts clocks.clocks.items) first i p c.delta_at.result c.loop-place.deltas.items c.push.new.self.items
+          (search rules) c.index-trace-place.is known.clocks known.first delta c.loop-place.invariant.many (c.loop-place.invariant.shown m known) put;
     }
 
 pub returns : goal.returns

@@ -20,8 +20,10 @@ loop-span-preserved c =
           ap (λ v. v.items) w.lent-is ∙ w.in_ok-push.ensures.items
           ∙ (λ j. l.invariant j ++ w.with_parent_first.ensures j ∷ [])
           ∙ sym (map_push with_parent_first (spans_there (take i ks)) p)
-          ∙ ap (map with_parent_first) (some_next ks i c.span-item.result p c.loop-span-test.true c.span-item.is (there ∙ ap (option_map placed_by_its_entry) w.in-Some.is))
+          ∙ ap (map with_parent_first) (some_next ks i c.span-item.result p c.loop-span-test.true c.span-item.is
+          (there ∙ ap (option_map placed_by_its_entry) w.in-Some.is))
       | in_default w ↦
           ap (λ v. v.items) w.lent-is ∙ l.invariant
-          ∙ ap (map with_parent_first) (none_next ks i c.span-item.result c.loop-span-test.true c.span-item.is (there ∙ ap (option_map placed_by_its_entry) w.in_default.is))
+          ∙ ap (map with_parent_first) (none_next ks i c.span-item.result c.loop-span-test.true c.span-item.is
+          (there ∙ ap (option_map placed_by_its_entry) w.in_default.is))
     ]

@@ -23,7 +23,9 @@ returns c =
     let r = c.deltas_of.result in
     let spans = spans_there t.spans.items in
     let raw : t.raw ≡ false = c.if-trace.false in
-    let lent : c.deref-2.result.now ≡ map (placed_as t.raw) spans = c.deref-2.ensures.value ∙ c.in_ok-lent.ensures ∙ ap (λ ks. map with_parent_first (spans_there ks)) c.deref.ensures.value ∙ ap (λ b. map (placed_as b) spans) (sym raw) in
+    let lent : c.deref-2.result.now ≡ map (placed_as t.raw) spans =
+    c.deref-2.ensures.value ∙ c.in_ok-lent.ensures ∙ ap (λ ks. map with_parent_first (spans_there ks)) c.deref.ensures.value
+    ∙ ap (λ b. map (placed_as b) spans) (sym raw) in
     let shown : adjusted m spans ≡ kept_value t = ap (λ b. shown_as t.limits b spans) (sym raw) in
     subst (λ ss. IfOk r (λ v. shifted_all m v.items (map (placed_as t.raw) spans) ≡ ss)) shown
     (subst (λ ps. IfOk r (λ v. shifted_all m v.items ps ≡ adjusted m spans)) lent c.deltas_of.ensures)

@@ -17,10 +17,13 @@ loop-place-preserved c = λ q.
     let own = c.id-id.ensures in
     elim c.if-not-contains_key.branch [
       | then-not-contains_key+in_ok-insert w ↦
-          let none : is_some (had p.span.id.0) ≡ false = ap (λ (k : SpanId). is_some (had k.0)) (sym own) ∙ sym c.contains_key.ensures ∙ w.if-not-contains_key.true in
+          let none : is_some (had p.span.id.0) ≡ false =
+          ap (λ (k : SpanId). is_some (had k.0)) (sym own) ∙ sym c.contains_key.ensures ∙ w.if-not-contains_key.true in
           let put = w.in_ok-insert.ensures.updates.0 q ∙ ap (λ (k : SpanId). cond (is_eq (nat_cmp k.0 q)) (Some i) (had q)) own in
-          ap (λ m. get nat_cmp m q) w.first-is ∙ place_entered q had (get nat_cmp w.insert.new.self q) ps i p (search rules) here c.loop-place.invariant none put
+          ap (λ m. get nat_cmp m q) w.first-is
+          ∙ place_entered q had (get nat_cmp w.insert.new.self q) ps i p (search rules) here c.loop-place.invariant none put
       | else-not-contains_key w ↦
-          let there : is_some (had p.span.id.0) ≡ true = ap (λ (k : SpanId). is_some (had k.0)) (sym own) ∙ sym c.contains_key.ensures ∙ w.if-not-contains_key.false in
+          let there : is_some (had p.span.id.0) ≡ true =
+          ap (λ (k : SpanId). is_some (had k.0)) (sym own) ∙ sym c.contains_key.ensures ∙ w.if-not-contains_key.false in
           ap (λ m. get nat_cmp m q) w.first-is ∙ place_kept q had ps i p (search rules) here c.loop-place.invariant there
     ]

@@ -8,7 +8,9 @@ use Rattle.trace_adjust.proofs.Shifting.{fresh}
 use Rattle.trace_adjust.proofs.skew.adjusted.Goals as goal
 
 pub adjust_skew-requires : goal.adjust_skew-requires
-adjust_skew-requires c = subst (λ ss. ShareProcesses (spans_of ss) c.args.places.now) (sym (c.deref_mut.ensures.value ∙ c.in_ok-shown.ensures)) (first_shares c.args.trace.items c.args.places.now c.requires)
+adjust_skew-requires c =
+    subst (λ ss. ShareProcesses (spans_of ss) c.args.places.now) (sym (c.deref_mut.ensures.value ∙ c.in_ok-shown.ensures))
+    (first_shares c.args.trace.items c.args.places.now c.requires)
 
 pub returns : goal.returns
 returns c =

@@ -21,7 +21,8 @@ loop-place-preserved c =
     let one = rw (to_z-of_z w128 c.delta_at-delta.result fits) at c.in_ok-shift.ensures.ok in
     let delta = c.delta_at-delta.ensures ∙ same_delta hosts first c.args.clocks.now.clocks.items i s.placed.span.id.0 in
     shifted_more m c.args.trace.now c.loop-place.trace (all_hosted hosts c.args.clocks.now.clocks.items) first i s c.shift.new.shown (search rules)
-    (ap (get_or c.loop-place.trace i) c.index-trace-place.is) c.requires.clocks c.requires.first (one ∙ ap (λ d. said_after s (shifted m d s.placed)) delta) c.loop-place.invariant
+    (ap (get_or c.loop-place.trace i) c.index-trace-place.is) c.requires.clocks c.requires.first (one ∙ ap (λ d. said_after s (shifted m d s.placed)) delta)
+    c.loop-place.invariant
 
 pub returns-clause-ok : goal.returns-clause-ok
 returns-clause-ok c = all_written c.args.max_skew c.args.trace.now c.loop-place.trace c.loop-place.place (search rules) c.loop-place.invariant

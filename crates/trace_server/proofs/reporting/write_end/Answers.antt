@@ -5,9 +5,11 @@ use Rattle.trace_server.proofs.reporting.write_end.Goals as goal
 pub returns-in-Ok : goal.returns-in-Ok
 returns-in-Ok g c =
     let t = c.args.totals in
-    said_both _ _ _ (g.W.Output.has_failed c.write_books.new.output) (served_line c.args.served) (books_line t.acknowledged t.refused t.left) c.write_books.result c.in-Ok.ensures.0 c.write_books.ensures
+    said_both _ _ _ (g.W.Output.has_failed c.write_books.new.output) (served_line c.args.served) (books_line t.acknowledged t.refused t.left)
+    c.write_books.result c.in-Ok.ensures.0 c.write_books.ensures
 
 pub returns-in-Err : goal.returns-in-Err
 returns-in-Err g c =
     let t = c.args.totals in
-    said_some _ _ (g.W.Output.has_failed c.write_served.new.output) (served_line c.args.served) (books_line t.acknowledged t.refused t.left) c.in-Err.error c.in-Err.ensures.0 c.in-Err.ensures.1
+    said_some _ _ (g.W.Output.has_failed c.write_served.new.output) (served_line c.args.served) (books_line t.acknowledged t.refused t.left)
+    c.in-Err.error c.in-Err.ensures.0 c.in-Err.ensures.1

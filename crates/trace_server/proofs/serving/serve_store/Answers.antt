@@ -12,7 +12,8 @@ pub close_books-requires-clause-open : goal.close_books-requires-clause-open
 close_books-requires-clause-open g c =
     let on = IfOk-at_ok _ c.in-Ok.is c.serve_sessions-books.ensures.seats in
     let desk = c.serve_sessions-books.ensures.desk in
-    open_at c.serve_sessions-books.result.0.inbox.desk c.args.shared.clerk.desk _ desk (open_still c.args.shared.clerk.desk _ _ on (new_open c.args.shared.clerk.desk _ c.requires.new))
+    open_at c.serve_sessions-books.result.0.inbox.desk c.args.shared.clerk.desk _ desk
+    (open_still c.args.shared.clerk.desk _ _ on (new_open c.args.shared.clerk.desk _ c.requires.new))
 
 pub returns-in-Ok-close_books : goal.returns-in-Ok-close_books
 returns-in-Ok-close_books g c =

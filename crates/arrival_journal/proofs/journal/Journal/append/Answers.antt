@@ -21,17 +21,28 @@ pub invariant_of-self : goal.invariant_of-self
 invariant_of-self c =
     let was = c.self.inside in
     let h : List Entry = map arc_value was.entries.items in
-    let pushed : map arc_value c.push_reserved.new.self.items ≡ h ++ arc_value c.into_entry-entry.result ∷ [] = ap (map arc_value) c.push_reserved.ensures.items ∙ map_push arc_value was.entries.items c.into_entry-entry.result in
-    let outline : c.outline-outline.result ≡ outline_in (arc_value c.into_entry-entry.result) = c.outline-outline.ensures ∙ ap outline_in (sym c.into_entry-entry.ensures) in
-    let outlined : c.push_outline.new.outlines.items ≡ with_outline was.keeps_outlines was.outlines.items (outline_in (arc_value c.into_entry-entry.result)) = c.push_outline.ensures.items ∙ ap (with_outline was.keeps_outlines was.outlines.items) outline in
+    let pushed : map arc_value c.push_reserved.new.self.items ≡ h ++ arc_value c.into_entry-entry.result ∷ [] =
+    ap (map arc_value) c.push_reserved.ensures.items ∙ map_push arc_value was.entries.items c.into_entry-entry.result in
+    let outline : c.outline-outline.result ≡ outline_in (arc_value c.into_entry-entry.result) =
+    c.outline-outline.ensures ∙ ap outline_in (sym c.into_entry-entry.ensures) in
+    let outlined : c.push_outline.new.outlines.items ≡ with_outline was.keeps_outlines was.outlines.items (outline_in (arc_value c.into_entry-entry.result)) =
+    c.push_outline.ensures.items ∙ ap (with_outline was.keeps_outlines was.outlines.items) outline in
     let count : length c.spans.result.now ≡ length (spans_brought (arc_value c.into_entry-entry.result).work) = search rules in
-    let noted : (s : ℕ) → get_or c.set_last_number.new.numbers.items s 0 ≡ (if c.into_entry-entry.result.value.seat == s then c.into_entry-entry.result.value.number else get_or was.last_numbers.items s 0) = search rules in
-    let may : admission was.limits h (arc_value c.into_entry-entry.result) ≡ Ok Added = ap (λ (v : Journaled). admission_by v.held (arc_value c.into_entry-entry.result)) c.self.view_is ∙ (ap (λ (x : Entry). admission_by c.args.self.now.held x) c.into_entry-entry.ensures ∙ c.requires) in
-    let sent : SentKept (h ++ arc_value c.into_entry-entry.result ∷ []) c.add.new.self = subst (λ (l : List Entry). SentKept l c.add.new.self) (ap (map (arc_value {X = Entry} {Z = Global})) c.deref-4.ensures.value ∙ pushed) c.add.ensures.kept in
+    let noted : (s : ℕ) → get_or c.set_last_number.new.numbers.items s 0
+    ≡ (if c.into_entry-entry.result.value.seat == s then c.into_entry-entry.result.value.number else get_or was.last_numbers.items s 0) = search rules in
+    let may : admission was.limits h (arc_value c.into_entry-entry.result) ≡ Ok Added =
+    ap (λ (v : Journaled). admission_by v.held (arc_value c.into_entry-entry.result)) c.self.view_is
+    ∙ (ap (λ (x : Entry). admission_by c.args.self.now.held x) c.into_entry-entry.ensures ∙ c.requires) in
+    let sent : SentKept (h ++ arc_value c.into_entry-entry.result ∷ []) c.add.new.self =
+    subst (λ (l : List Entry). SentKept l c.add.new.self) (ap (map (arc_value {X = Entry} {Z = Global})) c.deref-4.ensures.value ∙ pushed)
+    c.add.ensures.kept in
     rw (pushed, count)
-    (kept_push was.limits h (vec_capacity was.entries) (vec_capacity c.push_reserved.new.self) was.keeps_outlines was.outlines.items c.push_outline.new.outlines.items (vec_capacity was.outlines) (vec_capacity c.push_outline.new.outlines)
-    was.spans (arc_value c.into_entry-entry.result) was.last_numbers.items c.set_last_number.new.numbers.items (vec_capacity was.last_numbers) (vec_capacity c.set_last_number.new.numbers) was.sent c.add.new.self
-    c.self.invariant may outlined noted c.push_reserved.ensures.capacity c.push_outline.ensures.capacity c.set_last_number.ensures.capacity sent c.add.ensures.room)
+    (kept_push was.limits h (vec_capacity was.entries) (vec_capacity c.push_reserved.new.self)
+    was.keeps_outlines was.outlines.items c.push_outline.new.outlines.items (vec_capacity was.outlines) (vec_capacity c.push_outline.new.outlines)
+    was.spans (arc_value c.into_entry-entry.result) was.last_numbers.items c.set_last_number.new.numbers.items (vec_capacity was.last_numbers)
+    (vec_capacity c.set_last_number.new.numbers) was.sent c.add.new.self
+    c.self.invariant may outlined noted c.push_reserved.ensures.capacity c.push_outline.ensures.capacity c.set_last_number.ensures.capacity sent
+    c.add.ensures.room)
 
 pub returns-clause-legal : goal.returns-clause-legal
 returns-clause-legal c = (invariant_of-self c).legal
@@ -41,7 +52,9 @@ push_outline-requires c = λ keeps.
     let was = c.self.inside in
     let h : List Entry = map (arc_value {X = Entry} {Z = Global}) was.entries.items in
     let e = arc_value c.into_entry-entry.result in
-    let may : admission was.limits h e ≡ Ok Added = ap (λ (v : Journaled). admission_by v.held e) c.self.view_is ∙ (ap (λ (x : Entry). admission_by c.args.self.now.held x) c.into_entry-entry.ensures ∙ c.requires) in
+    let may : admission was.limits h e ≡ Ok Added =
+    ap (λ (v : Journaled). admission_by v.held e) c.self.view_is
+    ∙ (ap (λ (x : Entry). admission_by c.args.self.now.held x) c.into_entry-entry.ensures ∙ c.requires) in
     let follows : MayFollow was.limits h e = subst (IsSaid was.limits h e) may (admission_says was.limits h e) in
     let all : was.outlines.items ≡ map outline_in h = c.self.invariant.outlined ∙ ap (λ b. outlines_kept b h) keeps in
     omega (arith, ap length all, length-map h outline_in, c.self.invariant.room_for_outlines, follows.batches)
@@ -51,7 +64,9 @@ push_reserved-requires c =
     let was = c.self.inside in
     let h : List Entry = map (arc_value {X = Entry} {Z = Global}) was.entries.items in
     let e = arc_value c.into_entry-entry.result in
-    let may : admission was.limits h e ≡ Ok Added = ap (λ (v : Journaled). admission_by v.held e) c.self.view_is ∙ (ap (λ (x : Entry). admission_by c.args.self.now.held x) c.into_entry-entry.ensures ∙ c.requires) in
+    let may : admission was.limits h e ≡ Ok Added =
+    ap (λ (v : Journaled). admission_by v.held e) c.self.view_is
+    ∙ (ap (λ (x : Entry). admission_by c.args.self.now.held x) c.into_entry-entry.ensures ∙ c.requires) in
     let follows : MayFollow was.limits h e = subst (IsSaid was.limits h e) may (admission_says was.limits h e) in
     omega (arith, length-map was.entries.items (arc_value {X = Entry} {Z = Global}), c.self.invariant.room, follows.batches)
 
@@ -60,17 +75,31 @@ add-requires-clause-room c =
     let was = c.self.inside in
     let h : List Entry = map (arc_value {X = Entry} {Z = Global}) was.entries.items in
     let e = arc_value c.into_entry-entry.result in
-    let may : admission was.limits h e ≡ Ok Added = ap (λ (v : Journaled). admission_by v.held e) c.self.view_is ∙ (ap (λ (x : Entry). admission_by c.args.self.now.held x) c.into_entry-entry.ensures ∙ c.requires) in
+    let may : admission was.limits h e ≡ Ok Added =
+    ap (λ (v : Journaled). admission_by v.held e) c.self.view_is
+    ∙ (ap (λ (x : Entry). admission_by c.args.self.now.held x) c.into_entry-entry.ensures ∙ c.requires) in
     let follows : MayFollow was.limits h e = subst (IsSaid was.limits h e) may (admission_says was.limits h e) in
-    omega (arith, ap length c.deref-4.ensures.value, ap length c.push_reserved.ensures.items, length-append was.entries.items (c.into_entry-entry.result ∷ []), length-map was.entries.items (arc_value {X = Entry} {Z = Global}), follows.batches, c.self.invariant.room_for_sent)
+    omega (
+      arith,
+      ap length c.deref-4.ensures.value,
+      ap length c.push_reserved.ensures.items,
+      length-append was.entries.items (c.into_entry-entry.result ∷ []),
+      length-map was.entries.items (arc_value {X = Entry} {Z = Global}),
+      follows.batches,
+      c.self.invariant.room_for_sent,
+    )
 
 pub add-requires-clause-hash : goal.add-requires-clause-hash
 add-requires-clause-hash c = λ e is numbered.
     let was = c.self.inside in
     let h : List Entry = map (arc_value {X = Entry} {Z = Global}) was.entries.items in
     let x : Entry = arc_value c.into_entry-entry.result in
-    let pushed : map (arc_value {X = Entry} {Z = Global}) c.deref-4.result.now ≡ h ++ x ∷ [] = ap (map (arc_value {X = Entry} {Z = Global})) (c.deref-4.ensures.value ∙ c.push_reserved.ensures.items) ∙ map_push arc_value was.entries.items c.into_entry-entry.result in
-    let behind : h ++ x ∷ [] ≡ h ++ e ∷ [] = sym pushed ∙ is ∙ ap (λ (l : List Entry). before_last l ++ e ∷ []) pushed ∙ ap (λ (l : List Entry). l ++ e ∷ []) (before_last-push h x) in
+    let pushed : map (arc_value {X = Entry} {Z = Global}) c.deref-4.result.now ≡ h ++ x ∷ [] =
+    ap (map (arc_value {X = Entry} {Z = Global})) (c.deref-4.ensures.value ∙ c.push_reserved.ensures.items)
+    ∙ map_push arc_value was.entries.items c.into_entry-entry.result in
+    let behind : h ++ x ∷ [] ≡ h ++ e ∷ [] =
+    sym pushed ∙ is ∙ ap (λ (l : List Entry). before_last l ++ e ∷ []) pushed ∙ ap (λ (l : List Entry). l ++ e ∷ []) (before_last-push h x) in
     let same : x ≡ e = let last : x ∷ [] ≡ e ∷ [] = append_cancel_left h (x ∷ []) (e ∷ []) behind in cc in
     let sent : c.args.entry ≡ e = sym c.into_entry-entry.ensures ∙ same in
-    subst (λ (y : Entry). has_number y.work ≡ true → c.hash-hash.result ≡ work_hash c.keys.result y.work) sent c.hash-hash.ensures numbered ∙ ap (λ k. work_hash k e.work) c.keys.ensures
+    subst (λ (y : Entry). has_number y.work ≡ true → c.hash-hash.result ≡ work_hash c.keys.result y.work) sent c.hash-hash.ensures numbered
+    ∙ ap (λ k. work_hash k e.work) c.keys.ensures

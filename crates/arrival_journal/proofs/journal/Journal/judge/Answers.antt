@@ -14,10 +14,14 @@ returns-in-Some-clause-answer c =
     let e = c.args.entry.now in
     let same : c.deref-in-Some.result.now ≡ e = search rules in
     let some : c.find.result ≡ Some c.in-Some.before = search rules in
-    let entries : map (arc_value {X = Entry} {Z = Global}) c.deref.result.now ≡ held.entries = ap (map (arc_value {X = Entry} {Z = Global})) c.deref.ensures.value ∙ ap (λ (v : Journaled). v.held.entries) c.self.view_is in
+    let entries : map (arc_value {X = Entry} {Z = Global}) c.deref.result.now ≡ held.entries =
+    ap (map (arc_value {X = Entry} {Z = Global})) c.deref.ensures.value ∙ ap (λ (v : Journaled). v.held.entries) c.self.view_is in
     let sought : c.deref-2.result.now ≡ e = search rules in
-    let at : sent_before held.entries e ≡ Some c.in-Some.before = ap (λ (h : List Entry). sent_before h e) (sym entries) ∙ ap (sent_before (map (arc_value {X = Entry} {Z = Global}) c.deref.result.now)) (sym sought) ∙ sym c.find.ensures ∙ some in
-    c.judge_resent.ensures ∙ ap (λ (x : Entry). repeated held.entries x c.in-Some.before) same ∙ sym (admission_repeated held.limits held.entries e c.in-Some.before at)
+    let at : sent_before held.entries e ≡ Some c.in-Some.before =
+    ap (λ (h : List Entry). sent_before h e) (sym entries) ∙ ap (sent_before (map (arc_value {X = Entry} {Z = Global}) c.deref.result.now)) (sym sought)
+    ∙ sym c.find.ensures ∙ some in
+    c.judge_resent.ensures ∙ ap (λ (x : Entry). repeated held.entries x c.in-Some.before) same
+    ∙ sym (admission_repeated held.limits held.entries e c.in-Some.before at)
 
 pub returns-in-None-clause-answer : goal.returns-in-None-clause-answer
 returns-in-None-clause-answer c =
@@ -25,7 +29,10 @@ returns-in-None-clause-answer c =
     let e = c.args.entry.now in
     let same : c.deref-in-None.result.now ≡ e = search rules in
     let none : c.find.result ≡ None = search rules in
-    let entries : map (arc_value {X = Entry} {Z = Global}) c.deref.result.now ≡ held.entries = ap (map (arc_value {X = Entry} {Z = Global})) c.deref.ensures.value ∙ ap (λ (v : Journaled). v.held.entries) c.self.view_is in
+    let entries : map (arc_value {X = Entry} {Z = Global}) c.deref.result.now ≡ held.entries =
+    ap (map (arc_value {X = Entry} {Z = Global})) c.deref.ensures.value ∙ ap (λ (v : Journaled). v.held.entries) c.self.view_is in
     let sought : c.deref-2.result.now ≡ e = search rules in
-    let at : sent_before held.entries e ≡ None = ap (λ (h : List Entry). sent_before h e) (sym entries) ∙ ap (sent_before (map (arc_value {X = Entry} {Z = Global}) c.deref.result.now)) (sym sought) ∙ sym c.find.ensures ∙ none in
+    let at : sent_before held.entries e ≡ None =
+    ap (λ (h : List Entry). sent_before h e) (sym entries) ∙ ap (sent_before (map (arc_value {X = Entry} {Z = Global}) c.deref.result.now)) (sym sought)
+    ∙ sym c.find.ensures ∙ none in
     c.judge_new.ensures ∙ ap (λ (x : Entry). admitted_anew held.limits held.entries x) same ∙ sym (admission_anew held.limits held.entries e at)

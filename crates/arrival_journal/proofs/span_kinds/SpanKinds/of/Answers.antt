@@ -6,4 +6,5 @@ use Rattle.arrival_journal.proofs.span_kinds.SpanKinds.of.Goals as goal
 pub returns : goal.returns
 returns c =
     let spans = c.args.spans.now in
-    c.loop-span.invariant ∙ ap (map kind_of) (take_all c.loop-span.span-index (take c.min.result spans) c.loop-span-test.false ∙ ap (λ n. take n spans) c.min.ensures ∙ take_min 32 spans)
+    c.loop-span.invariant ∙ ap (map kind_of)
+    (take_all c.loop-span.span-index (take c.min.result spans) c.loop-span-test.false ∙ ap (λ n. take n spans) c.min.ensures ∙ take_min 32 spans)

@@ -16,4 +16,7 @@ pub returns-in-15-eq2 : goal.returns-in-15-eq2
 unfolding take_batch process_at span_at
 returns-in-15-eq2 c =
     let i : c.args.id ≡ pos 2 = rw c.in-15-eq2.is-1 at (sym (to_z-of_z w16 c.args.id c.ranges.id)) in
-    rw (c.in-15-eq2.is-0, i) (record { fresh = λ w. ap (λ r. r >>= λ x. Ok (record c.args.self.now { spans = Some x.0 }, x.1)) (c.new-in-15-eq2.ensures.fresh w) })
+    rw (c.in-15-eq2.is-0, i) (record {
+      fresh = λ w. ap
+          (λ r. r >>= λ x. Ok (record c.args.self.now { spans = Some x.0 }, x.1)) (c.new-in-15-eq2.ensures.fresh w);
+    })

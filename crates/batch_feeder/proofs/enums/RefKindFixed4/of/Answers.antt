@@ -13,7 +13,8 @@ use Rattle.batch_feeder.proofs.enums.RefKindFixed4.of.Goals as goal
 pub returns-clause-spells : goal.returns-clause-spells
 unfolding kind_at i32_at
 returns-clause-spells c = λ w.
-    let whole : kind_at (c.args.bytes.now ++ w) ≡ ended (kind_of_number (cast_signed w32 (big_number 4 c.args.bytes.now))) w = ap (λ r. lift wire r >>= λ x. kind_of_number x.0 >>= λ kind. Ok (kind, x.1)) (signed-whole w32 4 c.args.bytes.now w c.told-bytes) in
+    let whole : kind_at (c.args.bytes.now ++ w) ≡ ended (kind_of_number (cast_signed w32 (big_number 4 c.args.bytes.now))) w =
+    ap (λ r. lift wire r >>= λ x. kind_of_number x.0 >>= λ kind. Ok (kind, x.1)) (signed-whole w32 4 c.args.bytes.now w c.told-bytes) in
     search (rules, whole)
 
 pub returns-clause-no_want : goal.returns-clause-no_want

@@ -9,7 +9,10 @@ pub returns-in-Err-arrive-clause-continues : goal.returns-in-Err-arrive-clause-c
 returns-in-Err-arrive-clause-continues g c = rw c.in-Some.is (items-faults g.P.Item.reads _ _ _ _ _ c.in-Err-arrive.ensures.continues)
 
 pub returns-in-Ok-false-clause-continues : goal.returns-in-Ok-false-clause-continues
-returns-in-Ok-false-clause-continues g c = rw c.in-Some.is (items-waits g.P.Item.reads (Wire Truncated) _ _ _ _ _ _ (rw c.in-Ok-false.field-0-test at c.in-Ok-false.ensures.continues))
+returns-in-Ok-false-clause-continues g c =
+    rw c.in-Some.is (items-waits g.P.Item.reads (Wire Truncated) _ _ _ _ _ _ (rw c.in-Ok-false.field-0-test at c.in-Ok-false.ensures.continues))
 
 pub returns-in-Ok-true-clause-continues : goal.returns-in-Ok-true-clause-continues
-returns-in-Ok-true-clause-continues g c = rw c.in-Some.is (continues-to-after _ _ _ _ _ _ _ _ (item-ended g.P.Item.reads _ _ _ _ _ _ (rw c.in-Ok-true.field-0-test at c.in-Ok-true.ensures.continues)) c.next_items.ensures.continues)
+returns-in-Ok-true-clause-continues g c =
+    rw c.in-Some.is (continues-to-after _ _ _ _ _ _ _ _ (item-ended g.P.Item.reads _ _ _ _ _ _ (rw c.in-Ok-true.field-0-test at c.in-Ok-true.ensures.continues))
+    c.next_items.ensures.continues)

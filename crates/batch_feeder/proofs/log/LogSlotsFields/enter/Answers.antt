@@ -15,4 +15,5 @@ pub returns-in-15-eq2-clause-continues : goal.returns-in-15-eq2-clause-continues
 unfolding take_log tag_at
 returns-in-15-eq2-clause-continues c =
     let i : c.args.id ≡ pos 2 = rw c.in-15-eq2.is-1 at (sym (to_z-of_z w16 c.args.id c.ranges.id)) in
-    rw (c.in-15-eq2.is-0, i) (enlisted (λ s. Some s) (λ s. record c.args.self.now { fields = s }) _ _ _ _ _ _ _ _ _ _ c.enter_list.ensures.continues (λ p v is w. rw is.1 refl))
+    rw (c.in-15-eq2.is-0, i) (enlisted (λ s. Some s) (λ s. record c.args.self.now { fields = s }) _ _ _ _ _ _ _ _ _ _ c.enter_list.ensures.continues
+    (λ p v is w. rw is.1 refl))

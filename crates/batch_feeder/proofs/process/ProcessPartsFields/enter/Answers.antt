@@ -15,4 +15,6 @@ pub returns-in-15-eq2-clause-continues : goal.returns-in-15-eq2-clause-continues
 unfolding take_process tag_at
 returns-in-15-eq2-clause-continues c =
     let i : c.args.id ≡ pos 2 = rw c.in-15-eq2.is-1 at (sym (to_z-of_z w16 c.args.id c.ranges.id)) in
-    rw (c.in-15-eq2.is-0, i) (rw (sym c.self.view_is) (enlisted (λ s. s) (λ s. record { service = c.self.inside.service; tags = s }) _ _ _ _ _ _ _ _ _ _ c.enter_list.ensures.continues (λ p v is w. rw is.1 refl)))
+    rw (c.in-15-eq2.is-0, i) (rw (sym c.self.view_is)
+    (enlisted (λ s. s) (λ s. record { service = c.self.inside.service; tags = s }) _ _ _ _ _ _ _ _ _ _ c.enter_list.ensures.continues
+    (λ p v is w. rw is.1 refl)))

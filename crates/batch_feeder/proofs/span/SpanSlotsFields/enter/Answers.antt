@@ -17,16 +17,19 @@ pub returns-in-15-eq6-clause-continues : goal.returns-in-15-eq6-clause-continues
 unfolding take_span reference_at
 returns-in-15-eq6-clause-continues c =
     let i : c.args.id ≡ pos 6 = rw c.in-15-eq6.is-1 at (sym (to_z-of_z w16 c.args.id c.ranges.id)) in
-    rw (c.in-15-eq6.is-0, i) (enlisted (λ s. s) (λ s. record c.args.self.now { references = s }) _ _ _ _ _ _ _ _ _ _ c.enter_list.ensures.continues (λ p v is w. rw is.1 refl))
+    rw (c.in-15-eq6.is-0, i) (enlisted (λ s. s) (λ s. record c.args.self.now { references = s }) _ _ _ _ _ _ _ _ _ _ c.enter_list.ensures.continues
+    (λ p v is w. rw is.1 refl))
 
 pub returns-in-15-eq10-clause-continues : goal.returns-in-15-eq10-clause-continues
 unfolding take_span tag_at
 returns-in-15-eq10-clause-continues c =
     let i : c.args.id ≡ pos 10 = rw c.in-15-eq10.is-1 at (sym (to_z-of_z w16 c.args.id c.ranges.id)) in
-    rw (c.in-15-eq10.is-0, i) (enlisted (λ s. s) (λ s. record c.args.self.now { tags = s }) _ _ _ _ _ _ _ _ _ _ c.enter_list-in-15-eq10.ensures.continues (λ p v is w. rw is.1 refl))
+    rw (c.in-15-eq10.is-0, i) (enlisted (λ s. s) (λ s. record c.args.self.now { tags = s }) _ _ _ _ _ _ _ _ _ _ c.enter_list-in-15-eq10.ensures.continues
+    (λ p v is w. rw is.1 refl))
 
 pub returns-in-15-eq11-clause-continues : goal.returns-in-15-eq11-clause-continues
 unfolding take_span log_at
 returns-in-15-eq11-clause-continues c =
     let i : c.args.id ≡ pos 11 = rw c.in-15-eq11.is-1 at (sym (to_z-of_z w16 c.args.id c.ranges.id)) in
-    rw (c.in-15-eq11.is-0, i) (enlisted (λ s. s) (λ s. record c.args.self.now { logs = s }) _ _ _ _ _ _ _ _ _ _ c.enter_list-in-15-eq11.ensures.continues (λ p v is w. rw is.1 refl))
+    rw (c.in-15-eq11.is-0, i) (enlisted (λ s. s) (λ s. record c.args.self.now { logs = s }) _ _ _ _ _ _ _ _ _ _ c.enter_list-in-15-eq11.ensures.continues
+    (λ p v is w. rw is.1 refl))

@@ -6,13 +6,17 @@ use Rattle.batch_codec.specs.TagReading.{tag_at}
 use Rattle.batch_codec.specs.LogReading.{log_at}
 use Rattle.batch_codec.specs.ReferenceReading.{reference_at}
 use Rattle.batch_feeder.proofs.span.SpanSlotsPieceSlots.begin.Goals as goal
-use Rattle.batch_feeder.proofs.span.SpanSlotsPieceSlots.begin.Goals.{in_default-via-in-10+in_default, in_default-via-in-11+in_default, in_default-via-in-15+in_default, in_default-via-in-8+in_default, in_default-via-in_default}
+use Rattle.batch_feeder.proofs.span.SpanSlotsPieceSlots.begin.Goals.{in_default-via-in-10+in_default, in_default-via-in-11+in_default}
+use Rattle.batch_feeder.proofs.span.SpanSlotsPieceSlots.begin.Goals.{in_default-via-in-15+in_default, in_default-via-in-8+in_default, in_default-via-in_default}
 
 pub returns-in-15-eq6 : goal.returns-in-15-eq6
 unfolding take_span tag_at log_at reference_at
 returns-in-15-eq6 c =
     let i : c.args.id ≡ pos 6 = rw c.in-15-eq6.is-1 at (sym (to_z-of_z w16 c.args.id c.ranges.id)) in
-    rw (c.in-15-eq6.is-0, i) (record { fresh = λ w. ap (λ r. r >>= λ x. Ok (record c.args.self.now { references = x.0 }, x.1)) (c.new-in-15-eq6.ensures.fresh w) })
+    rw (c.in-15-eq6.is-0, i) (record {
+      fresh = λ w. ap
+          (λ r. r >>= λ x. Ok (record c.args.self.now { references = x.0 }, x.1)) (c.new-in-15-eq6.ensures.fresh w);
+    })
 
 pub returns-in-15-eq10 : goal.returns-in-15-eq10
 unfolding take_span tag_at log_at reference_at

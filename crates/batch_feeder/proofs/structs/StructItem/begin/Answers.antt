@@ -19,4 +19,5 @@ returns-else-is_truncated-clause-continues g c =
     let reads = struct_at g.S.PieceSlots.takes g.S.PieceSlots.none g.S.PieceSlots.makes in
     let safe = struct_safe g.S.PieceSlots.takes g.S.PieceSlots.none g.S.PieceSlots.makes g.met.S.PieceSlots.safe in
     let begun = c.new-cursor.ensures.bytes ∙ c.rest.ensures.bytes in
-    λ n. fault-refuses (Wire Truncated) reads safe c.args.piece.now c.in-Err.error (ap reads (sym begun) ∙ fails-is c.in-Err.error _ n c.in-Err.ensures.attempts) (rw c.if-is_truncated.false at c.is_truncated.ensures)
+    λ n. fault-refuses (Wire Truncated) reads safe c.args.piece.now c.in-Err.error
+    (ap reads (sym begun) ∙ fails-is c.in-Err.error _ n c.in-Err.ensures.attempts) (rw c.if-is_truncated.false at c.is_truncated.ensures)

@@ -10,7 +10,8 @@ pub returns-in-Ok-clause-continues : goal.returns-in-Ok-clause-continues
 returns-in-Ok-clause-continues c =
     let same : c.in-Ok.text.bytes.items ≡ c.in-Ok-Some.bytes.items = ap (λ v. v.items) c.in-Ok.ensures.ok in
     let is : is_utf8 c.in-Ok-Some.bytes.items ≡ true = rw (← same) (is_utf8-from_IsUtf8 c.in-Ok.text.bytes.items (IsUtf8-string_bytes c.in-Ok.text)) in
-    let whole : Comes (text_part c.args.self.now) (λ w. Ok (c.in-Ok-Some.bytes.items, w)) c.args.piece.now c.more.new.piece = text-whole _ _ _ _ is (rw c.in-Ok-Some.field-0-is at c.in-Ok-Some.ensures.reads) in
+    let whole : Comes (text_part c.args.self.now) (λ w. Ok (c.in-Ok-Some.bytes.items, w)) c.args.piece.now c.more.new.piece =
+    text-whole _ _ _ _ is (rw c.in-Ok-Some.field-0-is at c.in-Ok-Some.ensures.reads) in
     search (rules, whole, same)
 
 pub returns-clause-continues : goal.returns-clause-continues

@@ -9,5 +9,6 @@ use Rattle.batch_feeder.proofs.values.I32Fixed4.of.Goals as goal
 pub returns-clause-spells : goal.returns-clause-spells
 unfolding i32_at
 returns-clause-spells c = λ w.
-    let whole : i32_at (c.args.bytes.now ++ w) ≡ Ok (cast_signed w32 (big_number 4 c.args.bytes.now), w) = ap (lift wire) (signed-whole w32 4 c.args.bytes.now w c.told-bytes) in
+    let whole : i32_at (c.args.bytes.now ++ w) ≡ Ok (cast_signed w32 (big_number 4 c.args.bytes.now), w) =
+    ap (lift wire) (signed-whole w32 4 c.args.bytes.now w c.told-bytes) in
     search (rules, whole)

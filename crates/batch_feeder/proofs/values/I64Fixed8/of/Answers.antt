@@ -9,5 +9,6 @@ use Rattle.batch_feeder.proofs.values.I64Fixed8.of.Goals as goal
 pub returns-clause-spells : goal.returns-clause-spells
 unfolding i64_at
 returns-clause-spells c = λ w.
-    let whole : i64_at (c.args.bytes.now ++ w) ≡ Ok (cast_signed w64 (big_number 8 c.args.bytes.now), w) = ap (lift wire) (signed-whole w64 8 c.args.bytes.now w c.told-bytes) in
+    let whole : i64_at (c.args.bytes.now ++ w) ≡ Ok (cast_signed w64 (big_number 8 c.args.bytes.now), w) =
+    ap (lift wire) (signed-whole w64 8 c.args.bytes.now w c.told-bytes) in
     search (rules, whole)

@@ -9,5 +9,6 @@ use Rattle.batch_feeder.proofs.values.U64Fixed8.of.Goals as goal
 pub returns-clause-spells : goal.returns-clause-spells
 unfolding id_at i64_at
 returns-clause-spells c = λ w.
-    let whole : id_at (c.args.bytes.now ++ w) ≡ Ok (cast_unsigned w64 (cast_signed w64 (big_number 8 c.args.bytes.now)), w) = ap (λ r. lift wire r >>= λ x. Ok (cast_unsigned w64 x.0, x.1)) (signed-whole w64 8 c.args.bytes.now w c.told-bytes) in
+    let whole : id_at (c.args.bytes.now ++ w) ≡ Ok (cast_unsigned w64 (cast_signed w64 (big_number 8 c.args.bytes.now)), w) =
+    ap (λ r. lift wire r >>= λ x. Ok (cast_unsigned w64 x.0, x.1)) (signed-whole w64 8 c.args.bytes.now w c.told-bytes) in
     search (rules, whole)

@@ -22,16 +22,22 @@ loop-span-preserved c =
           w.self-is ∙ w.in_ok-count.ensures
           ∙ ap (λ es. with_call es (numbered_call w.in-Some.call)) c.loop-span.invariant
           ∙ sym (
-          ap (fold with_call c.args.self.now) (read_some call trace i s (numbered_call w.in-Some.call) (search rules) (ap call (sym c.span-item.is) ∙ sym c.call_to.ensures ∙ ap (option_map numbered_call) w.in-Some.is))
+          ap (fold with_call c.args.self.now)
+          (read_some call trace i s (numbered_call w.in-Some.call) (search rules)
+          (ap call (sym c.span-item.is) ∙ sym c.call_to.ensures ∙ ap (option_map numbered_call) w.in-Some.is))
           ∙ fold_push with_call c.args.self.now (filter_map call (take i trace)) (numbered_call w.in-Some.call)
           )
       | in_default w ↦
           w.self-is ∙ c.loop-span.invariant
-          ∙ ap (fold with_call c.args.self.now) (sym (read_none call trace i s (search rules) (ap call (sym c.span-item.is) ∙ sym c.call_to.ensures ∙ ap (option_map numbered_call) w.in_default.is)))
+          ∙ ap (fold with_call c.args.self.now)
+          (sym (read_none call trace i s (search rules)
+          (ap call (sym c.span-item.is) ∙ sym c.call_to.ensures ∙ ap (option_map numbered_call) w.in_default.is)))
     ]
 
 pub returns : goal.returns
 returns c =
     let call = call_by (λ id. option_map service_seen (get nat_cmp c.in_ok-first.first id)) in
     c.loop-span.invariant
-    ∙ ap (fold with_call c.args.self.now) (ap (filter_map call) (take_all c.loop-span.span-index c.args.trace.now c.loop-span-test.false) ∙ gathered_calls (λ id. option_map service_seen (get nat_cmp c.in_ok-first.first id)) c.args.trace.now c.in_ok-first.ensures)
+    ∙ ap (fold with_call c.args.self.now)
+    (ap (filter_map call) (take_all c.loop-span.span-index c.args.trace.now c.loop-span-test.false)
+    ∙ gathered_calls (λ id. option_map service_seen (get nat_cmp c.in_ok-first.first id)) c.args.trace.now c.in_ok-first.ensures)

@@ -7,4 +7,5 @@ use Rattle.call_links.specs.Tallies.{with_call}
 use Rattle.call_links.proofs.counts.LinkCounts.add.Given as goal
 
 abbrev pub invariant-loop-span : goal.invariant-loop-span
-invariant-loop-span l = l.self ≡ fold with_call l.fn.self (filter_map (call_by (λ id. option_map service_seen (get nat_cmp l.first id))) (take l.span-index l.trace))
+invariant-loop-span l =
+    l.self ≡ fold with_call l.fn.self (filter_map (call_by (λ id. option_map service_seen (get nat_cmp l.first id))) (take l.span-index l.trace))

@@ -12,8 +12,10 @@ pub returns : goal.returns
 returns c =
     let es = c.self.inside.tallies.entries in
     let call = c.args.call in
-    let counted = c.in_ok-calls.ensures ∙ ap (λ (k : Numbers). unwrap_or (option_map (λ (t : Tally). t.calls) (lookup (is_at (number_cmp k)) es)) 0 + 1) c.numbers_of-numbers.ensures in
+    let counted = c.in_ok-calls.ensures
+    ∙ ap (λ (k : Numbers). unwrap_or (option_map (λ (t : Tally). t.calls) (lookup (is_at (number_cmp k)) es)) 0 + 1) c.numbers_of-numbers.ensures in
     ap tallies_seen c.in_ok-insert.ensures.entries
-    ∙ (λ i. tallies_seen (insert_entry number_cmp es (c.numbers_of-numbers.ensures i) (record { caller = c.again.ensures i; callee = c.again-2.ensures i; calls = c.in_ok-calls.calls })))
+    ∙ (λ i. tallies_seen (insert_entry number_cmp es (c.numbers_of-numbers.ensures i)
+    (record { caller = c.again.ensures i; callee = c.again-2.ensures i; calls = c.in_ok-calls.calls })))
     ∙ call_put es call c.in_ok-calls.calls counted
     ∙ ap (λ es. with_call es (numbered_call call)) c.self.view_is

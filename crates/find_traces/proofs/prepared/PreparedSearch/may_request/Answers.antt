@@ -13,5 +13,6 @@ returns-in-Some c = by c.contains.result refl
     by false e = λ k.
         let q = c.self.inside.query.now in
         let text = tag_text c.args.value.now in
-        let none = no_length q.tags k text (ap (requests_length q) (sym c.in-Some.ensures) ∙ sym (c.self.invariant.lengths_asked c.in-Some.length) ∙ sym c.contains.ensures ∙ e) in
+        let none = no_length q.tags k text
+        (ap (requests_length q) (sym c.in-Some.ensures) ∙ sym (c.self.invariant.lengths_asked c.in-Some.length) ∙ sym c.contains.ensures ∙ e) in
         ap (λ f. asks f (k, text)) (sym c.self.view_is) ∙ none

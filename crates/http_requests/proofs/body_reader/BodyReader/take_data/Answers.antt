@@ -9,14 +9,22 @@ pub returns-then-put-count-clause-took : goal.returns-then-put-count-clause-took
 returns-then-put-count-clause-took g c =
     let long = some_put c.args.count c.args.received.now.held c.push_some-put.result c.push_some-put.ensures.count in
     data_taken g.S.Sink.takes _ _ _ _ _ _ c.push_some-put.result c.push_some-put.ensures.put c.push_some-put.ensures.rest
-    (λ of front fed part. data_then of front fed _ _ c.args.count _ (at_stage of front fed c.args.self.now _ c.requires.stage part) (omega (arith, long, c.push_some-put.ensures.count)))
+    (λ of front fed part. data_then of front fed _ _ c.args.count _ (at_stage of front fed c.args.self.now _ c.requires.stage part)
+    (omega (arith, long, c.push_some-put.ensures.count)))
 
 pub returns-else-put-count-clause-took : goal.returns-else-put-count-clause-took
 returns-else-put-count-clause-took g c =
     let long = some_put c.args.count c.args.received.now.held c.push_some-put.result c.push_some-put.ensures.count in
     data_taken g.S.Sink.takes _ _ _ _ _ _ c.push_some-put.result c.push_some-put.ensures.put c.push_some-put.ensures.rest
-    (λ of front fed part. data_then of front fed _ _ c.args.count _ (at_stage of front fed c.args.self.now _ c.requires.stage part) (omega (arith, long, c.push_some-put.ensures.count)))
+    (λ of front fed part. data_then of front fed _ _ c.args.count _ (at_stage of front fed c.args.self.now _ c.requires.stage part)
+    (omega (arith, long, c.push_some-put.ensures.count)))
 
 pub returns-else-put-count-clause-leaves : goal.returns-else-put-count-clause-leaves
 returns-else-put-count-clause-leaves g c =
-    shorter _ _ (omega (arith, c.push_some-put.ensures.count, c.if-put-count.false, ap (λ (b : ReadBuffer). length b.held) c.push_some-put.ensures.rest, length-drop c.push_some-put.result c.args.received.now.held))
+    shorter _ _ (omega (
+      arith,
+      c.push_some-put.ensures.count,
+      c.if-put-count.false,
+      ap (λ (b : ReadBuffer). length b.held) c.push_some-put.ensures.rest,
+      length-drop c.push_some-put.result c.args.received.now.held,
+    ))

@@ -8,4 +8,5 @@ pub returns-in-Some-clause-took : goal.returns-in-Some-clause-took
 returns-in-Some-clause-took g c = taken_in_turn g.S.Sink.takes g.met.S.Sink.takes_joined _ _ _ _ _ _ _ _ _ c.steps.invariant.0 c.in-Some.ensures.took
 
 pub steps-preserved : goal.steps-preserved
-steps-preserved g c = (taken_in_turn g.S.Sink.takes g.met.S.Sink.takes_joined _ _ _ _ _ _ _ _ _ c.steps.invariant.0 c.in_default.ensures.took, c.in_default.ensures.leaves)
+steps-preserved g c =
+    (taken_in_turn g.S.Sink.takes g.met.S.Sink.takes_joined _ _ _ _ _ _ _ _ _ c.steps.invariant.0 c.in_default.ensures.took, c.in_default.ensures.leaves)

@@ -1,5 +1,5 @@
 use Rattle.std.proofs.Common.{◌<◌, ◌≤◌, ◌≡◌, ℕ, take, sym, subst, arith}
-use Rattle.chunked_bodies.specs.Chunks.{IsSizeLine, IsSomeSizeLine}
+use Rattle.http_requests.specs.Chunks.{IsSizeLine, IsSomeSizeLine}
 use Rattle.http_requests.specs.LineLaws.{no_line_yet}
 use Rattle.http_requests.proofs.Parts.{text_taken, none_taken, at_stage, fewer_held, line_passes, line_then_data, line_then_trailer, no_line_comes}
 use Rattle.http_requests.proofs.body_reader.BodyReader.take_size_line.Goals as goal
@@ -8,7 +8,8 @@ pub returns-then-size-self-clause-took : goal.returns-then-size-self-clause-took
 returns-then-size-self-clause-took c =
     let line = rw c.as_slice.ensures at c.in-Whole.ensures in
     text_taken _ _ _ _ c.in-Whole.length c.take.ensures
-    (λ of front fed part. line_passes of front fed _ _ c.args.self.now.left c.in-Whole.size (at_stage of front fed c.args.self.now _ c.requires.stage part) line.0 c.if-size-self.true)
+    (λ of front fed part. line_passes of front fed _ _ c.args.self.now.left c.in-Whole.size (at_stage of front fed c.args.self.now _ c.requires.stage part)
+    line.0 c.if-size-self.true)
 
 pub returns-then-size-eq0-clause-took : goal.returns-then-size-eq0-clause-took
 returns-then-size-eq0-clause-took c =

@@ -14,7 +14,8 @@ returns-in_err-count-clause-same g c =
     let size = r.end + PIECE - r.end in
     let after = put_mid r.end size all c.read.new.buf in
     let whole : (with_items r.bytes after).items ≡ after = with_items_is r.bytes after (search (rules, places)) in
-    let same : after ≡ put_mid r.end size r.bytes.items c.read.new.buf = ap (λ (l : List ℕ). put_mid r.end size l c.read.new.buf) c.as_mut_slice.ensures.value in
+    let same : after ≡ put_mid r.end size r.bytes.items c.read.new.buf =
+    ap (λ (l : List ℕ). put_mid r.end size l c.read.new.buf) c.as_mut_slice.ensures.value in
     let within : r.end ≤ length r.bytes.items = omega (arith, r.within, ap length c.as_mut_slice.ensures.value, c.as_mut_slice.ensures.len) in
     any_err c.from_residual.result
     (ap (λ (l : List ℕ). slice_range l r.start r.end) (whole ∙ same) ∙ kept r.bytes.items c.read.new.buf r.start r.end size r.ordered within)
@@ -30,13 +31,16 @@ returns-clause-ok g c =
     let size = r.end + PIECE - r.end in
     let after = put_mid r.end size all c.read.new.buf in
     let whole : (with_items r.bytes after).items ≡ after = with_items_is r.bytes after (search (rules, places)) in
-    let same : after ≡ put_mid r.end size r.bytes.items c.read.new.buf = ap (λ (l : List ℕ). put_mid r.end size l c.read.new.buf) c.as_mut_slice.ensures.value in
+    let same : after ≡ put_mid r.end size r.bytes.items c.read.new.buf =
+    ap (λ (l : List ℕ). put_mid r.end size l c.read.new.buf) c.as_mut_slice.ensures.value in
     let within : r.end ≤ length r.bytes.items = omega (arith, r.within, ap length c.as_mut_slice.ensures.value, c.as_mut_slice.ensures.len) in
     record {
       piece = take n c.read.new.buf;
       size = sym bound.1;
       most = omega (arith, bound.0, long);
-      grown = ap (λ (l : List ℕ). slice_range l r.start (r.end + n)) (whole ∙ same) ∙ grown r.bytes.items c.read.new.buf r.start r.end size n r.ordered within bound.0;
+      grown =
+          ap (λ (l : List ℕ). slice_range l r.start (r.end + n)) (whole ∙ same)
+          ∙ grown r.bytes.items c.read.new.buf r.start r.end size n r.ordered within bound.0;
       read = bytes.0;
       piece_given = c.in_ok-count.ensures.given;
       end = λ none. bytes.1 none (omega (arith, long));

@@ -12,8 +12,10 @@ returns-in-Err-read_more-clause-goes_on g c =
     let paused = rw c.in-Ok-Paused.field-0-is at c.in-Ok-Paused.ensures.paused in
     let stops = stops_with line _ _ c.answer_held.new.self _ paused.0 c.in-Err-read_more.ensures.err in
     let works = c.in-Ok-Paused.ensures.works in
-    rw c.cause_of.ensures (goes_on_then _ _ _ _ _ _ _ _ _ _ _ _ first (receives_nothing _ kept line two c.answer_held.new.connection c.answer_held.new.backend c.answer_held.new.self
-    (record { received = c.read_more.new.self; stage = c.answer_held.new.self.stage; answered = c.answer_held.new.self.answered }) (Unit {0}) c.read_more.new.input
+    rw c.cause_of.ensures (goes_on_then _ _ _ _ _ _ _ _ _ _ _ _ first
+    (receives_nothing _ kept line two c.answer_held.new.connection c.answer_held.new.backend c.answer_held.new.self
+    (record { received = c.read_more.new.self; stage = c.answer_held.new.self.stage; answered = c.answer_held.new.self.answered }) (Unit {0})
+    c.read_more.new.input
     (g.C.Input.has_failed c.answer_held.new.connection) c.in-Err-read_more.why stops c.in-Err-read_more.ensures.same works.0 works.1))
 
 pub answer_held-requires-2-clause-ready : goal.answer_held-requires-2-clause-ready
@@ -23,7 +25,8 @@ answer_held-requires-2-clause-ready g c =
     let line = line_of g.C.Input.remaining g.C.Input.gives g.C.Input.has_failed g.C.Output.contents g.C.Output.takes g.C.Output.has_failed in
     let paused = rw c.in-Ok-Paused.field-0-is at c.in-Ok-Paused.ensures.paused in
     let open_still = rw c.in-Ok-Paused.field-0-is at c.in-Ok-Paused.ensures.open in
-    read_continues _ kept line two _ _ c.answer_held.new.backend c.answer_held.new.self c.read_more.new.self paused.0 c.in_default.ensures.ok c.in_default.ensures.read open_still
+    read_continues _ kept line two _ _ c.answer_held.new.backend c.answer_held.new.self c.read_more.new.self paused.0 c.in_default.ensures.ok
+    c.in_default.ensures.read open_still
 
 pub answer_held-requires-2-clause-input_works : goal.answer_held-requires-2-clause-input_works
 answer_held-requires-2-clause-input_works g c =
@@ -32,7 +35,8 @@ answer_held-requires-2-clause-input_works g c =
     let line = line_of g.C.Input.remaining g.C.Input.gives g.C.Input.has_failed g.C.Output.contents g.C.Output.takes g.C.Output.has_failed in
     let paused = rw c.in-Ok-Paused.field-0-is at c.in-Ok-Paused.ensures.paused in
     let open_still = rw c.in-Ok-Paused.field-0-is at c.in-Ok-Paused.ensures.open in
-    let works = works_read _ kept line two _ _ c.answer_held.new.backend c.answer_held.new.self c.read_more.new.self paused.0 c.in_default.ensures.ok c.in_default.ensures.read
+    let works = works_read _ kept line two _ _ c.answer_held.new.backend c.answer_held.new.self c.read_more.new.self paused.0 c.in_default.ensures.ok
+    c.in_default.ensures.read
     c.in_default.ensures.same c.in-Ok-Paused.ensures.works open_still.text open_still.incoming in
     works.0
 
@@ -43,7 +47,8 @@ answer_held-requires-2-clause-output_works g c =
     let line = line_of g.C.Input.remaining g.C.Input.gives g.C.Input.has_failed g.C.Output.contents g.C.Output.takes g.C.Output.has_failed in
     let paused = rw c.in-Ok-Paused.field-0-is at c.in-Ok-Paused.ensures.paused in
     let open_still = rw c.in-Ok-Paused.field-0-is at c.in-Ok-Paused.ensures.open in
-    let works = works_read _ kept line two _ _ c.answer_held.new.backend c.answer_held.new.self c.read_more.new.self paused.0 c.in_default.ensures.ok c.in_default.ensures.read
+    let works = works_read _ kept line two _ _ c.answer_held.new.backend c.answer_held.new.self c.read_more.new.self paused.0 c.in_default.ensures.ok
+    c.in_default.ensures.read
     c.in_default.ensures.same c.in-Ok-Paused.ensures.works open_still.text open_still.incoming in
     works.1
 
@@ -54,7 +59,10 @@ returns-in-Ok-answer_held-clause-goes_on g c =
     let line = line_of g.C.Input.remaining g.C.Input.gives g.C.Input.has_failed g.C.Output.contents g.C.Output.takes g.C.Output.has_failed in
     let first = rw c.in-Ok-Paused.field-0-is at c.in-Ok-Paused.ensures.goes_on in
     let paused = rw c.in-Ok-Paused.field-0-is at c.in-Ok-Paused.ensures.paused in
-    goes_on_then _ _ _ _ _ _ _ _ _ _ _ _ first (goes_on_then _ _ _ _ _ _ _ _ _ _ _ _ (goes_on_reading _ kept line two _ _ _ c.answer_held.new.self _ paused.0 c.in_default.ensures.ok c.in_default.ensures.read) c.in-Ok-answer_held.ensures.goes_on)
+    goes_on_then _ _ _ _ _ _ _ _ _ _ _ _ first
+    (goes_on_then _ _ _ _ _ _ _ _ _ _ _ _
+    (goes_on_reading _ kept line two _ _ _ c.answer_held.new.self _ paused.0 c.in_default.ensures.ok c.in_default.ensures.read)
+    c.in-Ok-answer_held.ensures.goes_on)
 
 pub returns-in-Err-answer_held-clause-goes_on : goal.returns-in-Err-answer_held-clause-goes_on
 returns-in-Err-answer_held-clause-goes_on g c =
@@ -63,4 +71,7 @@ returns-in-Err-answer_held-clause-goes_on g c =
     let line = line_of g.C.Input.remaining g.C.Input.gives g.C.Input.has_failed g.C.Output.contents g.C.Output.takes g.C.Output.has_failed in
     let first = rw c.in-Ok-Paused.field-0-is at c.in-Ok-Paused.ensures.goes_on in
     let paused = rw c.in-Ok-Paused.field-0-is at c.in-Ok-Paused.ensures.paused in
-    goes_on_then _ _ _ _ _ _ _ _ _ _ _ _ first (goes_on_then _ _ _ _ _ _ _ _ _ _ _ _ (goes_on_reading _ kept line two _ _ _ c.answer_held.new.self _ paused.0 c.in_default.ensures.ok c.in_default.ensures.read) c.in-Err-answer_held.ensures.goes_on)
+    goes_on_then _ _ _ _ _ _ _ _ _ _ _ _ first
+    (goes_on_then _ _ _ _ _ _ _ _ _ _ _ _
+    (goes_on_reading _ kept line two _ _ _ c.answer_held.new.self _ paused.0 c.in_default.ensures.ok c.in_default.ensures.read)
+    c.in-Err-answer_held.ensures.goes_on)

@@ -1,7 +1,8 @@
 use Rattle.std.proofs.Common.{refl, sym, ap, inl, inr}
 use Rattle.http_requests.specs.Receiving.{ReadBuffer}
 use Rattle.http_session.proofs.Turns.{two_way, works_said}
-use Rattle.http_session.proofs.Piecewise.{promises_of, receives_no_query, receives_end, parts, parts_not, answers_last, answers_not, answers_open, still_continues, pauses, paused_continues, awaits_more}
+use Rattle.http_session.proofs.Piecewise.{promises_of, receives_no_query, receives_end, parts, parts_not, answers_last, answers_not, answers_open}
+use Rattle.http_session.proofs.Piecewise.{still_continues, pauses, paused_continues, awaits_more}
 use Rattle.http_session.proofs.pieces.Session.answer_held.Goals as goal
 
 pub returns-in-Err-clause-goes_on : goal.returns-in-Err-clause-goes_on
@@ -23,7 +24,8 @@ returns-in-Ok-None-clause-open g c =
     let kept = promises_of g.met.B.Backend.submit_knows g.met.B.Backend.read_knows in
     let found = rw c.in-Ok-None.field-0-is at c.in-Ok-None.ensures.incoming in
     let waits = rw c.in-Ok-None.field-0-is at c.in-Ok-None.ensures.waits in
-    paused_continues _ kept _ two c.args.connection.now c.args.backend.now c.args.self.now c.receive.new.received c.receive.new.stage found waits.0 c.requires.ready
+    paused_continues _ kept _ two c.args.connection.now c.args.backend.now c.args.self.now c.receive.new.received c.receive.new.stage found waits.0
+    c.requires.ready
 
 pub returns-in-Ok-None-clause-paused : goal.returns-in-Ok-None-clause-paused
 returns-in-Ok-None-clause-paused g c =
@@ -49,7 +51,8 @@ returns-in-Err-write_reply-clause-goes_on g c =
     let two = two_way g.met.C.Connection.reads_leave g.met.C.Connection.writes_leave in
     let kept = promises_of g.met.B.Backend.submit_knows g.met.B.Backend.read_knows in
     let found = rw (c.in-Ok-Some.field-0-is, c.in-Malformed.is) at c.in-Ok-Some.ensures.incoming in
-    rw c.after.ensures (parts_not _ kept _ two _ _ _ _ _ _ _ _ found (rw c.requires.output_works at c.in-Err-write_reply.ensures.wrote) c.in-Err-write_reply.ensures.took c.requires.input_works)
+    rw c.after.ensures (parts_not _ kept _ two _ _ _ _ _ _ _ _ found (rw c.requires.output_works at c.in-Err-write_reply.ensures.wrote)
+    c.in-Err-write_reply.ensures.took c.requires.input_works)
 
 pub returns-in-Malformed-clause-goes_on : goal.returns-in-Malformed-clause-goes_on
 returns-in-Malformed-clause-goes_on g c =
@@ -68,7 +71,8 @@ returns-in-Err-said-clause-goes_on g c =
     let two = two_way g.met.C.Connection.reads_leave g.met.C.Connection.writes_leave in
     let kept = promises_of g.met.B.Backend.submit_knows g.met.B.Backend.read_knows in
     let found = rw (c.in-Ok-Some.field-0-is, c.in-One.is) at c.in-Ok-Some.ensures.incoming in
-    rw c.after-in-Err-said.ensures (answers_not _ kept _ two _ _ _ _ _ _ _ _ _ _ _ (λ text incoming. (found text incoming).0) c.answer-reply.ensures c.closes_after-close.ensures
+    rw c.after-in-Err-said.ensures
+    (answers_not _ kept _ two _ _ _ _ _ _ _ _ _ _ _ (λ text incoming. (found text incoming).0) c.answer-reply.ensures c.closes_after-close.ensures
     _ (rw c.requires.output_works at c.in-Err-said.ensures.wrote) c.in-Err-said.ensures.took c.requires.input_works c.in-Err-said.ensures.spared)
 
 pub returns-then-close-clause-goes_on : goal.returns-then-close-clause-goes_on
@@ -104,7 +108,8 @@ returns-clause-open g c =
     let kept = promises_of g.met.B.Backend.submit_knows g.met.B.Backend.read_knows in
     let found = rw (c.in-Ok-Some.field-0-is, c.in-One.is) at c.in-Ok-Some.ensures.incoming in
     let next = (found c.requires.ready.text c.requires.ready.incoming).1 in
-    rw next (still_continues _ kept _ two _ _ c.args.backend.now c.args.backend.now _ _ _ _ c.answer-reply.result c.closes_after-close.result (λ text incoming. (found text incoming).0) _
+    rw next (still_continues _ kept _ two _ _ c.args.backend.now c.args.backend.now _ _ _ _ c.answer-reply.result c.closes_after-close.result
+    (λ text incoming. (found text incoming).0) _
     c.in_default-said.ensures.took c.requires.ready)
 
 pub returns-in-Err-clause-asks : goal.returns-in-Err-clause-asks

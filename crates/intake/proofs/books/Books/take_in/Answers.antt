@@ -11,7 +11,8 @@ pub returns-then-has_taken-clause-whole : goal.returns-then-has_taken-clause-who
 returns-then-has_taken-clause-whole g c =
     let l = c.observe.ensures in
     subst (λ (t : InboxValue). AllTaken c.args.seat.now.seat c.args.seat.now.jobs t.taken) (sym l.same)
-    (taken-already c.end.new.self.ended c.args.seat.now.seat c.submitted-last.result c.args.seat.now.jobs c.end.new.self.taken l.waits.0 c.end.ensures.ended l.waits.1 (search rules) (search rules))
+    (taken-already c.end.new.self.ended c.args.seat.now.seat c.submitted-last.result c.args.seat.now.jobs c.end.new.self.taken l.waits.0 c.end.ensures.ended
+    l.waits.1 (search rules) (search rules))
 
 pub returns-in_default-clause-whole : goal.returns-in_default-clause-whole
 returns-in_default-clause-whole g c =
@@ -24,7 +25,8 @@ returns-in_default-clause-others_whole g c =
     let e = c.in_default.ensures in
     let i = c.loop.invariant in
     subst (λ (t : InboxValue). StaysTaken c.args.self.now.inbox.ended c.args.self.now.inbox.taken t.taken) (sym e.0)
-    (stays c.args.self.now.inbox.ended c.loop.self.inbox.ended c.args.seat.now.seat c.args.seat.now.jobs c.args.self.now.inbox.taken _ c.loop.self.inbox.taken _ e.1.0 i.2 i.3 e.1.2)
+    (stays c.args.self.now.inbox.ended c.loop.self.inbox.ended c.args.seat.now.seat c.args.seat.now.jobs c.args.self.now.inbox.taken _ c.loop.self.inbox.taken _
+    e.1.0 i.2 i.3 e.1.2)
 
 pub returns-then-is_last-clause-whole : goal.returns-then-is_last-clause-whole
 returns-then-is_last-clause-whole g c =
@@ -42,9 +44,11 @@ returns-then-is_last-clause-moved g c =
     let seat = c.args.seat.now in
     let before = c.loop.self in
     let not : has_job seat.seat c.submitted-last.result before.inbox.taken ≡ false = search rules in
-    moves-one seat.seat c.submitted-last.result seat.jobs c.args.self.now.inbox.taken (map arc_value c.args.self.now.left.items) before.inbox.taken (map arc_value before.left.items)
+    moves-one seat.seat c.submitted-last.result seat.jobs c.args.self.now.inbox.taken (map arc_value c.args.self.now.left.items) before.inbox.taken
+    (map arc_value before.left.items)
     c.observe-then-is_last.new.self.taken (map arc_value c.push_reserved.new.self.items) c.in-Some-pop.job i.3 (search rules) i.5 not (search rules)
-    (left-more arc_value before.left.items c.reserve.new.self.items c.push_reserved.new.self.items c.into_entry-entry.result c.in-Some-pop.job c.push_reserved.ensures.items (search rules) (c.into_entry-entry.ensures ∙ c.split-entry.ensures.entry))
+    (left-more arc_value before.left.items c.reserve.new.self.items c.push_reserved.new.self.items c.into_entry-entry.result c.in-Some-pop.job
+    c.push_reserved.ensures.items (search rules) (c.into_entry-entry.ensures ∙ c.split-entry.ensures.entry))
 
 pub returns-then-is_last-clause-others_whole : goal.returns-then-is_last-clause-others_whole
 returns-then-is_last-clause-others_whole g c =
@@ -57,10 +61,12 @@ returns-then-is_last-clause-others_whole g c =
     let job = c.in-Some-pop.job in
     let not : has_job seat.seat c.submitted-last.result before.inbox.taken ≡ false = search rules in
     let left = map arc_value before.left.items in
-    let moved = moves-one seat.seat c.submitted-last.result seat.jobs old.inbox.taken (map arc_value old.left.items) before.inbox.taken left (before.inbox.taken ++ job ∷ []) (left ++ job ∷ []) job i.3 (search rules) i.5 not refl refl in
+    let moved = moves-one seat.seat c.submitted-last.result seat.jobs old.inbox.taken (map arc_value old.left.items) before.inbox.taken left
+    (before.inbox.taken ++ job ∷ []) (left ++ job ∷ []) job i.3 (search rules) i.5 not refl refl in
     let whole = subst (λ (t : InboxValue). AreWhole t.ended (t.taken ++ l.waits.0)) p l.waits.1 in
     subst (λ (t : InboxValue). StaysTaken old.inbox.ended old.inbox.taken t.taken) (sym (l.same ∙ p))
-    (stays old.inbox.ended before.inbox.ended seat.seat seat.jobs old.inbox.taken (map arc_value old.left.items) (before.inbox.taken ++ job ∷ []) (left ++ job ∷ []) l.waits.0 i.2 moved whole)
+    (stays old.inbox.ended before.inbox.ended seat.seat seat.jobs old.inbox.taken (map arc_value old.left.items) (before.inbox.taken ++ job ∷ [])
+    (left ++ job ∷ []) l.waits.0 i.2 moved whole)
 
 pub loop-preserved : goal.loop-preserved
 loop-preserved g c =
@@ -70,12 +76,15 @@ loop-preserved g c =
     let job = c.in-Some-pop.job in
     let not : has_job seat.seat c.submitted-last.result before.inbox.taken ≡ false = search rules in
     let taken : c.pop.new.self.taken ≡ before.inbox.taken ++ job ∷ [] = search rules in
-    let left = left-more arc_value before.left.items c.reserve.new.self.items c.push_reserved.new.self.items c.into_entry-entry.result job c.push_reserved.ensures.items (search rules) (c.into_entry-entry.ensures ∙ c.split-entry.ensures.entry) in
+    let left = left-more arc_value before.left.items c.reserve.new.self.items c.push_reserved.new.self.items c.into_entry-entry.result job
+    c.push_reserved.ensures.items (search rules) (c.into_entry-entry.ensures ∙ c.split-entry.ensures.entry) in
     let other : is_job c.number-number.result c.submitted-last.result job ≡ false = search rules in (
-      balances-more before.inbox.taken c.pop.new.self.taken (map arc_value before.left.items) (map arc_value c.push_reserved.new.self.items) before.accounts job i.0 taken left,
+      balances-more before.inbox.taken c.pop.new.self.taken (map arc_value before.left.items) (map arc_value c.push_reserved.new.self.items)
+          before.accounts job i.0 taken left,
       search rules,
       search rules,
-      moves-one seat.seat c.submitted-last.result seat.jobs c.args.self.now.inbox.taken (map arc_value c.args.self.now.left.items) before.inbox.taken (map arc_value before.left.items)
+      moves-one seat.seat c.submitted-last.result seat.jobs c.args.self.now.inbox.taken (map arc_value c.args.self.now.left.items) before.inbox.taken
+          (map arc_value before.left.items)
           c.pop.new.self.taken (map arc_value c.push_reserved.new.self.items) job i.3 (search rules) i.5 not taken left,
       still-not c.number-number.result c.submitted-last.result before.inbox.taken c.pop.new.self.taken job i.4 other taken,
       i.5,

@@ -5,4 +5,8 @@ use Rattle.journal_traces.proofs.Spots.{trace_there}
 use Rattle.journal_traces.proofs.candidates.CandidatesSearched.id_at.Goals as goal
 
 pub returns-in-Some : goal.returns-in-Some
-returns-in-Some c = c.first_id.ensures ∙ ap (first_id) (ap (spans_named c.args.self.now.journal.now.held.entries) c.again.ensures ∙ trace_there c.args.self.now.journal.now.held.entries c.args.self.now.spots.now c.args.place c.get.result c.in-Some.spots c.get.ensures.lookup c.in-Some.is)
+returns-in-Some c =
+    c.first_id.ensures ∙ ap (first_id)
+    (ap (spans_named c.args.self.now.journal.now.held.entries) c.again.ensures
+    ∙ trace_there c.args.self.now.journal.now.held.entries c.args.self.now.spots.now c.args.place c.get.result c.in-Some.spots c.get.ensures.lookup
+    c.in-Some.is)

@@ -9,5 +9,7 @@ pub returns-in-Some : goal.returns-in-Some
 returns-in-Some c =
     let traces = c.args.self.now in
     let e : c.first_start.result ≡ first_start (trace_at (traces_named traces.journal.now.held.entries traces.spots.now) c.args.place) =
-    c.first_start.ensures ∙ ap first_start (ap (spans_named traces.journal.now.held.entries) c.again.ensures ∙ trace_there traces.journal.now.held.entries traces.spots.now c.args.place c.get.result c.in-Some.spots c.get.ensures.lookup c.in-Some.is) in
+    c.first_start.ensures ∙ ap first_start
+    (ap (spans_named traces.journal.now.held.entries) c.again.ensures
+    ∙ trace_there traces.journal.now.held.entries traces.spots.now c.args.place c.get.result c.in-Some.spots c.get.ensures.lookup c.in-Some.is) in
     search rules

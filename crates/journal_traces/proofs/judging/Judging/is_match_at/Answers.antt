@@ -16,7 +16,8 @@ use Rattle.journal_traces.proofs.judging.Judging.is_match_at.Goals as goal
 pub is_match-requires : goal.is_match-requires
 is_match-requires c =
     let s = c.in-Some.seen in
-    let at : Some (placed_by_its_entry s) ≡ span_at c.args.self.now.1 c.args.spot = c.in-Some.ensures ∙ ap (λ (j : Find × List Entry). span_at j.1 c.args.spot) c.self.view_is in
+    let at : Some (placed_by_its_entry s) ≡ span_at c.args.self.now.1 c.args.spot =
+    c.in-Some.ensures ∙ ap (λ (j : Find × List Entry). span_at j.1 c.args.spot) c.self.view_is in
     process_there c.args.self.now.1 c.args.spot (placed_by_its_entry s) at
 
 pub returns-in-Some-clause-found : goal.returns-in-Some-clause-found
@@ -24,7 +25,8 @@ returns-in-Some-clause-found c =
     let q = c.args.self.now.0 in
     let h = c.args.self.now.1 in
     let s = c.in-Some.seen in
-    let at : Some (placed_by_its_entry s) ≡ span_at h c.args.spot = c.in-Some.ensures ∙ ap (λ (j : Find × List Entry). span_at j.1 c.args.spot) c.self.view_is in
+    let at : Some (placed_by_its_entry s) ≡ span_at h c.args.spot =
+    c.in-Some.ensures ∙ ap (λ (j : Find × List Entry). span_at j.1 c.args.spot) c.self.view_is in
     IfOk-weaker c.is_match.result (λ b. b ≡ matches q (seen s)) (λ b. b ≡ list_any (matches q) (spans_named h (c.args.spot ∷ [])))
     (λ b e. e ∙ sym (matches-adopted q (seen s)) ∙ or_same (matches q (placed_by_its_entry s)) ∙ ap (λ o. list_any (matches q) (cons_option o [])) at)
     c.is_match.ensures.found

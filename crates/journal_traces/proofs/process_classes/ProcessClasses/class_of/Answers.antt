@@ -17,7 +17,8 @@ returns-in-Some-clause-class c = λ process_of has leads.
     leads.by_number c.number-number.result c.in-Some.class (sym c.known.ensures ∙ c.in-Some.is) ∙ ap process_of c.number-number.ensures
 
 -- the number leads to the process of the span
-own : (c : In_ok-keep) (process_of : ℕ → Option Process) → HasProcess process_of c.args.span.now → process_of c.number-number.result ≡ Some c.seen.result.process.now
+own : (c : In_ok-keep) (process_of : ℕ → Option Process) → HasProcess process_of c.args.span.now
+    → process_of c.number-number.result ≡ Some c.seen.result.process.now
 own c process_of has = sym (process_seen process_of c.args.span.now c.seen.result c.number-number.result c.seen.ensures c.number-number.ensures has)
 
 pub returns-clause-class : goal.returns-clause-class
@@ -30,5 +31,6 @@ returns-clause-leads c = λ process_of has leads.
     record {
       by_process = next.by_process;
       by_number = λ n class e.
-          number_put process_of c.number-number.result c.in_ok-class.class same n (get nat_cmp c.class_of_process.new.self.by_number n) class (next.by_number n class) (sym (c.in_ok-keep.ensures n) ∙ e);
+          number_put process_of c.number-number.result c.in_ok-class.class same n (get nat_cmp c.class_of_process.new.self.by_number n) class
+          (next.by_number n class) (sym (c.in_ok-keep.ensures n) ∙ e);
     }

@@ -1,6 +1,6 @@
 use Rattle.std.proofs.Common.{◌≡◌, ◌∙◌, ℕ, Some, ap, sym, cond}
 use Rattle.std.specs.Prelude.{Option}
-use Rattle.process_order.specs.OrderLaws.{process_ties}
+use Rattle.jaeger_model.specs.ProcessOrderLaws.{process_ties}
 use Rattle.journal_traces.specs.Classes.{Leads, class_of_process}
 use Rattle.journal_traces.proofs.Classes.{process_put}
 use Rattle.journal_traces.proofs.process_classes.ProcessClasses.class_of_process.Goals as goal
@@ -13,6 +13,7 @@ pub returns-clause-leads : goal.returns-clause-leads
 returns-clause-leads c = λ process_of own leads. record {
   by_process = λ k class e.
       process_put process_of c.args.process.now c.args.number own k.0.now (class_of_process c.args.self.now k) class (leads.by_process k class)
-      (ap (λ t. cond t (Some c.args.number) (class_of_process c.args.self.now k)) (process_ties c.args.process.now k.0.now) ∙ sym (c.in_ok-insert.ensures.updates.0 k) ∙ e);
+      (ap (λ t. cond t (Some c.args.number) (class_of_process c.args.self.now k)) (process_ties c.args.process.now k.0.now)
+      ∙ sym (c.in_ok-insert.ensures.updates.0 k) ∙ e);
   by_number = leads.by_number;
 }

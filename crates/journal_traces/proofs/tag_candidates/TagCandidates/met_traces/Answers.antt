@@ -24,7 +24,8 @@ loop-place-preserved c =
     let ss = c.spots-spots.result.now in
     let t : List Placed = placed_taken (trace_spotted v.entries ss) in
     let old : List (List Taken) = c.loop-place.traces in
-    let many : length v.traces ≡ length was.starts.items = ap (λ (s : Spotted). length s.traces) (sym c.self.view_is) ∙ cuts (trace_spotted (entries_shared was.entries.items) was.spots.items) was.starts.items in
+    let many : length v.traces ≡ length was.starts.items =
+    ap (λ (s : Spotted). length s.traces) (sym c.self.view_is) ∙ cuts (trace_spotted (entries_shared was.entries.items) was.spots.items) was.starts.items in
     let le : k < length xs = omega (arith, many, length-map v.traces placed_taken, c.loop-place-test.true, c.len-place-end.ensures) in
     let is : t ≡ slice_index_or xs k [] = ap placed_taken c.spots-spots.ensures ∙ placed_got v.traces k in
     let own : entries_shared was.entries.items ≡ v.entries = ap (λ (s : Spotted). s.entries) c.self.view_is in
@@ -33,18 +34,28 @@ loop-place-preserved c =
           let here : entries_shared w.deref-then-are_spots_met.result.now ≡ v.entries = ap entries_shared w.deref-then-are_spots_met.ensures.value ∙ own in
           let new : List (List Taken) = w.take_spots.new.traces in
           let numbered : List Entry → List (List Taken) → Type 0 = λ es ts. AreNumbered es ts in
-          let put : map placed_taken new ≡ map placed_taken old ++ t ∷ [] = w.in_ok-take_spots.ensures.spans ∙ ap (λ es. map placed_taken old ++ placed_taken (trace_spotted es ss) ∷ []) here in
+          let put : map placed_taken new ≡ map placed_taken old ++ t ∷ [] =
+          w.in_ok-take_spots.ensures.spans ∙ ap (λ es. map placed_taken old ++ placed_taken (trace_spotted es ss) ∷ []) here in
           record {
-            matching = ap (λ (l : List (List Taken)). matching q (map placed_taken l)) w.traces-is ∙ ap (matching q) put ∙ trace_kept q (map placed_taken old) xs k t le c.loop-place.invariant.matching is;
-            numbers = subst (numbered v.entries) (sym w.traces-is) (subst (λ es. numbered es new) here (w.in_ok-take_spots.ensures.numbers (subst (λ es. numbered es old) (sym here) c.loop-place.invariant.numbers)));
+            matching =
+                ap (λ (l : List (List Taken)). matching q (map placed_taken l)) w.traces-is ∙ ap (matching q) put
+                ∙ trace_kept q (map placed_taken old) xs k t le c.loop-place.invariant.matching is;
+            numbers =
+                subst (numbered v.entries) (sym w.traces-is)
+                (subst (λ es. numbered es new) here
+                (w.in_ok-take_spots.ensures.numbers (subst (λ es. numbered es old) (sym here) c.loop-place.invariant.numbers)));
           }
       | else-are_spots_met w ↦
           let here : entries_shared c.deref.result.now ≡ v.entries = ap entries_shared c.deref.ensures.value ∙ own in
           let unmet = ap (λ m. are_spots_met m ss) (sym c.deref-in-loop-place.ensures.value) ∙ sym c.are_spots_met.ensures ∙ w.if-are_spots_met.false in
-          let none : list_any (matches q) t ≡ false = ap (λ es. list_any (matches q) (placed_taken (trace_spotted es ss))) (sym here) ∙ trace_unmet q c.deref.result.now c.in_ok-met.met.items ss c.in_ok-met.ensures unmet in
+          let none : list_any (matches q) t ≡ false =
+          ap (λ es. list_any (matches q) (placed_taken (trace_spotted es ss))) (sym here)
+          ∙ trace_unmet q c.deref.result.now c.in_ok-met.met.items ss c.in_ok-met.ensures unmet in
           let numbered : List (List Taken) → Type 0 = λ ts. AreNumbered v.entries ts in
           record {
-            matching = ap (λ (l : List (List Taken)). matching q (map placed_taken l)) w.traces-is ∙ trace_passed q (map placed_taken old) xs k t le c.loop-place.invariant.matching is none;
+            matching =
+                ap (λ (l : List (List Taken)). matching q (map placed_taken l)) w.traces-is
+                ∙ trace_passed q (map placed_taken old) xs k t le c.loop-place.invariant.matching is none;
             numbers = subst numbered (sym w.traces-is) c.loop-place.invariant.numbers;
           }
     ]
@@ -55,6 +66,7 @@ returns-clause-found c =
     let q = c.args.prepared.now in
     let was = c.self.inside in
     let xs : List (List Placed) = traces_spotted v in
-    let many : length v.traces ≡ length was.starts.items = ap (λ (s : Spotted). length s.traces) (sym c.self.view_is) ∙ cuts (trace_spotted (entries_shared was.entries.items) was.spots.items) was.starts.items in
+    let many : length v.traces ≡ length was.starts.items =
+    ap (λ (s : Spotted). length s.traces) (sym c.self.view_is) ∙ cuts (trace_spotted (entries_shared was.entries.items) was.spots.items) was.starts.items in
     let end : length xs ≤ c.loop-place.place = omega (arith, many, length-map v.traces placed_taken, c.loop-place-test.false, c.len-place-end.ensures) in
     matching_found q (map placed_taken c.loop-place.traces) xs (c.loop-place.invariant.matching ∙ ap (matching q) (take_all c.loop-place.place xs end))

@@ -11,13 +11,16 @@ pub invariant_of-self-2 : goal.invariant_of-self-2
 invariant_of-self-2 c =
     let was = c.self.inside in
     let count = length was.entries.items in
-    let more : length c.push.new.self.items ≡ length was.spots.items + 1 = ap length c.in_ok-push.ensures.items ∙ length-append was.spots.items (c.args.spot ∷ []) in
-    let long : length c.args.self.now.entries ≡ count = ap (λ (s : Spotted). length s.entries) (sym c.self.view_is) ∙ length-map was.entries.items entry_shared in
+    let more : length c.push.new.self.items ≡ length was.spots.items + 1 =
+    ap length c.in_ok-push.ensures.items ∙ length-append was.spots.items (c.args.spot ∷ []) in
+    let long : length c.args.self.now.entries ≡ count =
+    ap (λ (s : Spotted). length s.entries) (sym c.self.view_is) ∙ length-map was.entries.items entry_shared in
     let own : c.args.spot.number < count = subst (λ n. c.args.spot.number < n) long c.requires in
     record {
       ordered = subst (λ n. AreStarts n was.starts.items) (sym more) (starts_push (length was.spots.items) was.starts.items c.self.invariant.ordered);
       told = c.self.invariant.told;
-      within = subst (All (IsWithin count)) (sym c.in_ok-push.ensures.items) (All-push (IsWithin count) was.spots.items c.args.spot c.self.invariant.within own);
+      within =
+          subst (All (IsWithin count)) (sym c.in_ok-push.ensures.items) (All-push (IsWithin count) was.spots.items c.args.spot c.self.invariant.within own);
     }
 
 pub returns-clause-traces : goal.returns-clause-traces

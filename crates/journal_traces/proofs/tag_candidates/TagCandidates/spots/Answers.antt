@@ -18,7 +18,8 @@ part-requires-clause-ordered c =
     let end : c.len-2.result ≡ length was.spots.items = omega arith in
     let below : c.args.place < length was.starts.items = omega arith in
     let start = c.index-start.ensures in
-    let next = c.next_start-end.ensures ∙ ap (λ ss. get_or ss (c.args.place + 1) c.len-2.result) c.deref.ensures.value ∙ ap (get_or was.starts.items (c.args.place + 1)) end in
+    let next = c.next_start-end.ensures ∙ ap (λ ss. get_or ss (c.args.place + 1) c.len-2.result) c.deref.ensures.value
+    ∙ ap (get_or was.starts.items (c.args.place + 1)) end in
     let ordered = (bounds (length was.spots.items) was.starts.items c.args.place c.index-start.result.now c.self.invariant.ordered below).0 in
     omega (arith, start, next, ordered)
 
@@ -27,7 +28,8 @@ part-requires-clause-within c =
     let was = c.self.inside in
     let end : c.len-2.result ≡ length was.spots.items = omega arith in
     let below : c.args.place < length was.starts.items = omega arith in
-    let next = c.next_start-end.ensures ∙ ap (λ ss. get_or ss (c.args.place + 1) c.len-2.result) c.deref.ensures.value ∙ ap (get_or was.starts.items (c.args.place + 1)) end in
+    let next = c.next_start-end.ensures ∙ ap (λ ss. get_or ss (c.args.place + 1) c.len-2.result) c.deref.ensures.value
+    ∙ ap (get_or was.starts.items (c.args.place + 1)) end in
     let within = (bounds (length was.spots.items) was.starts.items c.args.place 0 c.self.invariant.ordered below).1 in
     omega (arith, next, within, c.deref-2.ensures.len)
 
@@ -39,7 +41,8 @@ returns c =
     let long : length was.spots.items ≡ length xs = sym (length-map was.spots.items (taken_spotted es)) in
     let end : c.len-2.result ≡ length was.spots.items = omega arith in
     let below : c.args.place < length was.starts.items = omega arith in
-    let next = c.next_start-end.ensures ∙ ap (λ ss. get_or ss (c.args.place + 1) c.len-2.result) c.deref.ensures.value ∙ ap (get_or was.starts.items (c.args.place + 1)) (end ∙ long) in
+    let next = c.next_start-end.ensures ∙ ap (λ ss. get_or ss (c.args.place + 1) c.len-2.result) c.deref.ensures.value
+    ∙ ap (get_or was.starts.items (c.args.place + 1)) (end ∙ long) in
     ap (λ (s : Spotted). trace_spotted s.entries c.part.result.now) (sym c.self.view_is)
     ∙ ap (trace_spotted es) (c.part.ensures ∙ (λ i. slice_range (c.deref-2.ensures.value i) (c.index-start.ensures i) (next i)))
     ∙ range_spotted es was.spots.items _ _

@@ -6,7 +6,8 @@ use Rattle.journal_traces.proofs.taken.TakenTraces.push.Goals as goal
 pub invariant_of-self-2 : goal.invariant_of-self-2
 invariant_of-self-2 c =
     let was = c.self.inside in
-    let more : length c.push.new.self.items ≡ length was.spans.items + 1 = ap length c.in_ok-push.ensures.items ∙ length-append was.spans.items (c.args.span ∷ []) in
+    let more : length c.push.new.self.items ≡ length was.spans.items + 1 =
+    ap length c.in_ok-push.ensures.items ∙ length-append was.spans.items (c.args.span ∷ []) in
     subst (λ n. AreStarts n was.starts.items) (sym more) (starts_push (length was.spans.items) was.starts.items c.self.invariant)
 
 pub returns : goal.returns

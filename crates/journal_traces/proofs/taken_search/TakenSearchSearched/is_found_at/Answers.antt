@@ -17,7 +17,8 @@ returns-clause-found c =
     let own = matches was.prepared.now in
     let k = c.args.place in
     let processes = subst (HaveProcesses kept.process_of) (sym c.trace.ensures) (processes_got kept.process_of was.traces.now k kept.each) in
-    IfOk-weaker c.is_found.result (λ b. b ≡ list_any own (placed_taken c.trace.result.now)) (λ b. b ≡ list_any (matches (query_taken c.args.self.now)) (slice_index_or (traces_taken c.args.self.now) k []))
+    IfOk-weaker c.is_found.result (λ b. b ≡ list_any own (placed_taken c.trace.result.now))
+    (λ b. b ≡ list_any (matches (query_taken c.args.self.now)) (slice_index_or (traces_taken c.args.self.now) k []))
     (λ b e. e ∙ ap (list_any own) (ap placed_taken c.trace.ensures ∙ placed_got was.traces.now k)
     ∙ ap (λ (s : Find × List (List Taken)). list_any (matches (query_taken s)) (slice_index_or (traces_taken s) k [])) c.self.view_is)
     (c.is_found.ensures.found kept.process_of kept.judged processes)

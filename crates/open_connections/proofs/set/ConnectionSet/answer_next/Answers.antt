@@ -8,14 +8,16 @@ pub returns-then-not-is_open-clause-underway : goal.returns-then-not-is_open-cla
 returns-then-not-is_open-clause-underway g c =
     let kept = promises_of g.met.B.Backend.submit_knows g.met.B.Backend.read_knows in
     let all = subst (AllOpen _ _ _) (sym c.self.view_is) c.requires.underway in
-    let before = rest_is_open _ _ _ c.self.inside.connections c.try_remove.new.self all (rest_of_removed c.self.inside.connections c.try_remove.new.self _ c.try_remove.ensures.updates) in
+    let before = rest_is_open _ _ _ c.self.inside.connections c.try_remove.new.self all
+    (rest_of_removed c.self.inside.connections c.try_remove.new.self _ c.try_remove.ensures.updates) in
     all_open_still _ kept _ _ _ c.try_remove.new.self c.answer_next-progress.ensures.asks before
 
 pub returns-clause-underway : goal.returns-clause-underway
 returns-clause-underway g c =
     let kept = promises_of g.met.B.Backend.submit_knows g.met.B.Backend.read_knows in
     let all = subst (AllOpen _ _ _) (sym c.self.view_is) c.requires.underway in
-    let before = rest_is_open _ _ _ c.self.inside.connections c.try_remove.new.self all (rest_of_removed c.self.inside.connections c.try_remove.new.self _ c.try_remove.ensures.updates) in
+    let before = rest_is_open _ _ _ c.self.inside.connections c.try_remove.new.self all
+    (rest_of_removed c.self.inside.connections c.try_remove.new.self _ c.try_remove.ensures.updates) in
     let after = all_open_still _ kept _ _ _ c.try_remove.new.self c.answer_next-progress.ensures.asks before in
     let is = open_if_it_stays _ _ _ _ _ (sym c.is_open.ensures ∙ c.if-not-is_open.false) c.answer_next-progress.ensures.comes in
     all_with_one _ _ _ c.try_remove.new.self c.insert_reserved-key.new.self _ _ after c.insert_reserved-key.ensures.updates

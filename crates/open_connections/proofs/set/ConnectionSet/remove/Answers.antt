@@ -5,5 +5,7 @@ use Rattle.open_connections.proofs.set.ConnectionSet.remove.Goals as goal
 
 pub returns : goal.returns
 returns g c = record {
-  rest = subst (λ x. IsRest x c.try_remove.new.self) c.self.view_is (rest_of_removed c.self.inside.connections c.try_remove.new.self _ c.try_remove.ensures.updates);
+  rest =
+      subst (λ x. IsRest x c.try_remove.new.self) c.self.view_is
+      (rest_of_removed c.self.inside.connections c.try_remove.new.self _ c.try_remove.ensures.updates);
 }

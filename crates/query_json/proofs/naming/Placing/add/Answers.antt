@@ -27,7 +27,8 @@ returns c = λ spans entries i s own next before.
           subst (λ (p : Placing). HasPlace spans entries i s p n) (sym w.self-is) again
       | in-None+in_ok-place-in-None w ↦
           let looked = w.in_ok-place-in-None.ensures.placed spans entries i s own next before in
-          subst (λ (p : Placing). HasPlace spans entries i s p n) (sym w.self-is) (subst (HasPlace spans entries i s w.place_of.new.self) (sym w.place-is) looked)
+          subst (λ (p : Placing). HasPlace spans entries i s p n) (sym w.self-is)
+          (subst (HasPlace spans entries i s w.place_of.new.self) (sym w.place-is) looked)
     ] in
     let same : now.places ≡ old.places = elim c.match-known_place.branch [
       | in-Some w ↦ ap (λ (p : Placing). p.places) w.self-is

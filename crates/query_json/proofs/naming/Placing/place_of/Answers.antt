@@ -28,13 +28,23 @@ returns-clause-placed c = λ spans entries i s own next before.
     c.in_ok-place.ensures ∙ says.number ∙ ap (λ p. place p (numbered new)) own ∙ ap (place s.placed.process) known ∙ sym (place_stays front rest s)
     ∙ ap (λ (l : List Shown). process_place (processes_of l) s) whole in
     let index : c.len-span.result ≡ i =
-    omega (arith, c.len-span.ensures, old.places.ok.0, ap length before.places, length-map front (process_place (processes_of spans)), length-take-le i spans (omega (arith, next.within))) in
+    omega (
+      arith,
+      c.len-span.ensures,
+      old.places.ok.0,
+      ap length before.places,
+      length-map front (process_place (processes_of spans)),
+      length-take-le i spans (omega (arith, next.within)),
+    ) in
     let first : option_map process_of (slice_get spans c.len-span.result) ≡ Some c.args.process.now =
-    ap (λ k. option_map process_of (slice_get spans k)) index ∙ ap (option_map process_of) (slice_get_read spans (length spans) i s refl next.within next.is) ∙ ap Some (sym own) in
+    ap (λ k. option_map process_of (slice_get spans k)) index ∙ ap (option_map process_of) (slice_get_read spans (length spans) i s refl next.within next.is)
+    ∙ ap Some (sym own) in
     record {
       by_place = says.by_place;
       processes = known ∙ sym (ap processes_of more);
       firsts = says.firsts spans first before.firsts;
-      known = known_put spans entries i s c.args.entry next c.in_ok-place.place (get nat_cmp old.known) (get nat_cmp c.keep_place.new.known) found c.in_ok-keep_place.ensures before.known;
+      known =
+          known_put spans entries i s c.args.entry next c.in_ok-place.place (get nat_cmp old.known) (get nat_cmp c.keep_place.new.known)
+          found c.in_ok-keep_place.ensures before.known;
       place = found;
     }

@@ -8,7 +8,8 @@ use Rattle.query_json.specs.Runs.{Fills, left_at, text_of}
 use Rattle.query_json.proofs.Runs.{left_none, open_still}
 use Rattle.query_json.proofs.paging.PagedAnswer.extend.Goals as goal
 
-module _ (p : PagedAnswer) (new : Page) (to : List (List (List ℕ))) (ready : IsReady p) (later : p.later ≡ None) (f : Fills 16384 p.page new (left_of p) to) where
+module _ (p : PagedAnswer) (new : Page) (to : List (List (List ℕ))) (ready : IsReady p) (later : p.later ≡ None)
+    (f : Fills 16384 p.page new (left_of p) to) where
   -- without a page for later parts, pieces are written to the page of the part
   same_page : (q : Page) → unwrap_or p.later q ≡ q
   same_page q = ap (λ o. unwrap_or o q) later
@@ -74,7 +75,8 @@ returns-clause-gives c =
     let p = c.args.self.now in
     let f = c.fill-self.ensures.fills in
     let rest = text_of (left_at (runs_of p.items) c.fill-self.result.run c.fill-self.result.piece) in
-    ap (λ l. l ++ rest) (f.puts.adds.behind (stays_open p c.fill-self.new.page _ c.requires.ready c.requires.later f)) ∙ append_assoc p.page.bytes.items f.bytes rest
+    ap (λ l. l ++ rest) (f.puts.adds.behind (stays_open p c.fill-self.new.page _ c.requires.ready c.requires.later f))
+    ∙ append_assoc p.page.bytes.items f.bytes rest
     ∙ ap (λ l. p.page.bytes.items ++ l) (sym f.text)
 
 pub returns-clause-some : goal.returns-clause-some

@@ -23,16 +23,22 @@ loop-place-preserved c =
     let es = l.named.entries in
     let p : NamedProcess = record { number = l.place + 1; span = x.span } in
     let below : l.place < length xs = omega arith in
-    let here : drop l.place xs ≡ x ∷ drop (l.place + 1) xs = drop_more xs l.place x below ∙ ap (λ y. y ∷ drop (l.place + 1) xs) (sym c.index-processes-place.is) in
-    let name : c.as_str.result.now ≡ process_name l.place = c.as_str.ensures.value ∙ name_at (length xs) l.place c.args.names.now c.index-names-place.result c.requires.names below c.index-names-place.is in
-    let first : (ss : List Shown) → All (IsFirst ss) xs → IsFirst ss x = λ ss all. subst (IsFirst ss) (sym c.index-processes-place.is) (All-get_or (IsFirst ss) xs l.place x below all) in
+    let here : drop l.place xs ≡ x ∷ drop (l.place + 1) xs =
+    drop_more xs l.place x below ∙ ap (λ y. y ∷ drop (l.place + 1) xs) (sym c.index-processes-place.is) in
+    let name : c.as_str.result.now ≡ process_name l.place =
+    c.as_str.ensures.value ∙ name_at (length xs) l.place c.args.names.now c.index-names-place.result c.requires.names below c.index-names-place.is in
+    let first : (ss : List Shown) → All (IsFirst ss) xs → IsFirst ss x =
+    λ ss all. subst (IsFirst ss) (sym c.index-processes-place.is) (All-get_or (IsFirst ss) xs l.place x below all) in
     record {
       keyed = subst AreKeyed (sym c.in_ok-insert.ensures.entries) (keyed_insert es c.as_str.result p name l.invariant.keyed);
-      have = λ ss all. subst (HaveSpans ss) (sym c.in_ok-insert.ensures.entries) (have_insert ss es c.as_str.result p (first_within ss x (first ss all)) (l.invariant.have ss all));
+      have =
+          λ ss all. subst (HaveSpans ss) (sym c.in_ok-insert.ensures.entries)
+          (have_insert ss es c.as_str.result p (first_within ss x (first ss all)) (l.invariant.have ss all));
       named = λ ss all.
           let ms = named_members ss (map (λ e. e.1) es) in
           let grown : named_members ss (map (λ e. e.1) c.insert.new.self.entries) ≡ put (process_name l.place) (process_tree x.process.now) ms =
-          ap (λ (m : List Entry). named_members ss (map (λ e. e.1) m)) c.in_ok-insert.ensures.entries ∙ named_insert ss es c.as_str.result p name l.invariant.keyed
+          ap (λ (m : List Entry). named_members ss (map (λ e. e.1) m)) c.in_ok-insert.ensures.entries
+          ∙ named_insert ss es c.as_str.result p name l.invariant.keyed
           ∙ ap (λ d. put (process_name l.place) d ms) (first_tree ss x (first ss all)) in
           ap₂ (λ n (m : Members). named n (map first_process (drop (l.place + 1) xs)) m) (add-one l.place) grown
           ∙ ap (λ (ys : List FirstSpan). named l.place (map first_process ys) ms) (sym here) ∙ l.invariant.named ss all;
@@ -45,5 +51,7 @@ returns c = λ ss all.
     let none : drop l.place xs ≡ [] = drop_all l.place xs (omega arith) in
     record {
       have_spans = have_all ss l.named.entries (l.invariant.have ss all);
-      members = ap (λ (ys : List FirstSpan). named l.place (map first_process ys) (named_members ss (map (λ e. e.1) l.named.entries))) (sym none) ∙ l.invariant.named ss all;
+      members =
+          ap (λ (ys : List FirstSpan). named l.place (map first_process ys) (named_members ss (map (λ e. e.1) l.named.entries))) (sym none)
+          ∙ l.invariant.named ss all;
     }

@@ -14,5 +14,6 @@ invariant-loop-place l = record {
   have : (ss : List Shown) → All (IsFirst ss) l.processes → HaveSpans ss l.named.entries;
   named :
       (ss : List Shown) → All (IsFirst ss) l.processes
-      → named l.place (map first_process (drop l.place l.processes)) (named_members ss (map (λ e. e.1) l.named.entries)) ≡ named 0 (map first_process l.processes) no_members;
+      → named l.place (map first_process (drop l.place l.processes)) (named_members ss (map (λ e. e.1) l.named.entries))
+      ≡ named 0 (map first_process l.processes) no_members;
 }

@@ -15,6 +15,7 @@ returns c =
     let ss = c.args.spans.now in
     let s = c.at.result in
     let own : process_tree c.process.result.now ≡ process_tree_at ss p.span =
-    ap process_tree c.process.ensures ∙ sym (get_or-map shown_process_tree ss p.span s null c.requires ∙ ap shown_process_tree (get_or_from_slice_get ss p.span s s c.at.ensures)) in
+    ap process_tree c.process.ensures
+    ∙ sym (get_or-map shown_process_tree ss p.span s null c.requires ∙ ap shown_process_tree (get_or_from_slice_get ss p.span s s c.at.ensures)) in
     Puts-is (c.write_name.ensures ▸ c.push_str.ensures ▸ c.write.ensures)
     (append_assoc (quoted (name_of p)) (58 ∷ []) (compact_text (process_tree c.process.result.now)) ∙ ap (λ d. quoted (name_of p) ++ 58 ∷ compact_text d) own)

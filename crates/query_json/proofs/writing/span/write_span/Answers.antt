@@ -26,6 +26,8 @@ returns c = λ ps is.
     let trace = Puts-is c.write-2.ensures (ap (λ t. quoted (trace_text t)) lent.trace) in
     let warnings = Puts-is c.write_warnings.ensures (ap (λ ws. compact_text (warnings_tree ws)) (sym c.warning.ensures)) in
     Puts-is
-    (c.push_str.ensures ▸ duration ▸ c.push_str-2.ensures ▸ flags ▸ c.push_str-3.ensures ▸ logs ▸ c.push_str-4.ensures ▸ operation ▸ c.push_str-5.ensures ▸ name ▸ c.push_str-6.ensures
-    ▸ c.write_list-2.ensures ▸ c.push_str-7.ensures ▸ id ▸ c.push_str-8.ensures ▸ start ▸ c.push_str-9.ensures ▸ tags ▸ c.push_str-10.ensures ▸ trace ▸ c.push_str-11.ensures ▸ warnings ▸ c.push_str-12.ensures)
+    (c.push_str.ensures ▸ duration ▸ c.push_str-2.ensures ▸ flags ▸ c.push_str-3.ensures ▸ logs ▸ c.push_str-4.ensures ▸ operation ▸ c.push_str-5.ensures ▸ name
+    ▸ c.push_str-6.ensures
+    ▸ c.write_list-2.ensures ▸ c.push_str-7.ensures ▸ id ▸ c.push_str-8.ensures ▸ start ▸ c.push_str-9.ensures ▸ tags ▸ c.push_str-10.ensures ▸ trace ▸
+    c.push_str-11.ensures ▸ warnings ▸ c.push_str-12.ensures)
     (put_tree-text (span_tree ps shown))

@@ -17,5 +17,6 @@ returns-in-PastTimes c =
 
 pub returns-in-PastLimit : goal.returns-in-PastLimit
 returns-in-PastLimit c =
-    Puts-is (c.push_str-in-PastLimit.ensures ▸ c.delta-in-PastLimit.ensures ▸ c.push_str-in-PastLimit-2.ensures ▸ c.count.ensures ▸ c.push_str-in-PastLimit-3.ensures)
+    Puts-is (c.push_str-in-PastLimit.ensures ▸ c.delta-in-PastLimit.ensures ▸ c.push_str-in-PastLimit-2.ensures ▸ c.count.ensures ▸
+    c.push_str-in-PastLimit-3.ensures)
     (past_limit_text c.in-PastLimit.delta c.in-PastLimit.max_skew ∙ ap (λ w. quoted (warning_text w)) (sym c.in-PastLimit.is))

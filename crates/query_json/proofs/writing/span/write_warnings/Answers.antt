@@ -7,4 +7,5 @@ use Rattle.query_json.proofs.writing.span.write_warnings.Goals as goal
 
 pub returns-in-Some : goal.returns-in-Some
 returns-in-Some c =
-    Puts-is (c.push_str.ensures ▸ c.write_warning.ensures ▸ c.push_str-in-Some.ensures) (ap (λ o. compact_text (warnings_tree (warning_texts o))) (sym c.in-Some.is))
+    Puts-is (c.push_str.ensures ▸ c.write_warning.ensures ▸ c.push_str-in-Some.ensures)
+    (ap (λ o. compact_text (warnings_tree (warning_texts o))) (sym c.in-Some.is))

@@ -24,4 +24,5 @@ returns c =
     let s = c.at.result in
     let some : 0 < length ss = omega (arith, c.len.ensures, c.if-len-eq0.false) in
     Puts-is c.write.ensures
-    (ap (λ t. compact_text (string (trace_text t))) c.span.ensures.trace ∙ ap (λ t. compact_text (string t)) (id_of ss s some (get_or_from_slice_get ss 0 s s c.at.ensures)))
+    (ap (λ t. compact_text (string (trace_text t))) c.span.ensures.trace
+    ∙ ap (λ t. compact_text (string t)) (id_of ss s some (get_or_from_slice_get ss 0 s s c.at.ensures)))

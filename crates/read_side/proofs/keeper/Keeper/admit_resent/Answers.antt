@@ -18,6 +18,8 @@ vouch-requires g c =
     ap (λ (h : List Entry). entry_at h c.args.place) (sym (c.self.invariant.2 ∙ ap accepted c.self.view_is)) ∙ at in
     let shown : c.else-has_pending.self.published ≡ accepted old = elim c.else-has_pending.branch [
       | else-has_pending-via-then-has_pending+else-not-publish w ↦ ap (λ (l : Lists). l.published) (w.self-is ∙ w.if-not-publish.ensures)
-      | else-has_pending-via-else-has_pending w ↦ ap (λ (l : Lists). l.published) w.self-is ∙ (sym (append-nil old.published) ∙ ap (λ (z : List Entry). old.published ++ z) (sym w.if-has_pending.ensures))
+      | else-has_pending-via-else-has_pending w ↦
+          ap (λ (l : Lists). l.published) w.self-is
+          ∙ (sym (append-nil old.published) ∙ ap (λ (z : List Entry). old.published ++ z) (sym w.if-has_pending.ensures))
     ] in
     subst (λ (h : List Entry). StandsAt h c.args.place e) (sym shown) (entry_stands (accepted old) c.args.place e found)

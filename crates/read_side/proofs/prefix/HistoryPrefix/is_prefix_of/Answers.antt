@@ -9,5 +9,6 @@ returns g c =
     let other : IsPrefix c.other.inside.seen.log c.learn.new.self.log = search rules in
     let within : c.self.inside.len ≤ length c.self.inside.seen.log = search rules in
     let within_other : c.other.inside.len ≤ length c.other.inside.seen.log = search rules in
-    let one = one_begins c.self.inside.len c.other.inside.len c.self.inside.seen.log c.other.inside.seen.log c.learn.new.self.log own other within within_other in
+    let one = one_begins c.self.inside.len c.other.inside.len c.self.inside.seen.log c.other.inside.seen.log c.learn.new.self.log own other within
+    within_other in
     rw (← c.self.view_is, ← c.other.view_is) one

@@ -39,6 +39,7 @@ returns c =
     let count = c.publishes.ensures ∙ ap (λ (m : Machine). length m.fronts) (sym c.self.view_is) in
     let none = ap (λ n. position (is_held n) was.readers) (sym count) ∙ sym c.first_held.ensures ∙ c.in_default.is in
     let grown = c.push_reserved.ensures.items ∙ ap (λ fronts. fronts ++ c.front-front.result ∷ []) c.reserve.ensures.items in
-    subst (λ (m : Machine). after (Published c.front-front.result) (machine_of c.publish.new.self was.seats c.push_reserved.new.self.items was.readers) ≡ publishes m) c.self.view_is
+    subst (λ (m : Machine). after (Published c.front-front.result) (machine_of c.publish.new.self was.seats c.push_reserved.new.self.items was.readers)
+    ≡ publishes m) c.self.view_is
     (published_alike was.copies c.publish.new.self was.seats was.fronts.items c.push_reserved.new.self.items was.readers c.front-front.result
     c.self.invariant none c.in_ok-publish.ensures.turned c.front-front.ensures grown)

@@ -16,6 +16,7 @@ invariant_of-self-2 c =
 pub returns : goal.returns
 returns c =
     let was = c.self.inside in
-    subst (λ (m : Machine). after c.judge.result (machine_of c.judge.new.copies c.take.new.self was.fronts.items was.readers) ≡ takes m m.waiting) c.self.view_is
+    subst (λ (m : Machine). after c.judge.result (machine_of c.judge.new.copies c.take.new.self was.fronts.items was.readers) ≡ takes m m.waiting)
+    c.self.view_is
     (taken_alike was.copies c.judge.new.copies was.seats c.take.new.self was.fronts.items was.readers (arc_value c.in-Some.job) c.judge.result
     c.self.invariant c.in-Some.ensures c.judge.ensures)

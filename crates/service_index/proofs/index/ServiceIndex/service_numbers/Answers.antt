@@ -6,7 +6,8 @@ use Rattle.service_index.proofs.Linking.{services_are}
 use Rattle.service_index.proofs.index.ServiceIndex.service_numbers.Goals as goal
 
 pub returns-clause-held : goal.returns-clause-held
-returns-clause-held c = λ names h. subst (AreNumbers names.count) (sym (c.numbers.ensures ∙ ap (λ (i : Index). i.services.numbers) c.self.view_is)) h.services.numbers
+returns-clause-held c =
+    λ names h. subst (AreNumbers names.count) (sym (c.numbers.ensures ∙ ap (λ (i : Index). i.services.numbers) c.self.view_is)) h.services.numbers
 
 pub returns-clause-services : goal.returns-clause-services
 returns-clause-services c = λ names h.

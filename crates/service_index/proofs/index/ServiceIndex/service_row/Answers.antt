@@ -10,12 +10,14 @@ returns-in-Some g c =
     let names = g.T.Texts.names c.args.texts.now in
     let labels = group_labels names in
     let is = subst (IsGroupOf names c.args.service.now) c.in-Some.is c.group_of.ensures in
-    c.row_of.ensures ∙ ap (row_of labels c.self.inside.services.numbers) c.group_label.ensures ∙ ap (λ (i : Index). row_of labels i.services.numbers (group_alone c.in-Some.group)) c.self.view_is
+    c.row_of.ensures ∙ ap (row_of labels c.self.inside.services.numbers) c.group_label.ensures
+    ∙ ap (λ (i : Index). row_of labels i.services.numbers (group_alone c.in-Some.group)) c.self.view_is
     ∙ service_found names c.args.self.now c.args.service.now c.in-Some.group c.requires is
 
 pub returns-in-None : goal.returns-in-None
 returns-in-None g c =
     let names = g.T.Texts.names c.args.texts.now in
     let none = subst (IsGroupOf names c.args.service.now) c.in-None.is c.group_of.ensures in
-    let rows : c.services.result ≡ length c.args.self.now.services.numbers = c.services.ensures ∙ c.self.invariant.1.newest_rows ∙ ap (λ (i : Index). length i.services.numbers) c.self.view_is in
+    let rows : c.services.result ≡ length c.args.self.now.services.numbers =
+    c.services.ensures ∙ c.self.invariant.1.newest_rows ∙ ap (λ (i : Index). length i.services.numbers) c.self.view_is in
     rows ∙ service_missing names c.args.self.now c.args.service.now c.requires none

@@ -5,7 +5,9 @@ use Rattle.service_index.proofs.Probing.{same_hash, row_in, row_is, found_of}
 use Rattle.service_index.proofs.name_table.NameTable.row_of.Goals as goal
 
 pub find-requires-clause-hash : goal.find-requires-clause-hash
-find-requires-clause-hash g c row = same_hash (g.L.Labels.labels c.args.labels.now) c.self.inside.keys c.deref.result.now (label_value c.args.label) c.label_hash.result row c.label_hash.ensures
+find-requires-clause-hash g c row =
+    same_hash (g.L.Labels.labels c.args.labels.now) c.self.inside.keys c.deref.result.now (label_value c.args.label)
+    c.label_hash.result row c.label_hash.ensures
 
 pub returns-in-Some : goal.returns-in-Some
 returns-in-Some g c =

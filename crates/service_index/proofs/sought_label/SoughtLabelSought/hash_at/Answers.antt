@@ -6,4 +6,5 @@ use Rattle.service_index.proofs.sought_label.SoughtLabelSought.hash_at.Goals as 
 pub returns : goal.returns
 returns g c =
     let s = c.args.self.now in
-    c.label_hash.ensures ∙ ap (hash_of s.keys) c.label_at.ensures ∙ sym (hash_of_row (g.L.Labels.labels s.labels.now) s.keys s.numbers.now c.args.row c.requires.row)
+    c.label_hash.ensures ∙ ap (hash_of s.keys) c.label_at.ensures
+    ∙ sym (hash_of_row (g.L.Labels.labels s.labels.now) s.keys s.numbers.now c.args.row c.requires.row)

@@ -8,7 +8,9 @@ use Rattle.session_tests.specs.declared.tests.slow_readers.SlowClient.{SlowClien
 use Rattle.session_tests.proofs.tests.slow_readers.serve_alone.Given as goal
 
 abbrev pub slow_line : Line (Outbox SlowClient)
-slow_line = box_line (λ s. Some s.bytes.now) (λ s given t. (s.bytes.now ≡ given ++ t.bytes.now) × (t.taken.items ≡ s.taken.items)) (λ s. false) (λ s. Some s.taken.items)
+slow_line =
+    box_line (λ s. Some s.bytes.now) (λ s given t. (s.bytes.now ≡ given ++ t.bytes.now) × (t.taken.items ≡ s.taken.items)) (λ s. false)
+    (λ s. Some s.taken.items)
 
 abbrev pub invariant-loop-round : goal.invariant-loop-round
 invariant-loop-round g l =

@@ -9,8 +9,8 @@ use Rattle.trace_model.specs.Works.{spans_brought}
 use Rattle.arrival_journal.specs.Journals.{admission_by}
 use Rattle.trace_assembly.specs.Rows.{spots_of}
 use Rattle.trace_assembly.specs.Located.{located_events}
-use Rattle.arrival_names.specs.Kept.{IsKept as NamesKept}
-use Rattle.service_places.specs.Reported.{IsKept as PlacesKept}
+use Rattle.service_index.specs.NamesKept.{IsKept as NamesKept}
+use Rattle.service_index.specs.Reported.{IsKept as PlacesKept}
 use Rattle.span_store.specs.Opening.{AreFirst, IsRanged}
 use Rattle.span_store.specs.Kept.{Follows, IsNamed, IsPlaced}
 use Rattle.span_store.proofs.IndexesAreKept.{Grows, arrivals_fit, kept_more, kept_room, kept_within, spans_fit}
@@ -34,7 +34,8 @@ apply_entry-requires-clause-room c =
     let was = c.self.inside in
     let e : Entry = c.args.entry in
     let may : admission_by was.journal.held e ≡ Ok Added = ap (λ (v : Held). admission_by v e) c.self.view_is ∙ c.requires in
-    let room : was.shown.used + length (spans_brought e.work) ≤ was.shown.room = kept_room was.journal.held e was.shown was.starts was.names was.reported c.self.invariant may in
+    let room : was.shown.used + length (spans_brought e.work) ≤ was.shown.room =
+    kept_room was.journal.held e was.shown was.starts was.names was.reported c.self.invariant may in
     search rules
 
 pub invariant_of-self : goal.invariant_of-self
@@ -50,12 +51,15 @@ invariant_of-self c =
     let follows : Follows n (located_events (h ++ e ∷ [])) after.newest (spots_of after) =
     subst (λ (x : Entry). Follows n (located_events (h ++ x ∷ [])) after.newest (spots_of after)) (c.deref.ensures ∙ c.entry.ensures) here in
     let first : AreFirst n (located_events (h ++ e ∷ [])) c.apply_entry.new.starts.starts =
-    subst (λ (x : Entry). AreFirst n (located_events (h ++ x ∷ [])) c.apply_entry.new.starts.starts) (c.deref.ensures ∙ c.entry.ensures) (c.apply_entry.ensures.first n h place c.self.invariant.follows c.self.invariant.first) in
+    subst (λ (x : Entry). AreFirst n (located_events (h ++ x ∷ [])) c.apply_entry.new.starts.starts) (c.deref.ensures ∙ c.entry.ensures)
+    (c.apply_entry.ensures.first n h place c.self.invariant.follows c.self.invariant.first) in
     let ranged : IsRanged n (located_events (h ++ e ∷ [])) after c.apply_entry.new.starts =
-    subst (λ (x : Entry). IsRanged n (located_events (h ++ x ∷ [])) after c.apply_entry.new.starts) (c.deref.ensures ∙ c.entry.ensures) (c.apply_entry.ensures.ranged n h place c.self.invariant.follows c.self.invariant.ranged) in
+    subst (λ (x : Entry). IsRanged n (located_events (h ++ x ∷ [])) after c.apply_entry.new.starts) (c.deref.ensures ∙ c.entry.ensures)
+    (c.apply_entry.ensures.ranged n h place c.self.invariant.follows c.self.invariant.ranged) in
     let used : after.used ≡ was.shown.used + length (spans_brought e.work) = search rules in
     let grows : Grows was.shown after (length (spans_brought e.work)) = record { room = c.apply_entry.ensures.room; used = used } in
-    let list : map (arc_value {X = Entry} {Z = Global}) c.entries-entries.result.now ≡ was.journal.held.entries ++ e ∷ [] = c.entries-entries.ensures ∙ ap (λ (v : Held). v.entries) held in
+    let list : map (arc_value {X = Entry} {Z = Global}) c.entries-entries.result.now ≡ was.journal.held.entries ++ e ∷ [] =
+    c.entries-entries.ensures ∙ ap (λ (v : Held). v.entries) held in
     let named = c.self.invariant.named in
     let names : IsNamed (followed_by was.journal.held e) c.add-2.new.self = record {
       kept = subst (λ (h : List Entry). NamesKept h c.add-2.new.self) list c.add-2.ensures.kept;
@@ -67,12 +71,15 @@ invariant_of-self c =
       kept = subst (λ (h : List Entry). PlacesKept h c.add.new.self) list c.add.ensures.kept;
       batches = c.add.ensures.batches ∙ c.self.invariant.placed.batches;
     } in
-    kept_more was.journal.held c.append.new.self.held e was.shown after was.starts c.apply_entry.new.starts was.names c.add-2.new.self was.reported c.add.new.self c.self.invariant held grows follows first c.apply_entry.ensures.counted ranged names placed
+    kept_more was.journal.held c.append.new.self.held e was.shown after was.starts c.apply_entry.new.starts was.names c.add-2.new.self was.reported
+    c.add.new.self c.self.invariant held grows follows first c.apply_entry.ensures.counted ranged names placed
 
 pub add-requires-2-clause-numbers : goal.add-requires-2-clause-numbers
 add-requires-2-clause-numbers c =
-    arrivals_fit c.self.inside.journal.held _ (c.args.entry) (map (arc_value {X = Entry} {Z = Global}) c.entries-entries.result.now) _ c.append.ensures.appended c.append.ensures.legal c.entries-entries.ensures c.self.invariant.named.numbers
+    arrivals_fit c.self.inside.journal.held _ (c.args.entry) (map (arc_value {X = Entry} {Z = Global}) c.entries-entries.result.now)
+    _ c.append.ensures.appended c.append.ensures.legal c.entries-entries.ensures c.self.invariant.named.numbers
 
 pub add-requires-2-clause-index : goal.add-requires-2-clause-index
 add-requires-2-clause-index c =
-    arrivals_fit c.self.inside.journal.held _ (c.args.entry) (map (arc_value {X = Entry} {Z = Global}) c.entries-entries.result.now) _ c.append.ensures.appended c.append.ensures.legal c.entries-entries.ensures c.self.invariant.named.index
+    arrivals_fit c.self.inside.journal.held _ (c.args.entry) (map (arc_value {X = Entry} {Z = Global}) c.entries-entries.result.now)
+    _ c.append.ensures.appended c.append.ensures.legal c.entries-entries.ensures c.self.invariant.named.index

@@ -5,7 +5,7 @@ use Rattle.trace_model.specs.Held.{Held}
 use Rattle.trace_model.specs.Histories.{events}
 use Rattle.trace_model.specs.Searching.{traces, found_in}
 use Rattle.trace_model.specs.Showing.{spans_of_trace}
-use Rattle.service_places.specs.Reported.{places_of}
+use Rattle.service_index.specs.Reported.{places_of}
 use Rattle.journal_traces.specs.Picked.{reaches, near_along}
 use Rattle.journal_traces.specs.Standing.{traces_named}
 use Rattle.span_store.proofs.IndexesAreKept.{found_kept}
@@ -19,9 +19,11 @@ returns c =
     let q = c.args.query.now in
     let f : TraceId → List Placed = spans_of_trace h.limits.traces (events h.entries) in
     let ids : List TraceId = filter (reaches (near_along q h.entries c.places_of-places.result)) was.shown.newest.ids in
-    let at : c.places_of-places.result ≡ places_of h.entries q.service = c.places_of-places.ensures ∙ (λ i. places_of (c.entries.ensures i) (c.as_str.ensures.value i)) in
+    let at : c.places_of-places.result ≡ places_of h.entries q.service =
+    c.places_of-places.ensures ∙ (λ i. places_of (c.entries.ensures i) (c.as_str.ensures.value i)) in
     let all : found_in q (traces_named h.entries c.in_ok-spots.spots.items) ≡ found_in q (traces h.limits.traces (events h.entries)) =
     found_kept q h was.shown was.starts was.names was.reported c.self.invariant ids c.in_ok-spots.spots.items c.in_ok-spots.ensures (
     ap (λ (ps : List ℕ). found_in q (map f (filter (reaches (near_along q h.entries ps)) was.shown.newest.ids))) at
     ∙ found_near q h.limits.traces h.entries was.shown.newest.ids) in
-    subst (λ (v : Held). found_in q (traces_named v.entries c.in_ok-spots.spots.items) ≡ found_in q (traces v.limits.traces (events v.entries))) c.self.view_is all
+    subst (λ (v : Held). found_in q (traces_named v.entries c.in_ok-spots.spots.items) ≡ found_in q (traces v.limits.traces (events v.entries)))
+    c.self.view_is all

@@ -4,7 +4,7 @@ use Rattle.trace_model.specs.Held.{Held}
 use Rattle.trace_model.specs.Histories.{events}
 use Rattle.trace_model.specs.Searching.{traces, found_in}
 use Rattle.trace_assembly.specs.Rows.{spots_of}
-use Rattle.service_places.specs.Reported.{group_of}
+use Rattle.service_index.specs.Reported.{group_of}
 use Rattle.journal_traces.specs.Reporting.{are_reported}
 use Rattle.journal_traces.specs.Standing.{traces_named}
 use Rattle.span_store.proofs.RingFollowsEvents.{trace_stands}
@@ -29,5 +29,7 @@ returns c =
     let known : Some c.args.service ≡ group_of h.entries q.service = c.requires ∙ sym (ap (λ (v : Held). group_of v.entries q.service) c.self.view_is) in
     let all : found_in q (traces_named h.entries c.in_ok-spots.spots.items) ≡ found_in q (traces h.limits.traces (events h.entries)) =
     found_kept q h was.shown was.starts was.names was.reported c.self.invariant ids c.in_ok-spots.spots.items c.in_ok-spots.ensures (
-    found_reported q h.entries was.reported.groups c.args.service c.self.invariant.placed.kept.grouped known h.limits.traces spots was.shown.newest.ids stands) in
-    subst (λ (v : Held). found_in q (traces_named v.entries c.in_ok-spots.spots.items) ≡ found_in q (traces v.limits.traces (events v.entries))) c.self.view_is all
+    found_reported q h.entries was.reported.groups c.args.service c.self.invariant.placed.kept.grouped known h.limits.traces spots was.shown.newest.ids
+    stands) in
+    subst (λ (v : Held). found_in q (traces_named v.entries c.in_ok-spots.spots.items) ≡ found_in q (traces v.limits.traces (events v.entries)))
+    c.self.view_is all

@@ -3,7 +3,7 @@ use Rattle.trace_assembly.specs.declared.spot.Spot.{Spot}
 use Rattle.trace_model.specs.Held.{Held}
 use Rattle.trace_model.specs.Histories.{events}
 use Rattle.trace_model.specs.Searching.{found_in, traces}
-use Rattle.first_starts.specs.declared.ranges.Window.{Window}
+use Rattle.trace_ring.specs.declared.first_starts.ranges.Window.{Window}
 use Rattle.journal_traces.specs.Ranged.{FailsOutside}
 use Rattle.journal_traces.specs.Standing.{traces_named}
 use Rattle.span_store.proofs.WindowIsComplete.{found_within, is_hit, outside_fails}
@@ -19,7 +19,8 @@ returns c =
     let q = c.args.query.now in
     let spots : List (List Spot) = c.in_ok-spots.spots.items in
     let p = is_hit q h was.shown was.starts was.names was.reported c.self.invariant in
-    let fails = subst (λ (w : Window). FailsOutside w was.starts was.shown p) (sym c.search_window-window.ensures) (outside_fails q h was.shown was.starts was.names was.reported c.self.invariant) in
+    let fails = subst (λ (w : Window). FailsOutside w was.starts was.shown p) (sym c.search_window-window.ensures)
+    (outside_fails q h was.shown was.starts was.names was.reported c.self.invariant) in
     let all : found_in q (traces_named h.entries spots) ≡ found_in q (traces h.limits.traces (events h.entries)) =
     found_within q h was.shown was.starts was.names was.reported c.self.invariant spots (c.in_ok-spots.ensures p fails) in
     subst (λ (v : Held). found_in q (traces_named v.entries spots) ≡ found_in q (traces v.limits.traces (events v.entries))) c.self.view_is all

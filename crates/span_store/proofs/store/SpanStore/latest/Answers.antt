@@ -26,7 +26,8 @@ returns-then-is_full c =
     let full = OnTrue_at c.if-is_full.true c.is_full.ensures in
     let are = c.in_ok-spots.ensures first (kept_first h was.shown was.starts was.names was.reported c.self.invariant) in
     let count : length (found_in q (traces_named h.entries spots)) ≡ c.in_ok-found.found =
-    sym (c.in_ok-found.ensures ∙ ap (λ (f : Find). length (found_in f (traces_named h.entries c.deref.result.now))) c.in_ok-prepared.ensures ∙ ap (λ (ss : List (List Spot)). length (found_in q (traces_named h.entries ss))) c.deref.ensures.value) in
+    sym (c.in_ok-found.ensures ∙ ap (λ (f : Find). length (found_in f (traces_named h.entries c.deref.result.now))) c.in_ok-prepared.ensures
+    ∙ ap (λ (ss : List (List Spot)). length (found_in q (traces_named h.entries ss))) c.deref.ensures.value) in
     let all : found_in q (traces_named h.entries spots) ≡ found_in q (traces h.limits.traces (events h.entries)) =
     found_latest q h was.shown was.starts was.names was.reported c.self.invariant _ spots are full.0 (count ∙ full.1) in
     subst (λ (v : Held). found_in q (traces_named v.entries spots) ≡ found_in q (traces v.limits.traces (events v.entries))) c.self.view_is all

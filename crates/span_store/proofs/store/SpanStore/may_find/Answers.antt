@@ -5,7 +5,7 @@ use Rattle.trace_model.specs.Held.{Held}
 use Rattle.trace_model.specs.Searching.{found_in, traces}
 use Rattle.trace_model.specs.Histories.{arrivals, events}
 use Rattle.trace_model.proofs.Arriving.{came_of}
-use Rattle.arrival_names.specs.Kept.{reports_service, reports_operation}
+use Rattle.service_index.specs.NamesKept.{reports_service, reports_operation}
 use Rattle.span_store.proofs.CandidatesAreComplete.{unknown_service, unknown_operation}
 use Rattle.span_store.proofs.store.SpanStore.may_find.Goals as goal
 
@@ -15,7 +15,8 @@ returns-then-eq c =
     let held = c.args.self.now in
     OnFalse_from c.knows_service.result (found_in q (traces held.limits.traces (events held.entries)) ≡ []) (λ e.
     let none : reports_service q.service (arrivals held.entries) ≡ false =
-    sym (c.knows_service.ensures ∙ (λ i. reports_service (c.as_str-service.ensures.value i) (arrivals (c.entries-entries.ensures i))) ∙ ap (λ (v : Held). reports_service q.service (arrivals v.entries)) c.self.view_is) ∙ e in
+    sym (c.knows_service.ensures ∙ (λ i. reports_service (c.as_str-service.ensures.value i) (arrivals (c.entries-entries.ensures i)))
+    ∙ ap (λ (v : Held). reports_service q.service (arrivals v.entries)) c.self.view_is) ∙ e in
     unknown_service q held.limits.traces (events held.entries) (ap (reports_service q.service) (came_of held.entries) ∙ none))
 
 pub returns : goal.returns
@@ -25,6 +26,7 @@ returns c =
     let asked : same_text q.operation [] ≡ false = sym (c.eq.ensures ∙ ap (λ t. same_text t []) c.as_str-operation.ensures.value) ∙ c.if-eq.false in
     OnFalse_from c.knows_operation.result (found_in q (traces held.limits.traces (events held.entries)) ≡ []) (λ e.
     let none : reports_operation q.service q.operation (arrivals held.entries) ≡ false =
-    sym (c.knows_operation.ensures ∙ (λ i. reports_operation (c.as_str-service.ensures.value i) (c.as_str-operation.ensures.value i) (arrivals (c.entries-entries.ensures i)))
+    sym (c.knows_operation.ensures
+    ∙ (λ i. reports_operation (c.as_str-service.ensures.value i) (c.as_str-operation.ensures.value i) (arrivals (c.entries-entries.ensures i)))
     ∙ ap (λ (v : Held). reports_operation q.service q.operation (arrivals v.entries)) c.self.view_is) ∙ e in
     unknown_operation q held.limits.traces (events held.entries) asked (ap (reports_operation q.service q.operation) (came_of held.entries) ∙ none))

@@ -16,5 +16,7 @@ returns c =
     let held = c.self.inside.journal.held in
     let service = c.args.service.now in
     let found = c.in_ok-found.found.items in
-    let all : names_of found ≡ operation_names service (without_limits (events held.entries)) = c.in_ok-found.ensures.names ∙ ap (λ (h : List Entry). operation_names service (arrivals h)) c.entries-entries.ensures ∙ ap (λ ps. operation_names service ps) (sym (came_of held.entries)) in
+    let all : names_of found ≡ operation_names service (without_limits (events held.entries)) =
+    c.in_ok-found.ensures.names ∙ ap (λ (h : List Entry). operation_names service (arrivals h)) c.entries-entries.ensures
+    ∙ ap (λ ps. operation_names service ps) (sym (came_of held.entries)) in
     subst (λ (v : Held). Names (names_of found) ≡ answer v.limits v.entries (OperationNames service)) c.self.view_is (ap Names all)

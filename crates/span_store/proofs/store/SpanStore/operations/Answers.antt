@@ -18,5 +18,7 @@ returns c =
     let service = c.args.service.now in
     let kind = c.args.kind.now in
     let listed = filter (is_asked_kind kind) (sorted_set operation_cmp c.in_ok-found.found.items) in
-    let all : listed ≡ operations service kind (without_limits (events held.entries)) = c.in_ok-found.ensures.operations kind ∙ ap (λ (h : List Entry). operations service kind (arrivals h)) c.entries-entries.ensures ∙ ap (λ ps. operations service kind ps) (sym (came_of held.entries)) in
+    let all : listed ≡ operations service kind (without_limits (events held.entries)) =
+    c.in_ok-found.ensures.operations kind ∙ ap (λ (h : List Entry). operations service kind (arrivals h)) c.entries-entries.ensures
+    ∙ ap (λ ps. operations service kind ps) (sym (came_of held.entries)) in
     subst (λ (v : Held). say.Operations listed ≡ answer v.limits v.entries (ask.Operations service kind)) c.self.view_is (ap say.Operations all)

@@ -15,5 +15,6 @@ pub returns : goal.returns
 returns c =
     let held = c.self.inside.journal.held in
     let found = c.in_ok-names.names.items in
-    let all : sorted_set text_cmp found ≡ services (without_limits (events held.entries)) = c.in_ok-names.ensures ∙ ap (λ (h : List Entry). services (arrivals h)) c.entries.ensures ∙ ap (λ ps. services ps) (sym (came_of held.entries)) in
+    let all : sorted_set text_cmp found ≡ services (without_limits (events held.entries)) =
+    c.in_ok-names.ensures ∙ ap (λ (h : List Entry). services (arrivals h)) c.entries.ensures ∙ ap (λ ps. services ps) (sym (came_of held.entries)) in
     subst (λ (v : Held). Names (sorted_set text_cmp found) ≡ answer v.limits v.entries Services) c.self.view_is (ap Names all)

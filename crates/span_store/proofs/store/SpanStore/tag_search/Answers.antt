@@ -16,6 +16,7 @@ returns c =
     let q : Find = c.args.query.now in
     let ts : List (List Placed) = traces_spotted c.in_ok-traces.traces in
     let named : ts ≡ traces_named held.entries c.in_ok-spots.spots.items =
-    c.in_ok-traces.ensures.spans ∙ ap (λ (v : Held). traces_named v.entries c.deref.result.now) c.self.view_is ∙ ap (λ (ss : List (List Spot)). traces_named held.entries ss) c.deref.ensures.value in
+    c.in_ok-traces.ensures.spans ∙ ap (λ (v : Held). traces_named v.entries c.deref.result.now) c.self.view_is
+    ∙ ap (λ (ss : List (List Spot)). traces_named held.entries ss) c.deref.ensures.value in
     c.new.ensures ∙ (λ i. found_answer (c.limits.ensures i) (c.in_ok-traces.ensures.query i) c.args.ids_alone ts)
     ∙ found_is held q c.args.ids_alone ts (ap (found_in q) named ∙ c.in_ok-spots.ensures)

@@ -16,8 +16,10 @@ returns-then-is_empty c =
     let held = c.self.inside.journal.held in
     let spots = c.spots-spots.result in
     let none : length spots ≡ 0 = search rules in
-    let named = spots_name held.limits.traces held.entries c.self.inside.shown.newest (spots_of c.self.inside.shown) c.args.id spots c.self.invariant.follows c.spots-spots.ensures in
-    subst (λ (v : Held). Trace None ≡ Trace (option_map (shown_as v.limits c.args.raw) (trace_found v.limits.traces (events v.entries) c.args.id))) c.self.view_is
+    let named = spots_name held.limits.traces held.entries c.self.inside.shown.newest (spots_of c.self.inside.shown)
+    c.args.id spots c.self.invariant.follows c.spots-spots.ensures in
+    subst (λ (v : Held). Trace None ≡ Trace (option_map (shown_as v.limits c.args.raw) (trace_found v.limits.traces (events v.entries) c.args.id)))
+    c.self.view_is
     (ap Trace (none_found (shown_as held.limits c.args.raw) held.entries spots (spans_of_trace held.limits.traces (events held.entries) c.args.id) named none))
 
 pub returns : goal.returns
@@ -25,13 +27,17 @@ returns c =
     let held = c.self.inside.journal.held in
     let spots = c.spots-spots.result in
     let some : 0 < length spots = search rules in
-    let named = spots_name held.limits.traces held.entries c.self.inside.shown.newest (spots_of c.self.inside.shown) c.args.id spots c.self.invariant.follows c.spots-spots.ensures in
+    let named = spots_name held.limits.traces held.entries c.self.inside.shown.newest (spots_of c.self.inside.shown)
+    c.args.id spots c.self.invariant.follows c.spots-spots.ensures in
     let there = spans_there c.in_ok-trace.trace.spans.items in
     let form = c.in_ok-trace.ensures.form in
     let shown : c.kept.result ≡ shown_as held.limits c.args.raw there =
-    c.kept.ensures ∙ (λ i. shown_as (form.0 i) (form.1 i) there) ∙ ap (λ l. shown_as l c.args.raw there) (c.limits.ensures ∙ ap (λ (v : Held). v.limits) (sym c.self.view_is)) in
-    subst (λ (v : Held). Trace (Some c.kept.result) ≡ Trace (option_map (shown_as v.limits c.args.raw) (trace_found v.limits.traces (events v.entries) c.args.id))) c.self.view_is
-    (ap Trace (some_found (shown_as held.limits c.args.raw) held.entries spots (spans_of_trace held.limits.traces (events held.entries) c.args.id) there c.kept.result named c.in_ok-trace.ensures.spans some shown))
+    c.kept.ensures ∙ (λ i. shown_as (form.0 i) (form.1 i) there)
+    ∙ ap (λ l. shown_as l c.args.raw there) (c.limits.ensures ∙ ap (λ (v : Held). v.limits) (sym c.self.view_is)) in
+    subst (λ (v : Held). Trace (Some c.kept.result)
+    ≡ Trace (option_map (shown_as v.limits c.args.raw) (trace_found v.limits.traces (events v.entries) c.args.id))) c.self.view_is
+    (ap Trace (some_found (shown_as held.limits c.args.raw) held.entries spots (spans_of_trace held.limits.traces (events held.entries) c.args.id)
+    there c.kept.result named c.in_ok-trace.ensures.spans some shown))
 
 pub kept-requires : goal.kept-requires
 kept-requires c =

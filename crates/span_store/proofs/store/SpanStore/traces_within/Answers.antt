@@ -6,7 +6,7 @@ use Rattle.trace_model.specs.Histories.{events}
 use Rattle.trace_model.specs.Linking.{in_window, links}
 use Rattle.trace_model.specs.Searching.{traces}
 use Rattle.trace_assembly.specs.Rows.{spots_of}
-use Rattle.service_places.specs.Reported.{service_at, group_in}
+use Rattle.service_index.specs.Reported.{service_at, group_in}
 use Rattle.call_links.specs.Seen.{links_in}
 use Rattle.journal_traces.specs.Standing.{trace_named}
 use Rattle.journal_traces.specs.Taking.{placed_taken}
@@ -27,10 +27,12 @@ returns-clause-links c =
     let spots = spots_of was.shown in
     let taken = c.in_ok-taken.taken in
     let stands = trace_stands h.limits.traces h.entries spots (kept_spots h was.shown was.starts was.names was.reported c.self.invariant) in
-    let seen : map placed_taken taken ≡ filter (list_any (in_window end_ms lookback_ms)) (map (trace_named h.entries spots) was.shown.newest.ids) = rw (e, l) at c.in_ok-taken.ensures.within in
+    let seen : map placed_taken taken ≡ filter (list_any (in_window end_ms lookback_ms)) (map (trace_named h.entries spots) was.shown.newest.ids) =
+    rw (e, l) at c.in_ok-taken.ensures.within in
     let all : links_in (map placed_taken taken) ≡ links end_ms lookback_ms (traces h.limits.traces (events h.entries)) =
     ap links_in seen ∙ links_chosen end_ms lookback_ms (map (trace_named h.entries spots) was.shown.newest.ids)
-    ∙ ap (links end_ms lookback_ms) ((λ i. map (λ t. stands t i) was.shown.newest.ids) ∙ kept_traces h was.shown was.starts was.names was.reported c.self.invariant) in
+    ∙ ap (links end_ms lookback_ms)
+    ((λ i. map (λ t. stands t i) was.shown.newest.ids) ∙ kept_traces h was.shown was.starts was.names was.reported c.self.invariant) in
     subst (λ (v : Held). links_in (map placed_taken taken) ≡ links end_ms lookback_ms (traces v.limits.traces (events v.entries))) c.self.view_is all
 
 pub returns-clause-numbered : goal.returns-clause-numbered
@@ -51,4 +53,5 @@ pub take_within-requires-clause-ranged : goal.take_within-requires-clause-ranged
 take_within-requires-clause-ranged c =
     let was = c.self.inside in
     let h = was.journal.held in
-    named_ranged h.limits.traces h.entries (spots_of was.shown) was.shown.newest.ids was.starts (kept_spots h was.shown was.starts was.names was.reported c.self.invariant) c.self.invariant.ranged
+    named_ranged h.limits.traces h.entries (spots_of was.shown) was.shown.newest.ids was.starts
+    (kept_spots h was.shown was.starts was.names was.reported c.self.invariant) c.self.invariant.ranged

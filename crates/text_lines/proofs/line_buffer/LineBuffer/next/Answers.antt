@@ -25,7 +25,9 @@ pieces-preserved g c =
     let goes : c.pieces.self.ended ≡ false = search rules in
     let all : c.extend_from_slice-in-pieces.new.self.items ≡ c.pieces.line.items ++ c.pieces.self.waiting = search rules in
     record {
-      gathered = rw all (gathers_more _ _ _ _ c.pieces.self _ c.pieces.line.items c.pieces.invariant.gathered plain goes (rw c.skip_all.ensures at c.in_ok-fill.ensures.read));
+      gathered =
+          rw all (gathers_more _ _ _ _ c.pieces.self _ c.pieces.line.items c.pieces.invariant.gathered plain goes
+          (rw c.skip_all.ensures at c.in_ok-fill.ensures.read));
       moves = moves_then _ _ _ _ _ _ c.pieces.invariant.moves c.flush.ensures.moves;
       input_works = c.in_ok-fill.ensures.works;
       output_works = c.in_ok-flush.ensures.works;

@@ -8,7 +8,8 @@ unfolding skip_at
 returns-then-is_empty-clause-exact c = search rules
 
 pub returns-then-is_empty-clause-complete : goal.returns-then-is_empty-clause-complete
-returns-then-is_empty-clause-complete c = skip_reads_complete c.args.code c.args.self.now c.refuse.result c.refuse.new.self (returns-then-is_empty-clause-exact c)
+returns-then-is_empty-clause-complete c =
+    skip_reads_complete c.args.code c.args.self.now c.refuse.result c.refuse.new.self (returns-then-is_empty-clause-exact c)
 
 pub returns-clause-exact : goal.returns-clause-exact
 unfolding skip_at

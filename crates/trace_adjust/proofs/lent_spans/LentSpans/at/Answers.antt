@@ -19,7 +19,15 @@ lent_at-placed-requires-clause-index c =
     let t = c.self.inside in
     let ps = spans_there t.spans.items in
     let long = length_shifted t.max_skew c.self.inside.deltas.items (map (placed_as t.raw) ps) in
-    omega (arith, c.requires, ap length c.self.view_is, ap length c.deref-2.ensures.value, length-map ps (placed_as t.raw), long, there_count t.spans.items c.self.invariant)
+    omega (
+      arith,
+      c.requires,
+      ap length c.self.view_is,
+      ap length c.deref-2.ensures.value,
+      length-map ps (placed_as t.raw),
+      long,
+      there_count t.spans.items c.self.invariant,
+    )
 
 pub returns : goal.returns
 returns c =
@@ -36,5 +44,7 @@ returns c =
     let first : delta ≡ get_or deltas i (pos 0) = c.delta_at-delta.ensures ∙ ap (λ ds. get_or ds i (pos 0)) c.deref.ensures.value in
     let within : i < length ps = omega (arith, c.requires, ap length c.self.view_is, length_shifted m deltas ps) in
     let there : i < length ks = omega (arith, within, length-map (spans_there ks) (placed_as t.raw), there_count ks c.self.invariant) in
-    let here : p ≡ get_or ps i p = lent_there t.raw ks i p c.self.invariant there (c.lent_at-placed.ensures ∙ ap (λ os. option_map (placed_as t.raw) (get_or os i None)) c.deref-2.ensures.value) in
+    let here : p ≡ get_or ps i p =
+    lent_there t.raw ks i p c.self.invariant there
+    (c.lent_at-placed.ensures ∙ ap (λ os. option_map (placed_as t.raw) (get_or os i None)) c.deref-2.ensures.value) in
     ap (λ l. slice_get l i) (sym c.self.view_is) ∙ shifted_at m deltas ps i p within here ∙ ap Some (ap (λ d. shifted m d p) (sym first) ∙ sym shown)

@@ -35,7 +35,8 @@ returns-clause-spots c = λ t.
       | else-rows-used w ↦ ap (λ (s : Inside). s.chains.chains) w.self-inside-is
     ] in
     let rows = rows_opened old.ring.seen seen old.chains.chains now.chains.chains c.args.trace c.self.invariant.as_many arrived.ensures.seen opened same in
-    (λ i. spots_in_row ((c.add.ensures.chains ∙ ap (λ (cs : List (List Spot)). set cs row (get_or cs row [] ++ c.args.spot ∷ [])) c.hide_left.ensures.chains) i) (position (same_trace t) (ring i).seen))
+    (λ i. spots_in_row ((c.add.ensures.chains ∙ ap (λ (cs : List (List Spot)). set cs row (get_or cs row [] ++ c.args.spot ∷ [])) c.hide_left.ensures.chains) i)
+    (position (same_trace t) (ring i).seen))
     ∙ spots_arrived seen now.chains.chains left c.args.trace t row c.args.spot (spots_of c.args.self.now) rows.0 arrived.ensures.left_row arrived.ensures.first
     (λ u. rows.1 u ∙ ap (λ (w : Assembled). spots_of w u) c.self.view_is)
 
@@ -69,7 +70,8 @@ invariant_of-self c =
       | else-rows-used w ↦ ap (λ (s : Inside). s.chains.chains) w.self-inside-is
     ] in
     let rows = rows_opened old.ring.seen seen old.chains.chains now.chains.chains c.args.trace c.self.invariant.as_many arrived.ensures.seen opened same in
-    let more : length seen ≤ length old.ring.seen + 1 = omega (arith, seen_opened old.ring.seen c.args.trace, ap (λ (ids : List TraceId). length ids) arrived.ensures.seen) in
+    let more : length seen ≤ length old.ring.seen + 1 =
+    omega (arith, seen_opened old.ring.seen c.args.trace, ap (λ (ids : List TraceId). length ids) arrived.ensures.seen) in
     let many : length now.ring.seen ≡ length seen = ap (λ (w : Window). length w.seen) ring in
     record {
       as_many =
@@ -77,5 +79,7 @@ invariant_of-self c =
           ∙ length-set c.hide_left.new.chains.chains arrived.result.row (get_or c.hide_left.new.chains.chains arrived.result.row [] ++ c.args.spot ∷ [])
           ∙ ap (λ (cs : List (List Spot)). length cs) c.hide_left.ensures.chains ∙ rows_left left now.chains.chains ∙ rows.0 ∙ sym many;
       few = omega (arith, more, many, c.self.invariant.few, c.add.ensures.used, c.hide_left.ensures.used, used);
-      same_room = ap (λ (w : Window). w.room) ring ∙ arrived.ensures.room ∙ c.self.invariant.same_room ∙ sym room ∙ sym c.hide_left.ensures.room ∙ sym c.add.ensures.room;
+      same_room =
+          ap (λ (w : Window). w.room) ring ∙ arrived.ensures.room ∙ c.self.invariant.same_room ∙ sym room ∙ sym c.hide_left.ensures.room
+          ∙ sym c.add.ensures.room;
     }

@@ -3,7 +3,7 @@ use Rattle.std.proofs.lemmas.List.{get_or_push}
 use Rattle.std.specs.Prelude.{if◌then◌else◌}
 use Rattle.jaeger_model.specs.declared.ids.TraceId.{TraceId}
 use Rattle.jaeger_model.specs.Parents.{same_trace}
-use Rattle.id_table.specs.Rows.{no_id, id_at}
+use Rattle.hash_tables.specs.IdRows.{no_id, id_at}
 use Rattle.trace_model.specs.Rings.{holds}
 use Rattle.trace_model.proofs.Admissions.{none_passes}
 use Rattle.trace_ring.specs.Windows.{Window}
@@ -38,7 +38,8 @@ pub returns-in-Added-clause-ids : goal.returns-in-Added-clause-ids
 returns-in-Added-clause-ids c =
     let t = c.self.inside in
     let added = c.in-Added.ensures.entered in
-    ap (λ (xs : List TraceId). window xs t.rows.items) added.2 ∙ window_more t.room t.table t.rows.items t.first t.numbers.items c.args.trace c.self.invariant.2 ∙ ap (λ (w : Window). w.ids) c.self.view_is
+    ap (λ (xs : List TraceId). window xs t.rows.items) added.2 ∙ window_more t.room t.table t.rows.items t.first t.numbers.items c.args.trace c.self.invariant.2
+    ∙ ap (λ (w : Window). w.ids) c.self.view_is
 
 pub returns-in-Added-clause-seen : goal.returns-in-Added-clause-seen
 returns-in-Added-clause-seen c =

@@ -2,7 +2,7 @@ use Rattle.std.proofs.Common.{◌≡◌, ◌∙◌, sym, ap, Some}
 use Rattle.std.specs.Prelude.{is_some, position}
 use Rattle.std.proofs.lemmas.Option.{slice_get-get_or}
 use Rattle.jaeger_model.specs.Parents.{same_trace}
-use Rattle.id_table.specs.Rows.{id_at, no_id}
+use Rattle.hash_tables.specs.IdRows.{id_at, no_id}
 use Rattle.trace_ring.proofs.Ringing.{held_is, row_is, row_within}
 use Rattle.trace_ring.proofs.ring.Ring.held_at.Goals as goal
 

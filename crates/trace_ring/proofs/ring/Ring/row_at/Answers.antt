@@ -2,7 +2,7 @@ use Rattle.std.proofs.Common.{◌≡◌, ◌<◌, ◌∙◌, ℕ, length, get_or
 use Rattle.std.specs.Prelude.{position}
 use Rattle.std.proofs.lemmas.List.{get_or_read}
 use Rattle.jaeger_model.specs.Parents.{same_trace}
-use Rattle.id_table.specs.Rows.{id_at}
+use Rattle.hash_tables.specs.IdRows.{id_at}
 use Rattle.trace_ring.specs.Windows.{Window}
 use Rattle.trace_ring.specs.Numbers.{window}
 use Rattle.trace_ring.proofs.Ringing.{length_window, window_at, first_seen}

@@ -1,5 +1,5 @@
 use Rattle.http_session.proofs.Piecewise.{promises_of}
-use Rattle.live_store.specs.SharingLaws.{submit_knows, read_knows}
+use Rattle.intake.specs.LiveLaws.{submit_knows, read_knows}
 use Rattle.open_connections.specs.Open.{socket_line}
 use Rattle.open_connections.proofs.Keeping.{rest_is_open, all_open_later}
 use Rattle.trace_server.specs.Underway.{live_store}
@@ -9,13 +9,15 @@ use Rattle.trace_server.proofs.event_loop.EventLoop.open.Goals as goal
 pub returns-then-is_err-clause-underway : goal.returns-then-is_err-clause-underway
 returns-then-is_err-clause-underway g c =
     let limits = g.N.StoreName.limits in
-    all_open_later (live_store limits) (promises_of (submit_knows limits) (read_knows limits)) socket_line c.args.store.now c.learn.new.self c.args.self.now.open
+    all_open_later (live_store limits) (promises_of (submit_knows limits) (read_knows limits))
+    socket_line c.args.store.now c.learn.new.self c.args.self.now.open
     (learning_keeps limits c.args.store.now c.learn.new.self c.learn.ensures.old) c.requires.underway
 
 pub add-requires-clause-underway : goal.add-requires-clause-underway
 add-requires-clause-underway g c =
     let limits = g.N.StoreName.limits in
-    all_open_later (live_store limits) (promises_of (submit_knows limits) (read_knows limits)) socket_line c.args.store.now c.learn.new.self c.args.self.now.open
+    all_open_later (live_store limits) (promises_of (submit_knows limits) (read_knows limits))
+    socket_line c.args.store.now c.learn.new.self c.args.self.now.open
     (learning_keeps limits c.args.store.now c.learn.new.self c.learn.ensures.old) c.requires.underway
 
 pub returns-then-is_err-2-clause-underway : goal.returns-then-is_err-2-clause-underway

@@ -7,7 +7,8 @@ use Rattle.trace_server.proofs.event_loop.EventLoop.serve.Goals as goal
 
 pub returns-in-Open-clause-underway : goal.returns-in-Open-clause-underway
 returns-in-Open-clause-underway g c =
-    rest_is_open (live_store g.N.StoreName.limits) socket_line c.answer_next.new.backend c.answer_next.new.self c.keep.new.self.open c.answer_next.ensures.underway c.keep.ensures.rest
+    rest_is_open (live_store g.N.StoreName.limits)
+    socket_line c.answer_next.new.backend c.answer_next.new.self c.keep.new.self.open c.answer_next.ensures.underway c.keep.ensures.rest
 
 pub returns-in-Open-clause-goes_on : goal.returns-in-Open-clause-goes_on
 returns-in-Open-clause-goes_on g c = asking_goes_on g.N.StoreName.limits c.args.store.now c.answer_next.new.backend c.answer_next.ensures.asks

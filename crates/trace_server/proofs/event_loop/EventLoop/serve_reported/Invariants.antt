@@ -1,4 +1,4 @@
-use Rattle.live_store.specs.Sharing.{GoesOn}
+use Rattle.intake.specs.LiveSharing.{GoesOn}
 use Rattle.trace_server.specs.Underway.{AllUnderway}
 use Rattle.trace_server.proofs.event_loop.EventLoop.serve_reported.Given as goal
 

@@ -16,28 +16,41 @@ returns-in-None-clause-progress c = rw (c.requires.now, c.in-Fields.is) (field-w
 
 pub returns-in-Some-None-clause-progress : goal.returns-in-Some-None-clause-progress
 returns-in-Some-None-clause-progress c =
-    rw (c.requires.now, c.in-Fields.is) (field-stop _ _ c.none.result _ _ c.none.ensures (rw (c.in-Some-None.is, c.in-Some-None.field-0-is) at c.in_ok-more-in-Fields.ensures.reads))
+    rw (c.requires.now, c.in-Fields.is)
+    (field-stop _ _ c.none.result _ _ c.none.ensures (rw (c.in-Some-None.is, c.in-Some-None.field-0-is) at c.in_ok-more-in-Fields.ensures.reads))
 
 pub returns-in_ok-begin-in-Some-Some-clause-progress : goal.returns-in_ok-begin-in-Some-Some-clause-progress
 returns-in_ok-begin-in-Some-Some-clause-progress c =
-    rw (c.requires.now, c.in-Fields.is) (comes-trans (field-value _ _ _ _ _ _ _ c.new.ensures.fresh (rw (c.in-Some-Some.is, c.in-Some-Some.field-0-is) at c.in_ok-more-in-Fields.ensures.reads)) (comes-at _ c.in_ok-begin-in-Some-Some.ensures.steps))
+    rw (c.requires.now, c.in-Fields.is)
+    (comes-trans (field-value _ _ _ _ _ _ _ c.new.ensures.fresh (rw (c.in-Some-Some.is, c.in-Some-Some.field-0-is) at c.in_ok-more-in-Fields.ensures.reads))
+    (comes-at _ c.in_ok-begin-in-Some-Some.ensures.steps))
 
 pub returns-in_err-begin-in-Some-Some-clause-progress : goal.returns-in_err-begin-in-Some-Some-clause-progress
 returns-in_err-begin-in-Some-Some-clause-progress c =
     let p = err_from_is_err_and c.from_residual-in_err-begin-in-Some-Some.result c.from_residual-in_err-begin-in-Some-Some.ensures.1 in
-    rw (p.1, p.2, c.requires.now, c.in-Fields.is) (comes-refused _ _ _ _ _ (field-value _ _ _ _ _ _ _ c.new.ensures.fresh (rw (c.in-Some-Some.is, c.in-Some-Some.field-0-is) at c.in_ok-more-in-Fields.ensures.reads)) (refused-at _ _ _ c.in_err-begin-in-Some-Some.ensures.steps))
+    rw (p.1, p.2, c.requires.now, c.in-Fields.is)
+    (comes-refused _ _ _ _ _ (field-value _ _ _ _ _ _ _ c.new.ensures.fresh
+    (rw (c.in-Some-Some.is, c.in-Some-Some.field-0-is) at c.in_ok-more-in-Fields.ensures.reads))
+    (refused-at _ _ _ c.in_err-begin-in-Some-Some.ensures.steps))
 
 pub pop-requires-clause-done : goal.pop-requires-clause-done
 pop-requires-clause-done c = no_turns _ (ap (λ t. t.left) c.in_default.ensures.1 ∙ c.in_default.ensures.0)
 
 pub returns-in_default-clause-progress : goal.returns-in_default-clause-progress
-returns-in_default-clause-progress c = progresses-state c.args.self.now.now c.args.self.now.now c.args.self.now.top (Turns c.take.new.self) c.args.self.now.below.items c.args.self.now.below.items (skipping c.pop.new.self) c.args.piece.now c.args.piece.now (Ok c.pop.result) refl (c.in-Turns.is ∙ ap (λ t. Turns t) (sym c.in_default.ensures.1)) refl (c.pop.ensures.progress c.args.piece.now)
+returns-in_default-clause-progress c =
+    progresses-state c.args.self.now.now c.args.self.now.now c.args.self.now.top (Turns c.take.new.self) c.args.self.now.below.items c.args.self.now.below.items
+    (skipping c.pop.new.self) c.args.piece.now c.args.piece.now (Ok c.pop.result) refl (c.in-Turns.is ∙ ap (λ t. Turns t) (sym c.in_default.ensures.1)) refl
+    (c.pop.ensures.progress c.args.piece.now)
 
 pub returns-in_ok-begin-in-Turns-clause-progress : goal.returns-in_ok-begin-in-Turns-clause-progress
 returns-in_ok-begin-in-Turns-clause-progress c =
-    rw (c.requires.now, c.in-Turns.is) (comes-trans (next-turn _ _ _ _ _ c.in-Some.ensures.0 c.in-Some.ensures.1 c.in-Some.ensures.2 c.in-Some.ensures.3) (comes-at _ c.in_ok-begin-in-Turns.ensures.steps))
+    rw (c.requires.now, c.in-Turns.is)
+    (comes-trans (next-turn _ _ _ _ _ c.in-Some.ensures.0 c.in-Some.ensures.1 c.in-Some.ensures.2 c.in-Some.ensures.3)
+    (comes-at _ c.in_ok-begin-in-Turns.ensures.steps))
 
 pub returns-in_err-begin-in-Turns-clause-progress : goal.returns-in_err-begin-in-Turns-clause-progress
 returns-in_err-begin-in-Turns-clause-progress c =
     let p = err_from_is_err_and c.from_residual-in_err-begin-in-Turns.result c.from_residual-in_err-begin-in-Turns.ensures.1 in
-    rw (p.1, p.2, c.requires.now, c.in-Turns.is) (comes-refused _ _ _ _ _ (next-turn _ _ _ c.args.piece.now _ c.in-Some.ensures.0 c.in-Some.ensures.1 c.in-Some.ensures.2 c.in-Some.ensures.3) (refused-at _ _ _ c.in_err-begin-in-Turns.ensures.steps))
+    rw (p.1, p.2, c.requires.now, c.in-Turns.is)
+    (comes-refused _ _ _ _ _ (next-turn _ _ _ c.args.piece.now _ c.in-Some.ensures.0 c.in-Some.ensures.1 c.in-Some.ensures.2 c.in-Some.ensures.3)
+    (refused-at _ _ _ c.in_err-begin-in-Turns.ensures.steps))

@@ -26,7 +26,8 @@ pub returns-in_default-clause-progress : goal.returns-in_default-clause-progress
 returns-in_default-clause-progress c = rw c.in-Size.is (now-waits _ _ _ _ _ _ (waits-inside _ (rw c.in_default.is at c.in_ok-size-in-Size.ensures.reads)))
 
 pub returns-in-Some-clause-progress : goal.returns-in-Some-clause-progress
-returns-in-Some-clause-progress c = rw c.in-Size.is (size-next _ _ _ _ _ _ _ c.skip_bytes-self.ensures.reads (rw c.in-Some.is at c.in_ok-size-in-Size.ensures.reads))
+returns-in-Some-clause-progress c =
+    rw c.in-Size.is (size-next _ _ _ _ _ _ _ c.skip_bytes-self.ensures.reads (rw c.in-Some.is at c.in_ok-size-in-Size.ensures.reads))
 
 pub returns-in_err-code-in-List-clause-progress : goal.returns-in_err-code-in-List-clause-progress
 returns-in_err-code-in-List-clause-progress c =
@@ -38,8 +39,10 @@ returns-in_default-2-clause-progress c = rw c.in-List.is (now-waits _ _ _ _ _ _ 
 
 pub returns-in_ok-push-in-List-clause-progress : goal.returns-in_ok-push-in-List-clause-progress
 returns-in_ok-push-in-List-clause-progress c =
-    let g : Comes (list_head c.in-List.part) (λ u. Ok ((c.in-Some-2.code, c.in-Some-2.size), u)) c.args.piece.now c.more-in-List.new.piece = rw c.in-Some-2.is at c.in_ok-code-in-List.ensures.reads in
-    list-next _ _ _ c.of.result _ _ _ _ c.in-Some-2.code c.in-Some-2.size _ _ c.in-List.is c.of.ensures.this c.of.ensures.next (c.of.ensures.left ∙ c.from.ensures) c.in_ok-push-in-List.ensures.now c.in_ok-push-in-List.ensures.top c.in_ok-push-in-List.ensures.below g
+    let g : Comes (list_head c.in-List.part) (λ u. Ok ((c.in-Some-2.code, c.in-Some-2.size), u)) c.args.piece.now c.more-in-List.new.piece =
+    rw c.in-Some-2.is at c.in_ok-code-in-List.ensures.reads in
+    list-next _ _ _ c.of.result _ _ _ _ c.in-Some-2.code c.in-Some-2.size _ _ c.in-List.is c.of.ensures.this c.of.ensures.next
+    (c.of.ensures.left ∙ c.from.ensures) c.in_ok-push-in-List.ensures.now c.in_ok-push-in-List.ensures.top c.in_ok-push-in-List.ensures.below g
 
 pub returns-in_err-key-in-Map-clause-progress : goal.returns-in_err-key-in-Map-clause-progress
 returns-in_err-key-in-Map-clause-progress c =
@@ -51,5 +54,8 @@ returns-in_default-3-clause-progress c = rw c.in-Map.is (now-waits _ _ _ _ _ _ (
 
 pub returns-in_ok-push-in-Map-clause-progress : goal.returns-in_ok-push-in-Map-clause-progress
 returns-in_ok-push-in-Map-clause-progress c =
-    let g : Comes (map_head c.in-Map.part) (λ u. Ok (((c.in-Some-3.key, c.in-Some-3.value), c.in-Some-3.size), u)) c.args.piece.now c.more-in-Map.new.piece = rw c.in-Some-3.is at c.in_ok-key-in-Map.ensures.reads in
-    map-next _ _ _ c.of-in-Map.result _ _ _ _ c.in-Some-3.key c.in-Some-3.value c.in-Some-3.size _ _ c.in-Map.is c.of-in-Map.ensures.this c.of-in-Map.ensures.next (c.of-in-Map.ensures.left ∙ ap (λ n. 2 * n) c.from-in-Map.ensures) c.in_ok-push-in-Map.ensures.now c.in_ok-push-in-Map.ensures.top c.in_ok-push-in-Map.ensures.below g
+    let g : Comes (map_head c.in-Map.part) (λ u. Ok (((c.in-Some-3.key, c.in-Some-3.value), c.in-Some-3.size), u)) c.args.piece.now c.more-in-Map.new.piece =
+    rw c.in-Some-3.is at c.in_ok-key-in-Map.ensures.reads in
+    map-next _ _ _ c.of-in-Map.result _ _ _ _ c.in-Some-3.key c.in-Some-3.value c.in-Some-3.size _ _ c.in-Map.is c.of-in-Map.ensures.this
+    c.of-in-Map.ensures.next (c.of-in-Map.ensures.left ∙ ap (λ n. 2 * n) c.from-in-Map.ensures)
+    c.in_ok-push-in-Map.ensures.now c.in_ok-push-in-Map.ensures.top c.in_ok-push-in-Map.ensures.below g

@@ -7,4 +7,5 @@ use Rattle.query_json.proofs.writing.ids.SpanIdWriteJson.write.Goals as goal
 pub returns : goal.returns
 unfolding span_text
 returns c =
-    Puts-is (c.push_str.ensures ▸ c.digits_of_number.ensures ▸ c.push_str-2.ensures) (ap (λ (t : List ℕ). 34 ∷ (t ++ 34 ∷ [])) (sym (escape_low_digits 16 c.args.self.now.0)))
+    Puts-is (c.push_str.ensures ▸ c.digits_of_number.ensures ▸ c.push_str-2.ensures)
+    (ap (λ (t : List ℕ). 34 ∷ (t ++ 34 ∷ [])) (sym (escape_low_digits 16 c.args.self.now.0)))

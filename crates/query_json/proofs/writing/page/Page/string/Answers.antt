@@ -6,6 +6,8 @@ use Rattle.query_json.proofs.writing.page.Page.string.Goals as goal
 
 pub returns : goal.returns
 returns c = record {
-  adds = Adds-is (Adds-then (Adds-then c.add.ensures c.escaped.ensures) c.add-2.ensures) (ap (λ (t : List ℕ). 34 ∷ (escape t ++ 34 ∷ [])) c.as_bytes.ensures.value);
+  adds =
+      Adds-is (Adds-then (Adds-then c.add.ensures c.escaped.ensures) c.add-2.ensures)
+      (ap (λ (t : List ℕ). 34 ∷ (escape t ++ 34 ∷ [])) c.as_bytes.ensures.value);
   utf8 = IsUtf8-quoted c.args.text.now c.utf8.text;
 }

@@ -12,7 +12,8 @@ returns-then-stop-text c =
     let stop = c.plain_end-stop.result in
     let run : List ℕ = take (stop - l.at) (drop l.at text) in
     let none : drop stop text ≡ [] = drop_all stop text (omega (arith, c.if-stop-text.true)) in
-    let all : escape (drop l.at text) ≡ run = escape_run text l.at stop c.plain_end-stop.ensures.value ∙ ap (λ (t : List ℕ). run ++ escape t) none ∙ append-nil run in
+    let all : escape (drop l.at text) ≡ run =
+    escape_run text l.at stop c.plain_end-stop.ensures.value ∙ ap (λ (t : List ℕ). run ++ escape t) none ∙ append-nil run in
     Adds-is (Adds-then l.invariant.2 c.add.ensures) (ap (λ (t : List ℕ). l.invariant.1 ++ t) (sym all) ∙ l.invariant.3)
 
 pub loop-at-preserved : goal.loop-at-preserved
@@ -25,7 +26,8 @@ loop-at-preserved c =
     let within : stop < length text = omega (arith, c.plain_end-stop.ensures.bound, c.if-stop-text.false) in
     let escaped : List ℕ = take c.escape_of-len.result.1 c.escape_of-len.result.0 in
     let rest : List ℕ = escape (drop (stop + 1) text) in
-    let next : escape (drop stop text) ≡ escaped ++ rest = escape_next text stop within ∙ ap (λ (t : List ℕ). t ++ rest) (sym c.escape_of-len.ensures.value) in (
+    let next : escape (drop stop text) ≡ escaped ++ rest =
+    escape_next text stop within ∙ ap (λ (t : List ℕ). t ++ rest) (sym c.escape_of-len.ensures.value) in (
       omega (arith, within),
       (front ++ run) ++ escaped,
       Adds-then (Adds-then l.invariant.2 c.add.ensures) c.add-in-loop-at.ensures,

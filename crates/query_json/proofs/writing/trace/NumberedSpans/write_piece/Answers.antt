@@ -17,7 +17,8 @@ returns-then-index-self c =
     let ps = c.args.self.now.processes.now in
     let long : length (map (named_text ss) ps) ≡ length ps = length-map ps (named_text ss) in
     let over : length ps ≤ c.args.piece - 1 = omega (arith, c.if-index-self.true) in
-    Puts-is c.write_after_processes.ensures (piece_behind open_text (map (named_text ss) ps) (span_pieces ss) c.args.piece c.if-piece-eq0.false (length ps) long over)
+    Puts-is c.write_after_processes.ensures
+    (piece_behind open_text (map (named_text ss) ps) (span_pieces ss) c.args.piece c.if-piece-eq0.false (length ps) long over)
 
 pub returns : goal.returns
 returns c =

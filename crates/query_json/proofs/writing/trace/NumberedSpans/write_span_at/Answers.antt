@@ -13,5 +13,6 @@ returns c =
     let i = c.args.index in
     let s = c.at.result in
     let is : s ≡ get_or ss i s = sym (get_or_from_slice_get ss i s s c.at.ensures) in
-    let place : c.from-number.result + 1 ≡ process_place (processes_of ss) s + 1 = omega (arith, c.from-number.ensures, c.place_at.ensures, c.requires.numbered.places i s c.requires.within is) in
+    let place : c.from-number.result + 1 ≡ process_place (processes_of ss) s + 1 =
+    omega (arith, c.from-number.ensures, c.place_at.ensures, c.requires.numbered.places i s c.requires.within is) in
     Puts-is (c.write_span.ensures (processes_of ss) place) (ap (span_text_in ss) is ∙ sym (get_or-map (span_text_in ss) ss i s [] c.requires.within))

@@ -1,4 +1,0 @@
-pub mod Numbers
-pub mod Kept
-pub mod Grouping
-pub mod Taking

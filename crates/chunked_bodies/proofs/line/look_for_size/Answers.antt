@@ -1,7 +1,0 @@
-use Rattle.chunked_bodies.proofs.Found.{line_looks}
-use Rattle.chunked_bodies.proofs.line.look_for_size.Goals as goal
-
-pub returns : goal.returns
-returns c =
-    let parsed = c.parse_chunk_size-parsed.ensures in
-    line_looks c.args.bytes.now c.prefix_of.result.now _ _ c.prefix_of.ensures parsed.complete parsed.partial parsed.unfinished parsed.invalid c.look_by.ensures

@@ -1,4 +1,0 @@
-pub mod Options
-pub mod Accepting
-pub mod Asking
-pub mod Answering

@@ -1,3 +1,0 @@
-pub mod Exits
-pub mod Words
-pub mod Asked

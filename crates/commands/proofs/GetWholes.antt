@@ -1,0 +1,71 @@
+-- A run of `get`, from what its lines come to.
+use Rattle.std.proofs.Common.{◌≡◌, ℕ, Bool, false, List, ◌++◌, Option, is_some, sym, ap, ◌∙◌, subst, append_assoc}
+use Rattle.std.specs.Io.KnownBytes.{Appends}
+use Rattle.std.proofs.KnownBytes.{Appends-trans}
+use Rattle.jaeger_model.specs.declared.ids.TraceId.{TraceId}
+use Rattle.trace_model.specs.declared.limits.Limits.{Limits}
+use Rattle.trace_model.specs.Held.{Held}
+use Rattle.text_lines.specs.declared.run_error.RunError.{RunError}
+use Rattle.text_lines.specs.Lines.{lines_of}
+use Rattle.text_lines.specs.RunErrors.{Finishes, IsWhyOf, StopsShort, WritesSome, status_by}
+use Rattle.text_lines.specs.Taking.{AnswersAll, AnswersSome, LineReply, TakesEach}
+use Rattle.text_lines.specs.Results.{LineResult}
+use Rattle.text_lines.proofs.LineResults.{lines_come_to, said_append}
+use Rattle.text_lines.proofs.Wholes.{some_after, some_more, stops_all, stops_some}
+use Rattle.commands.specs.GetRuns.{TakesBatch, all_lines, found_in, line_result, nothing_held, output_of, status_by as status_at, status_of, trace_lines}
+
+-- what lines come to, taken one after the other
+lines_judged : (s : Held) (limits : Limits) (lines : List (List ℕ)) (reply : LineReply) (t : Held) → s ≡ nothing_held limits
+    → TakesEach TakesBatch s 1 lines reply t
+    → (t ≡ (all_lines limits lines).held) × (reply ≡ (all_lines limits lines).reply)
+lines_judged s limits lines reply t start e = lines_come_to line_result (λ (a b : Held). a ≡ b) TakesBatch each s (nothing_held limits) 1 lines reply t start e
+  where
+    each : (w : Held) (n : ℕ) (line : List ℕ) (reply : LineReply) (v : Held) → TakesBatch w n line reply v → (s : Held) → w ≡ s
+        → (v ≡ (line_result n s line).held) × (reply ≡ (line_result n s line).reply)
+    each w n line reply v e s same = (e.0 ∙ ap (λ h. (line_result n h line).held) same, e.1 ∙ ap (λ h. (line_result n h line).reply) same)
+
+module _ (in0 in1 out0 out1 out2 : Option (List ℕ)) (i o : Bool) (limits : Limits) (id : TraceId) (held0 held1 : Held) (faulty : Bool) where
+  pub finishes : held0 ≡ nothing_held limits → AnswersAll TakesBatch in0 in1 out0 out1 held0 held1 faulty → (found : Bool) (status : ℕ)
+      → found ≡ is_some (found_in held1 id) → Appends out1 out2 (trace_lines (found_in held1 id)) → status ≡ status_at faulty found → i ≡ false → o ≡ false
+      → Finishes in0 in1 out0 out2 i o (output_of limits id) (status_of limits id) status
+  finishes start a found status f reply s ie oe =
+      let lines = lines_of a.all.input in
+      let all : LineResult Held = all_lines limits lines in
+      let r = lines_judged held0 limits lines a.all.reply held1 start a.all.each in
+      record {
+        input = a.all.input;
+        read = a.all.read;
+        whole = a.all.whole;
+        written = subst (Appends out0 out2) (λ k. (r.1 k).text ++ trace_lines (found_in (r.0 k) id)) (Appends-trans out0 out1 out2 _ _ a.written reply);
+        status_is =
+            s ∙ ap (λ b. status_at b found) (a.all.faulty_is ∙ ap (λ (x : LineReply). x.faulty) r.1)
+            ∙ ap (status_at all.reply.faulty) (f ∙ ap (λ x. is_some (found_in x id)) r.0);
+        input_works = ie;
+        output_works = oe;
+      }
+
+  -- the lines of the trace were not written whole
+  pub stops_late : held0 ≡ nothing_held limits → AnswersAll TakesBatch in0 in1 out0 out1 held0 held1 faulty → (h : RunError)
+      → WritesSome out1 out2 (trace_lines (found_in held1 id)) → IsWhyOf h o → i ≡ false
+      → StopsShort in0 in1 out0 out2 i o (output_of limits id) (status_by h)
+  stops_late start a h some why ie =
+      let r = lines_judged held0 limits (lines_of a.all.input) a.all.reply held1 start a.all.each in
+      let whole : a.all.reply.text ++ trace_lines (found_in held1 id) ≡ output_of limits id a.all.input =
+      λ k. (r.1 k).text ++ trace_lines (found_in (r.0 k) id) in
+      stops_all TakesBatch in0 in1 out0 out1 out2 held0 held1 faulty i o h (output_of limits id) a
+      (subst (WritesSome out0 out2) whole (some_after out0 out1 out2 _ _ a.written some)) why ie
+
+  -- not all lines were taken
+  pub stops_early : held0 ≡ nothing_held limits → (h : RunError) → AnswersSome TakesBatch in0 in1 out0 out1 held0 i o h
+      → StopsShort in0 in1 out0 out1 i o (output_of limits id) (status_by h)
+  stops_early start h a =
+      let all = a.first.taken ++ a.first.rest in
+      let r = lines_judged held0 limits a.first.lines a.first.reply a.first.last start a.first.each in
+      let more = said_append line_result 1 (nothing_held limits) a.first.lines a.first.others in
+      let tail = trace_lines (found_in (all_lines limits (lines_of all)).held id) in
+      let whole : output_of limits id all ≡ a.first.reply.text ++ (more.0 ++ tail) =
+      ap (λ ls. (all_lines limits ls).reply.text ++ tail) a.first.split ∙ ap (λ x. x ++ tail) more.1
+      ∙ append_assoc (all_lines limits a.first.lines).reply.text more.0 tail
+      ∙ ap (λ (x : LineReply). x.text ++ (more.0 ++ tail)) (sym r.1) in
+      stops_some TakesBatch in0 in1 out0 out1 held0 i o h (output_of limits id) a
+      (some_more out0 out1 a.first.reply.text (more.0 ++ tail) (output_of limits id all) whole a.written)

@@ -1,0 +1,10 @@
+pub mod Options
+pub mod Accepting
+pub mod Asking
+pub mod Answering
+pub mod Judgings
+pub mod Finding
+pub mod WrittenLines
+pub mod GetWholes
+pub mod PlayingLines
+pub mod PlayWholes

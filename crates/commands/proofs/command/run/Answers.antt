@@ -1,0 +1,78 @@
+use Rattle.std.proofs.Common.{inl, inr, refl, sym, subst, ◌∙◌, map, List, Option, ℕ, arith}
+use Rattle.commands.specs.GetRuns.{output_of as get_output, status_of as get_status}
+use Rattle.commands.specs.Playing.{output_of as play_output, status_of as play_status}
+use Rattle.text_lines.specs.RunErrors.{RunsAs}
+use Rattle.commands.specs.Words.{IsFaultOf}
+use Rattle.commands.specs.Asked.{Asks}
+use Rattle.commands.specs.declared.words.Command.TheVariants.{Get, Pipe, Play, Serve}
+use Rattle.commands.specs.Piping.{Pipes}
+use Rattle.commands.specs.Serving.{ServesOrNot}
+use Rattle.commands.proofs.command.run.Goals as goal
+
+pub returns-in_default : goal.returns-in_default
+returns-in_default g c = inr (record {
+  unread = refl;
+  input_works = c.requires.input_works;
+  fault = inr (inr (refl, c.requires.output_works));
+  accepted = λ command a. refl;
+  bad_trace = λ limits t e. absurd (omega arith);
+})
+
+pub returns-in-Ok-Get : goal.returns-in-Ok-Get
+returns-in-Ok-Get g c =
+    let limits = c.in-Ok-Get.limits in
+    let id = c.in-Ok-Get.trace in
+    let does : Option (List ℕ) → Type 0 =
+    λ w. RunsAs (g.R.Input.remaining c.args.input.now) (g.R.Input.remaining c.run_get.new.input) w (g.W.Output.contents c.run_get.new.output)
+    (g.R.Input.has_failed c.run_get.new.input) (g.W.Output.has_failed c.run_get.new.output) (get_output limits id) (get_status limits id)
+    c.run_get.result in
+    inl (
+      Get limits id,
+      subst (Asks (map g.S.AsStr.text c.args.words.now)) c.in-Ok-Get.field-0-is c.in-Ok-Get.ensures.asked,
+      subst does c.in-Ok-Get.ensures.silent c.run_get.ensures,
+    )
+
+pub returns-in-Ok-Pipe : goal.returns-in-Ok-Pipe
+returns-in-Ok-Pipe g c =
+    let limits = c.in-Ok-Pipe.limits in
+    let does : Option (List ℕ) → Type 0 =
+    λ w. Pipes (g.R.Input.remaining c.args.input.now) (g.R.Input.remaining c.run_pipe.new.input) w (g.W.Output.contents c.run_pipe.new.output)
+    (g.R.Input.has_failed c.run_pipe.new.input) (g.W.Output.has_failed c.run_pipe.new.output) limits c.run_pipe.result in
+    inl (
+      Pipe limits,
+      subst (Asks (map g.S.AsStr.text c.args.words.now)) c.in-Ok-Pipe.field-0-is c.in-Ok-Pipe.ensures.asked,
+      subst does c.in-Ok-Pipe.ensures.silent c.run_pipe.ensures,
+    )
+
+pub returns-in-Ok-Play : goal.returns-in-Ok-Play
+returns-in-Ok-Play g c =
+    let limits = c.in-Ok-Play.limits in
+    let does : Option (List ℕ) → Type 0 =
+    λ w. RunsAs (g.R.Input.remaining c.args.input.now) (g.R.Input.remaining c.run_play.new.input) w (g.W.Output.contents c.run_play.new.output)
+    (g.R.Input.has_failed c.run_play.new.input) (g.W.Output.has_failed c.run_play.new.output) (play_output limits) (play_status limits) c.run_play.result in
+    inl (
+      Play limits,
+      subst (Asks (map g.S.AsStr.text c.args.words.now)) c.in-Ok-Play.field-0-is c.in-Ok-Play.ensures.asked,
+      subst does c.in-Ok-Play.ensures.silent c.run_play.ensures,
+    )
+
+pub returns-in-Ok-Serve : goal.returns-in-Ok-Serve
+returns-in-Ok-Serve g c =
+    let options = c.in-Ok-Serve.options in
+    let does : Option (List ℕ) → Type 0 =
+    λ w. ServesOrNot options.host options.limits options.workers w (g.W.Output.contents c.run_serve.new.output)
+    (g.W.Output.has_failed c.run_serve.new.output) c.run_serve.result in
+    inl (
+      Serve options,
+      subst (Asks (map g.S.AsStr.text c.args.words.now)) c.in-Ok-Serve.field-0-is c.in-Ok-Serve.ensures.asked,
+      (refl, c.requires.input_works, subst does c.in-Ok-Serve.ensures.silent c.run_serve.ensures),
+    )
+
+pub returns-in-Err : goal.returns-in-Err
+returns-in-Err g c = inr (record {
+  unread = refl;
+  input_works = c.requires.input_works;
+  fault = subst (λ s. IsFaultOf s (g.W.Output.has_failed c.read_words.new.output)) (sym c.status.ensures) c.in-Err.ensures.status;
+  accepted = λ command a. c.status.ensures ∙ c.in-Err.ensures.accepted command a;
+  bad_trace = λ limits t e. c.in-Err.ensures.bad_trace limits t (sym c.status.ensures ∙ e);
+})

@@ -1,0 +1,95 @@
+-- What `get` writes for an input.
+use Rattle.std.specs.Prelude.{◌≡◌, ℕ, Bool, true, false, List, [], ◌++◌, flat_map, Option, Some, None, is_some, Result, Ok, Err, codes}
+use Rattle.std.specs.Fmt.{decimal, signed_decimal}
+use Rattle.jaeger_model.specs.declared.ids.TraceId.{TraceId}
+use Rattle.jaeger_model.specs.declared.placed.Placed.{Placed}
+use Rattle.jaeger_model.specs.Ids.{trace_text, span_text}
+use Rattle.trace_model.specs.declared.answer.Shown.{Shown}
+use Rattle.trace_model.specs.declared.limits.Limits.{Limits}
+use Rattle.trace_model.specs.Held.{Held}
+use Rattle.trace_model.specs.Histories.{events}
+use Rattle.trace_model.specs.Showing.{trace_found}
+use Rattle.text_lines.specs.declared.run_error.RunError.{RunError}
+use Rattle.text_lines.specs.Lines.{lines_of}
+use Rattle.text_lines.specs.RunErrors.{Finishes, StopsShort, status_by as status_of_error}
+use Rattle.text_lines.specs.Taking.{LineReply, Takes}
+use Rattle.text_lines.specs.Results.{LineResult, result_of_lines}
+use Rattle.commands.specs.LineFaults.{fault_text}
+use Rattle.commands.specs.declared.get.line_fault.LineFault.{LineFault}
+use Rattle.commands.specs.Judging.{JudgedLine, judged_line}
+
+-- ---- the lines
+
+abbrev pub fault_line : ℕ → Option LineFault → List ℕ
+fault_line n None = []
+fault_line n (Some fault) = codes "line " ++ decimal n ++ codes ": " ++ fault_text fault ++ codes "\n"
+
+-- the reply to a line
+abbrev pub said_to : ℕ → JudgedLine → LineReply
+said_to n j = record { text = fault_line n j.fault; faulty = is_some j.fault }
+
+-- the result of the line with the number n
+abbrev pub line_result : ℕ → Held → List ℕ → LineResult Held
+line_result n held line = record { reply = said_to n (judged_line held line); held = (judged_line held line).held }
+
+abbrev pub TakesBatch : Takes Held
+TakesBatch held n line reply after = (after ≡ (line_result n held line).held) × (reply ≡ (line_result n held line).reply)
+
+-- ---- the trace
+
+abbrev pub ids_text : Placed → List ℕ
+ids_text p = trace_text p.span.trace ++ codes " " ++ span_text p.span.id ++ codes " "
+
+abbrev pub times_text : Placed → List ℕ
+times_text p = signed_decimal p.span.start ++ codes " " ++ signed_decimal p.span.duration ++ codes " "
+
+abbrev pub names_text : Placed → List ℕ
+names_text p = p.process.service ++ codes " " ++ p.span.operation ++ codes "\n"
+
+-- trace, span, start, duration, service and operation
+abbrev pub span_line : Placed → List ℕ
+span_line p = ids_text p ++ times_text p ++ names_text p
+
+abbrev pub shown_line : Shown → List ℕ
+shown_line s = span_line s.placed
+
+abbrev pub trace_lines : Option (List Placed) → List ℕ
+trace_lines None = codes "trace not found\n"
+trace_lines (Some spans) = flat_map span_line spans
+
+abbrev pub found_in : Held → TraceId → Option (List Placed)
+found_in held id = trace_found held.limits.traces (events held.entries) id
+
+-- ---- the complete run
+
+abbrev pub nothing_held : Limits → Held
+nothing_held limits = record { limits = limits; entries = [] }
+
+-- the result of the lines
+abbrev pub all_lines : Limits → List (List ℕ) → LineResult Held
+all_lines limits lines = result_of_lines line_result 1 (nothing_held limits) lines
+
+-- a line for each line that can't be used, and then the spans of the trace
+abbrev pub output_of : Limits → TraceId → List ℕ → List ℕ
+output_of limits id input =
+    let all = all_lines limits (lines_of input) in
+    all.reply.text ++ trace_lines (found_in all.held id)
+
+-- 3 if a line couldn't be used, else 0 if the trace was found, else 1
+abbrev pub status_by : Bool → Bool → ℕ
+status_by true found = 3
+status_by false true = 0
+status_by false false = 1
+
+abbrev pub status_of : Limits → TraceId → List ℕ → ℕ
+status_of limits id input =
+    let all = all_lines limits (lines_of input) in
+    status_by all.reply.faulty (is_some (found_in all.held id))
+
+-- A run of `get` returned a status: that of the whole input, with its output; or, if it stopped short, that of the
+-- error.
+abbrev pub RunsGet : Limits → TraceId → (in0 in1 out0 out1 : Option (List ℕ)) → Bool → Bool → Result ℕ RunError → Type 0
+RunsGet limits id in0 in1 out0 out1 in_failed out_failed (Ok status) =
+    Finishes in0 in1 out0 out1 in_failed out_failed (output_of limits id) (status_of limits id) status
+RunsGet limits id in0 in1 out0 out1 in_failed out_failed (Err error) =
+    StopsShort in0 in1 out0 out1 in_failed out_failed (output_of limits id) (status_of_error error)

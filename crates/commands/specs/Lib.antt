@@ -1,0 +1,10 @@
+pub mod Exits
+pub mod Words
+pub mod Asked
+pub mod LineFaults
+pub mod Judging
+pub mod GetRuns
+pub mod Playing
+pub mod Piping
+pub mod Running
+pub mod Serving

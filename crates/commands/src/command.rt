@@ -1,0 +1,56 @@
+//! Runs the command of the program's words over an input and an output.
+ghost use Rattle.std.specs.Prelude.{◌≡◌, false, map};
+ghost use Rattle.commands.specs.Running.{Runs};
+
+use crate::get::run_get;
+use crate::pipe::run_pipe;
+use crate::play::run_play;
+use crate::serve::run_serve;
+use crate::words::{Command, read_words};
+use session_devices::{Input, Output};
+use std::alloc::Global;
+use std::convert::AsStr;
+use std::hash::RandomState;
+use std::net::{Net, TcpListener, TcpStream};
+use std::random::RandomSource;
+use std::sync::Wait;
+use std::thread::Threads;
+use std::time::Clock;
+
+/// Runs the command of the words, and returns the exit status: 4 if and only if a device failed or the limit of reads
+/// was reached, and for `serve` also if a socket failed. Words that name no command, and a trace's id that can't be
+/// read, are answered on the output, and nothing is read then. `serve` doesn't read the input either.
+///
+/// To add a subcommand, add a line here, and one in `Does` of `specs/Running.antt`.
+pub fn run<H, S: AsStr, R: Input, W: Output>(
+    rt: &H,
+    alloc: Global,
+    words: &[S],
+    input: &mut R,
+    output: &mut W,
+) -> u8
+where
+    H: Threads
+        + Wait
+        + Clock
+        + Eprint
+        + RandomSource
+        + Net<Stream = TcpStream, Listener = TcpListener>
+        + Sync,
+    requires input_works { R.has_failed input.old ≡ false }
+    requires output_works { W.has_failed output.old ≡ false }
+    ensures { Runs (map S.text words.now) (R.remaining input.old) (R.remaining input.new)
+        (W.contents output.old) (W.contents output.new) (R.has_failed input.new)
+        (W.has_failed output.new) result }
+{
+    let Ok(keys) = RandomState::new(rt) else {
+        return 5;
+    };
+    match read_words(alloc, words, output) {
+        Ok(Command::Get { limits, trace }) => run_get(alloc, keys, input, output, limits, trace),
+        Ok(Command::Pipe { limits }) => run_pipe(alloc, keys, input, output, limits),
+        Ok(Command::Play { limits }) => run_play(alloc, keys, input, output, limits),
+        Ok(Command::Serve { options }) => run_serve(rt, alloc, keys, output, options),
+        Err(exit) => exit.status(),
+    }
+}

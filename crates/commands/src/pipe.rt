@@ -1,0 +1,52 @@
+//! `pipe`: a session over standard input and output.
+ghost use Rattle.std.specs.Prelude.{◌≡◌};
+ghost use Rattle.text_lines.specs.RunErrors.{BothWork};
+ghost use Rattle.commands.specs.Piping.{Pipes, cause_status};
+
+use http_session::SessionErrorKind;
+use pipe_session::{Direct, pipe};
+use session_devices::{Input, Output};
+use span_store::SpanStore;
+use std::alloc::Global;
+use std::hash::RandomState;
+use trace_model::Limits;
+
+fn status_of(cause: SessionErrorKind) -> u8
+    ensures { result ≡ cause_status cause }
+{
+    match cause {
+        SessionErrorKind::Reading | SessionErrorKind::Writing => 4,
+        SessionErrorKind::Memory => 5,
+    }
+}
+
+/// Answers the HTTP requests of the input on the output, from a store that is empty at first. Returns the exit status:
+/// 0 if the session ended, by the end of the input or by a response that closes it, 4 if a read or a write failed, and
+/// 5 if memory ran out.
+pub fn run_pipe<R: Input, W: Output>(
+    alloc: Global,
+    keys: RandomState,
+    input: &mut R,
+    output: &mut W,
+    limits: Limits,
+) -> u8
+    requires { BothWork (R.has_failed input.old) (W.has_failed output.old) }
+    ensures { Pipes (R.remaining input.old) (R.remaining input.new) (W.contents output.old)
+        (W.contents output.new) (R.has_failed input.new) (W.has_failed output.new) limits result }
+{
+    let Ok(opened) = SpanStore::open(alloc, keys, limits) else {
+        return 5;
+    };
+    let mut store = Direct::new(opened);
+    // For the prover: explicit drops are cheaper than one at the end of the block.
+    match pipe(alloc, input, output, &mut store) {
+        Ok(_) => {
+            drop(store);
+            0
+        }
+        Err(error) => {
+            drop(store);
+            status_of(error.cause)
+        }
+    }
+}

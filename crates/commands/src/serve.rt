@@ -1,0 +1,55 @@
+//! `serve`: a server on an address of this machine.
+ghost use Rattle.std.specs.Prelude.{◌≡◌, false};
+ghost use Rattle.commands.specs.Serving.{ServesOrNot, TurnsDown};
+
+use serve_options::ServeOptions;
+use session_devices::Output;
+use std::alloc::Global;
+use std::hash::RandomState;
+use std::io;
+use std::net::{Net, SocketAddr, TcpListener, TcpStream};
+use std::sync::Wait;
+use std::thread::Threads;
+use std::time::Clock;
+use text_lines::write_text;
+use trace_server::{NoGate, ServerConfig, serve_with};
+
+/// Writes why the server can't listen on an address, and returns the exit status.
+fn turn_down<W: Output>(alloc: Global, output: &mut W, address: SocketAddr, error: &io::Error) -> u8
+    requires { W.has_failed output.old ≡ false }
+    ensures { TurnsDown (W.contents output.old) (W.contents output.new) (W.has_failed output.new)
+        result }
+{
+    let Ok(line) = format!(in alloc; "cannot listen on {address}: {error}\n") else {
+        return 5;
+    };
+    match write_text(alloc, output, line.as_bytes()) {
+        Ok(()) => 4,
+        Err(error) => error.status(),
+    }
+}
+
+/// Serves connections on a host's port over an empty store, until the requested number has ended. Returns the exit
+/// status: 4 if the address can't be used, otherwise that of [`serve_with`](trace_server::serve_with).
+pub fn run_serve<H, W>(
+    rt: &H,
+    alloc: Global,
+    keys: RandomState,
+    output: &mut W,
+    options: ServeOptions,
+) -> u8
+where
+    H: Threads + Wait + Clock + Eprint + Net<Stream = TcpStream, Listener = TcpListener> + Sync,
+    W: Output,
+    requires output_works { W.has_failed output.old ≡ false }
+    ensures { ServesOrNot options.host options.limits options.workers
+        (W.contents output.old) (W.contents output.new) (W.has_failed output.new) result }
+{
+    let address = SocketAddr::new(options.host.address(), options.port);
+    let listener = match TcpListener::bind(rt, address) {
+        Ok(listener) => listener,
+        Err(error) => return turn_down(alloc, output, address, &error),
+    };
+    let plan = ServerConfig { options, keys };
+    serve_with(rt, alloc, &listener, &plan, &NoGate, output)
+}

@@ -1,3 +1,0 @@
-pub mod Bounding
-pub mod Skipping
-pub mod Widening

@@ -1,4 +1,0 @@
-pub mod Judgings
-pub mod Finding
-pub mod WrittenLines
-pub mod Wholes

@@ -1,3 +1,0 @@
-pub mod LineFaults
-pub mod Judging
-pub mod Runs

@@ -1,0 +1,5 @@
+pub mod Walking
+pub mod Marking
+pub mod Sizes
+pub mod Once
+pub mod IdProbing

@@ -1,0 +1,4 @@
+pub mod Leading
+pub mod Sizes
+pub mod IdRows
+pub mod IdProbes

@@ -1,2 +1,0 @@
-pub mod FaultTexts
-pub mod Spelling

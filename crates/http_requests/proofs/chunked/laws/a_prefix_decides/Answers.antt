@@ -1,0 +1,5 @@
+use Rattle.http_requests.proofs.ChunkOnce.{reading_stays}
+use Rattle.http_requests.proofs.chunked.laws.a_prefix_decides.Goals as goal
+
+pub returns : goal.returns
+returns c = reading_stays

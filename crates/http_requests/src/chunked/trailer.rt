@@ -1,0 +1,25 @@
+ghost use Rattle.http_requests.specs.ChunkLooks.{LooksAtTrailer};
+
+use crate::chunked::looks::{Look, look_by};
+use crate::chunked::prefix::prefix_of;
+use httparse::spans::{EMPTY_HEADER_SPAN, parse_headers};
+
+/// The length limit of a trailer, with its empty line: a limit of the session.
+pub const MAX_TRAILER_BYTES: usize = 8192;
+
+/// The number of fields that a trailer may have: a limit of the session.
+const MAX_FIELDS: usize = 64;
+
+/// Looks for a trailer within these limits at the start of the bytes, and finds its length (RFC 9112, section 7.1.2).
+/// Its fields are ignored.
+pub fn look_for_trailer(bytes: &[u8]) -> Look<usize>
+    ensures { LooksAtTrailer bytes.now result }
+{
+    let mut headers = [EMPTY_HEADER_SPAN; MAX_FIELDS];
+    let parsed = parse_headers(prefix_of(bytes, MAX_TRAILER_BYTES), &mut headers);
+    match look_by(parsed, bytes.len(), MAX_TRAILER_BYTES) {
+        Look::Whole((length, _)) => Look::Whole(length),
+        Look::More => Look::More,
+        Look::Never => Look::Never,
+    }
+}

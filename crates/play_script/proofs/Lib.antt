@@ -1,2 +1,0 @@
-pub mod PlayingLines
-pub mod Wholes

@@ -1,3 +1,0 @@
-pub mod Piping
-pub mod Running
-pub mod Serving

@@ -1,4 +1,0 @@
-pub mod Walking
-pub mod Marking
-pub mod Sizes
-pub mod Once

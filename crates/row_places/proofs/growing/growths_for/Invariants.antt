@@ -1,6 +1,0 @@
-use Rattle.std.proofs.Common.{◌<◌}
-use Rattle.row_places.specs.Sizes.{places_before}
-use Rattle.row_places.proofs.growing.growths_for.Given as goal
-
-abbrev pub invariant-loop-growths : goal.invariant-loop-growths
-invariant-loop-growths l = 0 < places_before l.room l.growths

@@ -1,0 +1,149 @@
+//! The lines about a store that are printed for the operator, as functions of numbers.
+
+ghost use Rattle.std.specs.Prelude.{◌≡◌};
+ghost use Rattle.serve_options.specs.Lines.{advice, counted_name, level_of};
+
+use std::fmt;
+use trace_model::Refusal;
+
+/// The unit of a store's limit.
+#[derive(Clone, Copy, Debug)]
+pub enum Counted {
+    Batches,
+    Spans,
+}
+
+impl Counted {
+    /// Returns its name, which is also that of the option.
+    pub fn name(self) -> &'static str
+        ensures { result.now ≡ counted_name self }
+    {
+        match self {
+            Counted::Batches => "batches",
+            Counted::Spans => "spans",
+        }
+    }
+
+    /// Returns what the operator can do once the limit is reached.
+    pub fn advice(self) -> &'static str
+        ensures { result.now ≡ advice self }
+    {
+        match self {
+            Counted::Batches =>
+                ": what doesn't fit is answered 503; restart with a larger --batches",
+            Counted::Spans => ": what doesn't fit is answered 503; restart with a larger --spans",
+        }
+    }
+}
+
+/// Returns the greatest of 90, 75 and 50 percent that is reached, or 0.
+pub fn level_of(held: u64, most: u32) -> u8
+    ensures { result ≡ level_of held most }
+{
+    let (held, most) = (u128::from(held), u128::from(most));
+    if 90 * most <= 100 * held {
+        90
+    } else if 75 * most <= 100 * held {
+        75
+    } else if 50 * most <= 100 * held {
+        50
+    } else {
+        0
+    }
+}
+
+/// The line that tells which percentage of a limit is used.
+#[derive(Clone, Copy, Debug)]
+pub struct FullnessLine {
+    pub counted: Counted,
+    pub level: u8,
+    pub held: u64,
+    pub most: u32,
+}
+
+impl fmt::Display for FullnessLine {
+    ghost use Rattle.std.specs.Prelude.{Some};
+    ghost use Rattle.serve_options.specs.Lines.{fullness_line};
+
+    ghost output = { λ l. Some (fullness_line l.counted l.level l.held l.most) };
+
+    fn fmt<W: fmt::Write>(&self, f: &mut fmt::Formatter<W>) -> fmt::Result {
+        let name = self.counted.name();
+        let FullnessLine {
+            counted: _,
+            level,
+            held,
+            most,
+        } = *self;
+        write!(
+            f,
+            "at least {level}% full: {held} of {most} {name} (--{name})"
+        )
+    }
+}
+
+/// How much of a limit is used, such as `400 of 1000 batches`.
+#[derive(Clone, Copy, Debug)]
+pub struct HeldText {
+    pub held: u64,
+    pub most: u32,
+    pub counted: Counted,
+}
+
+impl fmt::Display for HeldText {
+    ghost use Rattle.std.specs.Prelude.{Some};
+    ghost use Rattle.serve_options.specs.Lines.{held_text};
+
+    ghost output = { λ t. Some (held_text t.held t.most t.counted) };
+
+    fn fmt<W: fmt::Write>(&self, f: &mut fmt::Formatter<W>) -> fmt::Result {
+        let name = self.counted.name();
+        let HeldText {
+            held,
+            most,
+            counted: _,
+        } = *self;
+        write!(f, "{held} of {most} {name}")
+    }
+}
+
+/// The line for a batch that has more spans than an empty store would take.
+#[derive(Clone, Copy, Debug)]
+pub struct TooLargeLine {
+    pub spans: u64,
+    pub most: u32,
+}
+
+impl fmt::Display for TooLargeLine {
+    ghost use Rattle.std.specs.Prelude.{Some};
+    ghost use Rattle.serve_options.specs.Lines.{too_large_line};
+
+    ghost output = { λ l. Some (too_large_line l.spans l.most) };
+
+    fn fmt<W: fmt::Write>(&self, f: &mut fmt::Formatter<W>) -> fmt::Result {
+        let TooLargeLine { spans, most } = *self;
+        write!(f, "a batch of {spans} spans never fits: --spans {most}")
+    }
+}
+
+/// The line that tells why a request was answered 500, and how many were.
+#[derive(Clone, Copy, Debug)]
+pub struct FailureLine {
+    pub refusal: Refusal,
+    pub failures: u64,
+}
+
+impl fmt::Display for FailureLine {
+    ghost use Rattle.std.specs.Prelude.{Some};
+    ghost use Rattle.serve_options.specs.Lines.{failure_line};
+
+    ghost output = { λ l. Some (failure_line l.refusal l.failures) };
+
+    fn fmt<W: fmt::Write>(&self, f: &mut fmt::Formatter<W>) -> fmt::Result {
+        let FailureLine { refusal, failures } = *self;
+        write!(
+            f,
+            "answered 500 for {refusal}; requests that were answered 500 so far: {failures}"
+        )
+    }
+}

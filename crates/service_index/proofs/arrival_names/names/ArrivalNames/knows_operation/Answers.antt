@@ -1,0 +1,49 @@
+use Rattle.std.proofs.Common.{◌≡◌, ◌∙◌, ℕ, false, ◌||◌, List, [], map, None, ap, subst}
+use Rattle.std.specs.Prelude.{codes, Option}
+use Rattle.std.specs.Arc.{arc_value}
+use Rattle.std.specs.Global.{Global}
+use Rattle.trace_model.specs.declared.entry.Entry.{Entry}
+use Rattle.trace_model.specs.Histories.{arrivals}
+use Rattle.service_index.specs.Listing.{listed_in}
+use Rattle.service_index.specs.Naming.{IsGroupOf}
+use Rattle.service_index.specs.Indexes.{listing_by, has_operation}
+use Rattle.service_index.proofs.Linking.{name_unknown}
+use Rattle.service_index.specs.NamesKept.{Kept, names_of}
+use Rattle.service_index.proofs.AllKinds.{six_along, all_kinds}
+use Rattle.service_index.proofs.arrival_names.names.ArrivalNames.knows_operation.Goals as goal
+
+pub returns-in_default : goal.returns-in_default
+returns-in_default c =
+    let h : List Entry = map (arc_value {X = Entry} {Z = Global}) c.args.entries.now in
+    let s = c.args.service.now in
+    let o = c.args.operation.now in
+    let kept = c.requires.kept in
+    let none = subst (λ (x : List Entry). IsGroupOf (names_of x) s None) c.arrivals-arrivals.ensures
+    (subst (λ (r : Option ℕ). IsGroupOf (names_of c.arrivals-arrivals.result) s r) c.in_default.is c.group_of.ensures) in
+    let missing : (k : List ℕ) → false ≡ has_operation s o k (listed_in (arrivals h)) = λ k.
+    name_unknown (names_of h) c.args.self.now.index (record { service = s; operation = record { name = o; kind = k } }) kept.indexed none
+    ∙ ap (has_operation s o k) kept.listed in
+    (λ i. missing [] i || (missing (codes "client") i
+    || (missing (codes "server") i || (missing (codes "producer") i || (missing (codes "consumer") i || missing (codes "internal") i)))))
+    ∙ all_kinds s o (arrivals h)
+
+pub returns : goal.returns
+returns c =
+    let h : List Entry = map (arc_value {X = Entry} {Z = Global}) c.args.entries.now in
+    let s = c.args.service.now in
+    let o = c.args.operation.now in
+    let is = subst (λ (r : Option ℕ). IsGroupOf (names_of c.arrivals-arrivals.result) s r) c.in-Some.is c.group_of.ensures in
+    let reported : (k : List ℕ) → has_operation s o k (listing_by (names_of c.arrivals-arrivals.result) c.self.inside.index)
+    ≡ has_operation s o k (listed_in (arrivals h)) = λ k.
+    ap (λ (x : List Entry). has_operation s o k (listing_by (names_of x) c.self.inside.index)) c.arrivals-arrivals.ensures
+    ∙ ap (λ (v : Kept). has_operation s o k (listing_by (names_of h) v.index)) c.self.view_is
+    ∙ ap (has_operation s o k) c.requires.kept.listed in
+    let plain = c.knows_in-plain.ensures s is ∙ reported [] in
+    let client = c.knows_in-client.ensures s is ∙ reported (codes "client") in
+    let server = c.knows_in-server.ensures s is ∙ reported (codes "server") in
+    let producer = c.knows_in-producer.ensures s is ∙ reported (codes "producer") in
+    let consumer = c.knows_in-consumer.ensures s is ∙ reported (codes "consumer") in
+    let internal = c.knows_in-internal.ensures s is ∙ reported (codes "internal") in
+    six_along c.knows_in-plain.result c.knows_in-client.result c.knows_in-server.result c.knows_in-producer.result c.knows_in-consumer.result
+    c.knows_in-internal.result
+    ∙ (λ i. plain i || (client i || (server i || (producer i || (consumer i || internal i))))) ∙ all_kinds s o (arrivals h)

@@ -1,0 +1,13 @@
+use Rattle.std.proofs.Common.{[], map, ap}
+use Rattle.arrival_journal.specs.Kinds.{kind_text}
+use Rattle.service_index.specs.NamesKept.{names_of}
+use Rattle.service_index.proofs.arrival_names.names.ArrivalNames.with_room.Goals as goal
+
+pub returns-clause-kept : goal.returns-clause-kept
+returns-clause-kept c = record {
+  numbers = c.in_ok-numbers.ensures.numbers;
+  kinds = ap (map kind_text) c.in_ok-numbers.ensures.kinds;
+  indexed = c.in_ok-index.ensures.indexed (names_of []);
+  listed = c.in_ok-index.ensures.empty (names_of []);
+  used = c.in_ok-index.ensures.used;
+}

@@ -1,0 +1,231 @@
+ghost use Rattle.std.specs.Prelude.{◌≡◌, ◌+◌, ◌<◌, ◌≤◌, [], ◌∷◌, ◌++◌, map, length, take, IfOk};
+ghost use Rattle.std.specs.Arc.{arc_value};
+ghost use Rattle.jaeger_model.specs.Texts.{text_cmp, sorted_set};
+ghost use Rattle.trace_model.specs.declared.entry.Entry.{Entry as EntryValue};
+ghost use Rattle.trace_model.specs.Histories.{arrivals, before_last};
+ghost use Rattle.trace_model.specs.Names.{services};
+ghost use Rattle.service_index.specs.Listing.{listed_cmp};
+ghost use Rattle.service_index.specs.Indexes.{listing_by, owners, operations_at, IsIndexed};
+ghost use Rattle.service_index.specs.Probes.{AreNumbers};
+ghost use Rattle.service_index.specs.Reported.{IsKept as PlacesKept};
+ghost use Rattle.arrival_journal.specs.Kinds.{kinds_in};
+ghost use Rattle.service_index.specs.NamesKept.{IsKept, names_of, reports, reports_service, reports_operation, AreOperations};
+
+use crate::arrival_names::numbers::{ArrivalNumbers, Arrivals};
+use crate::arrival_names::taken_operation::TakenOperation;
+use crate::index::ServiceIndex;
+use crate::service_places::ServicePlaces;
+use crate::texts::Texts;
+use arrival_journal::SpanKinds;
+use jaeger_model::Text;
+use std::alloc::{AllocError, Global};
+use std::hash::RandomState;
+use std::marker::Model;
+use std::sync::Arc;
+use trace_model::{Entry, ServiceName};
+
+/// The services and operations of the arrivals of a list of entries that grows at its end.
+#[derive(Drop)]
+pub struct ArrivalNames {
+    numbers: ArrivalNumbers,
+    index: ServiceIndex,
+}
+
+impl Model for ArrivalNames {
+    ghost use Rattle.service_index.specs.NamesKept.{Kept};
+
+    ghost Value = { Kept };
+
+    ghost view = { λ n. record { numbers = n.numbers; index = n.index } };
+}
+
+impl ArrivalNames {
+    /// Makes an index of no entry, with room for this number of entries and spans. The keys are those of the hash
+    /// by which names are found.
+    ///
+    /// # Errors
+    ///
+    /// Out of memory, and nothing else.
+    pub fn with_room(
+        alloc: Global,
+        keys: RandomState,
+        batches: u32,
+        spans: u32,
+    ) -> Result<Self, AllocError>
+        ensures kept { IfOk result (λ names. IsKept [] names) }
+        ensures batches { IfOk result (λ names. names.numbers.batches ≡ batches) }
+        ensures numbers { IfOk result (λ names. names.numbers.spans ≡ spans) }
+        ensures index { IfOk result (λ names. names.index.room ≡ spans) }
+    {
+        let numbers = ArrivalNumbers::with_room(alloc, batches, spans)?;
+        let index = ServiceIndex::with_room(alloc, keys, spans)?;
+        Ok(ArrivalNames { numbers, index })
+    }
+
+    /// Adds the last entry of the list, which is one entry longer. `first` has the kinds of its first spans.
+    /// Allocates nothing.
+    pub fn add(&mut self, entries: &[Arc<Entry>], reported: &ServicePlaces, first: &SpanKinds)
+        requires some { 0 < length entries.now }
+        requires kept { IsKept (before_last (map arc_value entries.now)) self.old }
+        requires placed { PlacesKept (map arc_value entries.now) reported.now }
+        requires batches { length entries.now ≤ self.old.numbers.batches }
+        requires numbers { length (arrivals (map arc_value entries.now)) ≤ self.old.numbers.spans }
+        requires index { length (arrivals (map arc_value entries.now)) ≤ self.old.index.room }
+        requires first { (e : EntryValue) →
+            map arc_value entries.now ≡ before_last (map arc_value entries.now) ++ e ∷ [] →
+            first.now ≡ kinds_in e }
+
+        ensures kept { IsKept (map arc_value entries.now) self.new }
+        ensures batches { self.new.numbers.batches ≡ self.old.numbers.batches }
+        ensures numbers { self.new.numbers.spans ≡ self.old.numbers.spans }
+        ensures index { self.new.index.room ≡ self.old.index.room }
+    {
+        let begin = self.index.used();
+        self.numbers.add(entries, first);
+        let arrivals = self.numbers.arrivals(entries, reported);
+        add_arrivals(&mut self.index, &arrivals, begin, self.numbers.len());
+    }
+
+    /// Returns for each entry the number of arrivals before its first span.
+    pub fn firsts(&self) -> &[u32]
+        ensures { result.now ≡ self.now.numbers.firsts }
+    {
+        self.numbers.firsts()
+    }
+
+    /// Returns the services of all arrivals, in no particular order. The names refer to their entries.
+    ///
+    /// # Errors
+    ///
+    /// Out of memory, and nothing else.
+    pub fn known_services(
+        &self,
+        alloc: Global,
+        entries: &[Arc<Entry>],
+        reported: &ServicePlaces,
+    ) -> Result<Vec<ServiceName>, AllocError>
+        requires kept { IsKept (map arc_value entries.now) self.now }
+        requires placed { PlacesKept (map arc_value entries.now) reported.now }
+        ensures { IfOk result (λ v. sorted_set text_cmp v.items ≡
+            services (arrivals (map arc_value entries.now))) }
+    {
+        let arrivals = self.numbers.arrivals(entries, reported);
+        services_of(alloc, &arrivals, self.index.service_numbers())
+    }
+
+    /// Returns the operations of a service with their kinds, in no particular order. The names refer to their
+    /// entries.
+    ///
+    /// # Errors
+    ///
+    /// Out of memory, and nothing else.
+    pub fn known_operations(
+        &self,
+        alloc: Global,
+        entries: &[Arc<Entry>],
+        reported: &ServicePlaces,
+        service: &Text,
+    ) -> Result<Vec<TakenOperation>, AllocError>
+        requires kept { IsKept (map arc_value entries.now) self.now }
+        requires placed { PlacesKept (map arc_value entries.now) reported.now }
+        ensures { IfOk result (λ v. AreOperations service.now
+            (arrivals (map arc_value entries.now)) v.items) }
+    {
+        let arrivals = self.numbers.arrivals(entries, reported);
+        let numbers = self.index.operation_numbers(&arrivals, service.as_str())?;
+        operations_of(alloc, &arrivals, &numbers)
+    }
+
+    /// Whether an arrival is of the service.
+    pub fn knows_service(
+        &self,
+        entries: &[Arc<Entry>],
+        reported: &ServicePlaces,
+        service: &str,
+    ) -> bool
+        requires kept { IsKept (map arc_value entries.now) self.now }
+        requires placed { PlacesKept (map arc_value entries.now) reported.now }
+        ensures { result ≡ reports_service service.now (arrivals (map arc_value entries.now)) }
+    {
+        self.index
+            .knows_service(&self.numbers.arrivals(entries, reported), service)
+    }
+
+    /// Whether an arrival is of the service and of this operation, of any kind.
+    pub fn knows_operation(
+        &self,
+        entries: &[Arc<Entry>],
+        reported: &ServicePlaces,
+        service: &str,
+        operation: &str,
+    ) -> bool
+        requires kept { IsKept (map arc_value entries.now) self.now }
+        requires placed { PlacesKept (map arc_value entries.now) reported.now }
+        ensures { result ≡ reports_operation service.now operation.now
+            (arrivals (map arc_value entries.now)) }
+    {
+        let arrivals = self.numbers.arrivals(entries, reported);
+        let Some(group) = arrivals.group_of(service) else {
+            return false;
+        };
+        let plain = self.index.knows_in(&arrivals, group, operation, "");
+        let client = self.index.knows_in(&arrivals, group, operation, "client");
+        let server = self.index.knows_in(&arrivals, group, operation, "server");
+        let producer = self.index.knows_in(&arrivals, group, operation, "producer");
+        let consumer = self.index.knows_in(&arrivals, group, operation, "consumer");
+        let internal = self.index.knows_in(&arrivals, group, operation, "internal");
+        plain | client | server | producer | consumer | internal
+    }
+}
+
+/// Returns the services of the arrivals with these numbers.
+fn services_of(
+    alloc: Global,
+    arrivals: &Arrivals<'_>,
+    numbers: &[u32],
+) -> Result<Vec<ServiceName>, AllocError>
+    requires { AreNumbers (names_of arrivals.now).count numbers.now }
+    ensures { IfOk result (λ v. v.items ≡ owners (names_of arrivals.now) numbers.now) }
+{
+    let mut services = Vec::with_capacity(alloc, numbers.len())?;
+    for n in numbers {
+        services.push(arrivals.service_at(*n)?)?;
+    }
+    Ok(services)
+}
+
+/// Returns the operations of the arrivals with these numbers.
+fn operations_of(
+    alloc: Global,
+    arrivals: &Arrivals<'_>,
+    numbers: &[u32],
+) -> Result<Vec<TakenOperation>, AllocError>
+    requires { AreNumbers (names_of arrivals.now).count numbers.now }
+    ensures { IfOk result (λ v. v.items ≡ operations_at (names_of arrivals.now) numbers.now) }
+{
+    let mut operations = Vec::with_capacity(alloc, numbers.len())?;
+    for n in numbers {
+        operations.push(arrivals.operation_at(*n)?)?;
+    }
+    Ok(operations)
+}
+
+/// Adds the arrivals from `first` up to `end`, which is excluded.
+fn add_arrivals(index: &mut ServiceIndex, arrivals: &Arrivals<'_>, first: u32, end: u32)
+    requires indexed { IsIndexed (names_of arrivals.now) index.old }
+    requires listed { listing_by (names_of arrivals.now) index.old ≡
+        sorted_set listed_cmp (take first (reports arrivals.now)) }
+    requires used { index.old.used ≡ first }
+    requires rises { first ≤ end }
+    requires within { end ≤ length (reports arrivals.now) }
+    requires room { end ≤ index.old.room }
+    ensures indexed { IsIndexed (names_of arrivals.now) index.new }
+    ensures listed { listing_by (names_of arrivals.now) index.new ≡
+        sorted_set listed_cmp (take end (reports arrivals.now)) }
+    ensures used { index.new.used ≡ end }
+    ensures room { index.new.room ≡ index.old.room }
+{
+    for n in first..end {
+        index.add_at(n, arrivals);
+    }
+}

@@ -1,3 +1,0 @@
-pub mod Grouping
-pub mod Walking
-pub mod Following

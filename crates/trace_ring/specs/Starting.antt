@@ -1,0 +1,28 @@
+-- The first starts of traces, and which traces start after some time.
+use Rattle.std.specs.Prelude.{◌≡◌, ℕ, suc, ℤ, pos, ◌+◌, ◌/◌, ◌^◌, ◌<◌, ◌≤◌, int_lt, false, List, [], ◌∷◌, length, get_or, if◌then◌else◌}
+use Rattle.trace_ring.specs.declared.first_starts.ranges.Range.{Range}
+
+-- the starts, that of the trace opened first at the front; the number that was pushed in all, and that may be; the
+-- number that left, and the ranges of all blocks
+pub record Starts : Type 0 where
+  pub starts : List ℤ
+  pub used : ℕ
+  pub room : ℕ
+  pub left : ℕ
+  pub ranges : List Range
+
+-- the places of those after a time, counted from this place at the first one
+abbrev pub places_from : ℤ → ℕ → List ℤ → List ℕ
+places_from time place [] = []
+places_from time place (s ∷ ss) = if int_lt time s then place ∷ places_from time (suc place) ss else places_from time (suc place) ss
+
+abbrev pub places_after : ℤ → List ℤ → List ℕ
+places_after time ss = places_from time 0 ss
+
+-- no start is above the bound of its block
+pub record IsBounded (room left : ℕ) (opened bounds : List ℤ) : Type 0 where
+  pub fits : room < 2 ^ 32
+  pub within : length opened ≤ room
+  pub few : left ≤ length opened
+  pub blocks : length bounds ≡ (length opened + 255) / 256
+  pub above : (i : ℕ) → i < length opened → int_lt (get_or bounds (i / 256) (pos 0)) (get_or opened i (pos 0)) ≡ false
