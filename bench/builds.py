@@ -1,17 +1,18 @@
 #!/usr/bin/env python3
 """Whether one build of `jaeger_one` serves writers slower than another: both in turns, many times, on one machine.
 
-    bench/builds.py OLD NEW [--writers 1,2,4,8] [--pairs 30] [--seconds 0.6] [--workers N]
+    bench/builds.py OLD NEW [--writers 1,2,4,8] [--pairs 30] [--seconds 0.6] [--workers N] [--save KIND]
 
-For each number of writers at full speed, as in serve.py: how many spans a second each build takes, and the ratio of NEW to OLD, of the
-spans and of the processor time a span. A ratio is the median of the pairs', and behind it stands where that median lies with 95 of 100
-chances, as drawing from the pairs says. Each server has four workers more than writers, or as many as are asked for.
+For each number of writers at full speed, as in serve.py: how many spans a second each build takes, and how many times as many NEW takes as
+OLD, in a second and in a second of the server's processors: above 1 NEW is better. A ratio is the median of the pairs', and behind it
+stands where that median lies with 95 of 100 chances, as drawing from the pairs says. Each server has four workers more than writers, or as
+many as are asked for.
 """
-import argparse
 import random
 import statistics
 import tempfile
 
+from results import Record, asked_of
 from serve import Bench
 from servers import rust_program
 
@@ -23,7 +24,7 @@ def within(ratios):
     """The median, and the ends of its interval."""
     draw = random.Random(1)
     medians = sorted(statistics.median(draw.choices(ratios, k=len(ratios))) for _ in range(DRAWS))
-    return f"{statistics.median(ratios):.2f} ({medians[DRAWS // 40]:.2f} to {medians[-DRAWS // 40]:.2f})"
+    return [round(it, 2) for it in (statistics.median(ratios), medians[DRAWS // 40], medians[-DRAWS // 40])]
 
 
 def pairs(bench, writers, count):
@@ -33,29 +34,36 @@ def pairs(bench, writers, count):
         yield {name: bench.measure(name, HELD, writers) for name in order}
 
 
-def compare(bench, writers, count):
+def compare(bench, writers, count, record):
     found = [pair for pair in pairs(bench, writers, count) if all(pair.values())]
     rates = {name: statistics.median(pair[name]["rate"] for pair in found) for name in ("old", "new")}
-    ratios = {key: within([pair["new"][key] / pair["old"][key] for pair in found]) for key in ("rate", "processor")}
-    print(f"{writers} writers: {rates['old']:,.0f} and {rates['new']:,.0f} spans a second, {ratios['rate']}; processor time a span "
-          f"{ratios['processor']}; {len(found)} pairs", flush=True)
+    faster = within([pair["new"]["rate"] / pair["old"]["rate"] for pair in found])
+    thriftier = within([pair["old"]["processor"] / pair["new"]["processor"] for pair in found])
+    told = ["{:.2f} ({:.2f} to {:.2f})".format(*it) for it in (faster, thriftier)]
+    print(f"{writers} writers: {rates['old']:,.0f} and {rates['new']:,.0f} spans a second, {told[0]} times as many; for a second of a processor "
+          f"{told[1]}; {len(found)} pairs", flush=True)
+    record.row(writers, round(rates["old"]), round(rates["new"]), *faster, *thriftier)
 
 
 def main():
-    asked = argparse.ArgumentParser(description=__doc__, formatter_class=argparse.RawDescriptionHelpFormatter)
-    asked.add_argument("old")
-    asked.add_argument("new")
-    asked.add_argument("--writers", default="1,2,4,8")
-    asked.add_argument("--pairs", type=int, default=30)
-    asked.add_argument("--seconds", type=float, default=0.6)
+    asked = asked_of(__doc__, None)
+    asked.add_argument("old", help="a program")
+    asked.add_argument("new", help="a program")
+    asked.add_argument("--writers", default="1,2,4,8", help="numbers of writers")
+    asked.add_argument("--pairs", type=int, default=30, help="how often both are measured")
+    asked.add_argument("--seconds", type=float, default=0.6, help="of each measurement")
     asked.add_argument("--workers", type=int, help="of each server")
     options = asked.parse_args()
+    columns = ["writers", "old", "new", "times as many", "least", "most", "for a second of a processor", "least", "most"]
+    record = Record(options, "builds", columns, builds=f"old {options.old}, new {options.new}")
     with tempfile.TemporaryDirectory() as folder:
         bench = Bench({"old": options.old, "new": options.new}, rust_program(folder, "bench/load.rs"), options.seconds, 1)
         bench.end = float("inf")
         bench.workers = options.workers
         for writers in map(int, options.writers.split(",")):
-            compare(bench, writers, options.pairs)
+            compare(bench, writers, options.pairs, record)
+    if not bench.faults:
+        record.save()
     for fault in bench.faults:
         print("FAILED", fault)
 

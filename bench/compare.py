@@ -1,7 +1,7 @@
 #!/usr/bin/env python3
 """How fast batches are decoded, and by whom, in one run on one machine.
 
-    bench/compare.py [--rounds 20] [--only WORD] [--count]
+    bench/compare.py [--rounds 20] [--only WORD] [--count] [--save KIND]
 
 The same realistic batches (those of bench/decode.py) are decoded and let go by three programs, which are built in a
 temporary folder; what is not installed is left out.
@@ -26,7 +26,8 @@ import tempfile
 
 import copies
 import decode as batches
-from crates import ROOT, asked_of
+from crates import ROOT
+from results import Record, asked_of
 from servers import rust_program
 
 HERE = os.path.dirname(os.path.abspath(__file__))
@@ -134,13 +135,15 @@ def instructions(program, rounds, path, way):
 
 def main():
     asked = asked_of(__doc__, None)
-    asked.add_argument("--rounds", type=int, default=20)
+    asked.add_argument("--rounds", type=int, default=20, help="how often all bodies are decoded")
     asked.add_argument("--count", action="store_true", help="count instructions")
     asked.add_argument("--only", default="", help="the programs whose name has this word")
     options = asked.parse_args()
     rng = random.Random(1)
     pool = [batches.batch(rng) for _ in range(400)]
     spans = None
+    columns = ["decoder", "instructions a byte" if options.count else "megabytes a second"]
+    record = Record(options, "compare --count" if options.count else "compare", columns, peers=f"rustc {FASTEST}; g++ -O2")
     print(f"{'':8} {'instructions a byte':>20}" if options.count else f"{'':8} {'seconds':>8} {'MB/s':>8}")
     with tempfile.TemporaryDirectory() as folder:
         path = os.path.join(folder, "bodies")
@@ -159,7 +162,9 @@ def main():
             built[build] = program
             if options.count:
                 more = instructions(program, 3, path, way) - instructions(program, 1, path, way)
-                print(f"{name:8} {more / 2 / sum(map(len, pool)):20.1f}")
+                a_byte = more / 2 / sum(map(len, pool))
+                print(f"{name:8} {a_byte:20.1f}")
+                record.row(name, round(a_byte, 1))
                 continue
             times = []
             for _ in range(3):
@@ -169,6 +174,9 @@ def main():
                 assert spans in (None, count), (name, spans, count)
                 spans = count
             print(f"{name:8} {min(times):8.3f} {size / min(times):8.1f}")
+            record.row(name, round(size / min(times)))
+    if not options.only:
+        record.save()
 
 
 if __name__ == "__main__":

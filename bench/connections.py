@@ -187,10 +187,10 @@ def slow_readers(options):
 
 def main():
     asked = asked_of(__doc__)
-    asked.add_argument("--senders", type=int, default=1000)
-    asked.add_argument("--silent", type=int, default=10000)
-    asked.add_argument("--slow", type=int, default=1000)
-    asked.add_argument("--seconds", type=float, default=10)
+    asked.add_argument("--senders", type=int, default=1000, help="connections of `senders` and of `parked`")
+    asked.add_argument("--silent", type=int, default=10000, help="connections of `silent`")
+    asked.add_argument("--slow", type=int, default=1000, help="slow clients")
+    asked.add_argument("--seconds", type=float, default=10, help="how long the senders send")
     asked.add_argument("--only", default="", help="the parts whose name has this word")
     options = asked.parse_args()
     most = resource.getrlimit(resource.RLIMIT_NOFILE)[1]

@@ -1,7 +1,7 @@
 #!/usr/bin/env python3
 """What two copies of the store cost beside the store of one thread, in one run on one machine; bench/README.md says how.
 
-    bench/copies.py [--bin PATH | --folder PATH] [--sizes 1000,10000,100000] [--timed 100] [--rounds 9] [--spread]
+    bench/copies.py [--bin PATH | --folder PATH] [--sizes 1000,10000,100000] [--timed 100] [--rounds 9] [--spread] [--save KIND]
 
 Each row is a process of its own, one after the other:
 
@@ -25,8 +25,9 @@ import sys
 import tempfile
 
 from decode import SERVICES, span
+from results import Record, asked_of
 import wire
-from crates import ROOT, asked_of, below, lists
+from crates import ROOT, below, lists
 
 IN_BATCH = 10
 KINDS = ["one", "copies", "beside", "still"]
@@ -546,11 +547,15 @@ def load():
         return file.read().split()[0]
 
 
+def rounded(value):
+    return round(value) if value >= 100 else round(value, 1 if value >= 2 else 3)
+
+
 def cell(values, spread):
     """The median of the rounds, and where it is asked for the least and the most."""
     if not values:
         return "-"
-    shown = [f"{value:,.0f}" if value >= 100 else f"{value:.1f}" if value >= 2 else f"{value:.3f}" for value in (statistics.median(values), min(values), max(values))]
+    shown = [f"{rounded(value):,}" for value in (statistics.median(values), min(values), max(values))]
     return f"{shown[0]} ({shown[1]}..{shown[2]})" if spread else shown[0]
 
 
@@ -560,10 +565,11 @@ def main():
     asked.add_argument("--folder", help="where the program is built, and stays")
     asked.add_argument("--sizes", default="1000,10000,100000", help="spans held")
     asked.add_argument("--timed", type=int, default=100, help="batches that are timed")
-    asked.add_argument("--rounds", type=int, default=9)
+    asked.add_argument("--rounds", type=int, default=9, help="of which the medians are printed")
     asked.add_argument("--spread", action="store_true", help="the least and the most of the rounds too")
     options = asked.parse_args()
     columns = ["admits/s", "of one", "admit p50", "admit p99", "reads/s", "read p50", "read p99"]
+    record = Record(options, "copies", ["spans held", "who", *columns])
     with tempfile.TemporaryDirectory() as folder:
         program = built(options, folder, "copies_times", DEPS, {"src/main.rt": MAIN, "proofs/timed_copies/Invariants.antt": GHOSTS})
         print(f"load at the start {load()}; times in microseconds; medians of {options.rounds} rounds")
@@ -581,8 +587,11 @@ def main():
                 for kind in KINDS[1:3]:
                     one[kind]["of one"] = one[kind]["admits/s"] / one["one"]["admits/s"]
             for kind in KINDS:
-                cells = [cell([one[kind][name] for one in rounds if name in one[kind]], options.spread) for name in columns]
+                found = [[one[kind][name] for one in rounds if name in one[kind]] for name in columns]
+                cells = [cell(values, options.spread) for values in found]
                 print(f"| {size:,} | {NAMES[kind]} | " + " | ".join(cells) + " |", flush=True)
+                record.row(size, NAMES[kind], *(rounded(statistics.median(values)) if values else None for values in found))
+        record.save()
         print(f"load at the end {load()}")
 
 

@@ -5,19 +5,17 @@ Each size is one run of the built program on its own input: realistic batches of
 5 to 15 tags each, as lines of hexadecimal text. The trace asked for is none of them, so that what is
 timed is reading, decoding and keeping.
 
-    bench/decode.py [--bin PATH] [--sizes 1,10,100] [--keep]
+    bench/decode.py [--bin PATH] [--sizes 1,10,100] [--keep] [--save KIND]
 """
 import os
 import random
 import re
 import struct
 import subprocess
-import sys
 import tempfile
 import time
 
-sys.path.append(os.path.join(os.path.dirname(os.path.dirname(os.path.abspath(__file__))), "checks"))
-from crates import asked_of
+from results import Record, asked_of
 import wire
 from wire import field, text
 
@@ -69,6 +67,7 @@ def main():
     asked.add_argument("--sizes", default="1,10,100", help="megabytes of decoded bytes")
     asked.add_argument("--keep", action="store_true", help="keep every batch (the program's limits are raised)")
     options = asked.parse_args()
+    record = Record(options, "decode", ["megabytes", "batches", "seconds", "batches a second", "megabytes a second"])
     rng = random.Random(1)
     pool = [batch(rng) for _ in range(400)]
     lines = [b.hex().encode() + b"\n" for b in pool]
@@ -92,6 +91,8 @@ def main():
                 best = seconds if best is None else min(best, seconds)
             mb = total / 1_000_000
             print(f"{mb:7.1f}M {bodies:8} {best:8.3f} {bodies / best:10.0f} {mb / best:8.1f} {best / mb:9.5f}")
+            record.row(size, bodies, round(best, 3), round(bodies / best), round(mb / best, 1))
+    record.save()
 
 
 if __name__ == "__main__":

@@ -9,7 +9,7 @@ session in which nothing is sent; with `--count` its instructions stand in their
 counts and which are the same on a busy machine (Debian: `valgrind`). Memory is the program's greatest resident size,
 less that of the same.
 
-    bench/heavy.py [--bin PATH] [--runs 3] [--parts 1000] [--count] [SHAPE..]
+    bench/heavy.py [--bin PATH] [--runs 3] [--parts 1000] [--count] [--save KIND] [SHAPE..]
 """
 import json
 import os
@@ -17,7 +17,8 @@ import subprocess
 import tempfile
 import time
 
-from decode import asked_of, counted
+from decode import counted
+from results import Record, asked_of
 import wire
 from wire import get, integer, long, post, structs, text_tag
 
@@ -228,14 +229,17 @@ def instructions(binary, requests):
 
 def main():
     words = asked_of(__doc__)
-    words.add_argument("--runs", type=int, default=3)
+    words.add_argument("--runs", type=int, default=3, help="of which the least is printed")
     words.add_argument("--parts", type=int, default=1000, help="how many parts the whole has")
     words.add_argument("--count", action="store_true", help="count instructions in place of seconds, in millions")
     words.add_argument("shapes", nargs="*", help="words of the shapes to run; all where none is given")
     options = words.parse_args()
+    record = Record(options, "heavy", ["body, then what is asked", "MB in", "MB out", "million instructions, half", "whole", "ratio", "MB of memory, half",
+                                       "whole", "ratio", "of bytes in and out"])
     runner = Runner()
     rest = least(runner, options.bin, [], options)
-    print(f"{'':45} {'MB in':>6} {'MB out':>7} {'instructions' if options.count else 'seconds':>16} {'ratio':>6} {'MB of memory':>15} {'ratio':>6} {'of bytes':>8}")
+    unit = "instructions" if options.count else "seconds"
+    print(f"{'':45} {'MB in':>6} {'MB out':>7} {unit:>16} {'ratio':>6} {'MB of memory':>15} {'ratio':>6} {'of bytes':>8}")
     for name, shape in SHAPES.items():
         if options.shapes and not any(word in name for word in options.shapes):
             continue
@@ -251,8 +255,14 @@ def main():
         if len(seen) < 2:
             continue
         half, whole = seen
-        print(f"{name:45} {whole[2]:6.2f} {whole[3]:7.2f} {half[0]:7.2f}, {whole[0]:7.2f} {whole[0] / max(half[0], 1e-3):6.1f}"
-              f" {half[1]:6.1f}, {whole[1]:7.1f} {whole[1] / max(half[1], 1e-3):6.1f} {whole[1] / (whole[2] + whole[3]):8.1f}", flush=True)
+        ratios = [whole[at] / max(half[at], 1e-3) for at in (0, 1)]
+        of_bytes = whole[1] / (whole[2] + whole[3])
+        print(f"{name:45} {whole[2]:6.2f} {whole[3]:7.2f} {half[0]:7.2f}, {whole[0]:7.2f} {ratios[0]:6.1f}"
+              f" {half[1]:6.1f}, {whole[1]:7.1f} {ratios[1]:6.1f} {of_bytes:8.1f}", flush=True)
+        record.row(name, round(whole[2], 2), round(whole[3], 2), round(half[0]), round(whole[0]), round(ratios[0], 1), round(half[1], 1), round(whole[1], 1),
+                   round(ratios[1], 1), round(of_bytes, 1))
+    if options.count and not options.shapes:
+        record.save()
 
 
 if __name__ == "__main__":

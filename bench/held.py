@@ -6,13 +6,13 @@ other. Printed are the longest and the middle time of a POST while nobody asks a
 The first shapes are bodies that a sender may pick so that two parts of them multiply; of these the whole and half of the parts are
 posted, and sizes are the megabytes posted. The last ones are plain stores of so many spans.
 
-    bench/held.py [--bin PATH] [--parts 1000] [--spans 100000] [--asks 5] [SHAPE..]
+    bench/held.py [--bin PATH] [--parts 1000] [--spans 100000] [--asks 5] [--save KIND] [SHAPE..]
 """
 import statistics
 import threading
 import time
 
-from decode import asked_of
+from results import Record, asked_of
 from servers import Client, Server, check, get, post, post_body
 import wire
 
@@ -173,9 +173,10 @@ def filled(program, words, bodies):
     return server, sent
 
 
-def said(name, size, server, query, asks):
+def said(record, name, size, server, query, asks):
     alone, longest, took = beside(server, query, asks)
-    print(f"{name}\t{size}\t{alone[0]:.1f} ({alone[1]:.2f})\t{longest[0]:.1f} ({longest[1]:.2f})\t{took:.1f}", flush=True)
+    record.row(name, *size, round(alone[0], 1), round(alone[1], 2), round(longest[0], 1), round(longest[1], 2), round(took, 1))
+    print(f"{name}\t{size[0]} {size[1]}\t{alone[0]:.1f} ({alone[1]:.2f})\t{longest[0]:.1f} ({longest[1]:.2f})\t{took:.1f}", flush=True)
 
 
 def main():
@@ -185,6 +186,7 @@ def main():
     words.add_argument("--asks", type=int, default=5, help="how often each query is asked")
     words.add_argument("shapes", nargs="*", help="words of the shapes to run; all where none is given")
     options = words.parse_args()
+    record = Record(options, "held", ["shape", "size", "unit", "POST alone, ms, longest", "middle", "beside, ms, longest", "middle", "query, ms, longest"])
     chosen = lambda name: not options.shapes or any(word in name for word in options.shapes)
     print("shape\tsent or held\tPOST alone, ms: longest (middle)\tbeside the query\tthe query, ms: longest")
     for name, shape in SHAPES.items():
@@ -193,13 +195,15 @@ def main():
                 more, bodies, query = shape(n)
                 server, sent = filled(options.bin, more, bodies)
                 with server:
-                    said(name, f"{sent / 1e6:.2f} MB", server, query, options.asks)
+                    said(record, name, (round(sent / 1e6, 2), "MB"), server, query, options.asks)
     if any(chosen(name) for name in PLAIN):
         server, _ = filled(options.bin, [], plain_bodies(options.spans))
         with server:
             for name, query in PLAIN.items():
                 if chosen(name):
-                    said(name, f"{options.spans} spans", server, query, options.asks)
+                    said(record, name, (options.spans, "spans"), server, query, options.asks)
+    if not options.shapes:
+        record.save()
 
 
 if __name__ == "__main__":

@@ -9,13 +9,13 @@ kind. What is timed is from the first byte of the request to the last byte of it
   one half   ids that differ in their upper half alone
   colliding  ids that all have one hash under `std::collections::HashMap` of the kit, which has no key
 
-    bench/ids.py [--bin PATH] [--traces 20000] [--rounds 3]
+    bench/ids.py [--bin PATH] [--traces 20000] [--rounds 3] [--save KIND]
 
 The column `of random` is the ratio of the best times.
 """
 import random
 
-from decode import asked_of
+from results import Record, asked_of
 from session import Session
 import wire
 
@@ -59,15 +59,18 @@ def measure(binary, sent):
 
 def main():
     asked = asked_of(__doc__)
-    asked.add_argument("--traces", type=int, default=20_000)
-    asked.add_argument("--rounds", type=int, default=3)
+    asked.add_argument("--traces", type=int, default=20_000, help="in the body")
+    asked.add_argument("--rounds", type=int, default=3, help="of which the best is printed")
     words = asked.parse_args()
     kinds = ["random", "counted", "one half", "colliding"]
     bodies = {kind: body(ids_of(kind, words.traces)) for kind in kinds}
     best = {kind: min(measure(words.bin, bodies[kind]) for _ in range(words.rounds)) for kind in kinds}
     print("%d traces of one span in a body of %d bytes" % (words.traces, len(bodies["random"])))
+    record = Record(words, "ids", ["ids", "ms", "of random"])
     for kind in kinds:
         print("%-10s %8.1f ms, %6.2f of random" % (kind, best[kind] * 1e3, best[kind] / best["random"]))
+        record.row(kind, round(best[kind] * 1e3, 1), round(best[kind] / best["random"], 2))
+    record.save()
 
 
 if __name__ == "__main__":

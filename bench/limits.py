@@ -5,11 +5,12 @@ Each size is a run of the built program, `jaeger_one play`, on a script that put
 ten traces to a batch; then the same with limits of 10 and of none in turn behind it. The first limit hides all
 traces but ten, and the others have nothing to do. Times are processor time of the program, the least of some runs.
 
-    bench/limits.py [--bin PATH] [--sizes 1000,10000,100000] [--limits 100000] [--runs 5]
+    bench/limits.py [--bin PATH] [--sizes 1000,10000,100000] [--limits 100000] [--runs 5] [--save KIND]
 """
 import random
 
-from decode import asked_of, span
+from decode import span
+from results import Record, asked_of
 from store import IN_BATCH, seconds_over
 import wire
 
@@ -37,9 +38,10 @@ def run(program, size, limits, runs):
 def main():
     asked = asked_of(__doc__)
     asked.add_argument("--sizes", default="1000,10000,100000", help="traces held")
-    asked.add_argument("--limits", type=int, default=100_000)
-    asked.add_argument("--runs", type=int, default=5)
+    asked.add_argument("--limits", type=int, default=100_000, help="how many limits the script has")
+    asked.add_argument("--runs", type=int, default=5, help="of which the least is taken")
     options = asked.parse_args()
+    record = Record(options, "limits", ["traces held", "microseconds a limit"])
     print(f"{'traces':>8} {'seconds':>8} {'with the first limit':>21} {'with all':>9} {'us a limit':>11}")
     for size in [int(s) for s in options.sizes.split(",")]:
         without = run(options.bin, size, 0, options.runs)
@@ -47,6 +49,8 @@ def main():
         all_of_them = run(options.bin, size, options.limits, options.runs)
         each = (all_of_them - one) / (options.limits - 1) * 1e6
         print(f"{size:>8} {without:>8.3f} {one:>21.3f} {all_of_them:>9.3f} {each:>11.2f}")
+        record.row(size, round(each, 1))
+    record.save()
 
 
 if __name__ == "__main__":

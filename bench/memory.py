@@ -9,18 +9,24 @@ that stands what is taken while a search for all traces is answered: by how much
 With `--process-tags` each process has the tags that Jaeger's clients send: host name, address, version and an id of its own.
 `--connections` is how many connections take turns, batch by batch; each has a process of its own.
 
+With `--most` the bodies are the worst that were found for each byte sent: spans of nothing but tags of an empty key and no value.
+
     bench/memory.py [--bin PATH] [--sizes 0,10000,100000] [--tags 1,5] [--in-batch 10] [--connections 1] [--process-tags]
+                    [--most] [--save KIND]
 """
 import http.client
 import itertools
 import random
 import socket
 
-from decode import asked_of, span
+from decode import span
+from results import Record, asked_of
 from serve import started
 import wire
 
 AT_ONCE = 20
+COLUMNS = ["spans held", "tags a span", "MB in", "MB held", "bytes a span", "MB of the answer", "MB more for it"]
+COLUMNS_OF_PROCESSES = ["tags a span", "spans a batch", "connections", "MB in", "MB held", "bytes a span", "of the bytes in", "MB more for the answer"]
 
 
 def tags_of_process(number):
@@ -77,6 +83,26 @@ def answered(server):
     return size, (server.peak() - before) * 1024
 
 
+def most(options, batches=100, tags=8192):
+    """What a server takes for batches of one span that has nothing but empty tags, beside an empty one."""
+    empty_tag = wire.field(wire.TEXT, 1) + wire.text("") + wire.integer(2, 0) + b"\0"
+    record = Record(options, "memory, most", ["what", "batches", "tags a span", "MB in", "MB more than empty", "of the bytes in"])
+    with started(options.bin, 2) as server, socket.create_connection(("127.0.0.1", server.port)) as client:
+        client.sendall(wire.get("/api/services"))
+        client.recv(65536)
+        before, sent = server.peak(), 0
+        for number in range(1, batches + 1):
+            body = wire.batch("a", [wire.span(number, 1, more=wire.structs(10, [empty_tag] * tags))])
+            client.sendall(wire.post(body))
+            read_accepted(client, 1)
+            sent += len(body)
+        more = (server.peak() - before) * 1024
+    print(f"{batches} batches of one span with {tags} empty tags: {sent / 1e6:.1f} MB, {more / 1e6:.1f} MB more, {more / sent:.2f} of the bytes in")
+    what = "spans of nothing but tags of an empty key and no value"
+    record.row(what, batches, tags, round(sent / 1e6, 1), round(more / 1e6, 1), round(more / sent, 2))
+    record.save()
+
+
 def numbers(text):
     return [int(number) for number in text.split(",")]
 
@@ -88,7 +114,11 @@ def main():
     asked.add_argument("--in-batch", default="10", help="spans a batch")
     asked.add_argument("--connections", default="1", help="connections that take turns, 250 at most")
     asked.add_argument("--process-tags", action="store_true", help="each process has four tags")
+    asked.add_argument("--most", action="store_true", help="the worst bodies that were found, and nothing else")
     options = asked.parse_args()
+    if options.most:
+        return most(options)
+    record = Record(options, *(("memory --process-tags", COLUMNS_OF_PROCESSES) if options.process_tags else ("memory", COLUMNS)))
     print(f"{'tags':>5} {'a batch':>8} {'conns':>6} {'spans':>9} {'MB in':>7} {'MB held':>8} {'bytes a span':>13} {'of bytes in':>12} "
           f"{'MB answer':>10} {'MB more':>8}")
     rows = itertools.product(*map(numbers, (options.tags, options.in_batch, options.connections, options.sizes)))
@@ -100,6 +130,12 @@ def main():
         per = f"{held / size:13.0f} {held / sent:12.2f}" if size else f"{'-':>13} {'-':>12}"
         print(f"{tags:>5} {in_batch:>8} {connections:>6} {size:>9} {sent / 1e6:>7.1f} {held / 1e6:>8.1f} {per} {answer / 1e6:>10.1f} "
               f"{more / 1e6:>8.1f}", flush=True)
+        each = [round(sent / 1e6, 1), round(held / 1e6, 1), round(held / size) if size else None]
+        if options.process_tags:
+            record.row(tags, in_batch, connections, *each, round(held / sent, 2) if sent else None, round(more / 1e6, 1))
+        else:
+            record.row(size, tags, *each, round(answer / 1e6, 1), round(more / 1e6, 1))
+    record.save()
 
 
 if __name__ == "__main__":

@@ -10,11 +10,11 @@ Each row is a run of the built program, `jaeger_one play`, on a script that hand
 once with the numbers and once without them. With numbers, 'again' stores one batch. Times are processor time of the
 program, the least of some runs, less those of a script in which nothing is handed in.
 
-    bench/resent.py [--bin PATH] [--sizes 1000,10000,100000] [--runs 5]
+    bench/resent.py [--bin PATH] [--sizes 1000,10000,100000] [--runs 5] [--save KIND]
 """
 
-from decode import asked_of
 from heavy import span
+from results import Record, asked_of
 from store import seconds_over
 import wire
 from wire import field, integer, long, text, text_tag
@@ -56,15 +56,19 @@ def run(program, way, size, is_numbered, runs):
 def main():
     asked = asked_of(__doc__)
     asked.add_argument("--sizes", default="1000,10000,100000", help="batches handed in, 131,072 at most")
-    asked.add_argument("--runs", type=int, default=5)
+    asked.add_argument("--runs", type=int, default=5, help="of which the least is taken")
     options = asked.parse_args()
+    record = Record(options, "resent", ["what", "batches", "microseconds a batch more"])
     empty = run(options.bin, "again", 0, False, options.runs)
     print(f"{'':>12} {'batches':>8} {'without':>8} {'with':>8} {'us a batch more':>16}")
     for way in WAYS:
         for size in [int(s) for s in options.sizes.split(",")]:
             without = run(options.bin, way, size, False, options.runs) - empty
             numbered = run(options.bin, way, size, True, options.runs) - empty
-            print(f"{way:>12} {size:>8} {without:>8.3f} {numbered:>8.3f} {(numbered - without) / size * 1e6:>16.2f}")
+            more = (numbered - without) / size * 1e6
+            print(f"{way:>12} {size:>8} {without:>8.3f} {numbered:>8.3f} {more:>16.2f}")
+            record.row(way, size, round(more, 1))
+    record.save()
 
 
 if __name__ == "__main__":

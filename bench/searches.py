@@ -1,7 +1,7 @@
 #!/usr/bin/env python3
 """What searches, dependencies and applying cost, beside a plain scan over the same data, in one run on one machine.
 
-    bench/searches.py [--bin PATH | --folder PATH] [--spans 100000] [--rounds 15] [--load | --count]
+    bench/searches.py [--bin PATH | --folder PATH] [--spans 100000] [--rounds 15] [--load | --count] [--save KIND]
 
 Traces of 10 to 50 spans, each span with 5 to 15 tags, are handed in by batches of up to 10 spans of one service, the traces mixed in time. Then each
 question is asked in turn by two programs, each a process of its own:
@@ -11,7 +11,8 @@ question is asked in turn by two programs, each a process of its own:
   scan   bench/compare/scan.rs, plain Rust without proofs: a list of batches that each question walks over from the front
 
 The bodies are the same, and so are the answers: the script compares how many traces or links each program found. A time is that of the
-machine's monotonic clock around one question, the least of the rounds, in milliseconds. `with JSON` has the JSON of the answer. With `--load` it
+machine's monotonic clock around one question, the least of the rounds, in milliseconds; `times as fast` is how often the store's goes into the
+scan's. `with JSON` has the JSON of the answer. With `--load` it
 prints what applying costs by number of spans held instead: microseconds a batch of 10 spans, the median of the last 200. With `--count` it prints
 how many instructions the JSON of 20 traces takes a byte, of a tenth of the spans, as callgrind counts them (Debian: valgrind): those of the
 question with its JSON, without those of the same question alone.
@@ -25,7 +26,8 @@ import tempfile
 
 from compare import FASTEST, instructions
 from copies import BODIES, ENTRY_OF, NOW, SPLIT_BODY, built, load
-from decode import asked_of, span
+from decode import span
+from results import Record, asked_of
 import wire
 from servers import rust_program
 
@@ -282,8 +284,8 @@ def main():
     asked = asked_of(__doc__, None)
     asked.add_argument("--bin", help="a program that was built by this script")
     asked.add_argument("--folder", help="where the program is built, and stays")
-    asked.add_argument("--spans", type=int, default=100_000)
-    asked.add_argument("--rounds", type=int, default=15)
+    asked.add_argument("--spans", type=int, default=100_000, help="how many spans are held")
+    asked.add_argument("--rounds", type=int, default=15, help="of which the least is printed")
     asked.add_argument("--load", action="store_true", help="what applying costs")
     asked.add_argument("--count", action="store_true", help="the instructions that JSON takes")
     options = asked.parse_args()
@@ -292,26 +294,36 @@ def main():
         path = os.path.join(folder, "bodies")
         print(f"load at the start {load()}")
         if options.load:
+            record = Record(options, "searches --load", ["spans held", "microseconds a batch"])
             for size in (1000, 10_000, 100_000, 1_000_000):
                 write_bodies(random.Random(1), path, size)
                 times, _ = ask(program, path, 0, 0)
-                print(f"{size:>9} spans: {statistics.median(times['apply'][-200:]) / 1000:8.2f} us a batch", flush=True)
+                taken = statistics.median(times["apply"][-200:]) / 1000
+                print(f"{size:>9} spans: {taken:8.2f} us a batch", flush=True)
+                record.row(size, round(taken, 1))
+            record.save()
             return
         if options.count:
             end_ms = write_bodies(random.Random(1), path, options.spans // 10)
             taken, size = count(program, path, end_ms)
             print(f"JSON of 20 traces: {size:,} bytes, {taken / size:.1f} instructions a byte")
+            record = Record(options, "searches --count", ["what", "instructions a byte"])
+            record.row("the JSON of 20 traces", round(taken / size, 1))
+            record.save()
             return
         end_ms = write_bodies(random.Random(1), path, options.spans)
         store, in_store = ask(program, path, options.rounds, end_ms)
         scan, in_scan = ask(rust_program(folder, "bench/compare/scan.rs", FASTEST), path, options.rounds, end_ms)
         print(f"{options.spans:,} spans; milliseconds, the least of {options.rounds}")
-        print("| Question | found | store | scan | store of scan |")
+        print("| Question | found | store | scan | times as fast |")
         print("|---|---|---|---|---|")
+        record = Record(options, "searches", ["question", "found", "store, ms", "scan, ms"], peers=f"rustc {FASTEST}")
         for number, name in enumerate(QUESTIONS):
             assert in_store[number] == in_scan[number], (name, in_store[number], in_scan[number])
             one, other = store[number] / 1e6, scan[number] / 1e6
-            print(f"| {name} | {in_store[number]} | {one:.4f} | {other:.4f} | {one / other:.3f} |")
+            print(f"| {name} | {in_store[number]} | {one:.4f} | {other:.4f} | {other / one:,.1f} |")
+            record.row(name, in_store[number], round(one, 4), round(other, 4))
+        record.save()
         print(f"load at the end {load()}")
 
 

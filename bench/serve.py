@@ -1,7 +1,7 @@
 #!/usr/bin/env python3
 """What `jaeger_one serve` takes and answers over loopback, beside a plain scanning server; bench/README.md says how.
 
-    bench/serve.py [--bin PATH] [--sizes 1000,10000,100000] [--seconds 0.6] [--rounds 3] [--only ours|plain]
+    bench/serve.py [--bin PATH] [--sizes 1000,10000,100000] [--seconds 0.6] [--rounds 3] [--only ours|plain] [--itself] [--save KIND]
 
   spans a second    1, 2, 4 and 8 writers at full speed, each of which waits for the 202 of a batch of 10 spans
   beside readers    the same beside two readers of traces by their ids at full speed, and how long a POST takes then
@@ -13,8 +13,9 @@
   processor time    of the server a span, beside the spans a second
   left alone        processor time of `jaeger_one` in ten seconds after 1,000 spans, with nobody connected
 
-A figure is the median of the rounds. A ratio is that of the two medians, and behind it stand the least and the most of the
-rounds' own ratios.
+A figure is the median of the rounds. `times as good` is how many times as good `jaeger_one` is: of rates the ratio of the two
+medians, of times and of memory its inverse; behind it stand the least and the most of the rounds' own ones. With `--itself` the plain server is
+measured in the place of `jaeger_one` too: what differs then is noise.
 """
 import os
 import statistics
@@ -24,7 +25,7 @@ import tempfile
 import time
 import urllib.request
 
-from decode import asked_of
+from results import Record, asked_of
 from servers import Failed, Server, rust_program
 
 LIMITS = ["--queue", "256", "--batches", "1000000", "--spans", "10000000"]
@@ -32,6 +33,8 @@ SEARCH = "/api/traces?service=orders&limit=20"
 AT_MOST = 290
 SERVERS = ["ours", "plain"]
 NAMES = {"ours": "jaeger_one", "plain": "plain server"}
+COLUMNS = ["what", "writers", "spans held", "jaeger_one", "plain server"]
+MORE_IS_BETTER = {"rate", "reads", "held"}
 
 
 def first_trace():
@@ -107,64 +110,109 @@ class Bench:
         return [{name: self.measure(name, *words, **more) for name in order} for order in orders]
 
 
-def row(title, found, key, form):
-    cells, middles = [], []
-    for name in SERVERS:
-        values = [each[name][key] for each in found if key in each[name]]
-        middles.append(statistics.median(values) if values else None)
-        cells.append(format(middles[-1], form) if values else "-")
-    ratio = "-"
-    if all(middles):
-        ratios = [each["ours"][key] / each["plain"][key] for each in found if each["ours"].get(key) and each["plain"].get(key)]
-        ratio = f"{middles[0] / middles[1]:.2f} ({min(ratios):.2f} to {max(ratios):.2f})" if ratios else "-"
-    print(f"{'':9} {title:58} {cells[0]:>12} {cells[1]:>13}   {ratio}", flush=True)
+class Table:
+    """Prints the rows of a table, and records those that have a name."""
+
+    def __init__(self, record, size):
+        self.record = record
+        self.size = size
+
+    def row(self, title, found, key, form, recorded=None):
+        """The medians of a figure, and how many times as good ours is; `recorded` has the name of the row and the number of writers."""
+        middles = {}
+        for name in SERVERS:
+            values = [each[name][key] for each in found if key in each[name]]
+            middles[name] = statistics.median(values) if values else None
+        cells = ["-" if middle is None else format(middle, form) for middle in middles.values()]
+        ratio = "-"
+        if all(middles.values()):
+            ratios = [times_as_good(key, each["ours"][key], each["plain"][key]) for each in found if each["ours"].get(key) and each["plain"].get(key)]
+            ratio = f"{times_as_good(key, *middles.values()):.2f} ({min(ratios):.2f} to {max(ratios):.2f})" if ratios else "-"
+        print(f"{'':9} {title:58} {cells[0]:>12} {cells[1]:>13}   {ratio}", flush=True)
+        if recorded:
+            self.record.row(*recorded, self.size, *(None if it is None else rounded(it) for it in middles.values()))
 
 
-def table(bench, sizes):
-    print(f"{'held':>9} {'':58} {NAMES['ours']:>12} {NAMES['plain']:>13}   ratio (rounds)")
+def rounded(value):
+    """A figure with three significant digits."""
+    value = float(f"{value:.3g}")
+    return int(value) if value >= 100 else value
+
+
+def times_as_good(key, ours, plain):
+    return ours / plain if key in MORE_IS_BETTER else plain / ours
+
+
+def table(bench, sizes, record):
+    print(f"{'held':>9} {'':58} {NAMES['ours']:>12} {NAMES['plain']:>13}   times as good (rounds)")
     for size in sizes:
         print(f"{size:9,}", flush=True)
-        for writers in (1, 2, 4, 8):
-            found = bench.both(size, writers)
-            row(f"spans a second, writers: {writers}", found, "rate", ",.0f")
-            row("   processor time a span, us", found, "processor", ".2f")
-        for writers in (1, 2, 4, 8):
-            found = bench.both(size, writers, readers=2)
-            row(f"spans a second beside two readers of traces, writers: {writers}", found, "rate", ",.0f")
-            row("   a POST: p99, ms", found, "posts_p99", ".3f")
-        for title, target in (("a trace by its id", None), ("20 traces of the service", SEARCH)):
-            found = bench.both(size, 0, readers=1, target=target, seconds=bench.seconds)
-            row(f"{title}, nobody writing: processor time, us", found, "processor", ",.0f")
-            row("   p50, ms", found, "p50", ".3f")
-        for title, pace in (("beside 4 writers, paced", 25), ("beside 4 writers at full speed", 0)):
-            found = bench.both(size, 4, readers=1, pace=pace, seconds=2 * bench.seconds)
-            row(f"a trace by its id, {title}: p50, ms", found, "p50", ".3f")
-            row("   p99, ms", found, "p99", ".3f")
-            row("   reads", found, "reads", ",.0f")
-            row("   spans a second, written beside", found, "rate", ",.0f")
-            row("   spans held at the end", found, "held", ",.0f")
-            row("   peak memory, MB", found, "peak", ",.0f")
+        rows = Table(record, size)
+        written_alone(bench, size, rows)
+        beside_readers(bench, size, rows)
+        read_alone(bench, size, rows)
+        read_beside(bench, size, rows)
+
+
+def written_alone(bench, size, rows):
+    for writers in (1, 2, 4, 8):
+        found = bench.both(size, writers)
+        rows.row(f"spans a second, writers: {writers}", found, "rate", ",.0f", ("spans a second", writers))
+        rows.row("   processor time a span, us", found, "processor", ".2f", ("processor time a span, microseconds", writers))
+
+
+def beside_readers(bench, size, rows):
+    for writers in (1, 2, 4, 8):
+        found = bench.both(size, writers, readers=2)
+        rows.row(f"spans a second beside two readers of traces, writers: {writers}", found, "rate", ",.0f", ("spans a second beside two readers", writers))
+        rows.row("   a POST: p99, ms", found, "posts_p99", ".3f", ("a POST beside two readers, p99, ms", writers))
+
+
+def read_alone(bench, size, rows):
+    for title, target in (("a trace by its id", None), ("20 traces of the service", SEARCH)):
+        found = bench.both(size, 0, readers=1, target=target, seconds=bench.seconds)
+        name = f"{title}, nobody writing: processor time, microseconds"
+        rows.row(f"{title}, nobody writing: processor time, us", found, "processor", ",.0f", (name, 0))
+        rows.row("   p50, ms", found, "p50", ".3f")
+
+
+def read_beside(bench, size, rows):
+    for title, pace in (("paced", 25), ("at full speed", 0)):
+        found = bench.both(size, 4, readers=1, pace=pace, seconds=2 * bench.seconds)
+        name = f"a trace by its id beside 4 writers {title}"
+        rows.row(f"{name}: p50, ms", found, "p50", ".3f", (f"{name}: p50, ms", 4))
+        rows.row("   p99, ms", found, "p99", ".3f", (f"{name}: p99, ms", 4))
+        rows.row("   reads", found, "reads", ",.0f")
+        written = None if pace else ("spans a second, written beside one reader at full speed", 4)
+        rows.row("   spans a second, written beside", found, "rate", ",.0f", written)
+        rows.row("   spans held at the end", found, "held", ",.0f")
+        rows.row("   peak memory, MB", found, "peak", ",.0f")
 
 
 def main():
     asked = asked_of(__doc__)
     asked.add_argument("--sizes", default="1000,10000,100000", help="spans held")
     asked.add_argument("--seconds", type=float, default=0.6, help="of each writing; a reading takes twice as long")
-    asked.add_argument("--rounds", type=int, default=3)
-    asked.add_argument("--only", choices=SERVERS)
+    asked.add_argument("--rounds", type=int, default=3, help="of which the medians are printed")
+    asked.add_argument("--only", choices=SERVERS, help="one of the two servers")
+    asked.add_argument("--itself", action="store_true", help="measure the plain server against itself, which shows the noise")
     options = asked.parse_args()
+    record = Record(options, "serve, itself" if options.itself else "serve", COLUMNS, peers="rustc -O")
     with tempfile.TemporaryDirectory() as folder:
         programs = {"ours": options.bin, "plain": rust_program(folder, "bench/plain_server.rs")}
+        if options.itself:
+            programs["ours"] = programs["plain"]
+            NAMES["ours"] = "the same"
         if options.only:
             programs = {options.only: programs[options.only]}
-        if "ours" in programs and not os.path.exists(options.bin):
+        if "ours" in programs and not os.path.exists(programs["ours"]):
             print(f"{options.bin} is not there, so the plain server stands alone")
             del programs["ours"]
         cores = len(os.sched_getaffinity(0))
         print(f"{cores} cores, load {os.getloadavg()[0]:.1f} at the start; batches of 10 spans, 8 tags each")
         bench = Bench(programs, rust_program(folder, "bench/load.rs"), options.seconds, options.rounds)
-        table(bench, [int(size) for size in options.sizes.split(",")])
-        if "ours" in programs:
+        table(bench, [int(size) for size in options.sizes.split(",")], record)
+        if "ours" in programs and not options.itself:
             print(f"Left alone for ten seconds: {bench.left_alone():.2f} s of a processor")
     if len(bench.shown) == 2:
         ours, plain = bench.shown["ours"], bench.shown["plain"]
@@ -172,6 +220,8 @@ def main():
         print(f"One trace as both answer it: {same}, {len(ours[0])} and {len(plain[0])} bytes; 20 traces: {len(ours[1])} and {len(plain[1])}")
     for fault in bench.faults:
         print("FAILED", fault)
+    if not bench.faults:
+        record.save()
     sys.exit(1 if bench.faults else 0)
 
 

@@ -6,13 +6,14 @@ held, then each kind of question is asked in turn, and again. Every hundredth ba
 `rare`, the others of `common`; a trace is the spans of one batch, the child spans of each called from
 the next. What is timed is from the first byte of a group of requests to the last byte of its answers.
 
-    bench/session.py [--bin PATH] [--sizes 1000,10000,100000] [--asks 20]
+    bench/session.py [--bin PATH] [--sizes 1000,10000,100000] [--asks 20] [--save KIND]
 """
 import random
 import subprocess
 import time
 
-from decode import asked_of, span
+from decode import span
+from results import Record, asked_of
 import wire
 from wire import get, post
 
@@ -57,13 +58,14 @@ class Session:
         return time.perf_counter() - begin, length
 
 
-def measure(binary, size, asks):
+def measure(binary, size, asks, record):
     rng = random.Random(7)
     count = size // IN_BATCH
     posts = [post(batch(rng, n + 1, "rare" if n % EVERY == 0 else "common")) for n in range(count)]
     session = Session([binary, "pipe", "--batches", "1000000", "--spans", "10000000"])
     took, _ = session.ask(posts)
     print("%8d spans held: %9.0f posts a second, %7.2f us a span" % (size, count / took, took / size * 1e6))
+    record.row("posts a second", size, round(count / took))
     first = ((count - 1) // EVERY * EVERY) + 1
     questions = [
         ("a trace by its id", "/api/traces/%x" % first),
@@ -81,17 +83,20 @@ def measure(binary, size, asks):
         session.ask([get(target)])
         took, length = session.ask([get(target)] * asks)
         print("         %-36s %10.3f ms, %8d bytes" % (name, took / asks * 1e3, length))
+        record.row(name, size, float(f"{took / asks * 1e3:.2g}"))
     session.run.stdin.close()
     session.run.wait()
 
 
 def main():
     asked = asked_of(__doc__)
-    asked.add_argument("--sizes", default="1000,10000,100000")
-    asked.add_argument("--asks", type=int, default=20)
+    asked.add_argument("--sizes", default="1000,10000,100000", help="spans held")
+    asked.add_argument("--asks", type=int, default=20, help="how often each query is asked")
     words = asked.parse_args()
+    record = Record(words, "session", ["what", "spans held", "value"])
     for size in words.sizes.split(","):
-        measure(words.bin, int(size), words.asks)
+        measure(words.bin, int(size), words.asks, record)
+    record.save()
 
 
 if __name__ == "__main__":

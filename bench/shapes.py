@@ -13,14 +13,14 @@ are held, then questions are asked whose answers grow with them. The shapes:
   one span id  all spans in one trace under one span id
   colliding    one-span traces whose ids have one hash under a table without a key
 
-    bench/shapes.py [--bin PATH] [--size 10000] [--rounds 3] [--shapes chain,..]
+    bench/shapes.py [--bin PATH] [--size 10000] [--rounds 3] [--shapes chain,..] [--save KIND]
 
 What is counted is the processor time of the program (/proc/PID/schedstat), the least of the rounds, at the size and
 at twice it; `ratio` is their quotient.
 """
 
-from decode import asked_of
 from ids import colliding
+from results import Record, asked_of
 from session import Session
 import wire
 from wire import get, post
@@ -113,11 +113,12 @@ def least(rounds):
 
 def main():
     asked = asked_of(__doc__)
-    asked.add_argument("--size", type=int, default=10_000)
-    asked.add_argument("--rounds", type=int, default=3)
+    asked.add_argument("--size", type=int, default=10_000, help="spans, and then twice as many")
+    asked.add_argument("--rounds", type=int, default=3, help="of which the least is printed")
     shapes = "traces,services,operations,one trace,processes,chain,one span id,colliding"
-    asked.add_argument("--shapes", default=shapes)
+    asked.add_argument("--shapes", default=shapes, help="which shapes")
     words = asked.parse_args()
+    record = Record(words, "shapes", ["shape", "what", "milliseconds", "twice of once"])
     print("%-12s %-16s %12s %12s %7s %12s" % ("shape", "what", words.size, words.size * 2, "ratio", "bytes"))
     for shape in words.shapes.split(","):
         once = least([measure(words.bin, shape, words.size) for _ in range(words.rounds)])
@@ -126,6 +127,8 @@ def main():
             more, length = twice[name]
             row = shape, name, cost * 1e3, more * 1e3, more / cost, length
             print("%-12s %-16s %9.3f ms %9.3f ms %7.2f %12d" % row, flush=True)
+            record.row(shape, name, round(more * 1e3, 1), round(more / cost, 1))
+    record.save()
 
 
 if __name__ == "__main__":

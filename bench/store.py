@@ -5,14 +5,15 @@ Each size is a run of the built program, `jaeger_one get`, on that many spans in
 trace that is in none of them: what is timed is reading, decoding and keeping. Times are processor time of the
 program, the least of some runs. What a trace by its id costs is shown by session.py.
 
-    bench/store.py [--bin PATH] [--sizes 1000,10000,100000] [--runs 5]
+    bench/store.py [--bin PATH] [--sizes 1000,10000,100000] [--runs 5] [--save KIND]
 """
 import os
 import random
 import subprocess
 import tempfile
 
-from decode import asked_of, span
+from decode import span
+from results import Record, asked_of
 import wire
 
 IN_BATCH = 10
@@ -52,14 +53,17 @@ def seconds_over(words, lines, runs, status=0):
 def main():
     asked = asked_of(__doc__)
     asked.add_argument("--sizes", default="1000,10000,100000", help="spans held")
-    asked.add_argument("--runs", type=int, default=5)
+    asked.add_argument("--runs", type=int, default=5, help="of which the least is printed")
     options = asked.parse_args()
+    record = Record(options, "store", ["spans held", "microseconds a span"])
     rng = random.Random(1)
     limits = ["--batches", "1000000", "--spans", "10000000"]
     print(f"{'spans':>8} {'batches':>8} {'seconds':>8} {'us a span':>10}")
     for size in [int(s) for s in options.sizes.split(",")]:
         kept = seconds_over([options.bin, "get", "ffffffffffffffff", *limits], lines_of(rng, size), options.runs, 1)
         print(f"{size:8} {size // IN_BATCH:8} {kept:8.3f} {kept / size * 1e6:10.2f}")
+        record.row(size, round(kept / size * 1e6, 1))
+    record.save()
 
 
 if __name__ == "__main__":

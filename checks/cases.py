@@ -1,7 +1,7 @@
 #!/usr/bin/env python3
 """Runs the cases of cases/ by `rt try`, with one build and no proof.
 
-    checks/cases.py [SUBJECT..]    these folders of cases/, all of them where none is named
+    checks/cases.py [FOLDER..]    these folders of cases/, all of them where none is named
 
 Each case's output is compared by `rt try --cases`, and its exit status with cases/statuses.txt (0 where a
 case isn't there). A line is printed for each case that fails, then `N passed, M failed`; the exit

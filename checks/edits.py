@@ -1,5 +1,11 @@
 #!/usr/bin/env python3
-"""Says which wrong bodies (crates/NAME/must-fail, wrong-bodies/NAME) no longer apply to their crate. No prover is asked."""
+"""Says which wrong bodies (crates/NAME/must-fail, wrong-bodies/NAME) no longer apply to their crate. No prover is asked.
+
+    checks/edits.py
+
+An edit applies if each of its `old:` lines stands once in the file that it names, after the edits of the lines before it. A line
+is printed for each one that doesn't, then the count; the exit status is 0 only if all apply. docs/MAINTAINING.md says how an edit is written.
+"""
 
 import pathlib
 import re

@@ -1,0 +1,602 @@
+#!/usr/bin/env python3
+"""Makes the tables and plots of the pages from bench/results.json.
+
+    bench/tables.py            writes them into the pages
+    bench/tables.py --check    writes nothing, prints what differs, and exits with status 1 if something does
+
+A table is the text between `<!-- results: NAME -->` and `<!-- end of results -->`, NAME being a function of this file. The
+sentences that quote a figure are in `quotes` below: the pages must have them word for word. Plots are in bench/plots/.
+
+A comparison is printed as how many times as good `jaeger_one` is: 2 is twice the rate, or half of the time or memory, and
+below 1 the other one is better. A difference that is no larger than the series' `noise` is printed as such.
+"""
+import datetime
+import math
+import os
+import re
+import sys
+import textwrap
+
+import results
+from plots import plot
+
+PAGES = ["README.md", "bench/README.md", "docs/operating.md", "docs/serve.md", "docs/store.md", "docs/MAINTAINING.md"]
+BLOCK = re.compile(r"(<!-- results: (\w+) -->\n).*?(<!-- end of results -->)", re.S)
+SIZES = [1000, 10_000]
+WRITERS = [1, 2, 4, 8]
+TAGS = [1, 5]
+CONNECTIONS = [1, 20]
+MOST_SPANS = 10_000_000
+DECODERS = {"rattle": "`batch_codec::decode`", "rust": "plain Rust, unverified", "apache": "Apache Thrift, C++",
+            "pieces": "a `Feeder`, a body in one piece", "bytes": "the same, a byte at a time"}
+SHAPES = {"traces": "ordinary traces", "services": "a new service with each body", "operations": "a new operation with each span",
+          "one trace": "all spans in one trace", "processes": "a process for each span", "chain": "a chain", "one span id": "all spans of one id",
+          "colliding": "ids that collide without a key"}
+KINDS = {"one half": "unlike in one half alone", "colliding": "all collide under a hash without a key"}
+# The shapes of heavy.py of which twice of each part isn't twice the bytes.
+NOT_DOUBLED = ["equal processes of batches; the trace", "pairs of long services; dependencies"]
+MACHINES = "../bench/README.md#machines"
+NOISE = "within the noise"
+
+ALONE = "spans a second"
+BESIDE = "spans a second beside two readers"
+POST = "a POST beside two readers, p99, ms"
+COST = "processor time a span, microseconds"
+ONE = "a trace by its id, nobody writing: processor time, microseconds"
+TWENTY = "20 traces of the service, nobody writing: processor time, microseconds"
+LOOK = "a trace by its id beside 4 writers at full speed"
+IDLE = "s of a processor in ten"
+
+
+def two(value):
+    """A number with two significant digits."""
+    if value >= 10:
+        step = 10 ** (math.floor(math.log10(value)) - 1)
+        return f"{round(value / step) * step:,.0f}"
+    return f"{value:.1f}" if value >= 0.995 else f"{value:.2f}"
+
+
+def span(values, form=two):
+    """The least and the most of these as text, or the one that they all are."""
+    texts = [form(value) for value in sorted(values)]
+    return texts[0] if texts[0] == texts[-1] else f"{texts[0]} to {texts[-1]}"
+
+
+def cell(value):
+    """A value as it was printed; `-` where there is none."""
+    if value is None:
+        return "-"
+    return f"{value:,}" if isinstance(value, int) else str(value)
+
+
+def day(text):
+    """A date as a page has it."""
+    date = datetime.date.fromisoformat(text)
+    return f"{date.day} {date:%B} {date.year}"
+
+
+def row(*cells):
+    return "| " + " | ".join(cells) + " |"
+
+
+def table(heads, rows):
+    return [row(*heads), "|" + "---|" * len(heads), *(row(*it) for it in rows)]
+
+
+def note(parts):
+    """What stands below a table."""
+    return ["", *textwrap.wrap("*" + "; ".join(parts) + ".*", 150, break_long_words=False, break_on_hyphens=False)]
+
+
+class Results:
+    """The series, by their names, and the rows of one that have these values in front."""
+
+    def __init__(self):
+        found = results.load()
+        self.series, self.machines = found["series"], found["machines"]
+
+    def rows(self, name):
+        return self.series[name]["rows"]
+
+    def of(self, name, *front):
+        """What follows these values in the one row that begins with them."""
+        found = [it[len(front):] for it in self.rows(name) if it[: len(front)] == [*front]]
+        if len(found) != 1:
+            raise KeyError(f"{name}: {len(found)} rows of {front}")
+        return found[0][0] if len(found[0]) == 1 else found[0]
+
+    def gain(self, what, writers, held):
+        """How many times as good `jaeger_one` is as the plain server: of rates the ratio, of times its inverse."""
+        ours, plain = self.of("serve", what, writers, held)
+        return ours / plain if what.startswith("spans a second") else plain / ours
+
+    def is_noise(self, gain):
+        most = 1 + self.series["serve"]["noise"]
+        return 1 / most < gain < most
+
+    def gains(self, what, *writers):
+        """These over all sizes and these numbers of writers, as text."""
+        found = [self.gain(what, number, held) for number in writers for held in SIZES]
+        return f"{span(found)}, {NOISE}" if all(map(self.is_noise, found)) else span(found)
+
+    def rates(self, what, writers):
+        return span([self.of("serve", what, writers, held)[0] for held in SIZES], cell)
+
+    def caption(self, name, machines="#machines"):
+        """When, where and of what a series was taken."""
+        it = self.series[name]
+        parts = [f"{day(it['date'])}" if it.get("date") else "the day was not written down"]
+        if it.get("commit"):
+            parts.append(f"commit {it['commit']}")
+        else:
+            parts.append(f"the commit was not written down (on this page since {it['page']})")
+        parts.append(f"[machine {it['machine']}]({machines})")
+        if it.get("program"):
+            parts.append(f"program: {it['program']}, by {it['compiler']}")
+        if it.get("peers"):
+            parts.append(f"the others by {it['peers']}, version not written down")
+        if it.get("load"):
+            parts.append("nothing else ran" if it["load"] == "none" else f"load {it['load']}")
+        return note(parts)
+
+
+    def captions(self, *names):
+        """The same of several series, in short."""
+        said = []
+        for name in names:
+            it = self.series[name]
+            commit = f"commit {it['commit']}" if it.get("commit") else "commit not written down"
+            said.append(f"`{name}` {day(it['date'])}, {commit}, {it['program']}, machine {it['machine']}")
+        return note(said)
+
+
+def printed(name, heads, forms=()):
+    """A table of a series as it is, with these heads; a form makes the cell of its column."""
+    def made(found):
+        forms_of = dict(forms)
+        rows = ([forms_of.get(at, cell)(value) for at, value in enumerate(it)] for it in found.rows(name))
+        return table(heads, rows) + found.caption(name)
+    return made
+
+
+def digits(count):
+    return lambda value: "-" if value is None else f"{value:,.{count}f}"
+
+
+decode = printed("decode", ["Decoded MB", "Batches", "Seconds", "Batches a second", "MB a second"])
+store = printed("store", ["Spans held", "Microseconds a span"])
+searches_load = printed("searches --load", ["Spans held", "Microseconds a batch"])
+ids = printed("ids", ["Ids", "ms", "Of random"], {0: lambda kind: KINDS.get(kind, kind)}.items())
+limits = printed("limits", ["Traces held", "Microseconds a limit"])
+memory = printed("memory", ["Spans held", "Tags a span", "MB in", "MB held", "Bytes a span", "MB of the answer", "MB more for it"])
+memory_processes = printed("memory --process-tags", [
+    "Tags a span", "Spans a batch", "Connections", "MB in", "MB held", "Bytes a span", "Of the bytes in", "MB more for the answer"])
+copies = printed("copies", ["Spans held", "", "admits/s", "of one", "admit p50", "admit p99", "reads/s", "read p50", "read p99"],
+                 {3: digits(3), 7: digits(3), 8: digits(3)}.items())
+
+
+def machines(found):
+    heads = ["Machine", "Processors", "Memory", "System"]
+    return table(heads, ([name, it["processor"], it["memory"], it["system"]] for name, it in found.machines.items()))
+
+
+def compare(found):
+    rows = ([DECODERS[name], cell(found.of("compare --count", name)), cell(rate)] for name, rate in found.rows("compare"))
+    return table(["Decoder", "Instructions a byte", "MB a second"], rows) + found.caption("compare")
+
+
+def resent(found):
+    sizes = sorted({it[1] for it in found.rows("resent")})
+    rows = ([cell(size), *(cell(found.of("resent", what, size)) for what in ("new numbers", "one number", "again"))] for size in sizes)
+    return table(["Batches", "New numbers", "One number, other processes", "One batch again, which isn't stored again"], rows) + found.caption("resent")
+
+
+def session(found):
+    whats = list(dict.fromkeys(it[0] for it in found.rows("session")))
+    sizes = sorted({it[1] for it in found.rows("session")})
+    rows = ([what if what == "posts a second" else f"{what}, ms", *(cell(found.of("session", what, size)) for size in sizes)] for what in whats)
+    return table(["", *(f"{size:,} spans" for size in sizes)], rows) + found.caption("session")
+
+
+def searches(found):
+    rows = ([name, cell(count), f"{store:.4f}", f"{scan:.4f}", two(scan / store)] for name, count, store, scan in found.rows("searches"))
+    return table(["Question", "Found", "Store, ms", "Scan, ms", "Times as fast"], rows) + found.caption("searches")
+
+
+def shapes(found):
+    names = dict.fromkeys(it[0] for it in found.rows("shapes"))
+    rows = []
+    for name in names:
+        posts, *more = [it[1:] for it in found.rows("shapes") if it[0] == name]
+        steep = (f"{what} {ratio}" for what, ms, ratio in more if ratio > 2.6 and (ms is None or ms >= 1))
+        rows.append([SHAPES[name], "; ".join([cell(posts[2]), *steep])])
+    return table(["Shape", "Posts, twice of once; then answers"], rows) + found.caption("shapes")
+
+
+def heavy(found):
+    heads = ["Body, then what is asked", "MB in", "MB out", "Million instructions, half and whole", "Ratio", "MB of memory, half and whole", "Ratio",
+             "Memory of bytes in and out"]
+    rows = ([it[0], f"{it[1]:.2f}", f"{it[2]:.2f}", f"{it[3]}, {it[4]}", cell(it[5]), f"{it[6]}, {it[7]}", cell(it[8]), cell(it[9])]
+            for it in found.rows("heavy"))
+    return table(heads, rows) + found.caption("heavy")
+
+
+def held(found):
+    heads = ["Shape", "Sent or held", "POST alone, ms: longest (middle)", "Beside the query, ms", "The query, ms: longest"]
+    rows = ([it[0], f"{cell(it[1])} {it[2]}", f"{it[3]} ({it[4]:.2f})", f"{it[5]} ({it[6]:.2f})", cell(it[7])] for it in found.rows("held"))
+    return table(heads, rows) + found.caption("held")
+
+
+def serve(found):
+    heads = ["", *(head for size in SIZES for head in (f"`jaeger_one`, {size:,} held", "plain server", "times as good"))]
+    rows = []
+    for what, writers in dict.fromkeys((it[0], it[1]) for it in found.rows("serve")):
+        name = what if what.endswith("alone") or not writers or "4 writers" in what else f"{what}, writers: {writers}"
+        cells = []
+        for size in SIZES:
+            gain = found.gain(what, writers, size)
+            cells += [*map(cell, found.of("serve", what, writers, size)), f"{two(gain)} ({NOISE})" if found.is_noise(gain) else two(gain)]
+        rows.append([name, *cells])
+    return table(heads, rows) + found.caption("serve")
+
+
+def connections(found):
+    def at(part, what, form=cell):
+        return span(found.of("connections", part, what), form)
+
+    def look(part):
+        times = (at(part, what) for what in ("a trace p50, ms", "a trace p99, ms", "alone p50, ms", "alone p99, ms"))
+        return "a trace by its id p50 {} ms, p99 {} ms; alone {} and {} ms".format(*times)
+
+    posts = f"every POST was answered 202; p50 {at('senders', 'POST p50, ms')} ms, p99 {at('senders', 'POST p99, ms')} ms"
+    rows = [["1,000 senders for ten seconds", posts],
+            ["beside 1,000 clients in the middle of a body", look("slow senders")],
+            ["beside 1,000 clients that don't read an answer of 30,000 spans each", look("slow readers")],
+            ["with as many connections open as `--connections` allows", f"{at('full', IDLE, digits(2))} s of a processor in ten seconds"]]
+    return table(["Part", "Seen"], rows) + found.caption("connections")
+
+
+def connections_memory(found):
+    """What connections hold that do nothing, and answers that nobody reads."""
+    def at(part, count, what, form=cell):
+        return span(found.of("connections, memory", part, count, what), form)
+
+    def rest(part, count):
+        idle = at(part, count, IDLE, digits(2))
+        return f"{at(part, count, 'MB')} MB, {at(part, count, 'bytes a connection')} bytes each; {idle} s of a processor in ten seconds"
+
+    answers = f"{at('slow readers', 1000, 'MB')} MB, {at('slow readers', 1000, 'bytes a span of an answer')} bytes a span"
+    rows = [["10,000 silent clients", rest("silent", 10_000)], ["1,000 clients that asked once", rest("parked", 1000)],
+            ["5,000 clients that asked once", rest("parked", 5000)], ["answers of 30,000 spans to 1,000 clients that don't read them", answers]]
+    return table(["Part", "Seen"], rows) + found.caption("connections, memory")
+
+
+def builds(found):
+    """Both builds; the ratios are times as good as the old one."""
+    def within(*values):
+        return "{:.2f} ({:.2f} to {:.2f})".format(*values)
+
+    rows = ([cell(it[0]), f"{it[1]:,} and {it[2]:,}", within(*it[3:6]), within(*it[6:])] for it in found.rows("builds"))
+    heads = ["Writers", "Spans a second, old and new", "Times as many", "Times as many for a second of a processor"]
+    return table(heads, rows) + found.caption("builds")
+
+
+def forms(found):
+    return table(["Form", "Against the one that was kept"], found.rows("forms")) + found.caption("forms")
+
+
+def decoders(found):
+    """How many times as good decoding is, by instructions: as that of plain Rust, and of Apache Thrift."""
+    mine = found.of("compare --count", "rattle")
+    return [two(found.of("compare --count", name) / mine) for name in ("rust", "apache")]
+
+
+def by_writers(found, what):
+    return "; ".join(f"{word} {found.gains(what, writers)}" for word, writers in zip(("one writer", "two", "four", "eight"), WRITERS))
+
+
+def looks(found):
+    """A trace by its id beside writers at full speed."""
+    return ", ".join(f"{name} {span([found.of('serve', f'{LOOK}: {name}, ms', 4, size)[0] for size in SIZES], cell)} ms" for name in ("p50", "p99"))
+
+
+def glance_beside(found):
+    rust, apache = decoders(found)
+    search = {name: two(scan / store) for name, _, store, scan in found.rows("searches")}
+    rows = [
+        ["decoding, by instructions", f"{rust} of plain Rust; {apache} of Apache Thrift's C++, which checks no UTF-8", "`compare.py --count`"],
+        ["spans that `serve` takes in a second", by_writers(found, ALONE), "`serve.py`"],
+        ["the same for a second of the server's processors", by_writers(found, COST), "`serve.py`"],
+        ["spans taken in a second beside two readers at full speed", found.gains(BESIDE, *WRITERS), "`serve.py`"],
+        ["a POST then, p99", f"up to four writers {found.gains(POST, 1, 2, 4)}; eight {found.gains(POST, 8)}", "`serve.py`"],
+        ["a trace by its id, nobody writing, processor time", found.gains(ONE, 0), "`serve.py`"],
+        ["20 traces with their JSON, nobody writing, processor time", found.gains(TWENTY, 0), "`serve.py`"],
+        ["a trace by its id beside four writers at full speed",
+         f"p50 {found.gains(LOOK + ': p50, ms', 4)}; p99 {found.gains(LOOK + ': p99, ms', 4)}", "`serve.py`"],
+        ["a search among 100,000 spans", f"20 traces with their JSON {search['20 of a common service, with JSON']}; a tag that no span has "
+         f"{search['no such tag']}, a duration {search['no such duration']}, a start {search['no such start']}", "`searches.py`"],
+        ["dependencies", f"a window over a hundredth of the traces {search['links of a hundredth']}; over all {search['links of all time']}", "`searches.py`"],
+    ]
+    return table(["What", "Times as good as plain", "By `bench/`"], rows) + found.captions("compare --count", "serve", "searches")
+
+
+def glance_alone(found):
+    rows = [*glance_serve(found), *glance_connections(found), *glance_rest(found)]
+    names = ["serve", "connections", "connections, memory", "decode", "searches --count", "searches --load", "held", "heavy", "limits", "resent"]
+    return table(["What", "Measured", "By `bench/`"], rows) + found.captions(*names)
+
+
+def glance_serve(found):
+    costs = [found.of("serve", COST, writers, size)[0] for writers in WRITERS for size in SIZES]
+    alone = found.of("serve, left alone", "after 1,000 spans")
+    rates = f"{found.rates(ALONE, 4)} with four writers, {found.rates(ALONE, 8)} with eight"
+    yield "spans that `serve` takes in a second", rates, "`serve.py`"
+    yield "processor time a span", f"{span(costs, cell)} microseconds; left alone for ten seconds {alone:.2f} s", "`serve.py`"
+    yield "a trace by its id beside four writers at full speed", looks(found), "`serve.py`"
+
+
+def glance_connections(found):
+    def at(part, what):
+        return span(found.of("connections", part, what), cell)
+
+    def beside(part):
+        return f"{at(part, 'a trace p99, ms')} ms; alone {at(part, 'alone p99, ms')}"
+
+    posts = f"{at('senders', 'POST p99, ms')} ms, and each is answered 202"
+    yield "four workers and 1,000 senders that post once a second: a POST, p99", posts, "`connections.py`"
+    silent = span(found.of("connections, memory", "silent", 10_000, "MB"), cell)
+    yield "10,000 connections that are silent", f"{silent} MB", "`connections.py`"
+    yield "a trace by its id beside 1,000 clients that send a byte and stop, p99", beside("slow senders"), "`connections.py`"
+    yield "the same beside 1,000 that don't read an answer of 30,000 spans each", beside("slow readers"), "`connections.py`"
+
+
+def glance_rest(found):
+    megabytes_a_second = ", ".join(cell(it[4]) for it in found.rows("decode"))
+    loads = ", ".join(cell(it[1]) for it in found.rows("searches --load"))
+    longest, alone = (max(it[at] for it in found.rows("held")) for at in (5, 3))
+    doubled = [it for it in found.rows("heavy") if it[0] not in NOT_DOUBLED]
+    more = [it[2] for it in found.rows("resent") if it[0] != "again"]
+    of_bytes = f"{span([it[5] for it in doubled], cell)} times the instructions, at most {max(it[8] for it in doubled)} times the memory"
+    yield "`get`, MB of decoded batches a second", f"{megabytes_a_second} at 1, 10 and 100 MB", "`decode.py`"
+    yield "the JSON of 20 traces, instructions a byte", cell(found.of("searches --count", "the JSON of 20 traces")), "`searches.py --count`"
+    yield "applying a batch of 10 spans to a store, microseconds", f"{loads} at 1,000, 10,000 and 100,000 spans held", "`searches.py --load`"
+    yield "a POST at another worker than a query's, the longest beside all shapes", f"{longest} ms; {alone} ms while nobody asks", "`held.py`"
+    yield "twice the bytes, for bodies in which two parts could multiply", of_bytes, "`heavy.py --count`"
+    yield "a trace limit, microseconds", f"{span([it[1] for it in found.rows('limits')], cell)} at 1,000 to 100,000 traces held", "`limits.py`"
+    yield "a batch with a `seqNo`, beside one without, in `play`, microseconds", f"{span(more, cell)} more", "`resent.py`"
+
+
+def speed(found):
+    """The README's table."""
+    def of_both(what, writers):
+        sides = (span([found.of("serve", what, writers, size)[at] for size in SIZES], cell) for at in (0, 1))
+        return [*sides, found.gains(what, writers)]
+
+    _, store_ms, scan_ms = found.of("searches", "20 of a common service, with JSON")
+    per_span = ", ".join(f"{found.of('memory', 100_000, tags)[2]:,} with {tags}" for tags in (1, 5, 10))
+    mine, plain = (cell(found.of("compare --count", name)) for name in ("rattle", "rust"))
+    rows = [
+        ["decoding, instructions a byte", mine, plain, decoders(found)[0]],
+        *(["spans that a server takes in a second, writers: " + cell(writers), *of_both(ALONE, writers)] for writers in WRITERS),
+        ["a POST beside four writers and two readers at full speed, p99, ms", *of_both(POST, 4)],
+        ["the same with eight writers", *of_both(POST, 8)],
+        ["a trace by its id beside four writers at full speed, p50, ms", *of_both(LOOK + ": p50, ms", 4)],
+        ["20 traces with their JSON among 100,000 spans, ms", f"{store_ms:.2f}", f"{scan_ms:.0f}", two(scan_ms / store_ms)],
+        ["memory at 100,000 spans, bytes a span, by its tags", per_span, "not compared", ""],
+    ]
+    return table(["What", "Kiwibismuth", "Plain Rust", "Times as good"], rows) + found.captions("compare --count", "serve", "searches", "memory")
+
+
+def memory_most(found):
+    rows = ([it[0], cell(it[1]), cell(it[2]), cell(it[3]), cell(it[4]), cell(it[5])] for it in found.rows("memory, most"))
+    heads = ["Bodies", "Batches", "Tags a span", "MB in", "MB more than the empty server", "Of the bytes in"]
+    return table(heads, rows) + found.caption("memory, most")
+
+
+def operating_memory(found):
+    """Bytes a span, by how many a batch has; for one tag a span, and for five."""
+    def bytes_of(in_batch, connections, tags):
+        return cell(found.of("memory --process-tags", tags, in_batch, connections)[2])
+
+    rows = ([cell(in_batch), *(bytes_of(in_batch, count, tags) for count in CONNECTIONS for tags in TAGS)] for in_batch in (100, 10, 1))
+    heads = ["Spans a batch", "One process, one tag a span", "five tags", "Twenty processes that take turns, one tag a span", "five tags"]
+    return table(heads, rows) + found.caption("memory --process-tags", MACHINES)
+
+
+def megabytes(value):
+    """Megabytes as text, with two significant digits; as gigabytes and terabytes where they are many."""
+    for unit in ("MB", "GB", "TB"):
+        if value < 1000:
+            return f"{two(value) if value < 100 else two(value)} {unit}"
+        value /= 1000
+    return f"{two(value)} PB"
+
+
+def operating_spans(found):
+    """What a store takes by spans of one tag a second and how long they are kept, at the bytes that the line at the start reckons with."""
+    heads = ["Spans a second, all services together", "Kept for 10 minutes", "an hour", "8 hours", "a day"]
+    rows = []
+    for rate in (10, 100, 1000, 10_000):
+        cells = [cell(rate)]
+        for minutes in (10, 60, 480, 1440):
+            spans = rate * minutes * 60
+            cells.append(megabytes(spans * at_start()[0] / 1e6) if spans <= MOST_SPANS else f"more than {MOST_SPANS:,} spans")
+        rows.append(cells)
+    return table(heads, rows)
+
+
+def operating_most(found):
+    """The bound of what a store may take, by the largest body."""
+    worst = found.of("memory, most", found.rows("memory, most")[0][0])[-1]
+    bodies = [("4,194,304 bytes, the server's own limit", 4_194_304), ("1 MB, which `deploy/nginx.conf` lets through", 1_048_576), ("64 KB", 65_536)]
+    rows = ([name, *(megabytes(batches * size * worst / 1e6) for batches in (1000, 1_000_000))] for name, size in bodies)
+    return table(["Largest body", "`--batches 1000`", "`--batches 1000000`"], rows)
+
+
+def at_start():
+    """The bytes a span with one tag and with five, by which `serve` reckons in the line at its start."""
+    source = read("crates/trace_server/src/notices.rt")
+    return [int(re.search(rf"const BYTES_WITH_{word}: u64 = (\d+);", source)[1]) for word in ("ONE_TAG", "FIVE_TAGS")]
+
+
+TABLES = {name: it for name, it in globals().items() if name in (
+    "machines decode compare store session searches searches_load shapes heavy held ids limits resent memory memory_processes memory_most copies serve "
+    "connections connections_memory builds forms glance_beside glance_alone speed operating_memory operating_spans operating_most").split()}
+
+
+def quotes(found):
+    """The sentences that quote figures, with their pages."""
+    noise = ("bench/README.md", f"the ratios of the rounds of `serve.py` differ by up to {found.series['serve']['noise']} of themselves")
+    return [noise, *memory_quotes(found), *connection_quotes(found), *gate_quotes(found)]
+
+
+def memory_quotes(found):
+    """What pages say of memory."""
+    one, five = (found.of("memory", 100_000, tags) for tags in TAGS)
+    # Of batches of one span and of ten: each of these has nine tenths of a batch more for a span.
+    batch = [span([(found.of("memory --process-tags", tags, 1, count)[2] - found.of("memory --process-tags", tags, 10, count)[2]) / 0.9
+                   for tags in TAGS]) for count in CONNECTIONS]
+    empty = found.of("memory", 0, 1)[1]
+    answer = span([it[-1] * 10 for it in (one, five)])
+    single = span([found.of("memory --process-tags", tags, 1, count)[-1] * 10 for tags in TAGS for count in CONNECTIONS])
+    start = at_start()
+    yield ("docs/operating.md", f"100,000 spans in batches of 10 took {one[1]:.0f} MB with one tag a span and {five[1]:.0f} MB with five, all together: "
+           f"{one[2]} and {five[2]} bytes a span")
+    yield "docs/operating.md", f"An empty server takes {empty:.0f} MB"
+    of_bytes = [it[-2] for it in found.rows("memory --process-tags")]
+    yield "docs/operating.md", f"reckon with {min(of_bytes):.1f} to {max(of_bytes):.1f} times the bytes that come"
+    yield "docs/operating.md", f"a batch takes {batch[0]} bytes of its own, and {batch[1]} with its process"
+    yield "docs/operating.md", f"reckoned at {start[0]} and {start[1]} bytes a span"
+    yield "docs/operating.md", f"At {start[0]} bytes a span"
+    yield "docs/operating.md", f"With five tags, {start[1]} bytes a span, it takes {start[1] / start[0]:.1f} times as much"
+    told = [f"{-(-100_000 * each // 1_000_000)} MB" for each in start]
+    yield "docs/operating.md", f"`that may take {told[0]} where a span has one tag, {told[1]} where it has five, and more where tags are long`"
+    yield "docs/operating.md", f"`--spans 2000000` of five tags each at {2 * start[1]:,} MB"
+    ten = f"2,000,000 spans of ten tags take about {two(2e6 * found.of('memory', 100_000, 10)[2] / 1e9)} GB"
+    yield from ((page, ten) for page in ("docs/operating.md", "deploy/jaeger_one.service", "deploy/compose.yaml", "deploy/pod.yaml"))
+    yield "docs/operating.md", f"It takes {answer} bytes for each span that it shows while it is made, or {single} where each trace has one span"
+
+
+def connection_quotes(found):
+    """What pages say of clients and of how much waits for them."""
+    def at(part, count, what):
+        return span(found.of("connections, memory", part, count, what), cell)
+
+    read = at("slow readers", 1000, "bytes a span of an answer")
+    texts = [found.of("memory", 100_000, 5)[3] * 10, float(at("slow readers", 1000, "bytes of text a span"))]
+    waits = [f"{two(2e9 / text * float(read) / 1e6)} MB" for text in texts]
+    yield "docs/serve.md", f"| connected, and silent so far | {at('silent', 10_000, 'bytes a connection')} bytes |"
+    yield "docs/serve.md", f"| silent after a request | {at('parked', 5000, 'bytes a connection')} bytes |"
+    yield "docs/serve.md", f"and {read} bytes for each span of a larger one"
+    yield "docs/serve.md", f"which takes {waits[0]} (spans with five tags) to {waits[1]} (spans without tags)"
+    yield "docs/operating.md", f"{read} while it is read"
+
+
+def gate_quotes(found):
+    """What pages say of the time that the gate takes."""
+    edits, processor, clock = found.of("gate", "an earlier version, with other work beside it")
+    _, now, _ = found.of("gate", "this version, several runs added up, without the wrong bodies")
+    yield ("docs/MAINTAINING.md", f"which tried {edits} wrong bodies, took {processor} minutes of a processor from nothing, and {clock} by the clock on a "
+           "virtual machine of four cores")
+    yield "docs/MAINTAINING.md", f"took about {now} minutes of a processor, added up over several runs"
+    yield "README.md", f"An earlier version took {clock} minutes on four cores"
+    least, most = found.of("proofs", "a test crate before its first test")
+    once, often = found.of("proofs", "a public function whose contract names much, once a crate")
+    yield "docs/MAINTAINING.md", f"{least} to {most} seconds of a processor to read what it stands on, and {once} to {often} once for each public function"
+    block, by_call = (found.of("proofs", f"a query let go {how}")[0] for how in ("at the end of a block", "by a call"))
+    yield "docs/MAINTAINING.md", f"a query let go at the end of a block {block}, by a call of `drop` {by_call}"
+    place, call = (found.of("proofs", f"a function of deep types let go {how}") for how in ("in its place", "by a call"))
+    yield "docs/MAINTAINING.md", f"costs {place[0]} to {place[1]} seconds then, and {call[0]} to {call[1]} by a call"
+    yield "docs/MAINTAINING.md", f"the tactics need {found.of('proofs', 'all fields of a span in one function')[0]}"
+
+
+def too_small(found):
+    """Says where the line at the start reckons with nine tenths or less of what was measured of batches of ten, with processes of four tags."""
+    for tags, reckoned in zip(TAGS, at_start()):
+        for count in CONNECTIONS:
+            measured = found.of("memory --process-tags", tags, 10, count)[2]
+            if reckoned < 0.9 * measured:
+                yield f"the line at the start reckons with {reckoned} bytes a span of {tags} tags, and {measured} were measured on {count} connections"
+
+
+def below(found, name):
+    it = found.series[name]
+    return f"{it['command']}; {day(it['date'])}, commit {it.get('commit') or 'not written down'}, machine {it['machine']}"
+
+
+def writers_plot(found):
+    drawn = []
+    for what, told, dashed in ((ALONE, "nobody reading", False), (BESIDE, "beside two readers", True)):
+        for at, name in enumerate(("jaeger_one", "plain server")):
+            points = [(number, found.of("serve", what, number, SIZES[-1])[at]) for number in WRITERS]
+            drawn.append((f"{name}, {told}", points, at, dashed))
+    marks = [0, 200_000, 400_000, 600_000, 800_000, 1_000_000]
+    title = f"Spans a second that a server takes, {SIZES[-1]:,} spans held"
+    return plot(title, below(found, "serve"), (WRITERS, "writers"), (marks, "spans a second", False), drawn)
+
+
+def queries_plot(found):
+    names = ["a trace by its id", "search, rare service, 20 traces", "search, common service, 20 traces", "search, common service, no tag", "dependencies"]
+    sizes = [1000, 10_000, 100_000]
+    drawn = [(name.removeprefix("search, "), [(size, found.of("session", name, size)) for size in sizes], number, False)
+             for number, name in enumerate(names)]
+    return plot("How long a query takes", below(found, "session"), (sizes, "spans held"), ([0.01, 0.1, 1, 10, 100], "ms", True), drawn)
+
+
+PLOTS = {"bench/plots/writers.svg": writers_plot, "bench/plots/queries.svg": queries_plot}
+
+
+def made(found, text):
+    """A page with its tables as they should be."""
+    return BLOCK.sub(lambda it: it[1] + "\n".join(TABLES[it[2]](found)) + "\n" + it[3], text)
+
+
+def read(path):
+    try:
+        with open(os.path.join(results.ROOT, path), encoding="utf-8") as file:
+            return file.read()
+    except FileNotFoundError:
+        return None
+
+
+def wanted(found):
+    """Each file with the text that it should have."""
+    for path in PAGES:
+        yield path, made(found, read(path))
+    for path, drawn in PLOTS.items():
+        yield path, drawn(found)
+
+
+def missing(found):
+    """The quotes that their pages don't have."""
+    for path, sentence in quotes(found):
+        if sentence not in " ".join(read(path).replace("\n#", "\n").split()):
+            yield f"{path} doesn't say: {sentence}"
+
+
+def main():
+    asked = results.crates.asked_of(__doc__, None)
+    asked.add_argument("--check", action="store_true", help="write nothing, and say what differs")
+    options = asked.parse_args()
+    found, faults = Results(), []
+    try:
+        texts = list(wanted(found))
+    except KeyError as fault:
+        print(f"bench/results.json lacks what a table needs: {fault.args[0]}")
+        return 1
+    for path, text in texts:
+        if read(path) == text:
+            continue
+        if options.check:
+            faults.append(f"{path} isn't what bench/tables.py makes of bench/results.json")
+            continue
+        os.makedirs(os.path.dirname(os.path.join(results.ROOT, path)), exist_ok=True)
+        with open(os.path.join(results.ROOT, path), "w", encoding="utf-8") as file:
+            file.write(text)
+    faults += [*missing(found), *too_small(found)]
+    print("\n".join([*faults, f"{len(TABLES)} tables, {len(PLOTS)} plots, {len(quotes(found))} quotes, {len(faults)} faults"]))
+    return 1 if faults else 0
+
+
+if __name__ == "__main__":
+    sys.exit(main())
