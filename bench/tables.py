@@ -495,10 +495,12 @@ def connection_quotes(found):
 def gate_quotes(found):
     """What pages say of the time that the gate takes."""
     edits, processor, clock = found.of("gate", "an earlier version, with other work beside it")
-    _, now, _ = found.of("gate", "this version, several runs added up, without the wrong bodies")
+    _, before, _ = found.of("gate", "before small crates were merged, several runs added up, without the wrong bodies")
+    _, now, by_clock = found.of("gate", "this version, two runs beside up to eight other jobs, without the wrong bodies")
     yield ("docs/MAINTAINING.md", f"which tried {edits} wrong bodies, took {processor} minutes of a processor from nothing, and {clock} by the clock on a "
            "virtual machine of four cores")
-    yield "docs/MAINTAINING.md", f"took about {now} minutes of a processor, added up over several runs"
+    yield "docs/MAINTAINING.md", f"took about {before} minutes of a processor, added up over several runs"
+    yield "docs/MAINTAINING.md", f"took about {now} minutes of a processor and {by_clock} by the clock"
     yield "README.md", f"An earlier version took {clock} minutes on four cores"
     least, most = found.of("proofs", "a test crate before its first test")
     once, often = found.of("proofs", "a public function whose contract names much, once a crate")
