@@ -1,6 +1,6 @@
 -- A bitmap of the tags that an entry may have.
 use Rattle.std.specs.Prelude.{ℕ, ◌+◌, ◌*◌, ◌/◌, ◌%◌, ◌-◌, ◌^◌, ◌==◌, Bool, true, ◌||◌, ◌&&◌, List, [], ◌∷◌, ◌++◌, length, get_or, flat_map, nat_le}
-use Rattle.std.specs.Prelude.{if◌then◌else◌}
+use Rattle.std.specs.Prelude.{slice_set, if◌then◌else◌}
 use Rattle.std.specs.Int.Bits.{bit_or}
 use Rattle.std.specs.List.{fold}
 use Rattle.std.specs.Option.{option_map_or}
@@ -29,15 +29,24 @@ may_be_number (c ∷ w) = begins_number c
 abbrev pub text_part : List ℕ → ℕ
 text_part w = if may_be_number w then 0 else 41 + 11 * text_hash w
 
--- which of 128 bits represents the tags with this key and this text
+-- which of 512 bits represents the tags with this key and this text
 abbrev pub tag_place : List ℕ → List ℕ → ℕ
-tag_place key text = (text_hash key + text_part text) % 128
+tag_place key text = (text_hash key + text_part text) % 512
 
-abbrev pub bit_of : Tag → ℕ
-bit_of t = 2 ^ tag_place t.key (tag_text t.value)
+-- ---- bits in words of 64, the lowest first
+-- 512 bits, none of them set
+abbrev pub no_bits : List ℕ
+no_bits = 0 ∷ 0 ∷ 0 ∷ 0 ∷ 0 ∷ 0 ∷ 0 ∷ 0 ∷ []
 
-abbrev pub with_tag : ℕ → Tag → ℕ
-with_tag bits t = bit_or bits (bit_of t)
+-- with the bit at a place
+abbrev pub with_bit : List ℕ → ℕ → List ℕ
+with_bit words place = slice_set words (place / 64) (bit_or (get_or words (place / 64) 0) (2 ^ (place % 64)))
+
+abbrev pub place_of : Tag → ℕ
+place_of t = tag_place t.key (tag_text t.value)
+
+abbrev pub with_tag : List ℕ → Tag → List ℕ
+with_tag words t = with_bit words (place_of t)
 
 abbrev pub fields_of : List Log → List Tag
 fields_of logs = flat_map (λ (l : Log). l.fields) logs
@@ -47,9 +56,9 @@ abbrev pub own_tags : Span → List Tag
 own_tags s = s.tags ++ fields_of s.logs
 
 -- the bits of the tags of the process, of its spans and of their logs
-abbrev pub bits_of : Batch → ℕ
-bits_of b = fold with_tag 0 (b.process.tags ++ flat_map own_tags b.spans)
+abbrev pub bits_of : Batch → List ℕ
+bits_of b = fold with_tag no_bits (b.process.tags ++ flat_map own_tags b.spans)
 
 -- a limit has no tags
-abbrev pub bits_brought : Work → ℕ
-bits_brought w = option_map_or bits_of (batch_brought w) 0
+abbrev pub bits_brought : Work → List ℕ
+bits_brought w = option_map_or bits_of (batch_brought w) no_bits

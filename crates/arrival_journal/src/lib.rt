@@ -27,5 +27,5 @@ pub use kind::Kind;
 pub use outline::Outline;
 pub use record::Record;
 pub use span_kinds::SpanKinds;
-pub use tagging::tag_place;
+pub use tagging::{TagBits, no_bits, set_bit, tag_place};
 pub use times::Times;

@@ -1,7 +1,7 @@
 ghost use Rattle.std.specs.Prelude.{◌≡◌};
 ghost use Rattle.arrival_journal.specs.Outlines.{outline_of};
 
-use crate::tagging::bits_brought;
+use crate::tagging::{TagBits, bits_brought};
 use crate::times::Times;
 use trace_model::Work;
 
@@ -12,7 +12,7 @@ pub struct Outline {
     pub times: Times,
     /// The bits of the tags of its process, of its spans and of their logs. If the bit at a tag's
     /// [`tag_place`](crate::tag_place) is not set, the entry doesn't have that tag.
-    pub tags: u128,
+    pub tags: TagBits,
 }
 
 impl Outline {

@@ -3,8 +3,8 @@
 ghost use Rattle.std.specs.Prelude.{◌≡◌, ◌<◌, get_or, flat_map};
 ghost use Rattle.std.specs.List.{fold};
 ghost use Rattle.jaeger_model.specs.Tags.{tag_text, hex_text};
-ghost use Rattle.arrival_journal.specs.Tagging.{text_hash, begins_number, may_be_number, text_part, tag_place, bit_of, with_tag, fields_of, own_tags, bits_of};
-ghost use Rattle.arrival_journal.specs.Tagging.{bits_brought};
+ghost use Rattle.arrival_journal.specs.Tagging.{text_hash, begins_number, may_be_number, text_part, tag_place, no_bits, with_bit, place_of, with_tag};
+ghost use Rattle.arrival_journal.specs.Tagging.{fields_of, own_tags, bits_of, bits_brought};
 
 use jaeger_model::{Batch, Log, Span, Tag, TagValue, ValueRef};
 use trace_model::Work;
@@ -84,70 +84,85 @@ fn value_part(value: &TagValue) -> u32
     }
 }
 
-/// Returns which of 128 bits represents the tags with this key and this text.
+/// 512 bits, in words of 64, the lowest first.
+pub type TagBits = [u64; 8];
+
+/// Returns 512 bits, none of them set.
+pub fn no_bits() -> TagBits
+    ensures { result ≡ no_bits }
+{
+    [0, 0, 0, 0, 0, 0, 0, 0]
+}
+
+/// Sets the bit at a place.
+pub fn set_bit(bits: &mut TagBits, place: u32)
+    requires { place < 512 }
+    ensures { bits.new ≡ with_bit bits.old place }
+{
+    let word = (place / 64) as usize;
+    bits[word] |= 1u64 << (place % 64);
+}
+
+/// Returns which of 512 bits represents the tags with this key and this text.
 pub fn tag_place(key: &str, text: &str) -> u32
     ensures exact { result ≡ tag_place key.now text.now }
-    ensures within { result < 128 }
+    ensures within { result < 512 }
 {
-    (text_hash(key) + text_part(text)) % 128
+    (text_hash(key) + text_part(text)) % 512
 }
 
-/// Returns the bit of a tag.
-fn bit_of(tag: &Tag) -> u128
-    ensures { result ≡ bit_of tag.now }
+/// Returns which of 512 bits represents a tag.
+fn place_of(tag: &Tag) -> u32
+    ensures exact { result ≡ place_of tag.now }
+    ensures within { result < 512 }
 {
-    1u128 << ((text_hash(tag.key.as_str()) + value_part(&tag.value)) % 128)
+    (text_hash(tag.key.as_str()) + value_part(&tag.value)) % 512
 }
 
-/// Adds the bits of these tags.
-fn with_tags(before: u128, tags: &[Tag]) -> u128
-    ensures { result ≡ fold with_tag before tags.now }
+/// Sets the bits of these tags.
+fn add_tags(bits: &mut TagBits, tags: &[Tag])
+    ensures { bits.new ≡ fold with_tag bits.old tags.now }
 {
-    let mut bits = before;
     for tag in tags {
-        bits |= bit_of(tag);
+        set_bit(bits, place_of(tag));
     }
-    bits
 }
 
-/// Adds the bits of the fields of these logs.
-fn with_logs(before: u128, logs: &[Log]) -> u128
-    ensures { result ≡ fold with_tag before (fields_of logs.now) }
+/// Sets the bits of the fields of these logs.
+fn add_logs(bits: &mut TagBits, logs: &[Log])
+    ensures { bits.new ≡ fold with_tag bits.old (fields_of logs.now) }
 {
-    let mut bits = before;
     for log in logs {
-        bits = with_tags(bits, log.fields.as_slice());
+        add_tags(bits, log.fields.as_slice());
     }
-    bits
 }
 
-/// Adds the bits of the tags of these spans and of their logs.
-fn with_spans(before: u128, spans: &[Span]) -> u128
-    ensures { result ≡ fold with_tag before (flat_map own_tags spans.now) }
+/// Sets the bits of the tags of these spans and of their logs.
+fn add_spans(bits: &mut TagBits, spans: &[Span])
+    ensures { bits.new ≡ fold with_tag bits.old (flat_map own_tags spans.now) }
 {
-    let mut bits = before;
     for span in spans {
-        bits = with_logs(with_tags(bits, span.tags.as_slice()), span.logs.as_slice());
+        add_tags(bits, span.tags.as_slice());
+        add_logs(bits, span.logs.as_slice());
     }
-    bits
 }
 
 /// Returns the bits of the tags of the process, of its spans and of their logs.
-fn bits_of(batch: &Batch) -> u128
+fn bits_of(batch: &Batch) -> TagBits
     ensures { result ≡ bits_of batch.now }
 {
-    with_spans(
-        with_tags(0, batch.process.get().tags.as_slice()),
-        batch.spans.as_slice(),
-    )
+    let mut bits = no_bits();
+    add_tags(&mut bits, batch.process.get().tags.as_slice());
+    add_spans(&mut bits, batch.spans.as_slice());
+    bits
 }
 
 /// Returns the bits of an entry: those of its batch, or none for a limit.
-pub(crate) fn bits_brought(work: &Work) -> u128
+pub(crate) fn bits_brought(work: &Work) -> TagBits
     ensures { result ≡ bits_brought work.now }
 {
     match work.batch() {
         Some(batch) => bits_of(batch),
-        None => 0,
+        None => no_bits(),
     }
 }

@@ -1,3 +1,6 @@
+ghost use Rattle.std.specs.Prelude.{◌≡◌, ◌==◌, false};
+ghost use Rattle.std.specs.Bool.{OnTrue};
+
 use crate::fields::{Fields, PieceSlots, Step, enter_in_pieces};
 use crate::items::{ListPart, enter_list};
 use crate::partial::place;
@@ -27,6 +30,17 @@ pub(crate) enum SpanFieldPart {
     Tags(ListPart<Struct<TagParts>>),
     Logs(ListPart<Struct<LogSlots>>),
     Skip(SkipPart),
+}
+
+/// Whether a field of this type and id is a number or a text of a span. Any other is a list, or is skipped.
+#[inline(always)]
+fn is_single(code: u8, id: i16) -> bool
+    ensures no_list { OnTrue result ((code == 15) ≡ false) }
+{
+    match (code, id) {
+        (I64, 1 | 2 | 3 | 4 | 8 | 9) | (I32, 7) | (STRING, 5) => true,
+        _ => false,
+    }
 }
 
 impl PieceSlots for SpanSlots {
@@ -59,7 +73,7 @@ impl PieceSlots for SpanSlots {
 
     #[inline(always)]
     fn put(&mut self, code: u8, id: i16, alloc: Global, cursor: &mut Cursor<'_>) -> Decoded<bool> {
-        if code == LIST {
+        if !is_single(code, id) {
             return Ok(false);
         }
         self.put_value(alloc, code, id, cursor)?;

@@ -1,10 +1,12 @@
 -- Calls counted one by one are a tally of their numbers.
 use Rattle.std.proofs.Common.{◌≡◌, ℕ, ◌+◌, Bool, true, false, ◌&&◌, ◌||◌, cond, List, [], ◌∷◌, ◌++◌, map, refl, sym, ap, ◌∙◌, add-zero, zero-add, append_assoc}
-use Rattle.std.specs.Prelude.{count_by, fold, Some, None, unwrap_or, option_map}
-use Rattle.std.specs.Map.{lookup}
+use Rattle.std.specs.Prelude.{count_by, fold, Some, None, is_some, unwrap_or, option_map}
+use Rattle.std.specs.List.{AllByRecursion}
+use Rattle.std.specs.List.Sorted.{IsStrictlySortedBy}
+use Rattle.std.specs.Map.{keys_of, lookup, set_value}
 use Rattle.std.specs.BTreeMap.{insert_entry, is_at}
-use Rattle.std.specs.declared.cmp.Ordering.TheVariants.{Equal}
-use Rattle.std.specs.Ordering.{nat_cmp, is_eq}
+use Rattle.std.specs.declared.cmp.Ordering.TheVariants.{Less, Equal, Greater}
+use Rattle.std.specs.Ordering.{nat_cmp, is_eq, match_ordering}
 use Rattle.std.specs.Cmp.{IsTotalOrder, tied_itself, on_total, unsigned_ties}
 use Rattle.std.proofs.lemmas.Cmp.{then_total, nat_cmp_total}
 use Rattle.std.proofs.lemmas.List.{append-nil}
@@ -84,6 +86,26 @@ call_put es c calls e =
     let k = numbers_called (numbered_call c) in
     tally_put es k (record { caller = c.0.now; callee = c.1.now; calls = calls })
     ∙ ap (λ n. insert_entry number_cmp (tallies_seen es) k (texts_called (numbered_call c), n)) (e ∙ ap (λ n. n + 1) (sym (so_far_seen es k)))
+
+-- ---- a value written at a key that is there is inserted
+below_all : (k j : Numbers) (es : List (Numbers × Tally)) → number_cmp k j ≡ Less → AllByRecursion (λ y. number_cmp j y ≡ Less) (keys_of es)
+    → lookup (is_at (number_cmp k)) es ≡ None
+below_all k j [] l b = refl
+below_all k j (e ∷ es) l b =
+    ap (λ r. cond (is_eq r) (Some e.1) (lookup (is_at (number_cmp k)) es)) (number_total.trans k j e.0 l b.0) ∙ below_all k j es l b.1
+
+pub written_is_put : (es : List (Numbers × Tally)) (k : Numbers) (v w : Tally) → IsStrictlySortedBy number_cmp (keys_of es)
+    → lookup (is_at (number_cmp k)) es ≡ Some v → set_value (is_at (number_cmp k)) es w ≡ insert_entry number_cmp es k w
+unfolding IsStrictlySortedBy
+written_is_put [] k v w r h = absurd cc
+written_is_put (e ∷ es) k v w r h =
+    elim (number_cmp k e.0) as (λ a. number_cmp k e.0 ≡ a → cond (is_eq a) (Some e.1) (lookup (is_at (number_cmp k)) es) ≡ Some v
+    → cond (is_eq a) ((e.0, w) ∷ es) (e ∷ set_value (is_at (number_cmp k)) es w)
+    ≡ match_ordering a ((k, w) ∷ e ∷ es) ((e.0, w) ∷ es) (e ∷ insert_entry number_cmp es k w)) [
+      | Less ↦ λ q f. absurd (false≢true (ap is_some (sym (below_all k e.0 es q r.0) ∙ f)))
+      | Equal ↦ λ q f. refl
+      | Greater ↦ λ q f. ap (λ l. e ∷ l) (written_is_put es k v w r.1 f)
+    ] refl h
 
 -- ---- calls one by one
 module _ (text : ℕ → List ℕ) (number : List ℕ → ℕ) where

@@ -1,6 +1,6 @@
 -- Calls by a table of services, and the table as it grows.
 use Rattle.std.proofs.Common.{◌≡◌, ℕ, ◌+◌, ◌<◌, Bool, true, false, cond, List, [], ◌∷◌, ◌++◌, take, length, get_or, refl, sym, ap, ◌∙◌, eqb-true}
-use Rattle.std.specs.Prelude.{Option, Some, None, option_map, is_some, find, ◌==◌, if◌then◌else◌}
+use Rattle.std.specs.Prelude.{Option, Some, None, option_map, is_some, find, slice_get, ◌==◌, if◌then◌else◌}
 use Rattle.std.specs.Option.{option_or}
 use Rattle.std.specs.List.{filter_map, cons_option}
 use Rattle.std.specs.Ordering.{nat_cmp, is_eq}
@@ -12,8 +12,12 @@ use Rattle.jaeger_model.specs.declared.ids.SpanId.{SpanId}
 use Rattle.jaeger_model.specs.declared.placed.Placed.{Placed}
 use Rattle.jaeger_model.specs.declared.placed.Seen.{Seen}
 use Rattle.jaeger_model.specs.declared.span.Span.{Span}
-use Rattle.jaeger_model.specs.Parents.{parent, with_parent, needs_no_reference, parent_reference}
+use Rattle.jaeger_model.specs.declared.batch.Batch.{Batch}
+use Rattle.jaeger_model.specs.Parents.{domain, parent, with_parent, needs_no_reference, parent_reference}
 use Rattle.jaeger_model.proofs.Referred.{same_parent}
+use Rattle.trace_model.specs.declared.entry.Work.{Work}
+use Rattle.trace_model.specs.declared.entry.Work.TheVariants as brings
+use Rattle.trace_model.specs.Works.{batch_brought, placed_brought}
 use Rattle.trace_model.specs.Seeing.{placed_by_its_entry}
 use Rattle.trace_model.specs.Taking.{Taken}
 use Rattle.trace_model.proofs.Chains.{is_some-map}
@@ -38,6 +42,15 @@ parent_kept s o e = ap (λ (id : SpanId). Some id.0) (sym (same_parent s.span.no
 
 pub name_kept : (s : Seen) (o : Option Placed) → Some (placed_by_its_entry s) ≡ o → s.process.now.service ≡ text_in o
 name_kept s o e = ap text_in e
+
+-- ---- the span of an entry at an index
+pub brought_there : (w : Work) (i : ℕ) (b : Batch) → Some b ≡ batch_brought w → slice_get (domain b) i ≡ slice_get (placed_brought w) i
+brought_there (brings.Batch x) i b is = let same : b ≡ x = cc is in ap (λ (y : Batch). slice_get (domain y) i) same
+brought_there (brings.TraceLimit n) i b is = absurd (cc is)
+
+pub not_brought : (w : Work) (i : ℕ) → None ≡ batch_brought w → None ≡ slice_get (placed_brought w) i
+not_brought (brings.Batch x) i is = absurd (cc is)
+not_brought (brings.TraceLimit n) i is = refl
 
 -- ---- the table
 own_id : (q id : ℕ) (o : Option Placed) → Some id ≡ option_map (λ (p : Placed). p.span.id.0) o → has_number q o ≡ (id == q)

@@ -23,6 +23,11 @@ service_in s = (s.number, text_in s.span)
 abbrev pub service_seen : Bor Taken → NumberedService
 service_seen s = service_in s.now
 
+-- the span is there, and has this id and this parent's id
+abbrev pub HasIds : ℕ → ℕ → Option Placed → Type 0
+HasIds id parent_id o =
+    (Some id ≡ option_map (λ (p : Placed). p.span.id.0) o) × (Some parent_id ≡ option_map (λ (p : Placed). (parent p.span).0) o)
+
 -- the service of the first span with the id
 abbrev pub has_number : ℕ → Option Placed → Bool
 has_number id None = false

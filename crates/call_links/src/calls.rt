@@ -1,34 +1,16 @@
 //! The calls of a trace.
 
-ghost use Rattle.std.specs.Prelude.{◌≡◌, ℕ, Some, IfOk, option_map};
+ghost use Rattle.std.specs.Prelude.{◌≡◌, ℕ, IfOk, option_map};
 ghost use Rattle.std.specs.Ordering.{nat_cmp};
 ghost use Rattle.std.specs.BTreeMap.{get};
-ghost use Rattle.jaeger_model.specs.Parents.{parent};
 ghost use Rattle.call_links.specs.Seen.{service_seen, service_of, numbered_call, call_by};
 
 use crate::numbered_span::NumberedSpan;
-use jaeger_model::parent_of;
 use std::alloc::{AllocError, Global};
 use std::collections::BTreeMap;
 
 /// A span of a service, and a span of another service that it calls.
 pub(crate) type Call<'t, 'a> = (&'t NumberedSpan<'a>, &'t NumberedSpan<'a>);
-
-/// Returns the id of a span.
-#[tactic(auto, using(crate::proofs::Gathering::id_kept))]
-fn span_id(span: &NumberedSpan<'_>) -> u64
-    ensures { Some result ≡ option_map (λ p. p.span.id.0) span.now.span }
-{
-    span.seen().span.id.0
-}
-
-/// Returns the id of a span's parent, or 0 if it has none.
-#[tactic(auto, using(crate::proofs::Gathering::parent_kept))]
-fn parent_id(span: &NumberedSpan<'_>) -> u64
-    ensures { Some result ≡ option_map (λ p. (parent p.span).0) span.now.span }
-{
-    parent_of(span.seen().span).0
-}
 
 /// Returns the first span of the trace with each id.
 pub(crate) fn first_spans<'t, 'a>(
@@ -40,7 +22,7 @@ pub(crate) fn first_spans<'t, 'a>(
 {
     let mut first = BTreeMap::new(alloc);
     for span in trace {
-        let id = span_id(span);
+        let id = span.id();
         if let Some(before) = first.insert(id, span)? {
             first.insert(id, before)?;
         }
@@ -56,7 +38,7 @@ pub(crate) fn call_to<'t, 'a>(
     ensures { option_map numbered_call result ≡
         call_by (λ id. option_map service_seen (get nat_cmp first.now id)) span.now }
 {
-    let parent = parent_id(span);
+    let parent = span.parent();
     if parent == 0 {
         return None;
     }

@@ -8,7 +8,7 @@ ghost use Rattle.call_links.specs.Tallies.{with_call, with_trace, tallied};
 use crate::calls::{Call, call_to, first_spans};
 use crate::numbered_span::NumberedSpan;
 use crate::order::{in_order, linked};
-use crate::tally::{Tally, numbers_of, one_more};
+use crate::tally::{Tally, numbers_of, tally_after};
 use std::alloc::{AllocError, Global};
 use std::collections::BTreeMap;
 use std::marker::Model;
@@ -40,19 +40,16 @@ impl<'a> LinkCounts<'a> {
         }
     }
 
-    /// Counts one call. Reads no text.
+    /// Counts one call. Reads no text, and looks up the pair of services once unless it is new.
     fn count(&mut self, call: Call<'_, 'a>) -> Result<(), AllocError>
         ensures { OnOk result (self.new ≡ with_call self.old (numbered_call call.entry)) }
     {
         let numbers = numbers_of(call);
-        let calls = one_more(&self.tallies, numbers)?;
-        let (caller, callee) = call;
-        let tally = Tally {
-            caller: caller.again(),
-            callee: callee.again(),
-            calls,
-        };
-        self.tallies.insert(numbers, tally)?;
+        if let Some(tally) = self.tallies.get_mut(&numbers) {
+            *tally = tally_after(call, tally.calls)?;
+            return Ok(());
+        }
+        self.tallies.insert(numbers, tally_after(call, 0)?)?;
         Ok(())
     }
 

@@ -1,24 +1,29 @@
-//! A span in its entry, with the number of its service.
+//! A span in its entry, with its ids and the number of its service.
 
 ghost use Rattle.std.specs.Prelude.{◌≡◌, Some, slice_get, IfOk, IfSome, option_map};
 ghost use Rattle.std.specs.Option.{option_and_then};
 ghost use Rattle.std.specs.Arc.{arc_value};
+ghost use Rattle.jaeger_model.specs.Parents.{parent};
 ghost use Rattle.trace_model.specs.Works.{placed_brought};
 ghost use Rattle.trace_model.specs.Seeing.{placed_by_its_entry};
 
-use jaeger_model::Seen;
+use jaeger_model::{Seen, parent_of};
 use std::alloc::AllocError;
 use std::marker::Model;
 use std::sync::Arc;
 use trace_model::{Entry, ServiceName, reported_in};
 
-/// A span in its entry, with the number of its service. The entry is borrowed, so that a span costs no count of its
-/// sharers. Contracts see the span with its process and its parent among its references, and the number.
+/// A span in its entry, with its ids and the number of its service. The entry is borrowed, so that a span costs no
+/// count of its sharers. Contracts see the span with its process and its parent among its references, and the number.
 #[derive(Drop)]
 pub struct NumberedSpan<'a> {
     entry: &'a Arc<Entry>,
     index: u32,
     number: u32,
+    /// The id of the span, read once: spans are scattered in memory, and the calls of a trace ask for it again.
+    id: u64,
+    /// The id of its parent, or 0 if it has none.
+    parent: u64,
 }
 
 impl<'a> Model for NumberedSpan<'a> {
@@ -26,30 +31,58 @@ impl<'a> Model for NumberedSpan<'a> {
     ghost use Rattle.std.specs.Arc.{arc_value};
     ghost use Rattle.trace_model.specs.Works.{placed_brought};
     ghost use Rattle.trace_model.specs.Taking.{Taken};
+    ghost use Rattle.call_links.specs.Seen.{HasIds};
 
     ghost Value = { Taken };
 
     ghost view = { λ s. record { span = slice_get (placed_brought (arc_value s.entry.now).work) s.index; number = s.number } };
 
-    ghost invariant = { λ s. IsSome (slice_get (placed_brought (arc_value s.entry.now).work) s.index) };
+    ghost invariant = { λ s. IsSome (slice_get (placed_brought (arc_value s.entry.now).work) s.index)
+        × HasIds s.id s.parent (slice_get (placed_brought (arc_value s.entry.now).work) s.index) };
+}
+
+/// Returns the id of a span.
+fn id_of(seen: Seen<'_>) -> u64
+    ensures { result ≡ seen.entry.span.now.id.0 }
+{
+    seen.span.id.0
+}
+
+/// Returns the id of a span's parent, or 0 if it has none.
+fn parent_id(seen: Seen<'_>) -> u64
+    ensures { result ≡ (parent seen.entry.span.now).0 }
+{
+    parent_of(seen.span).0
+}
+
+/// Returns the span of the entry at an index, as it was reported.
+#[tactic(auto, using(crate::proofs::Gathering::brought_there, crate::proofs::Gathering::not_brought))]
+fn seen_in(entry: &Entry, index: u32) -> Option<Seen<'_>>
+    ensures { option_map placed_by_its_entry result ≡ slice_get (placed_brought entry.now.work) index }
+{
+    match entry.work.batch() {
+        Some(batch) => reported_in(batch, index),
+        None => None,
+    }
 }
 
 impl<'a> NumberedSpan<'a> {
     /// Makes the span of the entry at an index, which counts from 0, with this number; `None` if the entry has no such
     /// span.
+    #[tactic(auto, using(crate::proofs::Gathering::id_kept, crate::proofs::Gathering::parent_kept))]
     pub fn new(entry: &'a Arc<Entry>, index: u32, number: u32) -> Option<NumberedSpan<'a>>
         ensures span { option_and_then (λ s. s.span) result ≡
             slice_get (placed_brought (arc_value entry.now).work) index }
         ensures number { IfSome result (λ s. s.number ≡ number) }
     {
-        if (index as usize) < entry.work.spans().len() {
-            return Some(NumberedSpan {
-                entry,
-                index,
-                number,
-            });
-        }
-        None
+        let seen = seen_in(entry, index)?;
+        Some(NumberedSpan {
+            entry,
+            index,
+            number,
+            id: id_of(seen),
+            parent: parent_id(seen),
+        })
     }
 
     /// Returns the same span.
@@ -60,7 +93,23 @@ impl<'a> NumberedSpan<'a> {
             entry: self.entry,
             index: self.index,
             number: self.number,
+            id: self.id,
+            parent: self.parent,
         }
+    }
+
+    /// Returns its id.
+    pub(crate) fn id(&self) -> u64
+        ensures { Some result ≡ option_map (λ p. p.span.id.0) self.now.span }
+    {
+        self.id
+    }
+
+    /// Returns the id of its parent, or 0 if it has none.
+    pub(crate) fn parent(&self) -> u64
+        ensures { Some result ≡ option_map (λ p. (parent p.span).0) self.now.span }
+    {
+        self.parent
     }
 
     /// Returns the number of its service.
@@ -74,10 +123,7 @@ impl<'a> NumberedSpan<'a> {
     pub(crate) fn seen(&self) -> Seen<'a>
         ensures { Some (placed_by_its_entry result) ≡ self.now.span }
     {
-        let Some(batch) = self.entry.work.batch() else {
-            unreachable!();
-        };
-        let Some(seen) = reported_in(batch, self.index) else {
+        let Some(seen) = seen_in(self.entry, self.index) else {
             unreachable!();
         };
         seen

@@ -5,6 +5,7 @@ use Rattle.std.proofs.KnownBytes.{Appends-trans}
 use Rattle.jaeger_model.specs.declared.ids.TraceId.{TraceId}
 use Rattle.trace_model.specs.declared.limits.Limits.{Limits}
 use Rattle.trace_model.specs.Held.{Held}
+use Rattle.text_lines.specs.declared.exit_status.ExitStatus.{ExitStatus}
 use Rattle.text_lines.specs.declared.run_error.RunError.{RunError}
 use Rattle.text_lines.specs.Lines.{lines_of}
 use Rattle.text_lines.specs.RunErrors.{Finishes, IsWhyOf, StopsShort, WritesSome, status_by}
@@ -25,7 +26,7 @@ lines_judged s limits lines reply t start e = lines_come_to line_result (λ (a b
     each w n line reply v e s same = (e.0 ∙ ap (λ h. (line_result n h line).held) same, e.1 ∙ ap (λ h. (line_result n h line).reply) same)
 
 module _ (in0 in1 out0 out1 out2 : Option (List ℕ)) (i o : Bool) (limits : Limits) (id : TraceId) (held0 held1 : Held) (faulty : Bool) where
-  pub finishes : held0 ≡ nothing_held limits → AnswersAll TakesBatch in0 in1 out0 out1 held0 held1 faulty → (found : Bool) (status : ℕ)
+  pub finishes : held0 ≡ nothing_held limits → AnswersAll TakesBatch in0 in1 out0 out1 held0 held1 faulty → (found : Bool) (status : ExitStatus)
       → found ≡ is_some (found_in held1 id) → Appends out1 out2 (trace_lines (found_in held1 id)) → status ≡ status_at faulty found → i ≡ false → o ≡ false
       → Finishes in0 in1 out0 out2 i o (output_of limits id) (status_of limits id) status
   finishes start a found status f reply s ie oe =

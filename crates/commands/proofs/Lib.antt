@@ -8,3 +8,4 @@ pub mod WrittenLines
 pub mod GetWholes
 pub mod PlayingLines
 pub mod PlayWholes
+pub mod ReadLimits

@@ -9,6 +9,8 @@ use Rattle.trace_model.specs.declared.limits.Limits.{Limits}
 use Rattle.trace_model.specs.Held.{Held}
 use Rattle.trace_model.specs.Histories.{events}
 use Rattle.trace_model.specs.Showing.{trace_found}
+use Rattle.text_lines.specs.declared.exit_status.ExitStatus.{ExitStatus}
+use Rattle.text_lines.specs.declared.exit_status.ExitStatus.TheVariants.{Success, NotFound, FaultyLine}
 use Rattle.text_lines.specs.declared.run_error.RunError.{RunError}
 use Rattle.text_lines.specs.Lines.{lines_of}
 use Rattle.text_lines.specs.RunErrors.{Finishes, StopsShort, status_by as status_of_error}
@@ -75,20 +77,20 @@ output_of limits id input =
     let all = all_lines limits (lines_of input) in
     all.reply.text ++ trace_lines (found_in all.held id)
 
--- 3 if a line couldn't be used, else 0 if the trace was found, else 1
-abbrev pub status_by : Bool → Bool → ℕ
-status_by true found = 3
-status_by false true = 0
-status_by false false = 1
+-- a line couldn't be used; otherwise whether the trace was found
+abbrev pub status_by : Bool → Bool → ExitStatus
+status_by true found = FaultyLine
+status_by false true = Success
+status_by false false = NotFound
 
-abbrev pub status_of : Limits → TraceId → List ℕ → ℕ
+abbrev pub status_of : Limits → TraceId → List ℕ → ExitStatus
 status_of limits id input =
     let all = all_lines limits (lines_of input) in
     status_by all.reply.faulty (is_some (found_in all.held id))
 
 -- A run of `get` returned a status: that of the whole input, with its output; or, if it stopped short, that of the
 -- error.
-abbrev pub RunsGet : Limits → TraceId → (in0 in1 out0 out1 : Option (List ℕ)) → Bool → Bool → Result ℕ RunError → Type 0
+abbrev pub RunsGet : Limits → TraceId → (in0 in1 out0 out1 : Option (List ℕ)) → Bool → Bool → Result ExitStatus RunError → Type 0
 RunsGet limits id in0 in1 out0 out1 in_failed out_failed (Ok status) =
     Finishes in0 in1 out0 out1 in_failed out_failed (output_of limits id) (status_of limits id) status
 RunsGet limits id in0 in1 out0 out1 in_failed out_failed (Err error) =

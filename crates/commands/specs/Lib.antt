@@ -1,4 +1,3 @@
-pub mod Exits
 pub mod Words
 pub mod Asked
 pub mod LineFaults

@@ -8,11 +8,13 @@ use Rattle.http_session.specs.declared.exchanges.SessionErrorKind.{SessionErrorK
 use Rattle.http_session.specs.declared.exchanges.SessionErrorKind.TheVariants.{Reading, Writing, Memory}
 use Rattle.http_session.specs.declared.exchanges.SessionError.{SessionError}
 use Rattle.pipe_session.specs.Exact.{IsExact}
+use Rattle.text_lines.specs.declared.exit_status.ExitStatus.{ExitStatus}
+use Rattle.text_lines.specs.declared.exit_status.ExitStatus.TheVariants.{Success, DeviceFailed, OutOfMemory}
 
-abbrev pub cause_status : SessionErrorKind → ℕ
-cause_status Reading = 4
-cause_status Writing = 4
-cause_status Memory = 5
+abbrev pub cause_status : SessionErrorKind → ExitStatus
+cause_status Reading = DeviceFailed
+cause_status Writing = DeviceFailed
+cause_status Memory = OutOfMemory
 
 -- a session over an empty store ended, and no device failed
 pub record PipesToTheEnd (in0 in1 out0 out1 : Option (List ℕ)) (in_failed out_failed : Bool) (limits : Limits) : Type 0 where
@@ -25,13 +27,14 @@ pub record PipesToTheEnd (in0 in1 out0 out1 : Option (List ℕ)) (in_failed out_
   pub output_works : out_failed ≡ false
 
 -- a session over an empty store failed
-pub record PipesUpTo (in0 in1 out0 out1 : Option (List ℕ)) (in_failed out_failed : Bool) (limits : Limits) (status : ℕ) : Type 0 where
+pub record PipesUpTo (in0 in1 out0 out1 : Option (List ℕ)) (in_failed out_failed : Bool) (limits : Limits)
+    (status : ExitStatus) : Type 0 where
   pub error : SessionError
   pub status_is : status ≡ cause_status error.cause
   pub last : Held
   pub fails : FailsAs DirectSubmits DirectReads in0 in1 out0 out1 (record { limits = limits; entries = [] }) last in_failed out_failed error
   pub exact : IsExact (record { limits = limits; entries = [] }) (fails.opens ++ exchange_due fails.next) last
 
-abbrev pub Pipes : Option (List ℕ) → Option (List ℕ) → Option (List ℕ) → Option (List ℕ) → Bool → Bool → Limits → ℕ → Type 0
+abbrev pub Pipes : Option (List ℕ) → Option (List ℕ) → Option (List ℕ) → Option (List ℕ) → Bool → Bool → Limits → ExitStatus → Type 0
 Pipes in0 in1 out0 out1 in_failed out_failed limits status =
-    ((status ≡ 0) × PipesToTheEnd in0 in1 out0 out1 in_failed out_failed limits) ⊎ PipesUpTo in0 in1 out0 out1 in_failed out_failed limits status
+    ((status ≡ Success) × PipesToTheEnd in0 in1 out0 out1 in_failed out_failed limits) ⊎ PipesUpTo in0 in1 out0 out1 in_failed out_failed limits status

@@ -9,6 +9,8 @@ use Rattle.step_lines.specs.declared.fault.StepFault.{StepFault}
 use Rattle.step_lines.specs.FaultTexts.{fault_text}
 use Rattle.step_lines.specs.OutcomeLines.{outcome_line}
 use Rattle.step_lines.specs.Steps.{step_in}
+use Rattle.text_lines.specs.declared.exit_status.ExitStatus.{ExitStatus}
+use Rattle.text_lines.specs.declared.exit_status.ExitStatus.TheVariants.{Success, FaultyLine}
 use Rattle.text_lines.specs.Lines.{lines_of}
 use Rattle.text_lines.specs.Taking.{Takes, nothing_said}
 use Rattle.text_lines.specs.Results.{LineResult, result_of_lines}
@@ -33,10 +35,10 @@ played n m line = if length line == 0 then skipped m else played_as n m (step_in
 
 -- ---- the complete run
 
--- 3 if a line was no step
-abbrev pub play_status : Bool → ℕ
-play_status true = 3
-play_status false = 0
+-- whether a line was no step
+abbrev pub play_status : Bool → ExitStatus
+play_status true = FaultyLine
+play_status false = Success
 
 -- the result of lines, from the initial state of the machine
 abbrev pub all_played : Limits → List (List ℕ) → LineResult Machine
@@ -45,7 +47,7 @@ all_played limits lines = result_of_lines played 1 (new_machine limits) lines
 abbrev pub output_of : Limits → List ℕ → List ℕ
 output_of limits input = (all_played limits (lines_of input)).reply.text
 
-abbrev pub status_of : Limits → List ℕ → ℕ
+abbrev pub status_of : Limits → List ℕ → ExitStatus
 status_of limits input = play_status (all_played limits (lines_of input)).reply.faulty
 
 -- ---- one line

@@ -3,6 +3,8 @@ use Rattle.std.specs.Prelude.{◌≡◌, ℕ, Bool, false, List, Option, codes, 
 use Rattle.std.specs.Io.KnownBytes.{Appends}
 use Rattle.clap.specs.Words.{Text}
 use Rattle.trace_model.specs.declared.limits.Limits.{Limits}
+use Rattle.text_lines.specs.declared.exit_status.ExitStatus.{ExitStatus}
+use Rattle.text_lines.specs.declared.exit_status.ExitStatus.TheVariants.{Usage, OutOfMemory}
 use Rattle.text_lines.specs.RunErrors.{RunsAs}
 use Rattle.commands.specs.GetRuns.{output_of as get_output, status_of as get_status}
 use Rattle.commands.specs.Playing.{output_of as play_output, status_of as play_status}
@@ -14,7 +16,7 @@ use Rattle.commands.specs.Piping.{Pipes}
 use Rattle.commands.specs.Serving.{ServesOrNot}
 
 -- what the command writes for its input, and its status
-abbrev pub Does : Command → (in0 in1 out0 out1 : Option (List ℕ)) → Bool → Bool → ℕ → Type 0
+abbrev pub Does : Command → (in0 in1 out0 out1 : Option (List ℕ)) → Bool → Bool → ExitStatus → Type 0
 Does (Get limits id) in0 in1 out0 out1 in_failed out_failed status =
     RunsAs in0 in1 out0 out1 in_failed out_failed (get_output limits id) (get_status limits id) status
 Does (Pipe limits) in0 in1 out0 out1 in_failed out_failed status = Pipes in0 in1 out0 out1 in_failed out_failed limits status
@@ -24,15 +26,15 @@ Does (Serve options) in0 in1 out0 out1 in_failed out_failed status =
     (in1 ≡ in0) × (in_failed ≡ false) × ServesOrNot options.host options.limits options.workers out0 out1 out_failed status
 
 -- no command was run: nothing was read, and the words were answered
-pub record TurnsAway (words : List Text) (in0 in1 out0 out1 : Option (List ℕ)) (in_failed out_failed : Bool) (status : ℕ) : Type 0 where
+pub record TurnsAway (words : List Text) (in0 in1 out0 out1 : Option (List ℕ)) (in_failed out_failed : Bool) (status : ExitStatus) : Type 0 where
   pub unread : in1 ≡ in0
   pub input_works : in_failed ≡ false
   pub fault : IsFaultOf status out_failed
-  pub accepted : (command : Command) → Accepts words command → status ≡ 5
-  pub bad_trace : (limits : Limits) → TakesGet words limits → status ≡ 2 → Appends out0 out1 (codes "bad trace id\n")
+  pub accepted : (command : Command) → Accepts words command → status ≡ OutOfMemory
+  pub bad_trace : (limits : Limits) → TakesGet words limits → status ≡ Usage → Appends out0 out1 (codes "bad trace id\n")
 
 -- the command of the words was run, or the words were answered with a fault
-abbrev pub Runs : List Text → (in0 in1 out0 out1 : Option (List ℕ)) → Bool → Bool → ℕ → Type 0
+abbrev pub Runs : List Text → (in0 in1 out0 out1 : Option (List ℕ)) → Bool → Bool → ExitStatus → Type 0
 Runs words in0 in1 out0 out1 in_failed out_failed status =
     ((command : Command) × Asks words command × Does command in0 in1 out0 out1 in_failed out_failed status)
     ⊎ TurnsAway words in0 in1 out0 out1 in_failed out_failed status

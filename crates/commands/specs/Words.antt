@@ -11,6 +11,8 @@ use Rattle.trace_model.specs.declared.limits.Limits.{Limits}
 use Rattle.serve_options.specs.declared.host.Host.{Host}
 use Rattle.serve_options.specs.declared.options.ServeOptions.{ServeOptions}
 use Rattle.serve_options.specs.Hosts.{host_text}
+use Rattle.text_lines.specs.declared.exit_status.ExitStatus.{ExitStatus}
+use Rattle.text_lines.specs.declared.exit_status.ExitStatus.TheVariants.{Usage, DeviceFailed, OutOfMemory}
 
 -- an option whose value is a number, with its default
 abbrev pub number_rule : Text → ValueParser → Text → Rule
@@ -143,7 +145,8 @@ TakesLimits limits words = (are_taken get_app words ≡ true) × HasLimits (matc
 abbrev pub TakesGet : List Text → Limits → Type 0
 TakesGet words limits = AsksFor get_app (TakesLimits limits) words
 
--- the status of words that name no command: 2 for a fault of the words or a request for help, 4 if the writer failed, 5
--- if memory ran out
-abbrev pub IsFaultOf : ℕ → Bool → Type 0
-IsFaultOf status failed = ((status ≡ 2) × (failed ≡ false)) ⊎ ((status ≡ 4) × (failed ≡ true)) ⊎ ((status ≡ 5) × (failed ≡ false))
+-- the status of words that name no command: a fault of the words or a request for help, the writer failed, or memory ran
+-- out
+abbrev pub IsFaultOf : ExitStatus → Bool → Type 0
+IsFaultOf status failed =
+    ((status ≡ Usage) × (failed ≡ false)) ⊎ ((status ≡ DeviceFailed) × (failed ≡ true)) ⊎ ((status ≡ OutOfMemory) × (failed ≡ false))

@@ -16,10 +16,11 @@ use std::random::RandomSource;
 use std::sync::Wait;
 use std::thread::Threads;
 use std::time::Clock;
+use text_lines::ExitStatus;
 
-/// Runs the command of the words, and returns the exit status: 4 if and only if a device failed or the limit of reads
-/// was reached, and for `serve` also if a socket failed. Words that name no command, and a trace's id that can't be
-/// read, are answered on the output, and nothing is read then. `serve` doesn't read the input either.
+/// Runs the command of the words, and returns the exit status: `DeviceFailed` if and only if a device failed or the
+/// limit of reads was reached, and for `serve` also if a socket failed. Words that name no command, and a trace's id
+/// that can't be read, are answered on the output, and nothing is read then. `serve` doesn't read the input either.
 ///
 /// To add a subcommand, add a line here, and one in `Does` of `specs/Running.antt`.
 pub fn run<H, S: AsStr, R: Input, W: Output>(
@@ -28,7 +29,7 @@ pub fn run<H, S: AsStr, R: Input, W: Output>(
     words: &[S],
     input: &mut R,
     output: &mut W,
-) -> u8
+) -> ExitStatus
 where
     H: Threads
         + Wait
@@ -44,13 +45,13 @@ where
         (W.has_failed output.new) result }
 {
     let Ok(keys) = RandomState::new(rt) else {
-        return 5;
+        return ExitStatus::OutOfMemory;
     };
     match read_words(alloc, words, output) {
         Ok(Command::Get { limits, trace }) => run_get(alloc, keys, input, output, limits, trace),
         Ok(Command::Pipe { limits }) => run_pipe(alloc, keys, input, output, limits),
         Ok(Command::Play { limits }) => run_play(alloc, keys, input, output, limits),
         Ok(Command::Serve { options }) => run_serve(rt, alloc, keys, output, options),
-        Err(exit) => exit.status(),
+        Err(status) => status,
     }
 }

@@ -7,7 +7,8 @@
 //! * `line_fault`: why a line can't be used.
 //! * `trace_lines`: the lines of a trace's spans.
 
-ghost use Rattle.std.specs.Prelude.{◌≡◌, false};
+ghost use Rattle.std.specs.Prelude.{◌≡◌, false, IfErr};
+ghost use Rattle.text_lines.specs.Reads.{LimitIsReads, StatusIsReads};
 ghost use Rattle.text_lines.specs.RunErrors.{RunsAs};
 ghost use Rattle.commands.specs.GetRuns.{RunsGet, nothing_held, output_of, status_by as status_at, status_of as status_for};
 
@@ -22,16 +23,16 @@ pub use line_fault::LineFault;
 use session_devices::{Input, Output};
 use std::alloc::Global;
 use std::hash::RandomState;
-use text_lines::{RunError, answer_lines};
+use text_lines::{ExitStatus, RunError, answer_lines};
 use trace_model::Limits;
 
-fn status_of(faulty: bool, found: bool) -> u8
+fn status_of(faulty: bool, found: bool) -> ExitStatus
     ensures { result ≡ status_at faulty found }
 {
     match (faulty, found) {
-        (true, _) => 3,
-        (false, true) => 0,
-        (false, false) => 1,
+        (true, _) => ExitStatus::FaultyLine,
+        (false, true) => ExitStatus::Success,
+        (false, false) => ExitStatus::NotFound,
     }
 }
 
@@ -43,13 +44,15 @@ fn take_all<R: Input, W: Output>(
     output: &mut W,
     limits: Limits,
     trace: TraceId,
-) -> Result<u8, RunError>
+) -> Result<ExitStatus, RunError>
     requires nothing { batches.old ≡ nothing_held limits }
     requires input_works { R.has_failed input.old ≡ false }
     requires output_works { W.has_failed output.old ≡ false }
-    ensures { RunsGet limits trace (R.remaining input.old) (R.remaining input.new)
+    ensures runs { RunsGet limits trace (R.remaining input.old) (R.remaining input.new)
         (W.contents output.old) (W.contents output.new) (R.has_failed input.new)
         (W.has_failed output.new) result }
+    ensures limit { IfErr result (LimitIsReads R.gives input.old input.new
+        (R.has_failed input.new) (W.has_failed output.new)) }
 {
     let faulty = answer_lines(alloc, input, output, batches)?;
     let found = write_trace(alloc, output, batches.store(), trace)?;
@@ -64,12 +67,14 @@ fn finish<R: Input, W: Output>(
     output: &mut W,
     limits: Limits,
     trace: TraceId,
-) -> Result<u8, RunError>
+) -> Result<ExitStatus, RunError>
     requires input_works { R.has_failed input.old ≡ false }
     requires output_works { W.has_failed output.old ≡ false }
-    ensures { RunsGet limits trace (R.remaining input.old) (R.remaining input.new)
+    ensures runs { RunsGet limits trace (R.remaining input.old) (R.remaining input.new)
         (W.contents output.old) (W.contents output.new) (R.has_failed input.new)
         (W.has_failed output.new) result }
+    ensures limit { IfErr result (LimitIsReads R.gives input.old input.new
+        (R.has_failed input.new) (W.has_failed output.new)) }
 {
     let mut batches = Batches::new(alloc, keys, limits)?;
     let status = take_all(alloc, &mut batches, input, output, limits, trace);
@@ -85,8 +90,8 @@ fn finish<R: Input, W: Output>(
 /// fault. Spaces and tabs are ignored, and so are lines of nothing else. At the end of the input follow the spans of
 /// the trace, or `trace not found`.
 ///
-/// The exit status is 0; 1 if the trace isn't found; 3, which goes before 1, if a line couldn't be used; 4 if a read or
-/// a write failed or the limit of reads was reached; 5 if memory ran out.
+/// The exit status is `Success`; `FaultyLine` if a line couldn't be used, otherwise `NotFound` if the trace isn't
+/// found; `DeviceFailed` if a read or a write failed or the limit of reads was reached; `OutOfMemory` if memory ran out.
 pub fn run_get<R: Input, W: Output>(
     alloc: Global,
     keys: RandomState,
@@ -94,12 +99,14 @@ pub fn run_get<R: Input, W: Output>(
     output: &mut W,
     limits: Limits,
     trace: TraceId,
-) -> u8
+) -> ExitStatus
     requires input_works { R.has_failed input.old ≡ false }
     requires output_works { W.has_failed output.old ≡ false }
-    ensures { RunsAs (R.remaining input.old) (R.remaining input.new) (W.contents output.old)
+    ensures runs { RunsAs (R.remaining input.old) (R.remaining input.new) (W.contents output.old)
         (W.contents output.new) (R.has_failed input.new) (W.has_failed output.new)
         (output_of limits trace) (status_for limits trace) result }
+    ensures limit { StatusIsReads R.gives input.old input.new (R.has_failed input.new)
+        (W.has_failed output.new) result }
 {
     match finish(alloc, keys, input, output, limits, trace) {
         Ok(status) => status,

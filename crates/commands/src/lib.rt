@@ -6,13 +6,11 @@
 //!
 //! * `command`: runs the command of the words.
 //! * `words`: the command that the words name, and the reply to words that name none.
-//! * `exit`: how the program ends if the words name none.
 //! * `serve_words`: the words of the subcommand `serve`, which has more options than the others.
 //! * `get`, `play`, `pipe`, `serve`: the subcommands.
 #![tactic(auto)]
 
 mod command;
-mod exit;
 mod get;
 mod pipe;
 mod play;
@@ -21,7 +19,6 @@ mod serve_words;
 mod words;
 
 pub use command::run;
-pub use exit::Exit;
 pub use get::{Batches, LineFault, run_get};
 pub use pipe::run_pipe;
 pub use play::{Script, run_play};

@@ -1,5 +1,6 @@
 //! `pipe`: a session over standard input and output.
 ghost use Rattle.std.specs.Prelude.{◌≡◌};
+ghost use Rattle.text_lines.specs.Reads.{StatusIsReads};
 ghost use Rattle.text_lines.specs.RunErrors.{BothWork};
 ghost use Rattle.commands.specs.Piping.{Pipes, cause_status};
 
@@ -9,40 +10,43 @@ use session_devices::{Input, Output};
 use span_store::SpanStore;
 use std::alloc::Global;
 use std::hash::RandomState;
+use text_lines::ExitStatus;
 use trace_model::Limits;
 
-fn status_of(cause: SessionErrorKind) -> u8
+fn status_of(cause: SessionErrorKind) -> ExitStatus
     ensures { result ≡ cause_status cause }
 {
     match cause {
-        SessionErrorKind::Reading | SessionErrorKind::Writing => 4,
-        SessionErrorKind::Memory => 5,
+        SessionErrorKind::Reading | SessionErrorKind::Writing => ExitStatus::DeviceFailed,
+        SessionErrorKind::Memory => ExitStatus::OutOfMemory,
     }
 }
 
 /// Answers the HTTP requests of the input on the output, from a store that is empty at first. Returns the exit status:
-/// 0 if the session ended, by the end of the input or by a response that closes it, 4 if a read or a write failed, and
-/// 5 if memory ran out.
+/// `Success` if the session ended, by the end of the input or by a response that closes it, `DeviceFailed` if a read or
+/// a write failed or the limit of reads was reached, and `OutOfMemory` if memory ran out.
 pub fn run_pipe<R: Input, W: Output>(
     alloc: Global,
     keys: RandomState,
     input: &mut R,
     output: &mut W,
     limits: Limits,
-) -> u8
+) -> ExitStatus
     requires { BothWork (R.has_failed input.old) (W.has_failed output.old) }
-    ensures { Pipes (R.remaining input.old) (R.remaining input.new) (W.contents output.old)
+    ensures pipes { Pipes (R.remaining input.old) (R.remaining input.new) (W.contents output.old)
         (W.contents output.new) (R.has_failed input.new) (W.has_failed output.new) limits result }
+    ensures limit { StatusIsReads R.gives input.old input.new (R.has_failed input.new)
+        (W.has_failed output.new) result }
 {
     let Ok(opened) = SpanStore::open(alloc, keys, limits) else {
-        return 5;
+        return ExitStatus::OutOfMemory;
     };
     let mut store = Direct::new(opened);
     // For the prover: explicit drops are cheaper than one at the end of the block.
     match pipe(alloc, input, output, &mut store) {
         Ok(_) => {
             drop(store);
-            0
+            ExitStatus::Success
         }
         Err(error) => {
             drop(store);

@@ -6,6 +6,7 @@
 //! * `script`: a machine that reads a step from each line.
 
 ghost use Rattle.std.specs.Prelude.{◌≡◌, false};
+ghost use Rattle.text_lines.specs.Reads.{StatusIsReads};
 ghost use Rattle.text_lines.specs.RunErrors.{RunsAs};
 ghost use Rattle.trace_model.specs.declared.limits.Limits.{Limits as LimitsValue};
 ghost use Rattle.schedule_core.specs.Machine.{new_machine};
@@ -17,13 +18,17 @@ pub use script::Script;
 use session_devices::{Input, Output};
 use std::alloc::Global;
 use std::hash::RandomState;
-use text_lines::answer_lines;
+use text_lines::{ExitStatus, answer_lines};
 use trace_model::Limits;
 
-fn status_of(faulty: bool) -> u8
+fn status_of(faulty: bool) -> ExitStatus
     ensures { result ≡ play_status faulty }
 {
-    if faulty { 3 } else { 0 }
+    if faulty {
+        ExitStatus::FaultyLine
+    } else {
+        ExitStatus::Success
+    }
 }
 
 /// Runs the lines of the input as steps of the script, and returns the exit status.
@@ -32,13 +37,15 @@ fn play_lines<R: Input, W: Output>(
     input: &mut R,
     output: &mut W,
     script: &mut Script,
-) -> u8
+) -> ExitStatus
     requires input_works { R.has_failed input.old ≡ false }
     requires output_works { W.has_failed output.old ≡ false }
-    ensures { (limits : LimitsValue) → StandsAt script.old (new_machine limits) →
+    ensures runs { (limits : LimitsValue) → StandsAt script.old (new_machine limits) →
         RunsAs (R.remaining input.old) (R.remaining input.new) (W.contents output.old)
         (W.contents output.new) (R.has_failed input.new) (W.has_failed output.new)
         (output_of limits) (status_for limits) result }
+    ensures limit { StatusIsReads R.gives input.old input.new (R.has_failed input.new)
+        (W.has_failed output.new) result }
 {
     match answer_lines(alloc, input, output, script) {
         Ok(faulty) => status_of(faulty),
@@ -51,23 +58,25 @@ fn play_lines<R: Input, W: Output>(
 /// The reply to a line that is no step is a line of its own, and the machine doesn't change. Empty lines are skipped.
 /// The machine starts in its initial state.
 ///
-/// The exit status is 0; 3 if a line was no step; 4 if a read or a write failed or the limit of reads was reached; 5 if
-/// memory ran out.
+/// The exit status is `Success`; `FaultyLine` if a line was no step; `DeviceFailed` if a read or a write failed or the
+/// limit of reads was reached; `OutOfMemory` if memory ran out.
 pub fn run_play<R: Input, W: Output>(
     alloc: Global,
     keys: RandomState,
     input: &mut R,
     output: &mut W,
     limits: Limits,
-) -> u8
+) -> ExitStatus
     requires input_works { R.has_failed input.old ≡ false }
     requires output_works { W.has_failed output.old ≡ false }
-    ensures { RunsAs (R.remaining input.old) (R.remaining input.new) (W.contents output.old)
+    ensures runs { RunsAs (R.remaining input.old) (R.remaining input.new) (W.contents output.old)
         (W.contents output.new) (R.has_failed input.new) (W.has_failed output.new)
         (output_of limits) (status_for limits) result }
+    ensures limit { StatusIsReads R.gives input.old input.new (R.has_failed input.new)
+        (W.has_failed output.new) result }
 {
     let Ok(mut script) = Script::new(alloc, keys, limits) else {
-        return 5;
+        return ExitStatus::OutOfMemory;
     };
     let status = play_lines(alloc, input, output, &mut script);
     // For the prover: an explicit drop is cheaper than one at the end of the block.

@@ -11,33 +11,38 @@ use std::net::{Net, SocketAddr, TcpListener, TcpStream};
 use std::sync::Wait;
 use std::thread::Threads;
 use std::time::Clock;
-use text_lines::write_text;
+use text_lines::{ExitStatus, write_text};
 use trace_server::{NoGate, ServerConfig, serve_with};
 
 /// Writes why the server can't listen on an address, and returns the exit status.
-fn turn_down<W: Output>(alloc: Global, output: &mut W, address: SocketAddr, error: &io::Error) -> u8
+fn turn_down<W: Output>(
+    alloc: Global,
+    output: &mut W,
+    address: SocketAddr,
+    error: &io::Error,
+) -> ExitStatus
     requires { W.has_failed output.old ≡ false }
     ensures { TurnsDown (W.contents output.old) (W.contents output.new) (W.has_failed output.new)
         result }
 {
     let Ok(line) = format!(in alloc; "cannot listen on {address}: {error}\n") else {
-        return 5;
+        return ExitStatus::OutOfMemory;
     };
     match write_text(alloc, output, line.as_bytes()) {
-        Ok(()) => 4,
+        Ok(()) => ExitStatus::DeviceFailed,
         Err(error) => error.status(),
     }
 }
 
 /// Serves connections on a host's port over an empty store, until the requested number has ended. Returns the exit
-/// status: 4 if the address can't be used, otherwise that of [`serve_with`](trace_server::serve_with).
+/// status: `DeviceFailed` if the address can't be used, otherwise that of [`serve_with`](trace_server::serve_with).
 pub fn run_serve<H, W>(
     rt: &H,
     alloc: Global,
     keys: RandomState,
     output: &mut W,
     options: ServeOptions,
-) -> u8
+) -> ExitStatus
 where
     H: Threads + Wait + Clock + Eprint + Net<Stream = TcpStream, Listener = TcpListener> + Sync,
     W: Output,

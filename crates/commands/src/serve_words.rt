@@ -6,10 +6,9 @@ ghost use Rattle.serve_options.specs.declared.options.ServeOptions.{ServeOptions
 ghost use Rattle.commands.specs.declared.words.Command.TheVariants.{Serve};
 ghost use Rattle.commands.specs.Words.{HasHost, HasServeOptions, Makes, connections_rule, host_rule, idle_rule, port_rule, queue_rule, report_rule, serve_app};
 ghost use Rattle.commands.specs.Words.{sessions_rule, with_serving as serving_on, workers_rule};
-ghost use Rattle.commands.specs.declared.exit.Exit.TheVariants.{NoMemory};
+ghost use Rattle.text_lines.specs.declared.exit_status.ExitStatus.TheVariants.{OutOfMemory};
 ghost use Rattle.commands.specs.Asked.{Reads, Takes};
 
-use crate::exit::Exit;
 use crate::words::{limits_of, matches_of, number, with_limits};
 use clap::{Arg, ArgMatches, value_parser};
 use serve_options::{Host, ServeOptions};
@@ -17,6 +16,7 @@ use std::alloc::{AllocError, Global};
 use std::convert::AsStr;
 use std::io;
 use std::io::Write;
+use text_lines::ExitStatus;
 
 /// Defines the option `--host`.
 fn host_option<'a>(alloc: Global) -> Arg<'a>
@@ -146,8 +146,8 @@ fn write_bad_host<W: Write>(writer: &mut W, text: &str) -> io::Result<()> {
     )
 }
 
-/// Returns the host of the option. Otherwise writes the fault and returns how the program ends.
-fn host_of<W: Write>(matches: &ArgMatches<'_>, writer: &mut W) -> Result<Host, Exit>
+/// Returns the host of the option. Otherwise writes the fault and returns the exit status.
+fn host_of<W: Write>(matches: &ArgMatches<'_>, writer: &mut W) -> Result<Host, ExitStatus>
     ensures host { IfOk result (HasHost (rows_of (found_of matches.now))) }
     ensures found { (host : HostValue) → HasHost (rows_of (found_of matches.now)) host →
         IsOk result }
@@ -156,8 +156,8 @@ fn host_of<W: Write>(matches: &ArgMatches<'_>, writer: &mut W) -> Result<Host, E
     match asked_host(matches) {
         Some(host) => Ok(host),
         None => match write_bad_host(writer, matches.get_str("host").unwrap_or("")) {
-            Ok(()) => Err(Exit::Fault),
-            Err(_) => Err(Exit::Device),
+            Ok(()) => Err(ExitStatus::Usage),
+            Err(_) => Err(ExitStatus::DeviceFailed),
         },
     }
 }
@@ -195,14 +195,14 @@ pub(crate) fn read_serve<S: AsStr, W: Write>(
     alloc: Global,
     words: &[S],
     writer: &mut W,
-) -> Result<ServeOptions, Exit>
+) -> Result<ServeOptions, ExitStatus>
     ensures asked { IfOk result (λ options. Reads (Serve options) (map S.text words.now)) }
     ensures silent { OnOk result (W.contents writer.new ≡ W.contents writer.old) }
     ensures accepted { (options : ServeOptionsValue) →
-        Takes (Serve options) (map S.text words.now) → IfErr result (λ e. e ≡ NoMemory) }
+        Takes (Serve options) (map S.text words.now) → IfErr result (λ e. e ≡ OutOfMemory) }
 {
     let matches = matches_of(serve_command(alloc), words, writer)?;
     let host = host_of(&matches, writer)?;
     // Impossible: None, since clap has read each option in its range.
-    serve_options_of(&matches, host).ok_or(Exit::Fault)
+    serve_options_of(&matches, host).ok_or(ExitStatus::Usage)
 }

@@ -8,11 +8,9 @@ ghost use Rattle.commands.specs.declared.words.Command.{Command as CommandValue}
 ghost use Rattle.commands.specs.declared.words.Command.TheVariants.{Get};
 ghost use Rattle.commands.specs.Words.{HasLimits, IsFaultOf, Makes, TakesGet, TakesLimits, are_taken, get_app, number_rule, pipe_app, play_app, trace_in};
 ghost use Rattle.commands.specs.Words.{with_limits as limits_on};
-ghost use Rattle.commands.specs.declared.exit.Exit.TheVariants.{Fault, Device, NoMemory};
-ghost use Rattle.commands.specs.Exits.{exit_status};
+ghost use Rattle.text_lines.specs.declared.exit_status.ExitStatus.TheVariants.{Usage, DeviceFailed, OutOfMemory};
 ghost use Rattle.commands.specs.Asked.{Accepts, Asks, Reads, Takes};
 
-use crate::exit::Exit;
 use crate::serve_words::{read_serve, serve_command};
 use clap::builder::ValueParser;
 use clap::error::ErrorKind;
@@ -24,7 +22,7 @@ use std::alloc::{AllocError, Global};
 use std::convert::AsStr;
 use std::io;
 use std::io::Write;
-use text_lines::write_text;
+use text_lines::{ExitStatus, write_text};
 use trace_model::Limits;
 
 /// The version of the program, as in `CHANGELOG.md`.
@@ -176,33 +174,33 @@ fn program<'a>(alloc: Global) -> Result<clap::Command<'a>, AllocError> {
     with_subcommand(program, serve_command(alloc))
 }
 
-/// Writes what is wrong with the words, or the help that they ask for, and returns how the program ends.
-fn explain<W: Write>(writer: &mut W, error: &Error) -> Exit
-    ensures memory { kind_of error.now ≡ ErrorKind.OutOfMemory → result ≡ NoMemory }
+/// Writes what is wrong with the words, or the help that they ask for, and returns the exit status.
+fn explain<W: Write>(writer: &mut W, error: &Error) -> ExitStatus
+    ensures memory { kind_of error.now ≡ ErrorKind.OutOfMemory → result ≡ OutOfMemory }
 {
     if error.kind() == ErrorKind::OutOfMemory {
-        return Exit::NoMemory;
+        return ExitStatus::OutOfMemory;
     }
     match write!(writer, "{error}") {
-        Ok(()) => Exit::Fault,
-        Err(_) => Exit::Device,
+        Ok(()) => ExitStatus::Usage,
+        Err(_) => ExitStatus::DeviceFailed,
     }
 }
 
-/// Reads the words of a subcommand by clap, or writes what is wrong with them and returns how the program ends.
+/// Reads the words of a subcommand by clap, or writes what is wrong with them and returns the exit status.
 pub(crate) fn matches_of<'a, S: AsStr, W: Write>(
     made: Result<clap::Command<'a>, AllocError>,
     words: &'a [S],
     writer: &mut W,
-) -> Result<ArgMatches<'a>, Exit>
+) -> Result<ArgMatches<'a>, ExitStatus>
     ensures rows { (app : App) → Makes made.entry app →
         IfOk result (λ m. rows_of (found_of m) ≡ matches_of app (map S.text words.entry.now)) }
     ensures silent { OnOk result (W.contents writer.new ≡ W.contents writer.old) }
     ensures taken { (app : App) → Makes made.entry app →
-        are_taken app (map S.text words.entry.now) ≡ true → IfErr result (λ e. e ≡ NoMemory) }
+        are_taken app (map S.text words.entry.now) ≡ true → IfErr result (λ e. e ≡ OutOfMemory) }
 {
     let Ok(command) = made else {
-        return Err(Exit::NoMemory);
+        return Err(ExitStatus::OutOfMemory);
     };
     match command.try_get_matches_from(words) {
         Ok(matches) => Ok(matches),
@@ -238,22 +236,22 @@ fn write_bad_trace<W: Write>(writer: &mut W) -> io::Result<()>
     writeln!(writer, "bad trace id")
 }
 
-/// Returns the trace's id. Otherwise writes the fault and returns how the program ends.
-fn trace_of<W: Write>(matches: &ArgMatches<'_>, writer: &mut W) -> Result<TraceId, Exit>
+/// Returns the trace's id. Otherwise writes the fault and returns the exit status.
+fn trace_of<W: Write>(matches: &ArgMatches<'_>, writer: &mut W) -> Result<TraceId, ExitStatus>
     ensures trace { IfOk result (λ id. trace_in
         (first_value (found_of matches.now) (codes "TRACE")) ≡ Some id) }
     ensures silent { OnOk result (W.contents writer.new ≡ W.contents writer.old) }
     ensures none { IfErr result (λ e. trace_in
         (first_value (found_of matches.now) (codes "TRACE")) ≡ None) }
-    ensures said { IfErr result (λ e. (e ≡ Device)
-        ⊎ ((e ≡ Fault) × Appends (W.contents writer.old) (W.contents writer.new)
+    ensures said { IfErr result (λ e. (e ≡ DeviceFailed)
+        ⊎ ((e ≡ Usage) × Appends (W.contents writer.old) (W.contents writer.new)
         (codes "bad trace id\n"))) }
 {
     match asked_trace(matches) {
         Some(trace) => Ok(trace),
         None => match write_bad_trace(writer) {
-            Ok(()) => Err(Exit::Fault),
-            Err(_) => Err(Exit::Device),
+            Ok(()) => Err(ExitStatus::Usage),
+            Err(_) => Err(ExitStatus::DeviceFailed),
         },
     }
 }
@@ -263,18 +261,18 @@ fn read_get<S: AsStr, W: Write>(
     alloc: Global,
     words: &[S],
     writer: &mut W,
-) -> Result<(Limits, TraceId), Exit>
+) -> Result<(Limits, TraceId), ExitStatus>
     ensures asked { IfOk result (λ r. Reads (Get r.0 r.1) (map S.text words.now)) }
     ensures silent { OnOk result (W.contents writer.new ≡ W.contents writer.old) }
     ensures accepted { (limits : LimitsValue) (id : TraceIdValue) →
-        Takes (Get limits id) (map S.text words.now) → IfErr result (λ e. e ≡ NoMemory) }
+        Takes (Get limits id) (map S.text words.now) → IfErr result (λ e. e ≡ OutOfMemory) }
     ensures bad_trace { (limits : LimitsValue) → TakesLimits limits (map S.text words.now) →
-        IfErr result (λ e. e ≡ Fault → Appends (W.contents writer.old) (W.contents writer.new)
+        IfErr result (λ e. e ≡ Usage → Appends (W.contents writer.old) (W.contents writer.new)
         (codes "bad trace id\n")) }
 {
     let matches = matches_of(get_command(alloc), words, writer)?;
     // Impossible: None, since clap has read each option in its range.
-    let limits = limits_of(&matches).ok_or(Exit::Fault)?;
+    let limits = limits_of(&matches).ok_or(ExitStatus::Usage)?;
     let trace = trace_of(&matches, writer)?;
     Ok((limits, trace))
 }
@@ -284,18 +282,18 @@ fn read_limits<'a, S: AsStr, W: Write>(
     made: Result<clap::Command<'a>, AllocError>,
     words: &'a [S],
     writer: &mut W,
-) -> Result<Limits, Exit>
+) -> Result<Limits, ExitStatus>
     ensures asked { (app : App) → Makes made.entry app →
         IfOk result (HasLimits (matches_of app (map S.text words.now))) }
     ensures silent { OnOk result (W.contents writer.new ≡ W.contents writer.old) }
     ensures accepted { (app : App) (limits : LimitsValue) → Makes made.entry app →
         are_taken app (map S.text words.now) ≡ true →
         HasLimits (matches_of app (map S.text words.now)) limits →
-        IfErr result (λ e. e ≡ NoMemory) }
+        IfErr result (λ e. e ≡ OutOfMemory) }
 {
     let matches = matches_of(made, words, writer)?;
     // Impossible: None, since clap has read each option in its range.
-    limits_of(&matches).ok_or(Exit::Fault)
+    limits_of(&matches).ok_or(ExitStatus::Usage)
 }
 
 /// Reads the command of the words: the program's name, the subcommand's name, and its own words. A reply to the words
@@ -304,13 +302,13 @@ fn judge_words<S: AsStr, W: Write>(
     alloc: Global,
     words: &[S],
     writer: &mut W,
-) -> Result<Command, Exit>
+) -> Result<Command, ExitStatus>
     ensures asked { IfOk result (Asks (map S.text words.now)) }
     ensures silent { OnOk result (W.contents writer.new ≡ W.contents writer.old) }
     ensures accepted { (command : CommandValue) → Accepts (map S.text words.now) command →
-        IfErr result (λ e. e ≡ NoMemory) }
+        IfErr result (λ e. e ≡ OutOfMemory) }
     ensures bad_trace { (limits : LimitsValue) → TakesGet (map S.text words.now) limits
-        → IfErr result (λ e. e ≡ Fault → Appends (W.contents writer.old) (W.contents writer.new)
+        → IfErr result (λ e. e ≡ Usage → Appends (W.contents writer.old) (W.contents writer.new)
         (codes "bad trace id\n")) }
 {
     if let Some((_, rest)) = words.split_first() {
@@ -336,31 +334,31 @@ fn judge_words<S: AsStr, W: Write>(
     Err(refuse(alloc, words, writer))
 }
 
-/// Writes what is wrong with words that name no subcommand, and returns how the program ends.
-fn refuse<S: AsStr, W: Write>(alloc: Global, words: &[S], writer: &mut W) -> Exit {
+/// Writes what is wrong with words that name no subcommand, and returns the exit status.
+fn refuse<S: AsStr, W: Write>(alloc: Global, words: &[S], writer: &mut W) -> ExitStatus {
     match matches_of(program(alloc), words, writer) {
-        Ok(_) => Exit::Fault,
-        Err(exit) => exit,
+        Ok(_) => ExitStatus::Usage,
+        Err(status) => status,
     }
 }
 
-/// Writes the reply to words that name no command, and returns how the program ends.
+/// Writes the reply to words that name no command, and returns the exit status.
 #[tactic(auto, using(crate::proofs::Answering::stopped, crate::proofs::Answering::stopped_no_fault))]
-fn answer<W: Output>(alloc: Global, output: &mut W, text: &[u8], exit: Exit) -> Exit
+fn answer<W: Output>(alloc: Global, output: &mut W, text: &[u8], status: ExitStatus) -> ExitStatus
     requires { W.has_failed output.old ≡ false }
-    ensures status { IsFaultOf (exit_status result) (W.has_failed output.new) }
-    ensures memory { exit ≡ NoMemory → result ≡ NoMemory }
-    ensures text { result ≡ Fault → (exit ≡ Fault)
+    ensures status { IsFaultOf result (W.has_failed output.new) }
+    ensures memory { status ≡ OutOfMemory → result ≡ OutOfMemory }
+    ensures text { result ≡ Usage → (status ≡ Usage)
         × Appends (W.contents output.old) (W.contents output.new) text.now }
 {
-    match exit {
-        Exit::Fault => {}
-        // A write to memory fails only if memory runs out.
-        Exit::Device | Exit::NoMemory => return Exit::NoMemory,
+    match status {
+        ExitStatus::Usage => {}
+        // The words were judged over memory, where a write fails only if memory runs out.
+        _ => return ExitStatus::OutOfMemory,
     }
     match write_text(alloc, output, text) {
-        Ok(()) => Exit::Fault,
-        Err(error) => Exit::after(error),
+        Ok(()) => ExitStatus::Usage,
+        Err(error) => error.status(),
     }
 }
 
@@ -371,27 +369,27 @@ fn answer<W: Output>(alloc: Global, output: &mut W, text: &[u8], exit: Exit) -> 
 ///
 /// # Errors
 ///
-/// How the program ends: a fault of the words (or a request for help, or a trace's id that can't be read), a failed
-/// output, or out of memory.
+/// The exit status: `Usage` for a fault of the words, a request for help, or a trace's id that can't be read;
+/// `DeviceFailed` if the output failed; `OutOfMemory` if memory ran out.
 pub fn read_words<S: AsStr, W: Output>(
     alloc: Global,
     words: &[S],
     output: &mut W,
-) -> Result<Command, Exit>
+) -> Result<Command, ExitStatus>
     requires { W.has_failed output.old ≡ false }
     ensures asked { IfOk result (Asks (map S.text words.now)) }
     ensures silent { OnOk result (W.contents output.new ≡ W.contents output.old) }
     ensures works { OnOk result (W.has_failed output.new ≡ false) }
-    ensures status { IfErr result (λ e. IsFaultOf (exit_status e) (W.has_failed output.new)) }
+    ensures status { IfErr result (λ e. IsFaultOf e (W.has_failed output.new)) }
     ensures accepted { (command : CommandValue) → Accepts (map S.text words.now) command →
-        IfErr result (λ e. exit_status e ≡ 5) }
+        IfErr result (λ e. e ≡ OutOfMemory) }
     ensures bad_trace { (limits : LimitsValue) → TakesGet (map S.text words.now) limits
-        → IfErr result (λ e. exit_status e ≡ 2 →
+        → IfErr result (λ e. e ≡ Usage →
         Appends (W.contents output.old) (W.contents output.new) (codes "bad trace id\n")) }
 {
     let mut said = Vec::new(alloc);
     match judge_words(alloc, words, &mut said) {
         Ok(command) => Ok(command),
-        Err(exit) => Err(answer(alloc, output, said.as_slice(), exit)),
+        Err(status) => Err(answer(alloc, output, said.as_slice(), status)),
     }
 }

@@ -1,4 +1,5 @@
 pub mod Counting
+pub mod Numbers
 pub mod Wanting
 pub mod Rising
 pub mod Order

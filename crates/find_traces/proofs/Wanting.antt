@@ -27,7 +27,7 @@ use Rattle.jaeger_model.specs.Texts.{text_cmp}
 use Rattle.trace_model.specs.declared.query.Find.{Find}
 use Rattle.trace_model.specs.Linking.{call_cmp as pair_cmp}
 use Rattle.trace_model.specs.Searching.{tag_matches, has_tag, tags_of}
-use Rattle.find_traces.specs.Wanting.{pair_of, same_pair, with_key, key_bits, asks, requested_count, if_requested, has_pair, is_in, wants}
+use Rattle.find_traces.specs.Wanting.{pair_of, same_pair, with_key, key_bits, asks, requested_count, if_requested, has_pair, is_in, wants, may_be_number}
 use Rattle.find_traces.specs.Prepared.{IsJudged}
 use Rattle.find_traces.proofs.Counting.{few, counted, none_left}
 use Rattle.trace_model.proofs.NameLaws.{call_total, then_eq}
@@ -128,6 +128,17 @@ pub no_length : (xs : List (List ℕ × List ℕ)) (k t : List ℕ) → list_any
 no_length xs k t =
     no_part (λ a. eq_by_cmp nat_cmp (length t) (length a.1)) (k, t)
     (λ x e. then_eq (text_cmp k x.0) (text_cmp t x.1) ∙ and_right (is_eq (text_cmp k x.0)) (is_eq (text_cmp t x.1)) (other_length t x.1 e)) xs
+
+-- a text that may be that of a number differs from each text that may not
+other_number : (s t : List ℕ) → may_be_number s ≡ true → may_be_number t ≡ false → is_eq (text_cmp s t) ≡ false
+other_number s t number h = false_from_ne_true (is_eq (text_cmp s t)) (λ e.
+    let same : s ≡ t = (bytes_decides s t).0 (texts_ties s t ∙ e) in both_ways (may_be_number t) h (ap may_be_number (sym same) ∙ number))
+
+pub no_number : (xs : List (List ℕ × List ℕ)) (k t : List ℕ) → may_be_number t ≡ true
+    → list_any (λ (a : List ℕ × List ℕ). may_be_number a.1) xs ≡ false → list_any (same_pair (k, t)) xs ≡ false
+no_number xs k t number =
+    no_part (λ a. may_be_number a.1) (k, t)
+    (λ x e. then_eq (text_cmp k x.0) (text_cmp t x.1) ∙ and_right (is_eq (text_cmp k x.0)) (is_eq (text_cmp t x.1)) (other_number t x.1 number e)) xs
 
 pub asked_some : (q : Find) (x p : List ℕ × List ℕ) → if_requested q x ≡ Some p → (asks q x ≡ true) × (p ≡ x)
 asked_some q x p h = by (asks q x) refl h

@@ -1,5 +1,5 @@
 -- The pairs of a key and a text that a search requests, and which of them tags have.
-use Rattle.std.specs.Prelude.{ℕ, ◌%◌, ◌^◌, Bool, not, ◌&&◌, List, length, Option, Some, None, if◌then◌else◌}
+use Rattle.std.specs.Prelude.{ℕ, ◌%◌, ◌^◌, ◌==◌, nat_le, Bool, true, not, ◌&&◌, ◌||◌, List, [], ◌∷◌, length, Option, Some, None, if◌then◌else◌}
 use Rattle.std.specs.Int.Bits.{bit_or}
 use Rattle.std.specs.List.{fold, list_any}
 use Rattle.std.specs.Set.{distinct_count}
@@ -26,6 +26,19 @@ requests_key q k = list_any (λ (a : List ℕ × List ℕ). eq_by_cmp text_cmp k
 -- the search requests a pair with a text of n bytes
 abbrev pub requests_length : Find → ℕ → Bool
 requests_length q n = list_any (λ (a : List ℕ × List ℕ). eq_by_cmp nat_cmp n (length a.1)) q.tags
+
+-- a digit, or a minus sign
+abbrev pub begins_number : ℕ → Bool
+begins_number c = (nat_le 48 c && nat_le c 57) || (c == 45)
+
+-- the text may be that of a number, by its first byte
+abbrev pub may_be_number : List ℕ → Bool
+may_be_number [] = true
+may_be_number (c ∷ w) = begins_number c
+
+-- the search requests a pair with such a text
+abbrev pub requests_number : Find → Bool
+requests_number q = list_any (λ (a : List ℕ × List ℕ). may_be_number a.1) q.tags
 
 -- bits for the lengths of keys: the one with the number of each length modulo 64 is set
 abbrev pub with_key : ℕ → List ℕ × List ℕ → ℕ

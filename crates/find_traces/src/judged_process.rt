@@ -56,7 +56,8 @@ fn add_pair(
     Ok(())
 }
 
-/// Adds the pairs of the tags that are requested and not among the others.
+/// Adds the pairs of the tags that are requested and not among the others. Of a tag whose key has another length than
+/// each requested one, only that length is read.
 fn add_pairs(
     alloc: Global,
     prepared: &PreparedSearch<'_>,
@@ -68,7 +69,9 @@ fn add_pairs(
         (is_in pairs.old.keys a || (wants prepared.now others.now.keys a && has_pair tags.now a))) }
 {
     for tag in tags {
-        add_pair(alloc, prepared, tag, others, pairs)?;
+        if prepared.may_request_key(&tag.key) {
+            add_pair(alloc, prepared, tag, others, pairs)?;
+        }
     }
     Ok(())
 }

@@ -1,13 +1,13 @@
 //! Searches whose requested tags are sorted once.
 
-ghost use Rattle.std.specs.Prelude.{◌≡◌, ◌==◌, ◌%◌, ◌^◌, ℕ, List, [], IfOk, IfSome, length, false};
+ghost use Rattle.std.specs.Prelude.{◌≡◌, ◌==◌, ◌%◌, ◌^◌, ℕ, List, [], IfOk, MatchOption, length, true, false};
 ghost use Rattle.std.specs.Bool.{OnTrue, OnFalse};
 ghost use Rattle.std.specs.Int.{bit_at};
 ghost use Rattle.std.specs.List.{list_any};
 ghost use Rattle.std.specs.Ordering.{eq_by_cmp, nat_cmp};
 ghost use Rattle.jaeger_model.specs.Tags.{hex_text, tag_text};
 ghost use Rattle.jaeger_model.specs.Texts.{text_cmp};
-ghost use Rattle.find_traces.specs.Wanting.{pair_of, same_pair, is_in, key_bits, asks, requested_count, if_requested};
+ghost use Rattle.find_traces.specs.Wanting.{pair_of, same_pair, is_in, key_bits, asks, requested_count, if_requested, may_be_number};
 
 use jaeger_model::{Tag, TagValue, Text, ValueRef, tag_text};
 use std::alloc::{AllocError, Global};
@@ -25,6 +25,8 @@ pub struct PreparedSearch<'q> {
     key_bits: u64,
     /// The lengths of the requested texts.
     lengths: BTreeSet<usize>,
+    /// Whether one of the requested texts may be that of a number.
+    has_number: bool,
     pairs: BTreeSet<(Text, Text)>,
 }
 
@@ -36,7 +38,7 @@ impl<'q> Model for PreparedSearch<'q> {
 
     ghost view = { λ w. w.query.now };
 
-    ghost invariant = { λ w. IsPrepared w.query.now w.keys.keys w.key_bits w.lengths.keys w.pairs.keys };
+    ghost invariant = { λ w. IsPrepared w.query.now w.keys.keys w.key_bits w.lengths.keys w.has_number w.pairs.keys };
 }
 
 /// Returns the keys of the pairs.
@@ -90,6 +92,23 @@ fn lengths_of(alloc: Global, asked: &[(Text, Text)]) -> Result<BTreeSet<usize>, 
     Ok(lengths)
 }
 
+/// Whether a text may be that of a number, by its first byte.
+fn may_be_number(text: &str) -> bool
+    ensures { result ≡ may_be_number text.now }
+{
+    match text.as_bytes() {
+        [first, ..] => first.is_ascii_digit() || *first == b'-',
+        _ => true,
+    }
+}
+
+/// Whether one of the pairs' texts may be that of a number.
+fn has_number(asked: &[(Text, Text)]) -> bool
+    ensures { result ≡ list_any (λ (a : List ℕ × List ℕ). may_be_number a.1) asked.now }
+{
+    asked.iter().any(|pair| may_be_number(pair.1.as_str()))
+}
+
 fn copy_of(pair: &(Text, Text)) -> Result<(Text, Text), AllocError>
     ensures { IfOk result (λ p. p ≡ pair.now) }
 {
@@ -117,9 +136,10 @@ fn hex_length(bytes: &[u8]) -> usize
     2 * bytes.len()
 }
 
-/// Returns the length of the text of a value, without making the text; `None` for a number, whose text is short.
+/// Returns the length of the text of a value, without making the text; `None` for a number.
 fn text_length(value: &TagValue) -> Option<usize>
-    ensures { IfSome result (λ n. n ≡ length (tag_text value.now)) }
+    ensures { MatchOption result (may_be_number (tag_text value.now) ≡ true)
+        (λ n. n ≡ length (tag_text value.now)) }
 {
     match value.get() {
         ValueRef::Text(text) => Some(text.len()),
@@ -158,6 +178,7 @@ impl<'q> PreparedSearch<'q> {
             keys,
             key_bits: key_bits(asked),
             lengths,
+            has_number: has_number(asked),
             pairs,
         })
     }
@@ -184,24 +205,25 @@ impl<'q> PreparedSearch<'q> {
     }
 
     /// Whether a key may be requested, by its length. No other key has to be looked up.
-    fn may_request_key(&self, key: &Text) -> bool
+    pub(crate) fn may_request_key(&self, key: &Text) -> bool
         ensures { OnFalse result ((t : List ℕ) → asks self.now (key.now, t) ≡ false) }
     {
         is_set(self.key_bits, key)
     }
 
-    /// Whether a value may have a requested text, by the length of its text if that is known.
+    /// Whether a value may have a requested text: by the length of its text, or, if it is a number, by whether some
+    /// requested text may be that of a number.
     fn may_request(&self, value: &TagValue) -> bool
         ensures { OnFalse result ((k : List ℕ) → asks self.now (k, tag_text value.now) ≡ false) }
     {
         match text_length(value) {
             Some(length) => self.lengths.contains(&length),
-            None => true,
+            None => self.has_number,
         }
     }
 
     /// Returns the key and the text of the tag, if the search requests both together. The text is made only if the
-    /// key is requested and some requested text may have its length.
+    /// key is requested and some requested text may be equal to it.
     pub(crate) fn requested_pair(
         &self,
         alloc: Global,
@@ -209,9 +231,6 @@ impl<'q> PreparedSearch<'q> {
     ) -> Result<Option<(Text, Text)>, AllocError>
         ensures { IfOk result (λ p. p ≡ if_requested self.now (pair_of tag.now)) }
     {
-        if !self.may_request_key(&tag.key) {
-            return Ok(None);
-        }
         if !self.keys.contains(&tag.key) {
             return Ok(None);
         }

@@ -1,4 +1,5 @@
--- What ends with a line comes with the end of one: until a line has ended it is awaited still.
+-- Laws that the impls of this crate name, and their lemmas. A clause can't name its own crate's proofs/, so they are in
+-- specs/. What ends with a line comes with the end of one: until a line has ended it is awaited still.
 use Rattle.std.proofs.Common.{◌≡◌, ℕ, ◌==◌, ◌||◌, nat_le, ◌<◌, Bool, true, false, List, [], ◌∷◌, ◌++◌, length, take, drop, refl, sym, ap, ◌∙◌, subst, arith}
 use Rattle.std.proofs.Common.{append_assoc, append-nil, length-append}
 use Rattle.std.specs.List.{list_any, flat_map}

@@ -38,8 +38,8 @@ use Rattle.http_session.specs.declared.receiving.BatchBody.{BatchBody}
 use Rattle.http_session.specs.declared.receiving.BodySink.{BodySink}
 use Rattle.http_session.specs.declared.receiving.BodySink.TheVariants.{Settled, Batch}
 use Rattle.http_session.specs.declared.receiving.PartialRequest.{PartialRequest}
-use Rattle.http_session.specs.declared.receiving.Stage.{Stage}
-use Rattle.http_session.specs.declared.receiving.Stage.TheVariants.{Head, Body}
+use Rattle.http_session.specs.declared.receiving.SessionStage.{SessionStage}
+use Rattle.http_session.specs.declared.receiving.SessionStage.TheVariants.{Head, Body}
 use Rattle.http_session.proofs.Feeding.{batch_verdict}
 use Rattle.http_session.proofs.Texts.{asked_is}
 
@@ -238,28 +238,28 @@ finished_as old new request (One v closes) whole finishes = (
 finished_as old new request Clean whole finishes = absurd finishes
 finished_as old new request (Malformed why) whole finishes = absurd finishes
 
-pub receives_finished : (old new : ReadBuffer) (request : PartialRequest) (stage next : Stage) (incoming : Incoming) → stage ≡ Body request
+pub receives_finished : (old new : ReadBuffer) (request : PartialRequest) (stage next : SessionStage) (incoming : Incoming) → stage ≡ Body request
     → next ≡ before_a_request → ReceivesWhole old new request
     → FinishesAs stage incoming → ReceivesOf old new next (Some incoming)
 receives_finished old new request stage next incoming is next_is whole finishes =
-    subst (λ (s : Stage). ReceivesOf old new s (Some incoming)) (sym next_is)
-    (finished_as old new request incoming whole (subst (λ (s : Stage). FinishesAs s incoming) is finishes))
+    subst (λ (s : SessionStage). ReceivesOf old new s (Some incoming)) (sym next_is)
+    (finished_as old new request incoming whole (subst (λ (s : SessionStage). FinishesAs s incoming) is finishes))
 
 -- ---- a session that waits
 
-pub waits_for_request : (stage : Stage) (text held : List ℕ) → HasReceived stage text → WaitsAfter stage held → AwaitsRequest (text ++ held)
+pub waits_for_request : (stage : SessionStage) (text held : List ℕ) → HasReceived stage text → WaitsAfter stage held → AwaitsRequest (text ++ held)
 waits_for_request (Head wait) text held incoming waits = subst (λ (l : List ℕ). AwaitsRequest (l ++ held)) (sym incoming) (inl waits.1)
 waits_for_request (Body request) text held incoming waits = awaits_after request text incoming held waits
 
 -- what was looked at was so among more
-pub looked_by : (stage : Stage) (held new more : List ℕ) → new ≡ held ++ more → WaitsAfter stage held → HasLookedBy stage new
+pub looked_by : (stage : SessionStage) (held new more : List ℕ) → new ≡ held ++ more → WaitsAfter stage held → HasLookedBy stage new
 looked_by (Head wait) held new more is waits = (
   omega (arith, waits.0, ap length is, length-append held more),
   subst AwaitsHead (sym (ap (λ n. take n new) waits.0 ∙ ap (take (length held)) is ∙ take-append_seam held more)) waits.1,
 )
 looked_by (Body request) held new more is waits = has_looked request.reader held new more is waits
 
-pub looked_still : (stage : Stage) (held : List ℕ) → WaitsAfter stage held → HasLookedBy stage held
+pub looked_still : (stage : SessionStage) (held : List ℕ) → WaitsAfter stage held → HasLookedBy stage held
 looked_still stage held waits = looked_by stage held held [] (sym (append-nil held)) waits
 
 -- ---- where the input has ended only perhaps

@@ -26,7 +26,7 @@ use Rattle.http_session.specs.Between.{Store, store_of, EndsServed, FailsServed}
 use Rattle.http_session.specs.Pieces.{AsksOnce, AnswersSoFar, StaysUnderway, OutlastsWrites, ForgetsNothing, SubmitsSome, ReadsSome, no_requests_yet}
 use Rattle.http_session.specs.Pieces.{CanContinue, AwaitsMore, shared, Underway, ComesTo, UnderwayAmong, GoesOn}
 use Rattle.http_session.specs.declared.pieces.Session.{Session}
-use Rattle.http_session.specs.declared.receiving.Stage.{Stage}
+use Rattle.http_session.specs.declared.receiving.SessionStage.{SessionStage}
 use Rattle.http_session.specs.declared.verdict.Verdict.{Verdict}
 use Rattle.http_session.specs.declared.verdict.Verdict.TheVariants.{Submit, Ask, Reject}
 use Rattle.http_session.specs.declared.reply.Reply.{Reply}
@@ -243,7 +243,7 @@ module _ {S C : Type 0} (store : Store S) (promises : Promises store) (line : Li
 -- ---- a pause inside a request
 
 module _ {S C : Type 0} (store : Store S) (promises : Promises store) (line : Line C) (two : IsTwoWay line) (c1 : C) (t : S) (old : Session) (here : ReadBuffer)
-    (stage : Stage)
+    (stage : SessionStage)
     (found : (text : List ℕ) → HasReceived old.stage text → ReceivesPart (put_back text old.received) here stage) where
   abbrev paused : Session
   paused = record { received = here; stage = stage; answered = old.answered }

@@ -260,6 +260,11 @@ module _ {S C : Type 0} (submits : Submits S) (reads : Reads S) (line : Line C) 
 
   -- ---- a session that fails
 
+  never_writing : (cause : SessionErrorKind) (rest : List ℕ) → NothingWasDue cause rest → cause ≡ Writing → 0 < length (bytes_due none_yet)
+  never_writing Reading rest nothing e = absurd (cc e)
+  never_writing Writing rest nothing e = absurd nothing
+  never_writing Memory rest nothing e = absurd (cc e)
+
   -- where nothing was due
   fails_none : (c0 c1 c2 : C) (s t : S) (here : ReadBuffer) (answered : ℕ) (cause : SessionErrorKind)
       → (so : SoFar submits reads line c0 c1 s t here answered) → NothingWasDue cause here.held → (c2 ≡ c1) ⊎ FailsToRead line.source c1 c2 (line.in_failed c2)
@@ -277,7 +282,7 @@ module _ {S C : Type 0} (submits : Submits S) (reads : Reads S) (line : Line C) 
           each = so.each;
           next_is = nothing;
           run = run_all submits reads s t so.opens so.run;
-          within = omega arith;
+          within = never_writing cause here.held nothing;
           written = subst (Appends (line.contents c0) (line.contents c2)) (sym (append-nil (responses so.opens)))
               (subst (λ (o : Option (List ℕ)). Appends (line.contents c0) o (responses so.opens)) (sym same) so.written);
           count = so.count;

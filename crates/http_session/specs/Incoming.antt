@@ -25,8 +25,8 @@ use Rattle.http_session.specs.declared.receiving.Incoming.TheVariants.{One, Clea
 use Rattle.http_session.specs.declared.receiving.BodySink.{BodySink}
 use Rattle.http_session.specs.declared.receiving.BodySink.TheVariants.{Settled, Batch}
 use Rattle.http_session.specs.declared.receiving.PartialRequest.{PartialRequest}
-use Rattle.http_session.specs.declared.receiving.Stage.{Stage}
-use Rattle.http_session.specs.declared.receiving.Stage.TheVariants.{Head, Body}
+use Rattle.http_session.specs.declared.receiving.SessionStage.{SessionStage}
+use Rattle.http_session.specs.declared.receiving.SessionStage.TheVariants.{Head, Body}
 use Rattle.http_requests.specs.declared.body_reader.BodyLook.{BodyLook}
 use Rattle.http_requests.specs.declared.body_reader.BodyLook.TheVariants as look
 
@@ -57,21 +57,21 @@ pub record IsPartOf (request : PartialRequest) (text : List ℕ) : Type 0 where
   pub closes_is : request.closes ≡ (asked_by head).closes
 
 -- what a session awaits before a request
-abbrev pub before_a_request : Stage
+abbrev pub before_a_request : SessionStage
 before_a_request = Head (record { seen = 0 })
 
 -- the text of the request that was taken so far
-abbrev pub HasReceived : Stage → List ℕ → Type 0
+abbrev pub HasReceived : SessionStage → List ℕ → Type 0
 HasReceived (Head wait) text = text ≡ []
 HasReceived (Body request) text = IsPartOf request text
 
 -- which of the bytes received were examined
-abbrev pub HasLookedBy : Stage → List ℕ → Type 0
+abbrev pub HasLookedBy : SessionStage → List ℕ → Type 0
 HasLookedBy (Head wait) held = HasSeen wait held
 HasLookedBy (Body request) held = HasLooked request.reader held
 
 -- more is awaited after them
-abbrev pub WaitsAfter : Stage → List ℕ → Type 0
+abbrev pub WaitsAfter : SessionStage → List ℕ → Type 0
 WaitsAfter (Head wait) held = (wait.seen ≡ length held) × AwaitsHead held
 WaitsAfter (Body request) held = AwaitsMore request.reader held
 
@@ -100,7 +100,7 @@ pub record ReceivesBadRequest (old new : ReadBuffer) (why : BadRequest) : Type 0
   pub malformed : IsMalformed (new.ended ≡ true) (text ++ new.held) why
 
 -- a part of a request was taken
-pub record ReceivesPart (old new : ReadBuffer) (stage : Stage) : Type 0 where
+pub record ReceivesPart (old new : ReadBuffer) (stage : SessionStage) : Type 0 where
   pub text : List ℕ
   pub cut : old ≡ put_back text new
   pub incoming : HasReceived stage text
@@ -124,26 +124,26 @@ PartComes old new request look.More = ReceivesPart old new (Body request)
 PartComes old new request (look.Malformed why) = ReceivesBadRequest old new why
 
 -- the verdict on a request whose body is complete
-abbrev pub FinishesAs : Stage → Incoming → Type 0
+abbrev pub FinishesAs : SessionStage → Incoming → Type 0
 FinishesAs (Head wait) incoming = ⊥
 FinishesAs (Body request) (One v closes) =
     ((q : Question) (body : List ℕ) → JudgesBy q request.sink body → Decides q body v) × (closes ≡ request.closes)
 FinishesAs (Body request) Clean = ⊥
 FinishesAs (Body request) (Malformed why) = ⊥
 
-abbrev pub IsBody : Stage → Type 0
+abbrev pub IsBody : SessionStage → Type 0
 IsBody (Head wait) = ⊥
 IsBody (Body request) = Unit {0}
 
 -- what was received, or what is awaited
-abbrev pub ReceivesOf : ReadBuffer → ReadBuffer → Stage → Option Incoming → Type 0
+abbrev pub ReceivesOf : ReadBuffer → ReadBuffer → SessionStage → Option Incoming → Type 0
 ReceivesOf old new stage (Some (One v closes)) = ReceivesOne old new v closes × (stage ≡ before_a_request)
 ReceivesOf old new stage (Some Clean) = ReceivesEnd old new
 ReceivesOf old new stage (Some (Malformed why)) = ReceivesBadRequest old new why
 ReceivesOf old new stage None = ReceivesPart old new stage
 
 -- if nothing is decided, more is awaited, and the input hasn't ended
-abbrev pub LeavesWaiting : ReadBuffer → Stage → Option Incoming → Type 0
+abbrev pub LeavesWaiting : ReadBuffer → SessionStage → Option Incoming → Type 0
 LeavesWaiting new stage (Some incoming) = Unit {0}
 LeavesWaiting new stage None = WaitsAfter stage new.held × (new.ended ≡ false)
 

@@ -1,5 +1,5 @@
 -- A session: what is written for what is read.
-use Rattle.std.specs.Prelude.{◌≡◌, ◌≢◌, ℕ, ◌+◌, ◌≤◌, ◌⊎◌, ◌||◌, Bool, true, false, List, [], ◌∷◌, ◌++◌, length, take, All, Option, Result, Ok, Err}
+use Rattle.std.specs.Prelude.{◌≡◌, ◌≢◌, ℕ, ◌+◌, ◌<◌, ◌≤◌, ◌⊎◌, ◌||◌, Bool, true, false, List, [], ◌∷◌, ◌++◌, length, take, All, Option, Result, Ok, Err}
 use Rattle.std.specs.List.{flat_map}
 use Rattle.std.specs.Io.KnownBytes.{Consumes, Appends, IsAtEnd}
 use Rattle.httparse.specs.Grammar.{RequestHead}
@@ -170,9 +170,9 @@ IsCause Reading in_failed out_failed taken made =
 IsCause Writing in_failed out_failed taken made = (out_failed ≡ true) × (in_failed ≡ false)
 IsCause Memory in_failed out_failed taken made = (in_failed ≡ false) × (out_failed ≡ false)
 
--- A session failed: the earlier responses were written completely, the next one as far as is reported. The store has
--- made the step of the exchange that is due, so an accepted batch stays accepted. A response that needs no memory isn't
--- held back when memory runs out.
+-- A session failed: the earlier responses were written completely, the next one as far as is reported. A response is
+-- never written completely when a write fails. The store has made the step of the exchange that is due, so an accepted
+-- batch stays accepted. A response that needs no memory isn't held back when memory runs out.
 pub record FailsAs {S : Type 0} (submits : Submits S) (reads : Reads S) (in0 in1 out0 out1 : Option (List ℕ)) (s t : S) (in_failed out_failed : Bool)
     (error : SessionError) : Type 0 where
   pub taken : List ℕ
@@ -184,7 +184,7 @@ pub record FailsAs {S : Type 0} (submits : Submits S) (reads : Reads S) (in0 in1
   pub each : All IsOpen opens
   pub next_is : IsDue (IsAtEnd in1) error.cause rest next
   pub run : Run submits reads s (opens ++ exchange_due next) t
-  pub within : error.written ≤ length (bytes_due next)
+  pub within : error.cause ≡ Writing → error.written < length (bytes_due next)
   pub written : Appends out0 out1 (responses opens ++ take error.written (bytes_due next))
   pub count : error.answered ≡ length opens
   pub made : ℕ  -- how many reads gave something, or the end
@@ -194,11 +194,11 @@ pub record FailsAs {S : Type 0} (submits : Submits S) (reads : Reads S) (in0 in1
 
 -- ---- on the way
 
--- a response was written completely, or as far as is reported
+-- a response was written completely, or as far as is reported; if a write failed, not all of it was written
 abbrev pub WritesResponse : Option (List ℕ) → Option (List ℕ) → Bool → Bool → List ℕ → Result (Unit {0}) PartialWrite → Type 0
 WritesResponse out0 out1 failed0 failed1 bytes (Ok _) = Appends out0 out1 bytes × (failed1 ≡ failed0)
 WritesResponse out0 out1 failed0 failed1 bytes (Err e) =
-    (e.written ≤ length bytes) × Appends out0 out1 (take e.written bytes)
+    (e.cause ≡ Writing → e.written < length bytes) × Appends out0 out1 (take e.written bytes)
     × (e.cause ≢ Reading) × (e.cause ≡ Writing → failed1 ≡ true)
     × (e.cause ≡ Memory → (failed1 ≡ failed0) × (e.written ≡ 0))
 

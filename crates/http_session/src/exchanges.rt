@@ -45,7 +45,7 @@ pub enum SessionErrorKind {
 pub struct SessionError {
     /// The number of responses that were written completely.
     pub answered: u64,
-    /// The number of bytes of the next response that were written.
+    /// The number of bytes of the next response that were written, never all of them.
     pub written: u64,
     pub cause: SessionErrorKind,
 }

@@ -9,7 +9,7 @@ ghost use Rattle.http_session.specs.Pieces.{no_requests_yet, CanContinue, IfOpen
 use crate::exchanges::{
     Ended, SessionError, SessionErrorKind, answer, cause_of, closes_after, write_reply,
 };
-use crate::receiving::{Incoming, Stage, receive};
+use crate::receiving::{Incoming, SessionStage, receive};
 use crate::reply::Reply;
 use crate::respond::Respond;
 use http_requests::{ReadBuffer, SpareRoom};
@@ -24,7 +24,7 @@ use trace_model::Backend;
 #[derive(Drop)]
 pub struct Session {
     received: ReadBuffer,
-    stage: Stage,
+    stage: SessionStage,
     answered: u64,
 }
 
@@ -45,7 +45,7 @@ impl Session {
     {
         Session {
             received: ReadBuffer::new(alloc),
-            stage: Stage::new(),
+            stage: SessionStage::new(),
             answered: 0,
         }
     }

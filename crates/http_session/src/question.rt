@@ -75,6 +75,7 @@ pub(crate) fn question_of(
         return Ok(Question::Settled(Verdict::Reject(ErrorReply::NoSuchPath)));
     };
     match (request.method, endpoint) {
+        // For the prover: the match takes the clause of `judge_query` apart, one case for each outcome.
         (Method::Get, _) => match judge_query(alloc, endpoint, part, form) {
             Ok(verdict) => Ok(Question::Settled(verdict)),
             Err(_) => Err(AllocError),

@@ -118,7 +118,7 @@ pub(crate) struct PartialRequest {
 
 /// What a session awaits.
 #[derive(Drop)]
-pub(crate) enum Stage {
+pub(crate) enum SessionStage {
     /// The head of the next request.
     Head(HeadWait),
     /// More of a body.
@@ -189,12 +189,12 @@ impl PartialRequest {
     }
 }
 
-impl Stage {
+impl SessionStage {
     /// Creates the stage before the first byte of a request.
     pub(crate) fn new() -> Self
         ensures { result ≡ before_a_request }
     {
-        Stage::Head(HeadWait::new())
+        SessionStage::Head(HeadWait::new())
     }
 }
 
@@ -202,33 +202,34 @@ impl Stage {
 fn assign<V: Drop>(place: &mut V, value: V)
     ensures { place.new ≡ value }
 {
+    // For the prover: the call is generic in the value, so that the old one is dropped without its type being opened.
     *place = value;
 }
 
 /// Returns a request whose body is complete, and goes to the next stage.
-fn finish(stage: &mut Stage) -> Incoming
+fn finish(stage: &mut SessionStage) -> Incoming
     requires body { IsBody stage.old }
     ensures finished { FinishesAs stage.old result }
     ensures next { stage.new ≡ before_a_request }
 {
-    match mem::replace(stage, Stage::new()) {
-        Stage::Body(request) => {
+    match mem::replace(stage, SessionStage::new()) {
+        SessionStage::Body(request) => {
             let closes = request.closes;
             Incoming::One(request.verdict(), closes)
         }
-        Stage::Head(_) => unreachable!(),
+        SessionStage::Head(_) => unreachable!(),
     }
 }
 
 /// Takes the received part of a body.
-fn receive_body(stage: &mut Stage, received: &mut ReadBuffer) -> Option<Incoming>
+fn receive_body(stage: &mut SessionStage, received: &mut ReadBuffer) -> Option<Incoming>
     requires body { IsBody stage.old }
     requires looked { HasLookedBy stage.old received.old.held }
     ensures incoming { (text : List ℕ) → HasReceived stage.old text →
         ReceivesOf (put_back text received.old) received.new stage.new result }
     ensures waits { LeavesWaiting received.new stage.new result }
 {
-    let Stage::Body(request) = stage else {
+    let SessionStage::Body(request) = stage else {
         unreachable!()
     };
     match request.take_part(received) {
@@ -248,7 +249,7 @@ fn receive_head(
     alloc: Global,
     router: &Router<Endpoint>,
     wait: HeadWait,
-    stage: &mut Stage,
+    stage: &mut SessionStage,
     received: &mut ReadBuffer,
 ) -> Result<Option<Incoming>, AllocError>
     requires routes { router.now ≡ endpoint_rows }
@@ -264,11 +265,11 @@ fn receive_head(
             let question = question_of(alloc, router, head, &request)?;
             received.take(length);
             let partial = PartialRequest::new(alloc, question, size, request.closes);
-            assign(stage, Stage::Body(partial));
+            assign(stage, SessionStage::Body(partial));
             Ok(receive_body(stage, received))
         }
         Look::More if !received.has_ended() => {
-            assign(stage, Stage::Head(wait));
+            assign(stage, SessionStage::Head(wait));
             Ok(None)
         }
         Look::More if received.as_slice().is_empty() => Ok(Some(Incoming::Clean)),
@@ -286,7 +287,7 @@ fn receive_head(
 pub(crate) fn receive(
     alloc: Global,
     router: &Router<Endpoint>,
-    stage: &mut Stage,
+    stage: &mut SessionStage,
     received: &mut ReadBuffer,
 ) -> Result<Option<Incoming>, AllocError>
     requires routes { router.now ≡ endpoint_rows }
@@ -298,10 +299,10 @@ pub(crate) fn receive(
         BeginsWithQuery (text ++ received.old.held)) }
 {
     match stage {
-        Stage::Head(wait) => {
+        SessionStage::Head(wait) => {
             let wait = *wait;
             receive_head(alloc, router, wait, stage, received)
         }
-        Stage::Body(_) => Ok(receive_body(stage, received)),
+        SessionStage::Body(_) => Ok(receive_body(stage, received)),
     }
 }

@@ -42,7 +42,12 @@ fn refusal_status(refusal: Refusal) -> Status
         Refusal::JournalFull { .. } | Refusal::Deferred | Refusal::Busy | Refusal::Closed =>
             Status::ServiceUnavailable,
         Refusal::Conflict { .. } => Status::Conflict,
-        _ => Status::InternalServerError,
+        Refusal::NoMemory
+        | Refusal::Stale { .. }
+        | Refusal::Stranger
+        | Refusal::NoReply
+        | Refusal::Behind { .. }
+        | Refusal::Gone => Status::InternalServerError,
     }
 }
 
@@ -56,7 +61,11 @@ fn refusal_message(refusal: Refusal) -> &'static str
         Refusal::Closed => "closed",
         Refusal::Conflict { .. } => "conflict",
         Refusal::NoMemory => "out of memory",
-        _ => "internal error",
+        Refusal::Stale { .. }
+        | Refusal::Stranger
+        | Refusal::NoReply
+        | Refusal::Behind { .. }
+        | Refusal::Gone => "internal error",
     }
 }
 
@@ -158,7 +167,11 @@ fn fixed_refusal(refusal: Refusal, close: bool) -> Option<&'static [u8]>
         Refusal::JournalFull { .. } | Refusal::Deferred | Refusal::Busy | Refusal::Closed => None,
         Refusal::Conflict { .. } => None,
         Refusal::NoMemory => Some(out_of_memory(close)),
-        _ => Some(internal_error(close)),
+        Refusal::Stale { .. }
+        | Refusal::Stranger
+        | Refusal::NoReply
+        | Refusal::Behind { .. }
+        | Refusal::Gone => Some(internal_error(close)),
     }
 }
 

@@ -1,6 +1,6 @@
 //! Connections that take complete responses.
 
-ghost use Rattle.std.specs.Prelude.{◌≡◌, ◌≤◌, true, OnOk, IfErr, length, take};
+ghost use Rattle.std.specs.Prelude.{◌≡◌, ◌<◌, true, OnOk, IfErr, length, take};
 ghost use Rattle.std.specs.Io.KnownBytes.{Appends};
 ghost use Rattle.query_json.specs.Parts.{to_come};
 ghost use Rattle.http_session.specs.Sessions.{part_sent};
@@ -15,14 +15,14 @@ pub trait Respond: Connection {
     ///
     /// # Errors
     ///
-    /// The output failed. Returns how many of the bytes it took before.
+    /// The output failed. Returns how many of the bytes it took before, which is never all of them.
     fn respond(&mut self, response: Response) -> Result<(), usize>
         ensures ok { OnOk result (Appends (Self.contents self.old) (Self.contents self.new)
             (to_come response)) }
         ensures took { Self.takes self.old (part_sent (to_come response) result) self.new }
         ensures same { OnOk result
             (Self.Output.has_failed self.new ≡ Self.Output.has_failed self.old) }
-        ensures err { IfErr result (λ n. (n ≤ length (to_come response))
+        ensures err { IfErr result (λ n. (n < length (to_come response))
             × Appends (Self.contents self.old) (Self.contents self.new)
             (take n (to_come response))
             × (Self.Output.has_failed self.new ≡ true)) };

@@ -77,7 +77,7 @@ impl Accounts {
     /// Appends an account. Returns false, with nothing added, only if another owner had added one; there is no
     /// other.
     #[tactic(auto, using(crate::proofs::Accounting::both_counted))]
-    fn is_added(&mut self, account: &Account) -> bool
+    fn try_add(&mut self, account: &Account) -> bool
         requires { length self.old < 2 ^ 62 }
         ensures { MatchBool result (self.new ≡ self.old ++ account.now ∷ []) (self.new ≡ self.old) }
     {
@@ -97,7 +97,7 @@ impl Accounts {
     {
         // The first try succeeds: nobody else adds accounts.
         for _ in rt.forever() {
-            if self.is_added(account) {
+            if self.try_add(account) {
                 return;
             }
         }

@@ -8,6 +8,7 @@ use commands::run;
 use session_devices::Watched;
 use std::process::ExitCode;
 use std::{env, io};
+use text_lines::ExitStatus;
 
 fn words(rt: &HostRuntime) -> io::Result<Vec<String>> {
     let words: Vec<String> = env::args(rt)?.collect(rt.alloc())?;
@@ -16,10 +17,10 @@ fn words(rt: &HostRuntime) -> io::Result<Vec<String>> {
 
 fn main(rt: HostRuntime) -> ExitCode {
     let Ok(words) = words(&rt) else {
-        return ExitCode::from(5);
+        return ExitCode::from(ExitStatus::OutOfMemory.code());
     };
     let mut input = Watched::new(rt.stdin());
     let mut output = Watched::new(rt.stdout());
     let status = run(&rt, rt.alloc(), words.as_slice(), &mut input, &mut output);
-    ExitCode::from(status)
+    ExitCode::from(status.code())
 }

@@ -31,6 +31,7 @@ use Rattle.trace_assembly.specs.declared.spot.Spot.{Spot}
 use Rattle.trace_assembly.specs.Located.{span_at}
 use Rattle.journal_traces.specs.declared.tag_candidates.TakenEntry.{TakenEntry}
 use Rattle.journal_traces.specs.declared.taken_spot.TakenSpot.{TakenSpot}
+use Rattle.journal_traces.specs.Cutting.{cut_at, next_start}
 use Rattle.journal_traces.specs.Lasting.{AreTold}
 use Rattle.journal_traces.specs.Picked.{meets, met, met_or_none}
 use Rattle.journal_traces.specs.Pruned.{may_meet}
@@ -210,6 +211,37 @@ trace_unmet q ts met (s ∷ ss) told e =
     any_cons (matches q) (span_at es (spot_of s)) (placed_taken (trace_spotted es ss)) (spot_unmet q ts met s.number s.index told parts.0)
     (trace_unmet q ts met ss told parts.1)
 
+-- ---- a part of the spots
+pub range_spotted : (es : List Entry) (ss : List TakenSpot) (a b : ℕ) → trace_spotted es (slice_range ss a b) ≡ slice_range (trace_spotted es ss) a b
+range_spotted es ss a b = let f = taken_spotted es in sym (ap (take (b - a)) (drop-map f a ss) ∙ take-map f (b - a) (drop a ss))
+
+-- ---- no entry has a span that meets the search
+unmet_at : (met : List Bool) (n : ℕ) → list_any (λ b. b) met ≡ false → get_or met n false ≡ false
+unmet_at [] n e = refl
+unmet_at (b ∷ met) zero e = (or_false b (list_any (λ x. x) met) e).0
+unmet_at (b ∷ met) (suc n) e = unmet_at met n (or_false b (list_any (λ x. x) met) e).1
+
+spots_unmet : (met : List Bool) (ss : List TakenSpot) → list_any (λ b. b) met ≡ false → are_spots_met met ss ≡ false
+spots_unmet met [] e = refl
+spots_unmet met (s ∷ ss) e = λ i. unmet_at met s.number e i || spots_unmet met ss e i
+
+module _ (q : Find) (ts : List TakenEntry) (met : List Bool) (ss : List TakenSpot) (told : AllZip (IsTellingOf q) ts met)
+    (none : list_any (λ b. b) met ≡ false) where
+  abbrev spotted : List Taken
+  spotted = trace_spotted (entries_shared ts) ss
+
+  part_unmet : (a b : ℕ) → list_any (matches q) (placed_taken (slice_range spotted a b)) ≡ false
+  part_unmet a b =
+      let part = slice_range ss a b in
+      ap (λ l. list_any (matches q) (placed_taken l)) (sym (range_spotted (entries_shared ts) ss a b)) ∙ trace_unmet q ts met part told (spots_unmet met part none)
+
+  pub none_matching : (starts : List ℕ) → matching q (map placed_taken (cut_at spotted starts)) ≡ []
+  none_matching [] = refl
+  none_matching (s ∷ starts) =
+      let rest = matching q (map placed_taken (cut_at spotted starts)) in
+      let end = next_start (length spotted) starts in
+      ap (λ b. cond b (placed_taken (slice_range spotted s end) ∷ rest) rest) (part_unmet s end) ∙ none_matching starts
+
 zip_push : {A B : Type 0} (R : A → B → Type 0) (xs : List A) (ys : List B) (x : A) (y : B) → AllZip R xs ys → R x y → AllZip R (xs ++ x ∷ []) (ys ++ y ∷ [])
 zip_push R [] [] x y all own = (own, tt)
 zip_push R [] (b ∷ ys) x y all own = absurd all
@@ -228,10 +260,6 @@ told_more q ts i t met next b le is before own put =
 -- ---- the remaining traces match as all do
 pub matching_found : (q : Find) (a b : List (List Placed)) → matching q a ≡ matching q b → found_in q a ≡ found_in q b
 matching_found q a b e = ap (λ ts. cut q.limit (ranked_by_start first_start ts)) e
-
--- ---- a part of the spots
-pub range_spotted : (es : List Entry) (ss : List TakenSpot) (a b : ℕ) → trace_spotted es (slice_range ss a b) ≡ slice_range (trace_spotted es ss) a b
-range_spotted es ss a b = let f = taken_spotted es in sym (ap (take (b - a)) (drop-map f a ss) ∙ take-map f (b - a) (drop a ss))
 
 -- ---- spans of a batch, one by one
 meets_domain : (q : Find) (b : Batch) (ss : List Span) → list_any (meets q b.process) ss ≡ list_any (matches q) (map (placed b) ss)

@@ -1,6 +1,6 @@
 //! Classes of the numbers of entries whose processes are equal.
 
-ghost use Rattle.std.specs.Prelude.{◌≡◌, ◌==◌, ℕ, Option, Some, IfOk, OnOk, if◌then◌else◌};
+ghost use Rattle.std.specs.Prelude.{◌≡◌, ◌==◌, ℕ, Option, Some, IfOk, IfSome, OnOk, if◌then◌else◌};
 ghost use Rattle.std.specs.BTreeMap.{get};
 ghost use Rattle.std.specs.Ordering.{nat_cmp};
 ghost use Rattle.jaeger_model.specs.declared.batch.Process.{Process as ProcessValue};
@@ -13,6 +13,13 @@ use std::alloc::{AllocError, Global};
 use std::collections::BTreeMap;
 use trace_model::TakenSpan;
 
+/// A number, and its class.
+#[derive(Clone, Copy)]
+pub(crate) struct NumberClass {
+    number: u32,
+    class: u32,
+}
+
 /// The classes of the numbers of taken spans: numbers whose processes are equal have one class, which is the first
 /// of them. A process is compared with the others once for each number. A number that doesn't recur is a class of
 /// its own, and its process isn't compared here: that is done in its one trace.
@@ -23,6 +30,8 @@ pub(crate) struct ProcessClasses<'a> {
     by_process: BTreeMap<ByContent<'a>, u32>,
     /// The class of each number.
     by_number: BTreeMap<u32, u32>,
+    /// The number whose class was requested last. The spans of an entry mostly follow one another in a trace.
+    last: Option<NumberClass>,
 }
 
 /// Returns the class of a number, if it is known.
@@ -49,6 +58,7 @@ impl<'a> ProcessClasses<'a> {
             recurring,
             by_process: BTreeMap::new(alloc),
             by_number: BTreeMap::new(alloc),
+            last: None,
         }
     }
 
@@ -69,7 +79,39 @@ impl<'a> ProcessClasses<'a> {
         Ok(number)
     }
 
-    /// Returns the class of the number of a span.
+    /// Returns the class of this number, if it was requested last.
+    fn last_class(&self, number: u32) -> Option<u32>
+        ensures { (process_of : ℕ → Option ProcessValue) → Leads process_of self.now →
+            IfSome result (λ class. process_of class ≡ process_of number) }
+    {
+        match self.last {
+            Some(last) if last.number == number => Some(last.class),
+            _ => None,
+        }
+    }
+
+    /// Looks up the class of a span's number.
+    fn find_class(&mut self, span: &'a TakenSpan, number: u32) -> Result<u32, AllocError>
+        requires { number ≡ span.now.number }
+        ensures class { (process_of : ℕ → Option ProcessValue) →
+            HasProcess process_of span.now → Leads process_of self.old →
+            IfOk result (λ class. process_of class ≡ process_of number) }
+        ensures leads { (process_of : ℕ → Option ProcessValue) →
+            HasProcess process_of span.now → Leads process_of self.old →
+            OnOk result (Leads process_of self.new) }
+    {
+        if !self.recurring.has(number) {
+            return Ok(number);
+        }
+        if let Some(class) = known(&self.by_number, number) {
+            return Ok(class);
+        }
+        let class = self.class_of_process(span.seen().process, number)?;
+        keep(&mut self.by_number, number, class)?;
+        Ok(class)
+    }
+
+    /// Returns the class of the number of a span. It is looked up only if another number was requested last.
     pub(crate) fn class_of(&mut self, span: &'a TakenSpan) -> Result<u32, AllocError>
         ensures class { (process_of : ℕ → Option ProcessValue) →
             HasProcess process_of span.now → Leads process_of self.old →
@@ -79,14 +121,11 @@ impl<'a> ProcessClasses<'a> {
             OnOk result (Leads process_of self.new) }
     {
         let number = span.number();
-        if !self.recurring.has(number) {
-            return Ok(number);
-        }
-        if let Some(class) = known(&self.by_number, number) {
+        if let Some(class) = self.last_class(number) {
             return Ok(class);
         }
-        let class = self.class_of_process(span.seen().process, number)?;
-        keep(&mut self.by_number, number, class)?;
+        let class = self.find_class(span, number)?;
+        self.last = Some(NumberClass { number, class });
         Ok(class)
     }
 }

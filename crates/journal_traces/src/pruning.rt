@@ -1,11 +1,11 @@
 //! Entries that a search, or a query for a window of time, skips by their outlines.
 
-ghost use Rattle.std.specs.Prelude.{◌≡◌, ◌^◌, ℕ, List};
+ghost use Rattle.std.specs.Prelude.{◌≡◌, ◌==◌, ℕ, List};
+ghost use Rattle.std.specs.Int.Bits.{bit_or};
 ghost use Rattle.std.specs.List.{list_all};
-ghost use Rattle.arrival_journal.specs.Tagging.{tag_place};
 ghost use Rattle.journal_traces.specs.Pruned.{may_meet_durations, may_meet_starts, is_marked, requested_bits, may_meet, may_reach};
 
-use arrival_journal::{Outline, Times, tag_place};
+use arrival_journal::{Outline, TagBits, Times, no_bits, set_bit, tag_place};
 use jaeger_model::Text;
 use span_steps::{duration_bound, is_at_least, is_at_most, may_be_in_window};
 use std::marker::Model;
@@ -26,30 +26,35 @@ fn may_meet_starts(times: Times, query: &Find) -> bool
     is_at_least(query.start_min, times.start_max) && is_at_most(query.start_max, times.start_min)
 }
 
-/// Returns the bit of a requested tag.
-fn requested_bit(asked: &(Text, Text)) -> u128
-    ensures { result ≡ 2 ^ tag_place asked.now.0 asked.now.1 }
-{
-    1u128 << tag_place(asked.0.as_str(), asked.1.as_str())
-}
-
 /// Returns the bits of the requested tags.
-fn requested_bits(asked: &[(Text, Text)]) -> u128
+fn requested_bits(asked: &[(Text, Text)]) -> TagBits
     ensures { result ≡ requested_bits asked.now }
 {
-    let mut bits = 0;
+    let mut bits = no_bits();
     for pair in asked {
-        bits |= requested_bit(pair);
+        set_bit(&mut bits, tag_place(pair.0.as_str(), pair.1.as_str()));
     }
     bits
 }
 
-/// Whether spans with these bits may have all requested tags, whose bits are the mask.
-fn may_match_tags(bits: u128, mask: u128) -> bool
-    ensures { (asked : List (List ℕ × List ℕ)) → mask ≡ requested_bits asked →
-        result ≡ list_all (is_marked bits) asked }
+/// Whether each bit of the mask is among these.
+fn covers(bits: u64, mask: u64) -> bool
+    ensures { result ≡ (bit_or bits mask == bits) }
 {
     bits | mask == bits
+}
+
+/// Whether spans with these bits may have all requested tags, whose bits are the mask.
+fn may_match_tags(bits: &TagBits, mask: &TagBits) -> bool
+    ensures { (asked : List (List ℕ × List ℕ)) → mask.now ≡ requested_bits asked →
+        result ≡ list_all (is_marked bits.now) asked }
+{
+    for word in 0..8usize {
+        if !covers(bits[word], mask[word]) {
+            return false;
+        }
+    }
+    true
 }
 
 /// A search, which skips entries by their outlines. The bits of its requested tags are computed once. Contracts see
@@ -58,7 +63,7 @@ fn may_match_tags(bits: u128, mask: u128) -> bool
 pub(crate) struct EntryFilter<'q> {
     query: &'q Find,
     /// The bits of the requested tags.
-    mask: u128,
+    mask: TagBits,
 }
 
 impl<'q> Model for EntryFilter<'q> {
@@ -96,7 +101,7 @@ impl<'q> EntryFilter<'q> {
     {
         may_meet_durations(outline.times, self.query)
             && may_meet_starts(outline.times, self.query)
-            && may_match_tags(outline.tags, self.mask)
+            && may_match_tags(&outline.tags, &self.mask)
     }
 }
 

@@ -44,12 +44,18 @@ impl Recurring {
     }
 
     /// Adds the spans of the trace at a place. A trace of one entry is ignored, since no process is compared in it.
+    /// Of consecutive spans with one number, only the first is looked up.
     pub(crate) fn add(&mut self, spans: &[TakenSpan], place: usize) -> Result<(), AllocError> {
         if are_of_one_entry(spans) {
             return Ok(());
         }
+        let mut before = None;
         for span in spans {
-            self.add_number(span.number(), place)?;
+            let number = span.number();
+            if before != Some(number) {
+                self.add_number(number, place)?;
+                before = Some(number);
+            }
         }
         Ok(())
     }

@@ -160,6 +160,13 @@ fn entries_met(
     Ok(met)
 }
 
+/// Whether an entry may have a span that meets the search.
+fn is_any_met(met: &[bool]) -> bool
+    ensures { result ≡ list_any (λ b. b) met.now }
+{
+    met.iter().any(|is_met| *is_met)
+}
+
 /// Whether the entry of a spot may have a span that meets the search.
 fn is_spot_met(met: &[bool], spot: TakenSpot) -> bool
     ensures { result ≡ is_spot_met met.now spot }
@@ -320,7 +327,7 @@ impl<'q> TagCandidates<'q> {
     }
 
     /// Judges the entries, and returns the traces that have a span of an entry of which a span may meet the search.
-    /// The search finds the same among these as among all.
+    /// The search finds the same among these as among all. No trace is looked at if no entry has such a span.
     ///
     /// # Errors
     ///
@@ -337,6 +344,9 @@ impl<'q> TagCandidates<'q> {
     {
         let mut traces = TakenTraces::new(alloc);
         let met = entries_met(alloc, prepared, &self.entries)?;
+        if !is_any_met(&met) {
+            return Ok(traces);
+        }
         for place in 0..self.starts.len() {
             let spots = self.spots(place);
             if are_spots_met(&met, spots) {

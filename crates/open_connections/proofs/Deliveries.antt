@@ -1,6 +1,6 @@
 -- What a connection took of what waits.
 use Rattle.std.specs.Prelude.{is_some}
-use Rattle.std.proofs.Common.{Bool, true, false, ◌≡◌, ℕ, ◌+◌, ◌-◌, ◌≤◌, ◌<◌, List, [], ◌++◌, length, take, drop, Option, Some, None, refl, sym, ap, ◌∙◌}
+use Rattle.std.proofs.Common.{Bool, true, false, ◌≡◌, ℕ, ◌+◌, ◌-◌, ◌≤◌, ◌<◌, List, [], ◌∷◌, ◌++◌, length, take, drop, Option, Some, None, refl, sym, ap, ◌∙◌}
 use Rattle.std.proofs.Common.{append_assoc, append-nil, arith, subst}
 use Rattle.std.proofs.lemmas.List.{take-append-drop, take-append-le, drop-append-le, drop-drop, drop_all, length-drop, length-append}
 use Rattle.std.specs.Io.KnownBytes.{Appends, Keeps, append_known}
@@ -108,3 +108,7 @@ pub flushed : (a b : Option (List ℕ)) (before after : Option Parted) (waited w
 flushed a b before after waited waits was left took =
     subst (λ (l : List ℕ). Keeps (append_known a l) (append_known b (bytes_waiting after))) (sym was)
     (subst (λ (l : List ℕ). Keeps (append_known a waited) (append_known b l)) (sym left) (handed_stays a b waited waits took))
+
+pub none_left : (xs : List ℕ) → length xs ≡ 0 → xs ≡ []
+none_left [] e = refl
+none_left (x ∷ xs) e = absurd (omega (arith, e))

@@ -26,6 +26,6 @@ mod waiting;
 pub use nonblocking::TryConnection;
 pub use open::{ConnectionProgress, Moment, OpenConnection};
 pub use outbox::Outbox;
-pub use readiness::{MAX_REPORTS, Readiness, Report};
-pub use set::{ConnectionSet, Turn};
+pub use readiness::{Event, MAX_EVENTS, Readiness};
+pub use set::{ConnectionSet, ConnectionTurn};
 pub use socket::Socket;

@@ -1,6 +1,6 @@
 //! A connection that keeps the response that it can't take at once.
 
-ghost use Rattle.std.specs.Prelude.{◌≡◌, false, true, IfOk, OnOk, OnErr, is_some, length, None};
+ghost use Rattle.std.specs.Prelude.{◌≡◌, ◌<◌, false, true, IfOk, OnOk, OnErr, is_some, length, None};
 ghost use Rattle.std.specs.Io.KnownBytes.{Keeps};
 ghost use Rattle.query_json.specs.Parts.{to_come};
 ghost use Rattle.open_connections.specs.Boxes.{bytes_waiting, handed_over};
@@ -32,6 +32,7 @@ fn write_some<C: TryConnection>(connection: &mut C, waiting: &mut Waiting) -> Re
         (to_come waiting.old) (to_come waiting.new) }
     ensures input { C.remaining connection.new ≡ C.remaining connection.old }
     ensures input_works { C.has_failed connection.new ≡ C.has_failed connection.old }
+    ensures err { OnErr result (0 < length (to_come waiting.new)) }
 {
     while !waiting.is_empty() {
         let count = connection.try_write(waiting.next())?;
@@ -205,12 +206,15 @@ impl<C: TryConnection> Connection for Outbox<C> {
 
 impl<C: TryConnection> Respond for Outbox<C> {
     fn respond(&mut self, response: Response) -> Result<(), usize> {
+        let mut waiting = Waiting::new(response);
+        let all = waiting.len();
+        if all == 0 {
+            return Ok(());
+        }
         if self.waiting.is_some() {
             self.failed = true;
             return Err(0);
         }
-        let mut waiting = Waiting::new(response);
-        let all = waiting.len();
         let written = write_some(&mut self.connection, &mut waiting);
         let left = waiting.len();
         match written {

@@ -44,9 +44,9 @@ impl<C> Model for ConnectionSet<C> {
     ghost invariant = { λ s. s.router ≡ endpoint_rows };
 }
 
-/// The result of serving the connection under a key.
+/// The result of a turn of the connection under a key.
 #[derive(Drop)]
-pub enum Turn<C> {
+pub enum ConnectionTurn<C> {
     /// There is no connection under this key.
     Absent,
     /// The connection stays open.
@@ -136,7 +136,7 @@ impl<C: TryConnection + Drop> ConnectionSet<C> {
         key: usize,
         at: Moment,
         backend: &mut B,
-    ) -> Turn<C>
+    ) -> ConnectionTurn<C>
         requires underway { AllOpen (store_of B.submits B.reads B.knows B.limits)
             (box_line C.remaining C.gives C.has_failed C.contents)
             backend.old self.old }
@@ -149,7 +149,7 @@ impl<C: TryConnection + Drop> ConnectionSet<C> {
             backend.old backend.new }
     {
         let Some(open) = self.connections.try_remove(key) else {
-            return Turn::Absent;
+            return ConnectionTurn::Absent;
         };
         let mut open = open;
         self.waiting = self.waiting.saturating_sub(open.connection.waiting_bytes());
@@ -161,14 +161,14 @@ impl<C: TryConnection + Drop> ConnectionSet<C> {
                 ..
             } = open;
             drop(session);
-            return Turn::Left(progress, connection);
+            return ConnectionTurn::Left(progress, connection);
         }
         open.active = at.now;
         open.round = at.round;
         self.waiting = self.waiting.saturating_add(open.connection.waiting_bytes());
         // It keeps its key, which `try_remove` has reserved.
         let _key = self.connections.insert_reserved(open);
-        Turn::Open(progress)
+        ConnectionTurn::Open(progress)
     }
 
     /// Returns when the connection that has been silent longest was last active.

@@ -85,7 +85,7 @@ stopped_there bytes before taken rest left s t ys zs read split opens run memory
         each = opens;
         next_is = inl no_bytes_await;
         run = subst (λ (l : List Exchange). Run DirectSubmits DirectReads s l parts.0) alone parts.1;
-        within = omega arith;
+        within = λ e. absurd (cc e);
         written = ap (λ (l : List ℕ). before ++ l) (sym (append-nil (responses ys)));
         count = refl;
         made = 0;

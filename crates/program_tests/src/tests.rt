@@ -7,4 +7,5 @@ mod piping;
 mod playing;
 mod runs;
 mod serving;
+mod turns;
 mod words;

@@ -17,6 +17,12 @@ use percent_encoding::{DecodeError, percent_decode};
 use std::alloc::{AllocError, Global};
 use trace_model::{Find, Query};
 
+/// How many traces a search returns at most if its query has no limit.
+const DEFAULT_LIMIT: i64 = 100;
+
+/// How many milliseconds before its end a window of dependencies starts if its query doesn't say so: a day.
+const DEFAULT_LOOKBACK_MS: i64 = 86_400_000;
+
 /// Parses an optional number; for a bound on starts it is in microseconds.
 #[tactic(auto, unfolding(crate::specs::Queries::time_at))]
 fn time_bound(pairs: &[Pair], parameter: Parameter) -> Result<Option<i64>, QueryFault>
@@ -46,7 +52,7 @@ fn trace_limit(pairs: &[Pair]) -> Result<u64, QueryFault>
     ensures { Asks (λ n. n) result (limit_at pairs.now) }
 {
     let limit = time_bound(pairs, Parameter::Limit)?;
-    Ok(limit.unwrap_or(100).unsigned_abs())
+    Ok(limit.unwrap_or(DEFAULT_LIMIT).unsigned_abs())
 }
 
 /// Returns a required parameter.
@@ -143,7 +149,7 @@ fn read_links(pairs: &[Pair]) -> Result<Query, QueryFault>
     let Some(end_ms) = time_bound(pairs, Parameter::EndTs)? else {
         return Err(QueryFault::Bad(Parameter::EndTs));
     };
-    let lookback_ms = time_bound(pairs, Parameter::Lookback)?.unwrap_or(86_400_000);
+    let lookback_ms = time_bound(pairs, Parameter::Lookback)?.unwrap_or(DEFAULT_LOOKBACK_MS);
     Ok(Query::Links {
         end_ms,
         lookback_ms,

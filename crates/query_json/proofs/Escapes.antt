@@ -1,6 +1,6 @@
 -- Digits need no escape in a string.
-use Rattle.std.proofs.Common.{◌≡◌, ◌<◌, ◌≤◌, ◌+◌, ◌/◌, ◌%◌, ℕ, zero, suc, Bool, true, false, List, [], ◌∷◌, ◌++◌, length, take, drop, get_or, refl, sym, ap}
-use Rattle.std.proofs.Common.{ap₂, ◌∙◌, append-nil, append_assoc, subst, ℤ, pos, negsuc, arith, slice_index, ◌-◌}
+use Rattle.std.proofs.Common.{◌≡◌, ◌<◌, ◌≤◌, ◌+◌, ◌*◌, ◌/◌, ◌%◌, ℕ, zero, suc, Bool, true, false, List, [], ◌∷◌, ◌++◌, length, take, drop, get_or, refl, sym}
+use Rattle.std.proofs.Common.{ap, ap₂, ◌∙◌, append-nil, append_assoc, subst, ℤ, pos, negsuc, arith, slice_index, ◌-◌}
 use Rattle.std.specs.Prelude.{◌==◌, if◌then◌else◌}
 use Rattle.std.specs.Fmt.{decimal, digit_glyph, digits, digits_onto, signed_decimal}
 use Rattle.std.specs.Str.{IsAscii, IsUtf8}
@@ -59,7 +59,7 @@ escape_trace_text t = by (t.high == 0)
         escape-append (low_digits 16 t.high) (low_digits 16 t.low)
         ∙ ap₂ (λ (x y : List ℕ). x ++ y) (escape_low_digits 16 t.high) (escape_low_digits 16 t.low)
 
-hex_digit_small : (d : ℕ) → d < 16 → hex_digit d < 128
+pub hex_digit_small : (d : ℕ) → d < 16 → hex_digit d < 128
 hex_digit_small d small = grind (arith, nat_tests)
 
 pub IsAscii-hex_text : (bytes : List ℕ) → ((i : ℕ) → slice_index bytes i < 256) → IsAscii (hex_text bytes)
@@ -139,3 +139,7 @@ IsUtf8-escape s text =
     let inside : IsUtf8 (escape s ++ 34 ∷ []) = IsUtf8-drop (quoted s) 1 quotes (IsCharBoundary-after_ascii (quoted s) 0 quotes (omega arith) (omega arith)) in
     let before = IsCharBoundary-at_seam (escape s ++ 34 ∷ []) (escape s) (34 ∷ []) refl (IsUtf8-are_ascii (34 ∷ []) refl) in
     subst IsUtf8 (take-append_seam (escape s) (34 ∷ [])) (IsUtf8-take (escape s ++ 34 ∷ []) (length (escape s)) inside before)
+
+pub length-hex_text : (bytes : List ℕ) → length (hex_text bytes) ≡ 2 * length bytes
+length-hex_text [] = refl
+length-hex_text (b ∷ bytes) = let rest = length-hex_text bytes in omega (arith, rest)

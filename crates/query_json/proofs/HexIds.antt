@@ -1,11 +1,17 @@
 -- The sixteen digits of an id are those of its eight bytes.
-use Rattle.std.proofs.Common.{◌≡◌, ℕ, zero, suc, ◌*◌, ◌/◌, ◌%◌, ◌^◌, Bool, true, false, [], ◌∷◌, ◌++◌, refl, sym, ap, ap₂, ◌∙◌, arith}
+use Rattle.std.proofs.Common.{◌≡◌, ◌<◌, ℕ, zero, suc, ◌*◌, ◌/◌, ◌%◌, ◌^◌, Bool, true, false, List, [], ◌∷◌, ◌++◌, refl, sym, ap, ap₂, ◌∙◌, arith}
+use Rattle.std.proofs.Common.{eqb-true, length, subst}
 use Rattle.std.specs.Prelude.{◌==◌, if◌then◌else◌}
 use Rattle.std.proofs.Math.Nat.{div-div-eq-div-mul, div-one, pow-suc}
 use Rattle.std.specs.Int.{byte_at, bytes_high_first, to_be_bytes, w64}
+use Rattle.std.specs.Str.{IsAscii, IsUtf8}
+use Rattle.std.proofs.lemmas.Str.{IsUtf8-from_ascii}
+use Rattle.std.proofs.lemmas.Str.Ascii.{IsAscii-cons, IsAscii-nil}
+use Rattle.json.proofs.Printed.Utf8.{IsUtf8-quoted}
 use Rattle.jaeger_model.specs.declared.ids.TraceId.{TraceId}
 use Rattle.jaeger_model.specs.Ids.{hex_digit, low_digits, trace_text}
 use Rattle.jaeger_model.specs.Tags.{hex_text}
+use Rattle.query_json.proofs.Escapes.{escape_low_digits, hex_digit_small}
 
 -- the first digit
 low_digits-front : (k n : ℕ) → low_digits (suc k) n ≡ hex_digit (n / 16 ^ k % 16) ∷ low_digits k n
@@ -52,14 +58,37 @@ hex_text-bytes (suc k) n =
 pub hex_text-number : (n : ℕ) → hex_text (to_be_bytes w64 n) ≡ low_digits 16 n
 hex_text-number n = hex_text-bytes 8 n
 
+pub length-low_digits : (k n : ℕ) → length (low_digits k n) ≡ k
+unfolding low_digits
+length-low_digits zero n = refl
+length-low_digits (suc k) n = ap length (low_digits-front k n) ∙ ap (λ (m : ℕ). suc m) (length-low_digits k n)
+
+-- ---- digits in quotes
+IsAscii-low_digits : (k n : ℕ) → IsAscii (low_digits k n)
+unfolding low_digits
+IsAscii-low_digits zero n = IsAscii-nil
+IsAscii-low_digits (suc k) n =
+    let small : n / 16 ^ k % 16 < 16 = omega arith in
+    let first : hex_digit (n / 16 ^ k % 16) < 128 = hex_digit_small (n / 16 ^ k % 16) small in
+    subst IsAscii (sym (low_digits-front k n)) (IsAscii-cons (hex_digit (n / 16 ^ k % 16)) (low_digits k n) first (IsAscii-low_digits k n))
+
+pub quoted_low_digits : (k n : ℕ) → IsUtf8 (34 ∷ (low_digits k n ++ 34 ∷ []))
+quoted_low_digits k n =
+    let digits = low_digits k n in
+    subst (λ (ds : List ℕ). IsUtf8 (34 ∷ (ds ++ 34 ∷ []))) (escape_low_digits k n) (IsUtf8-quoted digits (IsUtf8-from_ascii digits (IsAscii-low_digits k n)))
+
 -- ---- a trace's id
 
--- one half, or two
-pub trace_text-halves : (t : TraceId) → (if t.high == 0 then [] else low_digits 16 t.high) ++ low_digits 16 t.low ≡ trace_text t
+-- an id without a high half, and one with it
+pub short_text : (t : TraceId) → t.high ≡ 0 → low_digits 16 t.low ≡ trace_text t
 unfolding trace_text
-trace_text-halves t = by (t.high == 0)
+short_text t none = sym (ap (λ h. if h == 0 then low_digits 16 t.low else low_digits 16 h ++ low_digits 16 t.low) none)
+
+pub long_text : (t : TraceId) → (t.high ≡ 0 → ⊥) → low_digits 16 t.high ++ low_digits 16 t.low ≡ trace_text t
+unfolding trace_text
+long_text t some = by (t.high == 0) (eqb-true t.high 0)
   where
-    by : (b : Bool) → (if b then [] else low_digits 16 t.high) ++ low_digits 16 t.low
-        ≡ (if b then low_digits 16 t.low else low_digits 16 t.high ++ low_digits 16 t.low)
-    by true = refl
-    by false = refl
+    by : (b : Bool) → (b ≡ true → t.high ≡ 0)
+        → low_digits 16 t.high ++ low_digits 16 t.low ≡ (if b then low_digits 16 t.low else low_digits 16 t.high ++ low_digits 16 t.low)
+    by true none = absurd (some (none refl))
+    by false none = refl

@@ -5,6 +5,7 @@
 //! * `requests`: the next request of an input, every kind of end, and no unnecessary read.
 //! * `chunked`: requests with chunked bodies, and the same sessions as with a Content-Length.
 //! * `pipes`: complete sessions, also with devices that fail at each call, and one in which memory runs out.
+//! * `refusals`: each refusal of a store as a response.
 //! * `large`: an answer that is sent in several parts, and an output that fails inside it.
 //! * `slow_readers`: clients that take a few bytes of a response at a time.
 //! * `pieces`: two sessions that take turns over one store.

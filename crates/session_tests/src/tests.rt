@@ -5,6 +5,7 @@ mod devices;
 mod large;
 mod pieces;
 mod pipes;
+mod refusals;
 mod requests;
 mod slow_readers;
 mod turns;

@@ -2,6 +2,7 @@
 use Rattle.std.proofs.Common.{◌≡◌, ℕ, Bool, false, inl, inr, List, [], ◌++◌, Option, refl, sym, ap, ◌∙◌, subst, append-nil, append_assoc}
 use Rattle.std.specs.Io.KnownBytes.{Appends}
 use Rattle.std.proofs.KnownBytes.{Appends-nil, Appends-trans, Consumes-nil}
+use Rattle.text_lines.specs.declared.exit_status.ExitStatus.TheVariants.{OutOfMemory}
 use Rattle.text_lines.specs.declared.run_error.RunError.{RunError}
 use Rattle.text_lines.specs.declared.run_error.RunError.TheVariants.{Device, Memory}
 use Rattle.text_lines.specs.RunErrors.{IsWhy, IsWhyOf, StopsShort, WritesSome, status_by}
@@ -55,7 +56,7 @@ stops_some takes in0 in1 out0 out1 s i o h output_of a some = record {
 
 -- memory ran out before anything was read
 pub stops_at_once : (in0 out0 : Option (List ℕ)) (i o : Bool) (output_of : List ℕ → List ℕ) → i ≡ false → o ≡ false
-    → StopsShort in0 in0 out0 out0 i o output_of 5
+    → StopsShort in0 in0 out0 out0 i o output_of OutOfMemory
 stops_at_once in0 out0 i o output_of ie oe = record {
   error = Memory;
   taken = [];

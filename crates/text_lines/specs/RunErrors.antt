@@ -2,13 +2,15 @@
 use Rattle.std.specs.Prelude.{◌≡◌, ℕ, ◌⊎◌, ◌++◌, ◌≤◌, Bool, true, false, List, length, Option, Some, None, Result, Ok, Err}
 use Rattle.std.specs.Io.KnownBytes.{Appends, Consumes, IsAtEnd}
 use mathlib.Core.List.{IsPrefix}
+use Rattle.text_lines.specs.declared.exit_status.ExitStatus.{ExitStatus}
+use Rattle.text_lines.specs.declared.exit_status.ExitStatus.TheVariants.{DeviceFailed, OutOfMemory}
 use Rattle.text_lines.specs.declared.run_error.RunError.{RunError}
 use Rattle.text_lines.specs.declared.run_error.RunError.TheVariants.{Device, Memory}
 use Rattle.text_lines.specs.declared.line_buffer.TheConstants.{MAX_READS}
 
-abbrev pub status_by : RunError → ℕ
-status_by Device = 4
-status_by Memory = 5
+abbrev pub status_by : RunError → ExitStatus
+status_by Device = DeviceFailed
+status_by Memory = OutOfMemory
 
 -- neither device has failed
 abbrev pub BothWork : Bool → Bool → Type 0
@@ -45,8 +47,8 @@ Holds (Some known) bytes = known ≡ bytes
 -- ---- complete runs, whose output is a function of their input
 
 -- all of the input was read, and exactly its output was written
-pub record Finishes (in0 in1 out0 out1 : Option (List ℕ)) (in_failed out_failed : Bool) (output_of : List ℕ → List ℕ) (status_of : List ℕ → ℕ)
-    (status : ℕ) : Type 0 where
+pub record Finishes (in0 in1 out0 out1 : Option (List ℕ)) (in_failed out_failed : Bool) (output_of : List ℕ → List ℕ)
+    (status_of : List ℕ → ExitStatus) (status : ExitStatus) : Type 0 where
   pub input : List ℕ
   pub read : Consumes in0 in1 input
   pub whole : IsAtEnd in1
@@ -55,9 +57,10 @@ pub record Finishes (in0 in1 out0 out1 : Option (List ℕ)) (in_failed out_faile
   pub input_works : in_failed ≡ false
   pub output_works : out_failed ≡ false
 
--- 4 only if a device failed or the limit of reads was reached, 5 only if memory ran out; some of the input was read,
--- and a prefix of the output of all of it was written
-pub record StopsShort (in0 in1 out0 out1 : Option (List ℕ)) (in_failed out_failed : Bool) (output_of : List ℕ → List ℕ) (status : ℕ) : Type 0 where
+-- a device failed, the limit of reads was reached, or memory ran out, as the status says; some of the input was read, and
+-- a prefix of the output of all of it was written
+pub record StopsShort (in0 in1 out0 out1 : Option (List ℕ)) (in_failed out_failed : Bool) (output_of : List ℕ → List ℕ)
+    (status : ExitStatus) : Type 0 where
   pub error : RunError
   pub taken : List ℕ
   pub rest : List ℕ
@@ -67,6 +70,6 @@ pub record StopsShort (in0 in1 out0 out1 : Option (List ℕ)) (in_failed out_fai
   pub why : IsWhy error in_failed out_failed (MAX_READS ≤ length taken)
   pub status_is : status ≡ status_by error
 
-abbrev pub RunsAs : (in0 in1 out0 out1 : Option (List ℕ)) → Bool → Bool → (List ℕ → List ℕ) → (List ℕ → ℕ) → ℕ → Type 0
+abbrev pub RunsAs : (in0 in1 out0 out1 : Option (List ℕ)) → Bool → Bool → (List ℕ → List ℕ) → (List ℕ → ExitStatus) → ExitStatus → Type 0
 RunsAs in0 in1 out0 out1 in_failed out_failed output_of status_of status =
     Finishes in0 in1 out0 out1 in_failed out_failed output_of status_of status ⊎ StopsShort in0 in1 out0 out1 in_failed out_failed output_of status

@@ -1,4 +1,5 @@
 ghost use Rattle.std.specs.Prelude.{◌≡◌, [], false, IfErr, IfOk, OnOk};
+ghost use Rattle.text_lines.specs.Reads.{LimitIsReads};
 ghost use Rattle.text_lines.specs.RunErrors.{BothWork};
 ghost use Rattle.text_lines.specs.Taking.{AnswersAll, AnswersSome, TookAll, TookSome};
 
@@ -25,6 +26,8 @@ fn take_lines<R: Input, W: Output, T: LineHandler>(
     ensures works { OnOk result (BothWork (R.has_failed input.new) (W.has_failed output.new)) }
     ensures some { IfErr result (TookSome T.takes (R.remaining input.old) (R.remaining input.new)
         (W.contents output.old) (W.contents output.new) handler.old buffer.new
+        (R.has_failed input.new) (W.has_failed output.new)) }
+    ensures limit { IfErr result (LimitIsReads R.gives input.old input.new
         (R.has_failed input.new) (W.has_failed output.new)) }
 {
     let mut lines = LineBuffer::new(alloc)?;
@@ -61,6 +64,8 @@ pub fn answer_lines<R: Input, W: Output, T: LineHandler>(
     ensures works { OnOk result (BothWork (R.has_failed input.new) (W.has_failed output.new)) }
     ensures some { IfErr result (AnswersSome T.takes (R.remaining input.old) (R.remaining input.new)
         (W.contents output.old) (W.contents output.new) handler.old
+        (R.has_failed input.new) (W.has_failed output.new)) }
+    ensures limit { IfErr result (LimitIsReads R.gives input.old input.new
         (R.has_failed input.new) (W.has_failed output.new)) }
 {
     let mut buffer = OutputBuffer::new(alloc);

@@ -6,6 +6,7 @@
 //! out, a prefix of that was written.
 //!
 //! * `answering`: answers the lines of an input one by one.
+//! * `exit_status`: how the program ends.
 //! * `handler`: handles lines.
 //! * `line_buffer`: reads the lines of an input one at a time.
 //! * `output_buffer`: text that waits to be written.
@@ -13,12 +14,14 @@
 #![tactic(auto)]
 
 mod answering;
+mod exit_status;
 mod handler;
 mod line_buffer;
 mod output_buffer;
 mod run_error;
 
 pub use answering::answer_lines;
+pub use exit_status::ExitStatus;
 pub use handler::LineHandler;
 pub use line_buffer::MAX_READS;
 pub use output_buffer::{OutputBuffer, write_text};

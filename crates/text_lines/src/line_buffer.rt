@@ -4,6 +4,7 @@ ghost use Rattle.std.specs.Prelude.{length};
 ghost use Rattle.std.specs.Io.KnownBytes.{Keeps};
 ghost use Rattle.text_lines.specs.Lines.{without_return};
 ghost use Rattle.text_lines.specs.Reading.{Feed, Fills, StopsReading, TakesLine, TakesNone};
+ghost use Rattle.text_lines.specs.Reads.{CountsReads};
 ghost use Rattle.text_lines.specs.RunErrors.{BothWork, Moves};
 
 use crate::output_buffer::OutputBuffer;
@@ -88,6 +89,7 @@ impl LineBuffer {
         requires works { R.has_failed input.old ≡ false }
         ensures read { OnOk result (Fills (R.remaining input.old) (R.remaining input.new)
             self.old self.new) }
+        ensures made { CountsReads R.gives input.old input.new self.old.left self.new.left }
         ensures works { OnOk result (R.has_failed input.new ≡ false) }
         ensures err { IfErr result (λ h. (h ≡ RunError.Device)
             × Keeps (R.remaining input.old) (R.remaining input.new)
@@ -128,11 +130,14 @@ impl LineBuffer {
             self.old self.new line.new.items)
             (TakesNone (R.remaining input.old) (R.remaining input.new)
             self.old self.new)) }
+        ensures made { CountsReads R.gives input.old input.new self.old.left self.new.left }
         ensures buffer { Moves (W.contents output.old) (W.contents output.new)
             buffer.old buffer.new }
         ensures works { OnOk result (BothWork (R.has_failed input.new) (W.has_failed output.new)) }
         ensures err { IfErr result (StopsReading (R.remaining input.old) (R.remaining input.new)
             self.old (R.has_failed input.new) (W.has_failed output.new)) }
+        ensures limit { IfErr result (λ h. h ≡ RunError.Device → R.has_failed input.new ≡ false
+            → W.has_failed output.new ≡ false → self.new.left ≡ 0) }
     {
         line.clear();
         'pieces: loop {

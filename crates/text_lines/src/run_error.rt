@@ -1,6 +1,7 @@
 ghost use Rattle.std.specs.Prelude.{◌≡◌};
 ghost use Rattle.text_lines.specs.RunErrors.{status_by};
 
+use crate::exit_status::ExitStatus;
 use session_devices::Failed;
 use std::alloc::AllocError;
 
@@ -15,12 +16,12 @@ pub enum RunError {
 
 impl RunError {
     /// Returns the exit status of a run that stopped with this error.
-    pub fn status(self) -> u8
+    pub fn status(self) -> ExitStatus
         ensures { result ≡ status_by self }
     {
         match self {
-            RunError::Device => 4,
-            RunError::Memory => 5,
+            RunError::Device => ExitStatus::DeviceFailed,
+            RunError::Memory => ExitStatus::OutOfMemory,
         }
     }
 }

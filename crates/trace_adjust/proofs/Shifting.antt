@@ -35,7 +35,7 @@ one_shifted m all cs g i p l e known first =
     ∙ ap (λ c. shifted m (if not (list_any (has_id p.span.id) (take i all)) then delta_or_none clock_delta c else pos 0) p) clock
     ∙ by_test m p (clock_of m all p) (list_any (has_id p.span.id) (take i all))
 
-as_many_shown : (m : ℕ) (all before : List Placed) (ss : List Shown) → length (shown_adjusted_after m all before ss) ≡ length ss
+pub as_many_shown : (m : ℕ) (all before : List Placed) (ss : List Shown) → length (shown_adjusted_after m all before ss) ≡ length ss
 as_many_shown m all before [] = refl
 as_many_shown m all before (s ∷ ss) = ap suc (as_many_shown m all (before ++ s.placed ∷ []) ss)
 

@@ -1,6 +1,5 @@
 pub mod Hosts
 pub mod Lending
 pub mod Lent
-pub mod Partly
 pub mod Settling
 pub mod Skewing

@@ -7,7 +7,6 @@ ghost use Rattle.trace_model.specs.Adjusting.{with_parent_first, unadjusted, spa
 ghost use Rattle.trace_model.specs.Sharing.{ShareProcesses};
 ghost use Rattle.trace_adjust.specs.Hosts.{delta_by};
 ghost use Rattle.trace_adjust.specs.Skewing.{AreTraceClocks};
-ghost use Rattle.trace_adjust.specs.Partly.{IsPartlyAdjusted};
 
 use crate::clock::HostClock;
 use crate::clocks::all_clocks;
@@ -98,7 +97,7 @@ impl TraceClocks {
     }
 }
 
-/// Moves the spans by their clocks.
+/// Moves the spans by their clocks. If memory runs out, the first of them are moved already.
 fn shift_all(
     alloc: Global,
     trace: &mut [Shown],
@@ -106,8 +105,7 @@ fn shift_all(
     max_skew: u64,
 ) -> Result<(), AllocError>
     requires { AreTraceClocks max_skew (spans_of trace.old) clocks.now }
-    ensures ok { OnOk result (trace.new ≡ shown_adjusted max_skew trace.old) }
-    ensures err { OnErr result (IsPartlyAdjusted max_skew trace.old trace.new) }
+    ensures { OnOk result (trace.new ≡ shown_adjusted max_skew trace.old) }
 {
     for place in 0..trace.len() {
         let shown = &mut trace[place];
@@ -115,6 +113,40 @@ fn shift_all(
         shift(alloc, shown, delta, max_skew)?;
     }
     Ok(())
+}
+
+/// Returns the spans moved by their clocks.
+fn all_shifted(
+    alloc: Global,
+    mut spans: Vec<Shown>,
+    places: &[u64],
+    max_skew: u64,
+) -> Result<Vec<Shown>, AllocError>
+    requires { ShareProcesses (spans_of spans.items) places.now }
+    ensures { IfOk result (λ v. v.items ≡ shown_adjusted max_skew spans.items) }
+{
+    let clocks = clocks_of_shown(alloc, &spans, places, max_skew)?;
+    shift_all(alloc, &mut spans, &clocks, max_skew)?;
+    Ok(spans)
+}
+
+fn copy_of(shown: &Shown) -> Result<Shown, AllocError>
+    ensures { IfOk result (λ copy. copy ≡ shown.now) }
+{
+    Ok(Shown {
+        placed: shown.placed.clone()?,
+        warnings: shown.warnings.clone()?,
+    })
+}
+
+fn copies_of(alloc: Global, trace: &[Shown]) -> Result<Vec<Shown>, AllocError>
+    ensures { IfOk result (λ v. v.items ≡ trace.now) }
+{
+    let mut copies = Vec::with_capacity(alloc, trace.len())?;
+    for shown in trace {
+        copies.push(copy_of(shown)?)?;
+    }
+    Ok(copies)
 }
 
 /// Adjusts the clock skew of a trace: the times of each span move into those of its root's host, and a warning is
@@ -126,7 +158,8 @@ fn shift_all(
 ///
 /// # Errors
 ///
-/// Running out of memory alone; some of the first spans are then adjusted, and the others unchanged.
+/// Running out of memory alone; the trace is then unchanged. So copies of the spans are adjusted, and replace them
+/// when no more memory is needed.
 pub fn adjust_skew(
     alloc: Global,
     trace: &mut [Shown],
@@ -135,10 +168,11 @@ pub fn adjust_skew(
 ) -> Result<(), AllocError>
     requires { ShareProcesses (spans_of trace.old) places.now }
     ensures ok { OnOk result (trace.new ≡ shown_adjusted max_skew trace.old) }
-    ensures err { OnErr result (IsPartlyAdjusted max_skew trace.old trace.new) }
+    ensures err { OnErr result (trace.new ≡ trace.old) }
 {
-    let clocks = clocks_of_shown(alloc, trace, places, max_skew)?;
-    shift_all(alloc, trace, &clocks, max_skew)
+    let mut shifted = all_shifted(alloc, copies_of(alloc, trace)?, places, max_skew)?;
+    trace.swap_with_slice(&mut shifted);
+    Ok(())
 }
 
 /// Moves the reference to the parent to the front in each of the spans.
@@ -154,7 +188,7 @@ fn with_parents_first(alloc: Global, trace: Vec<Placed>) -> Result<Vec<Shown>, A
 }
 
 /// Returns the trace as it is shown: in each span the reference to its parent is the first one, made of its parent
-/// id if it is missing, and its clock skew is adjusted by [`adjust_skew`].
+/// id if it is missing, and its clock skew is adjusted as by [`adjust_skew`].
 ///
 /// `places` and `max_skew` are those of [`adjust_skew`].
 ///
@@ -170,7 +204,6 @@ pub fn adjusted(
     requires { ShareProcesses trace.items places.now }
     ensures { IfOk result (λ v. v.items ≡ adjusted max_skew trace.items) }
 {
-    let mut shown = with_parents_first(alloc, trace)?;
-    adjust_skew(alloc, &mut shown, places, max_skew)?;
-    Ok(shown)
+    let spans = with_parents_first(alloc, trace)?;
+    all_shifted(alloc, spans, places, max_skew)
 }

@@ -13,6 +13,8 @@ use Rattle.intake.specs.Books.{Ran, AllTaken}
 use Rattle.intake.specs.Books.{acknowledged as acknowledged_of, refused as refused_of}
 use Rattle.serve_options.specs.declared.host.Host.{Host}
 use Rattle.serve_options.specs.Hosts.{url_host}
+use Rattle.text_lines.specs.declared.exit_status.ExitStatus.{ExitStatus}
+use Rattle.text_lines.specs.declared.exit_status.ExitStatus.TheVariants.{Success, DeviceFailed, OutOfMemory}
 use Rattle.text_lines.specs.declared.run_error.RunError.{RunError}
 use Rattle.text_lines.specs.RunErrors.{WritesSome, IsWhyOf, status_by}
 use Rattle.trace_server.specs.WorkerSeats.{AreNew}
@@ -53,28 +55,28 @@ OneForEach workers seats = map (λ (s : SeatValue). s.seat) seats ≡ range_with
 
 -- ---- how it ends
 
--- 4 if a worker couldn't accept any more
-abbrev pub status_if : Bool → ℕ
-status_if failed = if failed then 4 else 0
+-- a worker couldn't accept any more, or all could
+abbrev pub status_if : Bool → ExitStatus
+status_if failed = if failed then DeviceFailed else Success
 
--- a prefix of the text was written: 4 if the output failed, 5 if memory or threads ran out
-abbrev pub StopsIn : Option (List ℕ) → Option (List ℕ) → Bool → List ℕ → ℕ → Type 0
+-- a prefix of the text was written: the output failed, or memory or threads ran out
+abbrev pub StopsIn : Option (List ℕ) → Option (List ℕ) → Bool → List ℕ → ExitStatus → Type 0
 StopsIn out0 out1 out_failed text status =
     (error : RunError) × (status ≡ status_by error) × WritesSome out0 out1 text × IsWhyOf error out_failed
 
 -- all of the text was written, or a prefix
-abbrev pub Ends : Option (List ℕ) → Option (List ℕ) → Bool → List ℕ → Bool → ℕ → Type 0
+abbrev pub Ends : Option (List ℕ) → Option (List ℕ) → Bool → List ℕ → Bool → ExitStatus → Type 0
 Ends out0 out1 out_failed text failed status =
     ((status ≡ status_if failed) × Appends out0 out1 text × (out_failed ≡ false))
     ⊎ StopsIn out0 out1 out_failed text status
 
 -- nothing was written, though the output works: memory or threads ran out, or the system didn't return the socket's
 -- address
-abbrev pub IsSilent : Option (List ℕ) → Option (List ℕ) → Bool → ℕ → Type 0
-IsSilent out0 out1 out_failed status = (status ≡ 5) × (out1 ≡ out0) × (out_failed ≡ false)
+abbrev pub IsSilent : Option (List ℕ) → Option (List ℕ) → Bool → ExitStatus → Type 0
+IsSilent out0 out1 out_failed status = (status ≡ OutOfMemory) × (out1 ≡ out0) × (out_failed ≡ false)
 
 -- it stopped before its books were closed
-pub record StopsEarly (host : Host) (out0 out1 : Option (List ℕ)) (out_failed : Bool) (status : ℕ) : Type 0 where
+pub record StopsEarly (host : Host) (out0 out1 : Option (List ℕ)) (out_failed : Bool) (status : ExitStatus) : Type 0 where
   pub port : ℕ
   pub served : ℕ
   pub stops : StopsIn out0 out1 out_failed (listening_line host port ++ served_line served) status
@@ -82,7 +84,7 @@ pub record StopsEarly (host : Host) (out0 out1 : Option (List ℕ)) (out_failed 
 -- it closed the books of the seats that these have become, and wrote the number of connections and the totals of the
 -- batches after this text
 pub record Closes (limits : Limits) (workers : ℕ) (opened : List SeatValue) (front : List ℕ) (out0 out1 : Option (List ℕ)) (out_failed : Bool)
-    (status : ℕ) : Type 0 where
+    (status : ExitStatus) : Type 0 where
   pub served : ℕ
   pub failed : Bool
   pub acknowledged : ℕ
@@ -96,21 +98,21 @@ pub record Closes (limits : Limits) (workers : ℕ) (opened : List SeatValue) (f
   pub ends : Ends out0 out1 out_failed (front ++ last_lines served acknowledged refused left) failed status
 
 -- after the first line: it stopped before its books were closed, or it closed those of the seats that these have become
-abbrev pub Reports : Limits → ℕ → List SeatValue → Option (List ℕ) → Option (List ℕ) → Bool → ℕ → Type 0
+abbrev pub Reports : Limits → ℕ → List SeatValue → Option (List ℕ) → Option (List ℕ) → Bool → ExitStatus → Type 0
 Reports limits workers opened out0 out1 out_failed status =
     ((served : ℕ) × StopsIn out0 out1 out_failed (served_line served) status)
     ⊎ Closes limits workers opened [] out0 out1 out_failed status
 
 -- it closed its books: its output is the listening line, and at the end the number of connections and the totals of the
 -- batches that were submitted by the seats of one desk, which were new at the start
-pub record Completes (host : Host) (limits : Limits) (workers : ℕ) (out0 out1 : Option (List ℕ)) (out_failed : Bool) (status : ℕ) : Type 0 where
+pub record Completes (host : Host) (limits : Limits) (workers : ℕ) (out0 out1 : Option (List ℕ)) (out_failed : Bool) (status : ExitStatus) : Type 0 where
   pub port : ℕ
   pub desk : TableId
   pub opened : List SeatValue
   pub new : AreNew desk opened
   pub closes : Closes limits workers opened (listening_line host port) out0 out1 out_failed status
 
-abbrev pub Serves : Host → Limits → ℕ → Option (List ℕ) → Option (List ℕ) → Bool → ℕ → Type 0
+abbrev pub Serves : Host → Limits → ℕ → Option (List ℕ) → Option (List ℕ) → Bool → ExitStatus → Type 0
 Serves host limits workers out0 out1 out_failed status =
     IsSilent out0 out1 out_failed status
     ⊎ StopsEarly host out0 out1 out_failed status

@@ -5,18 +5,15 @@ use std::fmt;
 use std::sync::atomic::{AtomicU64, Ordering};
 use trace_model::Refusal;
 
-/// The smallest number of a refusal.
-const FIRST_REFUSAL: usize = 20;
-
-/// The number of refusals.
-const REFUSALS: usize = 11;
+/// The number of numbers that a refusal may have.
+const NUMBERS: usize = 256;
 
 /// The counts of one worker.
 #[derive(Drop)]
 struct WorkerCounts {
     acknowledged: AtomicU64,
     queries: AtomicU64,
-    /// Refused batches by the number of the refusal, from [`FIRST_REFUSAL`] on.
+    /// Refused batches by the number of the refusal.
     refused: Vec<AtomicU64>,
 }
 
@@ -27,8 +24,8 @@ impl WorkerCounts {
     ///
     /// Out of memory.
     fn new(alloc: Global) -> Result<WorkerCounts, AllocError> {
-        let mut refused = Vec::with_capacity(alloc, REFUSALS)?;
-        for _ in 0..REFUSALS {
+        let mut refused = Vec::with_capacity(alloc, NUMBERS)?;
+        for _ in 0..NUMBERS {
             refused.push(AtomicU64::new(0))?;
         }
         Ok(WorkerCounts {
@@ -40,7 +37,7 @@ impl WorkerCounts {
 
     /// Returns the number of batches that were refused by this number.
     fn refused(&self, number: usize) -> u64 {
-        match self.refused.get(number.saturating_sub(FIRST_REFUSAL)) {
+        match self.refused.get(number) {
             Some(count) => count.load(Ordering::SeqCst),
             None => 0,
         }
@@ -76,9 +73,8 @@ impl Counts {
 
     /// Counts a batch that was refused.
     pub(crate) fn refuse(&self, worker: u32, refusal: Refusal) {
-        let index = usize::from(refusal.number()).saturating_sub(FIRST_REFUSAL);
         if let Some(counts) = self.workers.get(worker as usize) {
-            if let Some(count) = counts.refused.get(index) {
+            if let Some(count) = counts.refused.get(usize::from(refusal.number())) {
                 count.fetch_add(1, Ordering::SeqCst);
             }
         }
@@ -125,7 +121,7 @@ impl fmt::Display for Counts {
         let acknowledged = self.acknowledged();
         let queries = self.queries();
         write!(f, "{acknowledged} acknowledged, {queries} queries")?;
-        for number in FIRST_REFUSAL..FIRST_REFUSAL + REFUSALS {
+        for number in 0..NUMBERS {
             let refused = self.refused(number);
             if refused > 0 {
                 write!(f, ", {refused} refused {number}")?;

@@ -5,14 +5,16 @@ ghost use Rattle.intake.specs.LiveSharing.{GoesOn};
 ghost use Rattle.open_connections.specs.Open.{IsEmpty, IsRest};
 ghost use Rattle.trace_server.specs.Underway.{AllUnderway};
 
-use crate::arrivals::Arrivals;
+use crate::acceptor::Acceptor;
 use crate::connection::{idle_limit, prepare};
 use crate::gate::Gate;
 use crate::gated::Gated;
 use crate::leaving::{Leaving, Step};
+use crate::source::Source;
 use crate::worker::Server;
 use open_connections::{
-    ConnectionProgress, ConnectionSet, MAX_REPORTS, Moment, Outbox, Readiness, Report, Socket, Turn,
+    ConnectionProgress, ConnectionSet, ConnectionTurn, Event, MAX_EVENTS, Moment, Outbox,
+    Readiness, Socket,
 };
 use read_side::StoreName;
 use std::alloc::Global;
@@ -26,14 +28,11 @@ use std::sync::Wait;
 use std::thread::sleep;
 use std::time::{Clock, Duration};
 
-/// The token of the listener.
-const LISTENER: usize = usize::MAX;
-
 /// The number of seconds between two checks for connections that were silent for too long.
 const CHECK_SECONDS: u64 = 1;
 
-/// The limit of the response bytes that wait at a worker for several clients. The text of a large answer isn't made
-/// yet: it takes about a tenth of its bytes.
+/// The limit of the response bytes that wait at a worker for several clients. They are counted as they will be sent:
+/// the part of an answer that isn't written yet takes about a tenth of its bytes in memory.
 const MAX_WAITING_BYTES: usize = 2 << 30;
 
 /// The number of milliseconds after which a worker checks whether others have accepted all sessions.
@@ -48,16 +47,6 @@ fn earlier(one: Option<Duration>, other: Option<Duration>) -> Option<Duration> {
     }
 }
 
-/// Returns the token of an open connection.
-fn open_token(key: usize) -> usize {
-    key << 1
-}
-
-/// Returns the token of a connection whose session has ended.
-fn leaving_token(key: usize) -> usize {
-    (key << 1) | 1
-}
-
 /// A worker's connections, and their readiness.
 #[derive(Drop)]
 pub(crate) struct EventLoop {
@@ -69,8 +58,8 @@ pub(crate) struct EventLoop {
     at: Moment,
     /// When to check for connections that were silent for too long.
     next_check: Duration,
-    /// The number of places that its connections take.
-    places: usize,
+    /// The number of permits that its connections have.
+    permits: usize,
     /// How long a connection may be silent; `None` for no limit.
     idle_limit: Option<Duration>,
     /// A connection was dropped because too many bytes waited.
@@ -78,7 +67,7 @@ pub(crate) struct EventLoop {
 }
 
 impl EventLoop {
-    /// Creates an event loop without connections that watches the listener.
+    /// Creates an event loop without connections, and registers the listener.
     ///
     /// # Errors
     ///
@@ -93,7 +82,7 @@ impl EventLoop {
     {
         listener.set_nonblocking(true)?;
         let readiness = Readiness::new(rt, alloc)?;
-        readiness.watch(listener.as_raw_fd(), LISTENER)?;
+        readiness.register(listener.as_raw_fd(), Source::Listener.token())?;
         let Ok(open) = ConnectionSet::new(alloc) else {
             return Err(io::Error::from(ErrorKind::OutOfMemory));
         };
@@ -107,7 +96,7 @@ impl EventLoop {
                 round: 0,
             },
             next_check: Duration::ZERO,
-            places: 0,
+            permits: 0,
             idle_limit: idle_limit(idle),
             has_given_up: false,
         })
@@ -117,16 +106,11 @@ impl EventLoop {
     pub(crate) fn is_empty(&self) -> bool {
         self.open.is_empty() && self.leaving.is_empty()
     }
-
-    /// Returns how many connections are open.
-    fn load(&self) -> u32 {
-        u32::try_from(self.open.len()).unwrap_or(u32::MAX - 1)
-    }
 }
 
 impl EventLoop {
     /// Schedules a connection that stays open: at once if it holds unanswered bytes; when its client takes more if a
-    /// response waits; or by watching it again if bytes may have come that aren't reported. Returns whether that
+    /// response waits; or by registering it again if bytes may have come that aren't reported. Returns whether that
     /// succeeded.
     fn schedule(&mut self, key: usize, progress: ConnectionProgress, has_ended: bool) -> bool
         ensures open { self.new.open ≡ self.old.open }
@@ -141,13 +125,13 @@ impl EventLoop {
         if let ConnectionProgress::Writing = progress {
             return self
                 .readiness
-                .watch_writes(socket.raw_fd(), open_token(key))
+                .reregister_for_writes(socket.raw_fd(), Source::Open(key).token())
                 .is_ok();
         }
         if has_ended || open.is_unread || socket.may_hold_more() {
             return self
                 .readiness
-                .watch_again(socket.raw_fd(), open_token(key))
+                .reregister(socket.raw_fd(), Source::Open(key).token())
                 .is_ok();
         }
         true
@@ -219,7 +203,7 @@ impl EventLoop {
         }
     }
 
-    /// Continues a connection whose session has ended, and watches it if there is more to do.
+    /// Continues a connection whose session has ended, and registers it again if there is more to do.
     fn advance_leaving(&mut self, key: usize)
         ensures open { self.new.open ≡ self.old.open }
     {
@@ -227,13 +211,10 @@ impl EventLoop {
         let Some(socket) = self.leaving.get(key) else {
             return;
         };
-        let _unwatched = match step {
-            Step::Writes => self
-                .readiness
-                .watch_writes(socket.raw_fd(), leaving_token(key)),
-            Step::Reads => self
-                .readiness
-                .watch_again(socket.raw_fd(), leaving_token(key)),
+        let token = Source::Leaving(key).token();
+        let _unregistered = match step {
+            Step::Writes => self.readiness.reregister_for_writes(socket.raw_fd(), token),
+            Step::Reads => self.readiness.reregister(socket.raw_fd(), token),
             Step::Nothing => Ok(()),
         };
     }
@@ -252,34 +233,33 @@ impl EventLoop {
         ensures goes_on { GoesOn store.old.seat store.new.seat }
     {
         match self.open.answer_next(rt, alloc, key, self.at, store) {
-            Turn::Open(progress) => self.keep(key, progress, has_ended),
-            Turn::Left(progress, outbox) => self.close_connection(progress, outbox),
-            Turn::Absent => {}
+            ConnectionTurn::Open(progress) => self.keep(key, progress, has_ended),
+            ConnectionTurn::Left(progress, outbox) => self.close_connection(progress, outbox),
+            ConnectionTurn::Absent => {}
         }
     }
 
-    /// Serves a reported connection.
+    /// Serves a connection that is ready.
     fn serve_one<N: StoreName, G: Gate, R: Wait + Eprint>(
         &mut self,
         rt: &R,
         alloc: Global,
-        report: Report,
+        event: Event,
         store: &mut Gated<'_, N, G, R>,
     )
         requires underway { AllUnderway N.limits store.old self.old.open }
         ensures underway { AllUnderway N.limits store.new self.new.open }
         ensures goes_on { GoesOn store.old.seat store.new.seat }
     {
-        let key = report.token >> 1;
-        if report.token & 1 == 1 {
-            self.advance_leaving(key);
-        } else {
-            self.serve(rt, alloc, key, report.has_ended, store);
+        match Source::of(event.token) {
+            Source::Listener => {}
+            Source::Open(key) => self.serve(rt, alloc, key, event.has_ended, store),
+            Source::Leaving(key) => self.advance_leaving(key),
         }
     }
 
-    /// Serves the connections that the last wait reported, one request each. Returns whether the listener was reported.
-    fn serve_reported<N: StoreName, G: Gate, R: Wait + Eprint>(
+    /// Serves the connections that the last wait found ready, one request each. Returns whether the listener was ready.
+    fn serve_events<N: StoreName, G: Gate, R: Wait + Eprint>(
         &mut self,
         rt: &R,
         alloc: Global,
@@ -290,12 +270,12 @@ impl EventLoop {
         ensures goes_on { GoesOn store.old.seat store.new.seat }
     {
         let mut arrived = false;
-        for index in 0..MAX_REPORTS {
-            match self.readiness.report(index) {
-                None => break,
-                Some(report) if report.token == LISTENER => arrived = true,
-                Some(report) => self.serve_one(rt, alloc, report, store),
-            }
+        for index in 0..MAX_EVENTS {
+            let Some(event) = self.readiness.event(index) else {
+                break;
+            };
+            arrived |= Source::of(event.token) == Source::Listener;
+            self.serve_one(rt, alloc, event, store);
         }
         arrived
     }
@@ -323,7 +303,7 @@ impl EventLoop {
         }
     }
 
-    /// Serves all connections that are ready, one request each. Returns whether the listener was reported.
+    /// Serves all connections that are ready, one request each. Returns whether the listener was ready.
     fn serve_ready<N: StoreName, G: Gate, R: Wait + Eprint>(
         &mut self,
         rt: &R,
@@ -335,7 +315,7 @@ impl EventLoop {
         ensures goes_on { GoesOn store.old.seat store.new.seat }
     {
         let earlier = self.again.len();
-        let arrived = self.serve_reported(rt, alloc, store);
+        let arrived = self.serve_events(rt, alloc, store);
         for _ in 0..earlier {
             self.serve_first_again(rt, alloc, store);
         }
@@ -354,7 +334,7 @@ impl EventLoop {
         ensures underway { AllUnderway N.limits store.new self.new.open }
         ensures goes_on { GoesOn store.old.seat store.new.seat }
     {
-        self.places = self.places.saturating_add(1);
+        self.permits = self.permits.saturating_add(1);
         let Ok(receipt) = server.desk.vouch(rt) else {
             return;
         };
@@ -370,7 +350,8 @@ impl EventLoop {
         else {
             return;
         };
-        if self.readiness.watch(descriptor, open_token(key)).is_err() {
+        let token = Source::Open(key).token();
+        if self.readiness.register(descriptor, token).is_err() {
             drop(self.open.remove(key));
         }
     }
@@ -404,7 +385,7 @@ impl EventLoop {
     fn due<N: StoreName, G: Gate>(
         &self,
         server: &Server<'_, N, G>,
-        arrivals: &Arrivals,
+        acceptor: &Acceptor,
     ) -> Option<Duration> {
         let checks = !self.leaving.is_empty()
             || (self.idle_limit.is_some() && !self.open.is_empty());
@@ -418,7 +399,7 @@ impl EventLoop {
         } else {
             None
         };
-        earlier(earlier(check, last), arrivals.due())
+        earlier(earlier(check, last), acceptor.due())
     }
 
     /// Waits until a connection is ready or something else is due.
@@ -439,8 +420,8 @@ impl EventLoop {
         };
     }
 
-    /// Publishes the number of connections, and gives back the places of those that were closed.
-    fn report<N: StoreName, G: Gate>(
+    /// Publishes the number of connections, and returns the permits of those that were closed.
+    fn publish_load<N: StoreName, G: Gate>(
         &mut self,
         server: &Server<'_, N, G>,
         worker: u32,
@@ -449,11 +430,11 @@ impl EventLoop {
         ensures open { self.new.open ≡ self.old.open }
     {
         let taken = self.open.len().saturating_add(self.leaving.len());
-        for _ in taken..self.places {
-            server.loads.give_back_place();
+        for _ in taken..self.permits {
+            server.loads.return_permit();
         }
-        self.places = taken;
-        server.loads.set(worker, accepts.then_some(self.load()));
+        self.permits = taken;
+        server.loads.set(worker, accepts.then_some(self.open.len()));
     }
 
     /// Accepts the next connection, if one is waiting and may be accepted.
@@ -462,14 +443,14 @@ impl EventLoop {
         rt: &R,
         server: &Server<'_, N, G>,
         worker: u32,
-        arrivals: &mut Arrivals,
+        acceptor: &mut Acceptor,
         store: &mut Gated<'_, N, G, R>,
     )
         requires underway { AllUnderway N.limits store.old self.old.open }
         ensures underway { AllUnderway N.limits store.new self.new.open }
         ensures goes_on { GoesOn store.old.seat store.new.seat }
     {
-        if let Some(stream) = arrivals.next(rt, server, worker, self.load(), self.at.now) {
+        if let Some(stream) = acceptor.next(rt, server, worker, self.open.len(), self.at.now) {
             self.open(rt, server, stream, store);
         }
     }
@@ -480,7 +461,7 @@ impl EventLoop {
         rt: &R,
         server: &Server<'_, N, G>,
         worker: u32,
-        arrivals: &mut Arrivals,
+        acceptor: &mut Acceptor,
         store: &mut Gated<'_, N, G, R>,
     )
         requires underway { AllUnderway N.limits store.old self.old.open }
@@ -488,12 +469,12 @@ impl EventLoop {
         ensures goes_on { GoesOn store.old.seat store.new.seat }
     {
         if self.serve_ready(rt, server.alloc, store) {
-            arrivals.arrived();
+            acceptor.arrived();
         }
         if self.has_given_up {
             server.notices.print_given_up(rt);
         }
-        self.accept(rt, server, worker, arrivals, store);
+        self.accept(rt, server, worker, acceptor, store);
         self.drop_silent();
     }
 
@@ -503,20 +484,20 @@ impl EventLoop {
         rt: &R,
         server: &Server<'_, N, G>,
         worker: u32,
-        arrivals: &mut Arrivals,
+        acceptor: &mut Acceptor,
         store: &mut Gated<'_, N, G, R>,
     )
         requires underway { AllUnderway N.limits store.old self.old.open }
         ensures goes_on { GoesOn store.old.seat store.new.seat }
     {
         for _ in rt.forever() {
-            let accepts = arrivals.may_accept(server.sessions);
-            self.report(server, worker, accepts);
+            let accepts = acceptor.may_accept(server.sessions);
+            self.publish_load(server, worker, accepts);
             if !accepts && self.is_empty() {
                 break;
             }
-            self.wait(rt, self.due(server, arrivals));
-            self.serve_round(rt, server, worker, arrivals, store);
+            self.wait(rt, self.due(server, acceptor));
+            self.serve_round(rt, server, worker, acceptor, store);
         }
     }
 }

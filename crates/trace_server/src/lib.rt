@@ -9,17 +9,18 @@
 //! * `config`: the configuration of a server.
 //! * `gate`: an observer of the calls to the store. `gated`: a store whose calls a gate observes.
 //! * `worker`: a worker. `threads`: work in threads.
-//! * `event_loop`: the loop that waits for a worker's connections and serves them.
-//! * `arrivals`: accepts connections. `loads`: the number of connections of each worker. `sessions`: the number in all.
+//! * `event_loop`: the loop that waits for a worker's connections and serves them. `source`: what it waits for, by tokens.
+//! * `acceptor`: accepts connections. `loads`: the number of connections of each worker. `sessions`: the number in all.
 //! * `connection`: sockets before and after their sessions. `leaving`: connections after their last response.
 //! * `shared`: a store with its desk and its clerk, which all workers share.
 //! * `ending`: takes in every seat at the end. `reporting`: the lines of the output.
-//! * `notices`: lines for the operator on standard error. `counts`, `held`: what workers count for them. `watch`: the
-//!   periodic line.
+//! * `notices`: lines for the operator on standard error. `counts`, `acknowledged`: what workers count for them.
+//!   `periodic`: the periodic line.
 //! * `serving`: [`serve_with`].
 #![tactic(auto)]
 
-mod arrivals;
+mod acceptor;
+mod acknowledged;
 mod config;
 mod connection;
 mod counts;
@@ -27,16 +28,16 @@ mod ending;
 mod event_loop;
 mod gate;
 mod gated;
-mod held;
 mod leaving;
 mod loads;
 mod notices;
+mod periodic;
 mod reporting;
 mod serving;
 mod sessions;
 mod shared;
+mod source;
 mod threads;
-mod watch;
 mod worker;
 
 pub use config::ServerConfig;

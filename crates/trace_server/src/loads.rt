@@ -6,6 +6,17 @@ use std::sync::atomic::{AtomicU32, Ordering};
 /// The load of a worker that can't accept connections.
 const ACCEPTS_NONE: u32 = u32::MAX;
 
+/// Returns the load of a worker with this number of connections, which is below [`ACCEPTS_NONE`]; `None` if it can't
+/// accept more.
+fn load_of(connections: Option<usize>) -> u32 {
+    match connections {
+        Some(connections) => u32::try_from(connections)
+            .unwrap_or(ACCEPTS_NONE)
+            .min(ACCEPTS_NONE - 1),
+        None => ACCEPTS_NONE,
+    }
+}
+
 /// The number of open connections, in all and of each worker. The counts only decide which worker accepts a connection,
 /// and when.
 #[derive(Drop)]
@@ -33,31 +44,32 @@ impl Loads {
         })
     }
 
-    /// Takes a place for one more connection, if one is free.
-    pub(crate) fn take_place(&self) -> bool {
+    /// Takes a permit for one more connection, if one is free.
+    pub(crate) fn take_permit(&self) -> bool {
         if self.open.fetch_add(1, Ordering::SeqCst) < self.max_open {
             return true;
         }
-        self.give_back_place();
+        self.return_permit();
         false
     }
 
-    /// Gives a place back.
-    pub(crate) fn give_back_place(&self) {
+    /// Returns a permit.
+    pub(crate) fn return_permit(&self) {
         self.open.fetch_sub(1, Ordering::SeqCst);
     }
 
     /// Sets the number of connections of a worker; `None` if it can't accept more.
-    pub(crate) fn set(&self, worker: u32, connections: Option<u32>) {
+    pub(crate) fn set(&self, worker: u32, connections: Option<usize>) {
         if let Some(load) = self.workers.get(worker as usize) {
-            load.store(connections.unwrap_or(ACCEPTS_NONE), Ordering::SeqCst);
+            load.store(load_of(connections), Ordering::SeqCst);
         }
     }
 
     /// Returns whether no worker that can accept has fewer connections.
-    pub(crate) fn is_least(&self, connections: u32) -> bool {
+    pub(crate) fn is_least(&self, connections: usize) -> bool {
+        let own = load_of(Some(connections));
         self.workers
             .iter()
-            .all(|load| load.load(Ordering::SeqCst) >= connections)
+            .all(|load| load.load(Ordering::SeqCst) >= own)
     }
 }

@@ -1,23 +1,24 @@
 //! Lines for the operator, on standard error. A line that can't be written is lost.
 
-ghost use Rattle.std.specs.Prelude.{◌≤◌};
+ghost use Rattle.std.specs.Prelude.{◌≡◌, ◌≤◌};
+ghost use Rattle.text_lines.specs.RunErrors.{status_by};
 
+use crate::acknowledged::AcknowledgedCounts;
 use crate::counts::Counts;
-use crate::held::Held;
 use libc::types::rlimit;
 use libc::{RLIMIT_NOFILE, getrlimit};
 use serve_options::{Counted, FailureLine, FullnessLine, HeldText, Host, TooLargeLine, level_of};
 use std::alloc::{AllocError, Global};
 use std::io;
 use std::sync::atomic::{AtomicBool, AtomicU32, AtomicU64, Ordering};
-use text_lines::RunError;
+use text_lines::{ExitStatus, RunError};
 use trace_model::{Answer, Limits, Refusal};
 
 /// The measured size of a span with one tag, in bytes.
-const BYTES_WITH_ONE_TAG: u64 = 380;
+const BYTES_WITH_ONE_TAG: u64 = 410;
 
 /// The measured size of a span with five tags, in bytes.
-const BYTES_WITH_FIVE_TAGS: u64 = 680;
+const BYTES_WITH_FIVE_TAGS: u64 = 700;
 
 /// The numbers of requests answered 500 at which a line is printed.
 const PRINTED_FAILURES: [u64; 7] = [1, 10, 100, 1_000, 10_000, 100_000, 1_000_000];
@@ -76,7 +77,7 @@ impl LimitNotices {
 #[derive(Drop)]
 pub(crate) struct Notices {
     limits: Limits,
-    held: Held,
+    acknowledged: AcknowledgedCounts,
     counts: Counts,
     batches: LimitNotices,
     spans: LimitNotices,
@@ -98,7 +99,7 @@ impl Notices {
     pub(crate) fn new(alloc: Global, limits: Limits, workers: u16) -> Result<Notices, AllocError> {
         Ok(Notices {
             limits,
-            held: Held::new(alloc, &limits)?,
+            acknowledged: AcknowledgedCounts::new(alloc, &limits)?,
             counts: Counts::new(alloc, workers)?,
             batches: LimitNotices::new(),
             spans: LimitNotices::new(),
@@ -121,7 +122,7 @@ impl Notices {
         match *place {
             Ok(place) => {
                 self.counts.acknowledge(worker);
-                if self.held.add(place, spans) {
+                if self.acknowledged.add(place, spans) {
                     self.print_levels(rt);
                 }
             }
@@ -147,7 +148,7 @@ impl Notices {
 
     /// Prints how full the store is, once at each level of each limit.
     fn print_levels<R: Eprint>(&self, rt: &R) {
-        let (batches, spans) = (self.held.batches(), self.held.spans());
+        let (batches, spans) = (self.acknowledged.batches(), self.acknowledged.spans());
         self.batches
             .print_level(rt, Counted::Batches, batches, self.limits.batches);
         self.spans
@@ -168,7 +169,12 @@ impl Notices {
                 }
             }
             Refusal::Deferred | Refusal::Busy | Refusal::Closed | Refusal::Conflict { .. } => {}
-            _ => self.print_failure(rt, refusal),
+            Refusal::Stale { .. }
+            | Refusal::NoMemory
+            | Refusal::Stranger
+            | Refusal::NoReply
+            | Refusal::Behind { .. }
+            | Refusal::Gone => self.print_failure(rt, refusal),
         }
     }
 
@@ -212,7 +218,11 @@ impl Notices {
 
     /// Prints what the store holds, and the counts.
     pub(crate) fn print_counts<R: Eprint>(&self, rt: &R) {
-        let (batches, spans) = held_texts(self.held.batches(), self.held.spans(), &self.limits);
+        let (batches, spans) = held_texts(
+            self.acknowledged.batches(),
+            self.acknowledged.spans(),
+            &self.limits,
+        );
         let counts = &self.counts;
         let _lost = eprintln!(rt; "{batches} and {spans} held, {counts}");
     }
@@ -221,7 +231,7 @@ impl Notices {
     pub(crate) fn print_all_taken<R: Eprint>(&self, rt: &R) {
         if !self.printed_all_taken.swap(true, Ordering::SeqCst) {
             let _lost = eprintln!(rt;
-                "as many connections are open as --connections lets be: the next ones wait until one closes"
+                "as many connections are open as --connections allows: the next ones wait until one closes"
             );
         }
     }
@@ -230,7 +240,7 @@ impl Notices {
     pub(crate) fn print_given_up<R: Eprint>(&self, rt: &R) {
         if !self.printed_given_up.swap(true, Ordering::SeqCst) {
             let _lost = eprintln!(rt;
-                "too much waits for clients that don't read: connections of more of them are closed"
+                "too much waits for clients that don't read: further connections of such clients are closed"
             );
         }
     }
@@ -286,7 +296,7 @@ pub(crate) fn print_limits<R: Eprint>(rt: &R, limits: &Limits) {
         ),
     };
     let _lost = eprintln!(rt;
-        "that may take {few} MB where a span has one tag, {many} MB where it has five, and more where tags are long"
+        "that may take {few} MB with one tag a span, {many} MB with five; more if tags are long, up to 3 times as much with one span a batch"
     );
 }
 
@@ -309,16 +319,23 @@ pub(crate) fn print_accepts_no_more<R: Eprint>(rt: &R, worker: u32, error: &io::
     let _lost = eprintln!(rt; "worker {worker} accepts no more connections: {error}");
 }
 
-/// Prints the status with which the server ends, and why.
-pub(crate) fn explain_end<R: Eprint>(rt: &R, status: u8, why: &str) {
-    let _lost = eprintln!(rt; "ends with status {status}: {why}");
+/// Prints why the server ends, and returns the exit status.
+pub(crate) fn end_with<R: Eprint>(rt: &R, error: RunError, why: &str) -> ExitStatus
+    ensures { result ≡ status_by error }
+{
+    let status = error.status();
+    let code = status.code();
+    let _lost = eprintln!(rt; "ends with status {code}: {why}");
+    status
 }
 
-/// Prints that the server ends because a line of its output couldn't be written.
-pub(crate) fn print_unwritten<R: Eprint>(rt: &R, error: RunError) {
+/// Prints that the server ends because a line of its output couldn't be written, and returns the exit status.
+pub(crate) fn end_unwritten<R: Eprint>(rt: &R, error: RunError) -> ExitStatus
+    ensures { result ≡ status_by error }
+{
     let why = match error {
         RunError::Device => "the output failed",
         RunError::Memory => "out of memory",
     };
-    explain_end(rt, error.status(), why);
+    end_with(rt, error, why)
 }

@@ -6,14 +6,14 @@ ghost use Rattle.text_lines.specs.RunErrors.{WritesText};
 ghost use Rattle.trace_server.specs.Serving.{listening_line, served_line, books_line, last_lines, Ends, StopsIn};
 
 use crate::ending::Totals;
-use crate::notices::{explain_end, print_unwritten};
+use crate::notices::{end_unwritten, end_with};
 use crate::worker::WorkerOutcome;
 use intake::Live;
 use read_side::StoreName;
 use serve_options::Host;
 use session_devices::Output;
 use std::alloc::{AllocError, Global};
-use text_lines::{RunError, write_text};
+use text_lines::{ExitStatus, RunError, write_text};
 
 /// Returns the line with the address on which the server listens.
 fn listening_line(alloc: Global, host: Host, port: u16) -> Result<String, AllocError>
@@ -113,28 +113,28 @@ fn write_end<W: Output>(
 }
 
 /// Writes the number of connections accepted and the totals of the batches, and returns the exit status. A status other
-/// than 0 is explained to the operator.
+/// than `Success` is explained to the operator.
 pub(crate) fn report<W: Output, R: Eprint>(
     rt: &R,
     alloc: Global,
     output: &mut W,
     all: WorkerOutcome,
     totals: Totals,
-) -> u8
+) -> ExitStatus
     requires { W.has_failed output.old ≡ false }
     ensures { Ends (W.contents output.old) (W.contents output.new) (W.has_failed output.new)
         (last_lines all.served totals.acknowledged totals.refused totals.left) all.failed result }
 {
     match write_end(alloc, output, all.served, totals) {
         Ok(()) if all.failed => {
-            explain_end(rt, 4, "a worker could accept no more connections");
-            4
+            end_with(
+                rt,
+                RunError::Device,
+                "a worker could accept no more connections",
+            )
         }
-        Ok(()) => 0,
-        Err(error) => {
-            print_unwritten(rt, error);
-            error.status()
-        }
+        Ok(()) => ExitStatus::Success,
+        Err(error) => end_unwritten(rt, error),
     }
 }
 
@@ -144,19 +144,13 @@ pub(crate) fn report_unclosed<W: Output, R: Eprint>(
     alloc: Global,
     output: &mut W,
     all: WorkerOutcome,
-) -> u8
+) -> ExitStatus
     requires { W.has_failed output.old ≡ false }
     ensures { StopsIn (W.contents output.old) (W.contents output.new) (W.has_failed output.new)
         (served_line all.served) result }
 {
     match write_served(alloc, output, all.served) {
-        Ok(()) => {
-            print_unwritten(rt, RunError::Memory);
-            RunError::Memory.status()
-        }
-        Err(error) => {
-            print_unwritten(rt, error);
-            error.status()
-        }
+        Ok(()) => end_unwritten(rt, RunError::Memory),
+        Err(error) => end_unwritten(rt, error),
     }
 }

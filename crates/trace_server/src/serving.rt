@@ -8,19 +8,19 @@ ghost use Rattle.intake.specs.Turns.{IsNewClerk};
 ghost use Rattle.trace_server.specs.Serving.{OneForEach, Reports, Serves};
 ghost use Rattle.trace_server.specs.WorkerSeats.{AreNew, HasJudged};
 
-use crate::arrivals::lengthen_queue;
+use crate::acceptor::lengthen_queue;
 use crate::config::ServerConfig;
 use crate::ending::close_books;
 use crate::gate::Gate;
 use crate::loads::Loads;
 use crate::notices::{
-    Notices, explain_end, print_few_files, print_limits, print_reachable, print_unwritten,
+    Notices, end_unwritten, end_with, print_few_files, print_limits, print_reachable,
 };
+use crate::periodic::PeriodicCounts;
 use crate::reporting::{report, report_unclosed, total_outcome, write_listening};
 use crate::sessions::Sessions;
 use crate::shared::SharedStore;
 use crate::threads::{OwnWork, beside, run_each};
-use crate::watch::Watch;
 use crate::worker::{Server, WorkerOutcome};
 use intake::{Books, Clerk, Desk, Live};
 use read_side::{EmptyHistory, Keeper, StoreName};
@@ -32,6 +32,7 @@ use std::snapshot::Snapshot;
 use std::sync::Wait;
 use std::thread::{Promise, Threads, join, spawn};
 use std::time::Clock;
+use text_lines::{ExitStatus, RunError};
 use trace_model::Limits;
 
 /// A server's listener, its configuration, and the gate of its workers' calls.
@@ -50,7 +51,7 @@ type Outcomes<N> = Result<Vec<(WorkerOutcome, Live<N>)>, AllocError>;
 /// What the clerk leaves, and the workers' outcomes.
 type Left<N> = (Books<N>, Outcomes<N>);
 
-/// Runs the workers until all sessions have ended, then ends the watch.
+/// Runs the workers until all sessions have ended, then ends the periodic lines.
 fn work_each<
     N: StoreName + Send + Sync,
     G: Gate + Sync,
@@ -60,13 +61,13 @@ fn work_each<
         (map (λ w. w.1.seat) v.items)) }
 {
     let outcomes = run_each(rt, server, lives);
-    server.watch.end();
+    server.periodic.end();
     outcomes
 }
 
-/// Runs the workers until all sessions have ended, with the watch in a thread of its own. If that thread can't be
-/// created, there are no periodic lines.
-fn work_watched<
+/// Runs the workers until all sessions have ended, with the periodic lines in a thread of their own. If that thread can't be
+/// created, there are none.
+fn work_counted<
     N: StoreName + Send + Sync,
     G: Gate + Sync,
     R: Threads + Wait + Clock + Eprint + Net<Stream = TcpStream, Listener = TcpListener> + Sync,
@@ -74,13 +75,13 @@ fn work_watched<
     ensures { IfOk result (λ v. AllZip GoesOn (map (λ p. p.1.seat) lives.items)
         (map (λ w. w.1.seat) v.items)) }
 {
-    if server.watch.is_off() {
+    if server.periodic.is_off() {
         return work_each(rt, server, lives);
     }
-    let (watch, notices) = (server.watch, server.notices);
+    let (periodic, notices) = (server.periodic, server.notices);
     let (_, outcomes) = join(
         rt,
-        || -> () { watch.run(rt, notices) },
+        || -> () { periodic.run(rt, notices) },
         || -> Outcomes<N>
             ensures { IfOk result (λ v. AllZip GoesOn (map (λ p. p.1.seat) lives.items)
                 (map (λ w. w.1.seat) v.items)) }
@@ -98,7 +99,7 @@ fn work_all<
     ensures { IfOk result (λ v. AllZip GoesOn (map (λ p. p.1.seat) lives.items)
         (map (λ w. w.1.seat) v.items)) }
 {
-    let outcomes = work_watched(rt, server, lives);
+    let outcomes = work_counted(rt, server, lives);
     server.desk.close(rt);
     outcomes
 }
@@ -116,7 +117,8 @@ impl<N: StoreName> Promise<Outcomes<N>> for KeepSeats<N> {
         AllZip GoesOn (map (λ p. p.1.seat) began.0.value.items) (map (λ w. w.1.seat) v.items)) };
 }
 
-/// The clerk of an empty store, and the slot that holds its keeper.
+/// The clerk of an empty store, and the slot that holds its keeper. [`beside`] takes only work that is `Drop`, which a keeper
+/// isn't: so the keeper stays outside, in the slot, until `run` takes it.
 #[derive(Drop)]
 struct ClerkWork<'d, 's, N: StoreName> {
     desk: &'d Desk<N>,
@@ -172,14 +174,14 @@ fn serve_sessions<
         lives,
     } = shared;
     let sessions = Sessions::new(setup.config.options.sessions);
-    let watch = Watch::new(setup.config.options.report);
+    let periodic = PeriodicCounts::new(setup.config.options.report);
     let server = Server {
         alloc,
         listener: setup.listener,
         desk: &desk,
         gate: setup.gate,
         notices: setup.notices,
-        watch: &watch,
+        periodic: &periodic,
         loads: setup.loads,
         sessions: &sessions,
         idle: setup.config.options.idle,
@@ -200,6 +202,7 @@ fn serve_sessions<
         { work_all(rt, &server, lives) },
         work,
     );
+    // The slot is empty: the clerk has taken the keeper. But no clause of `beside` says so, and a keeper can't be dropped.
     if let Some(untaken) = slot {
         untaken.close(rt);
     }
@@ -215,7 +218,13 @@ fn serve_store<
     G: Gate + Sync,
     W: Output,
     R: Threads + Wait + Clock + Eprint + Net<Stream = TcpStream, Listener = TcpListener> + Sync,
->(rt: &R, alloc: Global, shared: SharedStore<N>, setup: &ServerSetup<'_, G>, output: &mut W) -> u8
+>(
+    rt: &R,
+    alloc: Global,
+    shared: SharedStore<N>,
+    setup: &ServerSetup<'_, G>,
+    output: &mut W,
+) -> ExitStatus
     requires keeper { shared.keeper ≡ no_entries }
     requires clerk { IsNewClerk shared.clerk }
     requires new { AreNew shared.clerk.desk (map (λ p. p.1.seat) shared.lives.items) }
@@ -229,8 +238,11 @@ fn serve_store<
     let (books, workers) = serve_sessions(rt, alloc, shared, setup);
     let Ok(workers) = workers else {
         books.close(rt);
-        explain_end(rt, 5, "no thread or no memory for the workers");
-        return 5;
+        return end_with(
+            rt,
+            RunError::Memory,
+            "no thread or no memory for the workers",
+        );
     };
     let all = total_outcome(workers.as_slice());
     match close_books(rt, books, workers) {
@@ -263,7 +275,7 @@ fn serve_named<
     limits: Limits,
     setup: &ServerSetup<'_, G>,
     output: &mut W,
-) -> u8
+) -> ExitStatus
     requires book { name.seen.book ≡ N.book }
     requires limits { limits ≡ N.limits }
     requires output_works { W.has_failed output.old ≡ false }
@@ -272,19 +284,24 @@ fn serve_named<
         (W.has_failed output.new) result }
 {
     let Ok(address) = setup.listener.local_addr() else {
-        explain_end(rt, 5, "the system gave no address of the socket");
-        return 5;
+        return end_with(
+            rt,
+            RunError::Memory,
+            "the system gave no address of the socket",
+        );
     };
     lengthen_queue(setup.listener);
     let Ok(shared) = SharedStore::<N>::open(rt, alloc, name, limits, setup.config) else {
-        explain_end(rt, 5, "no memory for a store with these limits");
-        return 5;
+        return end_with(
+            rt,
+            RunError::Memory,
+            "no memory for a store with these limits",
+        );
     };
     let options = &setup.config.options;
     if let Err(error) = write_listening(alloc, output, options.host, address.port()) {
         shared.close(rt);
-        print_unwritten(rt, error);
-        return error.status();
+        return end_unwritten(rt, error);
     }
     print_reachable(rt, options.host);
     print_limits(rt, &options.limits);
@@ -293,8 +310,8 @@ fn serve_named<
 }
 
 /// Serves the connections of a socket that listens on the options' host, over an empty store, and returns the exit
-/// status: 0 after the requested number of connections, 4 if a worker couldn't accept any more or the output failed,
-/// and 5 if memory or threads ran out, or the system didn't return the socket's address.
+/// status: `Success` after the requested number of connections, `DeviceFailed` if a worker couldn't accept any more or
+/// the output failed, and `OutOfMemory` if memory or threads ran out, or the system didn't return the socket's address.
 ///
 /// It writes a line with the host and port once connections are accepted. At the end it writes a line with the number
 /// of connections, and one with the number of batches that were acknowledged, refused by the store, and left
@@ -302,7 +319,7 @@ fn serve_named<
 /// connection. Every call to the store is between two calls of the gate. The listener is non-blocking from then on.
 ///
 /// Standard error gets lines for the operator: that other machines can reach the host, the limits of the store, how
-/// full it is, that requests were answered 500, why no connection is accepted, and why the server ends with 4 or 5.
+/// full it is, that requests were answered 500, why no connection is accepted, and why the server fails.
 /// None of these are in the output.
 pub fn serve_with<
     G: Gate + Sync,
@@ -315,25 +332,22 @@ pub fn serve_with<
     config: &ServerConfig,
     gate: &G,
     output: &mut W,
-) -> u8
+) -> ExitStatus
     requires output_works { W.has_failed output.old ≡ false }
     ensures { Serves config.now.options.host config.now.options.limits
         config.now.options.workers (W.contents output.old) (W.contents output.new)
         (W.has_failed output.new) result }
 {
     if !can_start(rt) {
-        explain_end(rt, 5, "no thread can be made");
-        return 5;
+        return end_with(rt, RunError::Memory, "no thread can be made");
     }
     let (name, limits) = (EmptyHistory::new(), config.options.limits);
     let (workers, connections) = (config.options.workers, config.options.connections);
     let Ok(loads) = Loads::new(alloc, workers, connections) else {
-        explain_end(rt, 5, "out of memory");
-        return 5;
+        return end_with(rt, RunError::Memory, "out of memory");
     };
     let Ok(notices) = Notices::new(alloc, limits, workers) else {
-        explain_end(rt, 5, "out of memory");
-        return 5;
+        return end_with(rt, RunError::Memory, "out of memory");
     };
     let setup = ServerSetup {
         listener,

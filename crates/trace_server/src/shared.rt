@@ -42,9 +42,10 @@ fn pairs<N: StoreName>(
     Ok(lives)
 }
 
-/// Opens a desk of the store, with its clerk and the workers' seats and passes.
+/// A desk, its clerk, and the workers' seats and passes, each pair with its worker's number.
 type DeskEnds<N> = (Desk<N>, Clerk<N>, Vec<(u32, Live<N>)>);
 
+/// Opens a desk of the store, and returns it with its clerk and the workers' seats and passes.
 fn open_desk<N: StoreName>(
     alloc: Global,
     keeper: &mut Keeper<N>,

@@ -2,15 +2,15 @@
 
 ghost use Rattle.intake.specs.LiveSharing.{GoesOn};
 
-use crate::arrivals::Arrivals;
+use crate::acceptor::Acceptor;
 use crate::event_loop::EventLoop;
 use crate::gate::Gate;
 use crate::gated::Gated;
 use crate::loads::Loads;
 use crate::notices::{Notices, print_accepts_no_more};
+use crate::periodic::PeriodicCounts;
 use crate::sessions::Sessions;
 use crate::threads::Task;
-use crate::watch::Watch;
 use intake::{Desk, Live};
 use read_side::StoreName;
 use std::alloc::Global;
@@ -26,7 +26,7 @@ pub(crate) struct Server<'a, N: StoreName, G> {
     pub(crate) desk: &'a Desk<N>,
     pub(crate) gate: &'a G,
     pub(crate) notices: &'a Notices,
-    pub(crate) watch: &'a Watch,
+    pub(crate) periodic: &'a PeriodicCounts,
     pub(crate) loads: &'a Loads,
     pub(crate) sessions: &'a Sessions,
     pub(crate) idle: u32,
@@ -64,9 +64,9 @@ impl<'a, N: StoreName, G: Gate> Server<'a, N, G> {
             }
         };
         let mut store = Gated::new(rt, self.gate, self.notices, worker, live);
-        let mut arrivals = Arrivals::new();
-        event_loop.run(rt, self, worker, &mut arrivals, &mut store);
-        (arrivals.outcome(), store.into_live())
+        let mut acceptor = Acceptor::new();
+        event_loop.run(rt, self, worker, &mut acceptor, &mut store);
+        (acceptor.outcome(), store.into_live())
     }
 }
 

@@ -26,6 +26,9 @@ const MAX_TRIES: u64 = 200;
 /// The number of jobs that the queue has room for.
 const ROOM: usize = 8;
 
+/// The number of batches that the store has room for. Each has one span.
+const MAX_BATCHES: u32 = 40;
+
 /// How often a thread that waits, for room or for the seats, lets others run.
 const PATIENCE: u64 = 10_000_000;
 
@@ -297,10 +300,48 @@ fn is_left<N: StoreName>(books: &Books<N>, seat: u16, number: u64) -> bool {
 #[derive(Clone, Copy)]
 struct Answers {
     acknowledged: u64,
-    refused: u64,
+    /// The store was full.
+    full: u64,
+    without_memory: u64,
 }
 
-/// Whether the ticket says that the desk was closed exactly if its job is left. Another answer is counted.
+impl Answers {
+    fn none() -> Answers {
+        Answers {
+            acknowledged: 0,
+            full: 0,
+            without_memory: 0,
+        }
+    }
+
+    fn refused(self) -> u64 {
+        self.full.saturating_add(self.without_memory)
+    }
+
+    /// Whether no job was refused as of a full store before the store was full.
+    fn fills_first(self) -> bool {
+        self.full == 0 || self.acknowledged == u64::from(MAX_BATCHES)
+    }
+}
+
+/// Whether the job was refused by a full store or for want of memory, which is counted. No other refusal is due.
+fn is_refused(why: Refusal, answers: &mut Answers) -> bool {
+    match why {
+        Refusal::JournalFull { batches, spans } => {
+            let most = u64::from(MAX_BATCHES);
+            answers.full = answers.full.saturating_add(1);
+            batches == most && spans == most
+        }
+        Refusal::NoMemory => {
+            answers.without_memory = answers.without_memory.saturating_add(1);
+            true
+        }
+        _ => false,
+    }
+}
+
+/// Whether the ticket says that the desk was closed exactly if its job is left. Another answer is counted: each
+/// refusal has to be the one that is due.
 fn is_answered<N: StoreName, R: Wait>(
     rt: &R,
     books: &Books<N>,
@@ -313,7 +354,11 @@ fn is_answered<N: StoreName, R: Wait>(
     match ticket.wait(rt) {
         Err(Refusal::Closed) => return is_left,
         Ok(_) => answers.acknowledged = answers.acknowledged.saturating_add(1),
-        Err(_) => answers.refused = answers.refused.saturating_add(1),
+        Err(why) => {
+            if !is_refused(why, answers) {
+                return false;
+            }
+        }
     }
     !is_left
 }
@@ -340,14 +385,21 @@ fn is_whole<N: StoreName, R: Wait>(
     seat.submitted() == number && matches!(seat.submit(rt, alloc, late), Err((Refusal::Closed, _)))
 }
 
-/// Takes all seats in, and returns the number of jobs that are left. Returns None if some submitted job isn't in
-/// the books once, with its own answer, or the counts of jobs, accounts and entries don't agree.
+/// The number of jobs that are left, and of those that were refused for want of memory.
+#[derive(Clone, Copy)]
+struct Leftover {
+    jobs: u64,
+    without_memory: u64,
+}
+
+/// Takes all seats in, and returns what is left. Returns None if some submitted job isn't in the books once, with
+/// its own answer, or the counts of jobs, accounts and entries don't agree.
 fn left_over<N: StoreName, R: Wait>(
     rt: &R,
     alloc: Global,
     books: Books<N>,
     handed: Four<N>,
-) -> Option<u64>
+) -> Option<Leftover>
     requires books { Balances books.inbox.taken books.accounts
         (map arc_value books.left.items) }
     requires seats { AllMayHandIn books.inbox.desk handed.a.seat handed.b.seat
@@ -372,18 +424,18 @@ fn left_over<N: StoreName, R: Wait>(
     let answered = books.acknowledged.saturating_add(books.refused);
     let counted = all == answered.saturating_add(left)
         && books.keeper.receipt().front() == books.acknowledged;
-    let mut answers = Answers {
-        acknowledged: 0,
-        refused: 0,
-    };
+    let mut answers = Answers::none();
     let whole = is_whole(rt, alloc, &books, a, &mut answers)
         && is_whole(rt, alloc, &books, b, &mut answers)
         && is_whole(rt, alloc, &books, c, &mut answers)
         && is_whole(rt, alloc, &books, d, &mut answers);
-    let booked = (answers.acknowledged, answers.refused) == (books.acknowledged, books.refused);
+    let booked = answers.acknowledged == books.acknowledged && answers.refused() == books.refused;
     books.close(rt);
-    if counted && whole && booked {
-        Some(left)
+    if counted && whole && booked && answers.fills_first() {
+        Some(Leftover {
+            jobs: left,
+            without_memory: answers.without_memory,
+        })
     } else {
         None
     }
@@ -412,7 +464,10 @@ fn leaves<N: StoreName, R: Wait>(rt: &R, alloc: Global, opened: OpenDesk<N>) -> 
     let served = matches!(clerk.turn(rt, &mut keeper), Ok(Turn::Served { .. }));
     desk.close(rt);
     let books = clerk.leave(keeper);
-    left_over(rt, alloc, books, four) == Some(handed.saturating_sub(served as u64))
+    match left_over(rt, alloc, books, four) {
+        Some(left) => left.jobs == handed.saturating_sub(served as u64),
+        None => false,
+    }
 }
 
 /// Whether each seat has submitted something.
@@ -423,7 +478,7 @@ fn have_begun<N: StoreName>(four: &Four<N>) -> bool {
 }
 
 /// The clerk serves while the seats submit and the desk is closed. Returns whether each seat had a job in, and
-/// nothing is lost.
+/// nothing is lost. Memory is ample: no job is refused for want of it.
 fn races<N: StoreName + Send + Sync, R: Threads + Wait + Sync>(
     rt: &R,
     alloc: Global,
@@ -455,7 +510,10 @@ fn races<N: StoreName + Send + Sync, R: Threads + Wait + Sync>(
         return false;
     };
     let begun = have_begun(&floor.four);
-    left_over(rt, alloc, books, floor.four).is_some() && begun
+    match left_over(rt, alloc, books, floor.four) {
+        Some(left) => left.without_memory == 0 && begun,
+        None => false,
+    }
 }
 
 /// How a desk ends.
@@ -516,13 +574,13 @@ fn round<N: StoreName + Send + Sync, R: Threads + Wait + Abort + RandomSource + 
     }
 }
 
-/// A store with room for 40 batches.
+/// A store with room for [`MAX_BATCHES`].
 fn plays<R: Threads + Wait + Abort + RandomSource + Sync>(
     rt: &R,
     alloc: Global,
     ending: Ending,
 ) -> Result<bool, Fail> {
-    let limits = Limits::new(40, 1000, 0, 0).expect(rt, "limits");
+    let limits = Limits::new(MAX_BATCHES, 1000, 0, 0).expect(rt, "limits");
     round::<Brand, _>(rt, alloc, EmptyHistory::new(), limits, ending)
 }
 

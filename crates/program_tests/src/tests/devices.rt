@@ -60,7 +60,7 @@ fn check_failures<H: Host + Net<Stream = TcpStream, Listener = TcpListener>>(
             &mut Watched::new(&mut reader),
             &mut Watched::new(&mut written),
         );
-        assert_eq!(rt; got, if fails_at <= calls { 4 } else { status });
+        assert_eq!(rt; got.code(), if fails_at <= calls { 4 } else { status });
         assert!(rt; output.starts_with(written.as_slice()));
     }
     for room in 0..output.len() {
@@ -72,7 +72,7 @@ fn check_failures<H: Host + Net<Stream = TcpStream, Listener = TcpListener>>(
             &mut Watched::new(input),
             &mut Watched::new(&mut writer),
         );
-        assert_eq!(rt; got, 4);
+        assert_eq!(rt; got.code(), 4);
         assert_eq!(rt; writer.taken, room);
     }
     Ok(())

@@ -385,7 +385,7 @@ fn written<H: Host + Net<Stream = TcpStream, Listener = TcpListener>>(
     let mut input = MemoryInput::new(bytes, step, 0);
     let mut output = MemoryOutput::new(alloc, 10_000, 10_000);
     let status = run(rt, alloc, words.as_slice(), &mut input, &mut output);
-    if status != 0 {
+    if status.code() != 0 {
         return Ok(None);
     }
     Ok(Some(output))

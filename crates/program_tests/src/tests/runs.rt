@@ -47,6 +47,6 @@ pub(crate) fn check<H: Host + Net<Stream = TcpStream, Listener = TcpListener>>(
         &mut Watched::new(&mut written),
     );
     assert_eq!(rt; written.as_slice(), wanted.as_bytes());
-    assert_eq!(rt; got, status);
+    assert_eq!(rt; got.code(), status);
     Ok(())
 }

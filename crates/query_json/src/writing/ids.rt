@@ -1,4 +1,4 @@
-ghost use Rattle.std.specs.Prelude.{◌==◌, [], if◌then◌else◌};
+ghost use Rattle.std.specs.Prelude.{[], ◌∷◌, ◌++◌};
 ghost use Rattle.serde_json.specs.Data.{string};
 ghost use Rattle.jaeger_model.specs.Ids.{low_digits, span_text};
 ghost use Rattle.query_json.specs.Page.{Puts};
@@ -11,29 +11,28 @@ impl WriteJson for SpanId {
     ghost tree = { λ id. string (span_text id) };
 
     fn write(&self, out: &mut Page) {
-        out.push_str("\"");
-        out.digits_of_number(self.0);
-        out.push_str("\"");
+        out.quoted_number(self.0);
     }
 }
 
-/// Writes the digits of the high half of an id, if it isn't 0.
-fn write_high(out: &mut Page, high: u64)
-    ensures { Puts out.old out.new (if high == 0 then [] else low_digits 16 high) }
+/// Writes an id whose high half isn't 0.
+fn write_both(out: &mut Page, id: TraceId)
+    ensures { Puts out.old out.new (34 ∷ ((low_digits 16 id.high ++ low_digits 16 id.low) ++ 34 ∷ [])) }
 {
-    if high == 0 {
-        return;
-    }
-    out.digits_of_number(high);
+    out.push_str("\"");
+    out.digits_of_number(id.high);
+    out.digits_of_number(id.low);
+    out.push_str("\"");
 }
 
 impl WriteJson for TraceId {
     ghost tree = { id_tree };
 
     fn write(&self, out: &mut Page) {
-        out.push_str("\"");
-        write_high(out, self.high);
-        out.digits_of_number(self.low);
-        out.push_str("\"");
+        if self.high == 0 {
+            out.quoted_number(self.low);
+            return;
+        }
+        write_both(out, *self);
     }
 }

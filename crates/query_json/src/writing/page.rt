@@ -1,12 +1,12 @@
 //! A text that is written piece by piece.
-ghost use Rattle.std.specs.Prelude.{◌≡◌, ◌+◌, ◌<◌, ◌≤◌, ◌-◌, ◌^◌, ◌∷◌, [], false, true, IfOk, OnErr, decimal, drop, length, take, vec_capacity};
+ghost use Rattle.std.specs.Prelude.{◌≡◌, ℕ, List, ◌+◌, ◌<◌, ◌≤◌, ◌-◌, ◌^◌, ◌∷◌, ◌++◌, [], false, true, IfOk, OnErr, decimal, drop, length, take, vec_capacity};
 ghost use Rattle.std.specs.Fmt.{signed_decimal};
 ghost use Rattle.std.specs.List.{prefix_len};
 ghost use Rattle.std.specs.Str.{IsAscii};
 ghost use Rattle.json.specs.Print.{escape, escape_byte, escape_letter, quoted};
 ghost use Rattle.json.specs.Run.{is_plain};
 ghost use Rattle.jaeger_model.specs.Ids.{low_digits};
-ghost use Rattle.jaeger_model.specs.Tags.{flag_text, hex_text};
+ghost use Rattle.jaeger_model.specs.Tags.{hex_text};
 
 use super::plain::is_plain;
 use std::alloc::{AllocError, Global};
@@ -113,6 +113,14 @@ impl Page {
         }
     }
 
+    /// Counts bytes of a full page, which need not be known.
+    fn skip(&mut self, count: usize)
+        requires { self.old.full ≡ true }
+        ensures { (bytes : List ℕ) → length bytes ≡ count → Adds self.old self.new bytes }
+    {
+        self.lost = self.lost.saturating_add(count);
+    }
+
     /// Writes a text without escapes.
     pub(crate) fn push_str(&mut self, text: &str)
         ensures { Puts self.old self.new text.now }
@@ -194,13 +202,6 @@ impl Page {
         self.push_str(buffer.format(number));
     }
 
-    /// Writes `true` or `false`.
-    pub(crate) fn flag(&mut self, flag: bool)
-        ensures { Puts self.old self.new (flag_text flag) }
-    {
-        self.push_str(if flag { "true" } else { "false" });
-    }
-
     /// Writes the hexadecimal digits of bytes.
     pub(crate) fn digits(&mut self, bytes: &[u8])
         ensures { Puts self.old self.new (hex_text bytes.now) }
@@ -214,6 +215,10 @@ impl Page {
     pub(crate) fn digits_of_eight(&mut self, bytes: &[u8; 8])
         ensures { Puts self.old self.new (hex_text bytes.now) }
     {
+        if self.is_full() {
+            self.skip(16);
+            return;
+        }
         self.add(&digits_of_eight(bytes));
     }
 
@@ -222,6 +227,17 @@ impl Page {
         ensures { Puts self.old self.new (low_digits 16 number) }
     {
         self.digits_of_eight(&number.to_be_bytes());
+    }
+
+    /// Writes the sixteen hexadecimal digits of a number as a JSON string.
+    pub(crate) fn quoted_number(&mut self, number: u64)
+        ensures { Puts self.old self.new (34 ∷ (low_digits 16 number ++ 34 ∷ [])) }
+    {
+        if self.is_full() {
+            self.skip(18);
+            return;
+        }
+        self.add(&quoted_digits(&number.to_be_bytes()));
     }
 }
 
@@ -279,6 +295,18 @@ fn digits_of_eight(bytes: &[u8; 8]) -> [u8; 16]
         unreachable!();
     }
     digits
+}
+
+/// Returns the sixteen hexadecimal digits of eight bytes, in quotes.
+fn quoted_digits(bytes: &[u8; 8]) -> [u8; 18]
+    ensures digits { result ≡ 34 ∷ (hex_text bytes.now ++ 34 ∷ []) }
+    ensures ascii { IsAscii result }
+{
+    let mut text = [b'"'; 18];
+    if hex::encode_to_slice(*bytes, &mut text[1..17]).is_err() {
+        unreachable!();
+    }
+    text
 }
 
 /// Returns the two hexadecimal digits of a byte.

@@ -9,7 +9,8 @@ ghost use Rattle.query_json.specs.Named.{AreNamed, HasSpan, first_named, named_t
 ghost use Rattle.query_json.specs.Numbering.{IsFirst, first_process};
 ghost use Rattle.query_json.specs.Writing.{process_names};
 
-use super::{Page, WriteJson, write_list};
+use super::values::write_tags;
+use super::{Page, WriteJson};
 use crate::naming::{FirstSpan, names};
 use jaeger_model::Process;
 use std::alloc::{AllocError, Global};
@@ -23,7 +24,7 @@ impl WriteJson for Process {
         out.push_str(r#"{"serviceName":"#);
         out.string(self.service.as_str());
         out.push_str(r#","tags":"#);
-        write_list(out, self.tags.as_slice());
+        write_tags(out, self.tags.as_slice());
         out.push_str("}");
     }
 }

@@ -9,7 +9,7 @@ ghost use Rattle.query_json.specs.Page.{Puts};
 ghost use Rattle.query_json.specs.Trees.{flags_number, log_tree, reference_tree, span_tree, warnings_tree};
 ghost use Rattle.query_json.specs.Writing.{process_place};
 
-use super::processes::write_name;
+use super::values::write_tags;
 use super::{Page, WriteItems, WriteJson, write_list};
 use crate::values::flags_number;
 use span_steps::Warning;
@@ -20,7 +20,7 @@ impl<'a> WriteJson for LentLog<'a> {
 
     fn write(&self, out: &mut Page) {
         out.push_str(r#"{"fields":"#);
-        write_list(out, self.fields);
+        write_tags(out, self.fields);
         out.push_str(r#","timestamp":"#);
         out.integer_at(&self.at);
         out.push_str("}");
@@ -94,7 +94,7 @@ fn write_warnings(out: &mut Page, warning: &Option<Warning>)
     }
 }
 
-/// Returns the flags' 32 bits as an unsigned number.
+/// Writes the flags' 32 bits as an unsigned number.
 fn write_flags(out: &mut Page, flags: &i32)
     ensures { Puts out.old out.new (decimal (flags_number flags.now)) }
 {
@@ -113,18 +113,18 @@ pub(super) fn write_span(out: &mut Page, number: u64, lent: &LentSpan)
     write_flags(out, &span.flags);
     out.push_str(r#","logs":"#);
     write_list(out, lent.logs());
-    out.push_str(r#","operationName":"#);
-    out.string(span.operation.as_str());
-    out.push_str(r#","processID":"#);
-    write_name(out, number);
-    out.push_str(r#","references":"#);
+    out.push_str(r#","operationName":""#);
+    out.in_string(span.operation.as_str());
+    out.push_str(r#"","processID":"p"#);
+    out.count(number);
+    out.push_str(r#"","references":"#);
     write_list(out, References(lent));
     out.push_str(r#","spanID":"#);
     span.id.write(out);
     out.push_str(r#","startTime":"#);
     out.integer(lent.start());
     out.push_str(r#","tags":"#);
-    write_list(out, span.tags.as_slice());
+    write_tags(out, span.tags.as_slice());
     out.push_str(r#","traceID":"#);
     span.trace.write(out);
     out.push_str(r#","warnings":"#);

@@ -22,7 +22,7 @@ use std::snapshot::Snapshot;
 use trace_adjust::{LentSpans, lend};
 use trace_model::{AnsweredTrace, KeptTrace, ShownTrace, TraceForm};
 
-/// Returns the id of a trace, that of its first span.
+/// Writes the id of a trace, that of its first span.
 fn write_id(out: &mut Page, spans: &LentSpans)
     ensures { Puts out.old out.new (compact_text (string (trace_id_text spans.now))) }
 {

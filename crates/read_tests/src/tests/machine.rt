@@ -1,16 +1,16 @@
 use crate::tests::entries::{batch_under, limit_under, works_to};
 use crate::tests::fixture::{Row, plays};
 use crate::tests::rows::answer_to;
-use jaeger_model::TraceId;
+use jaeger_model::{Text, TraceId};
 use read_side::{Keeper, Pass, Reading, StoreName};
 use schedule_core::{Outcome, Step, play};
-use std::alloc::Global;
+use std::alloc::{AllocError, Global};
 use std::hash::RandomState;
 use std::mem::drop;
 use std::sync::{Arc, Wait};
 use std::test::*;
 use trace_model::{Answer, Entry, Limits, Query, Refusal};
-use trace_samples::kept;
+use trace_samples::{kept, service_find};
 
 /// What is seen of a store, one line of text after another.
 type Lines = Vec<String>;
@@ -18,15 +18,29 @@ type Lines = Vec<String>;
 /// The number of entries that are submitted.
 const LAST: u64 = 20;
 
-fn question(before: u64) -> Query {
-    if before % 2 == 0 {
-        Query::Services
-    } else {
-        let id = TraceId {
-            high: 0,
-            low: before.saturating_sub(before % 5),
-        };
-        Query::Trace { id, raw: false }
+/// What the readers ask before and after an entry: one kind of query after the other, each twice or three times.
+fn question(alloc: Global, before: u64) -> Result<Query, AllocError> {
+    let id = TraceId {
+        high: 0,
+        low: before.saturating_sub(before % 5),
+    };
+    match before % 8 {
+        0 => Ok(Query::Services),
+        1 => Ok(Query::Trace { id, raw: false }),
+        2 => Ok(Query::Find(service_find(alloc, "a")?)),
+        3 => Ok(Query::OperationNames {
+            service: Text::from_str(alloc, "a")?,
+        }),
+        4 => Ok(Query::FindIds(service_find(alloc, "a")?)),
+        5 => Ok(Query::Operations {
+            service: Text::from_str(alloc, "a")?,
+            kind: Text::new(alloc),
+        }),
+        6 => Ok(Query::Trace { id, raw: true }),
+        _ => Ok(Query::Links {
+            end_ms: 1_000,
+            lookback_ms: 1_000,
+        }),
     }
 }
 
@@ -43,16 +57,16 @@ fn hand_in(alloc: Global, number: u64) -> Result<Step, Fail> {
 }
 
 /// The steps by which a reader enters, reads and leaves.
-fn visit(steps: &mut Vec<Step>, reader: u32, before: u64) -> Result<(), Fail> {
+fn visit(alloc: Global, steps: &mut Vec<Step>, reader: u32, before: u64) -> Result<(), Fail> {
     steps.push(Step::Enter { reader })?;
-    ask(steps, reader, before)?;
+    ask(alloc, steps, reader, before)?;
     steps.push(Step::Leave { reader })?;
     Ok(())
 }
 
 /// The step by which it reads.
-fn ask(steps: &mut Vec<Step>, reader: u32, before: u64) -> Result<(), Fail> {
-    let query = question(before);
+fn ask(alloc: Global, steps: &mut Vec<Step>, reader: u32, before: u64) -> Result<(), Fail> {
+    let query = question(alloc, before)?;
     steps.push(Step::Read { reader, query })?;
     Ok(())
 }
@@ -65,15 +79,15 @@ fn add_steps(alloc: Global, steps: &mut Vec<Step>, before: u64) -> Result<(), Fa
     steps.push(Step::Enter { reader: 6 })?;
     steps.push(hand_in(alloc, number)?)?;
     steps.push(Step::Take)?;
-    ask(steps, 6, before)?;
-    visit(steps, 5, before)?;
+    ask(alloc, steps, 6, before)?;
+    visit(alloc, steps, 5, before)?;
     steps.push(Step::Publish)?;
-    visit(steps, 5, before)?;
-    ask(steps, 6, before)?;
+    visit(alloc, steps, 5, before)?;
+    ask(alloc, steps, 6, before)?;
     steps.push(Step::Leave { reader: 6 })?;
     let publish = u32::try_from(number).unwrap_or(0);
     steps.push(Step::Learn { reader: 7, publish })?;
-    visit(steps, 7, before)
+    visit(alloc, steps, 7, before)
 }
 
 /// Adds the steps of entries up to `last`.
@@ -167,13 +181,17 @@ struct Around {
 /// admitted here yet.
 fn round<N: StoreName, R: Wait>(
     rt: &R,
+    alloc: Global,
     keeper: &mut Keeper<N>,
     five: &mut Pass<N>,
     six: &mut Pass<N>,
     entry: Arc<Entry>,
     before: u64,
 ) -> Result<Around, Refusal> {
-    let query = question(before);
+    let Ok(query) = question(alloc, before) else {
+        drop(entry);
+        return Err(Refusal::NoMemory);
+    };
     let around = round_asked(rt, keeper, five, six, entry, &query);
     drop(query);
     around
@@ -238,7 +256,7 @@ fn hand_on<N: StoreName, R: Wait>(
         drop(entry);
         return Err("three passes were asked for".into());
     };
-    let around = round(rt, keeper, five, six, entry, before)?;
+    let around = round(rt, alloc, keeper, five, six, entry, before)?;
     let said = say_round(alloc, lines, &around);
     drop(around);
     said?;
@@ -246,15 +264,15 @@ fn hand_on<N: StoreName, R: Wait>(
     seven.learn(&published);
     drop(published);
     lines.push(learnt(alloc, seven.front())?)?;
-    let reading = asked(seven, before);
+    let reading = asked(alloc, seven, before);
     let said = say(alloc, lines, &reading);
     drop(reading);
     said
 }
 
 /// What a pass reads for the query of the machine's readers.
-fn asked<N: StoreName>(pass: &mut Pass<N>, before: u64) -> Result<Reading, Refusal> {
-    let query = question(before);
+fn asked<N: StoreName>(alloc: Global, pass: &mut Pass<N>, before: u64) -> Result<Reading, Refusal> {
+    let query = question(alloc, before)?;
     let reading = pass.read(&query);
     drop(query);
     reading

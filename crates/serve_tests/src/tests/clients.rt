@@ -75,7 +75,7 @@ fn serve<
 ) -> (u8, MemoryOutput) {
     let mut output = MemoryOutput::new(alloc, 1000, 1000);
     let status = serve_with(rt, alloc, listener, config, gate, &mut output);
-    (status, output)
+    (status.code(), output)
 }
 
 /// Returns whether the server's first line names the port on which it listens.

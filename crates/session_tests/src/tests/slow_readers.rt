@@ -1,6 +1,8 @@
 use crate::tests::large::two_requests;
 use crate::tests::pipes::{empty_store, joined};
-use open_connections::{ConnectionProgress, ConnectionSet, Moment, Outbox, TryConnection, Turn};
+use open_connections::{
+    ConnectionProgress, ConnectionSet, ConnectionTurn, Moment, Outbox, TryConnection,
+};
 use session_devices::{Failed, Input};
 use std::alloc::Global;
 use std::hash::RandomState;
@@ -89,16 +91,16 @@ fn serve_alone<'a, B: Backend<()>>(
             round,
         };
         match connections.answer_next(&(), alloc, key, at, store) {
-            Turn::Open(ConnectionProgress::Writing) => waits = waits.saturating_add(1),
-            Turn::Open(_) => {}
-            Turn::Left(progress, outbox) => {
+            ConnectionTurn::Open(ConnectionProgress::Writing) => waits = waits.saturating_add(1),
+            ConnectionTurn::Open(_) => {}
+            ConnectionTurn::Left(progress, outbox) => {
                 return Ok(Served {
                     outbox,
                     progress,
                     waits,
                 });
             }
-            Turn::Absent => break,
+            ConnectionTurn::Absent => break,
         }
     }
     Err(Fail::from("a connection that is there, and ends"))

@@ -5,7 +5,8 @@ use plain_store::plain_answer;
 use span_store::SpanStore;
 use std::alloc::{AllocError, Global};
 use std::mem::drop;
-use trace_model::Query;
+use trace_model::{Query, Refusal};
+use trace_samples::retry;
 
 /// Returns the plain store's answer for the store's entries, as text.
 fn plainly(alloc: Global, store: &SpanStore, query: &Query) -> Result<String, AllocError> {
@@ -15,14 +16,19 @@ fn plainly(alloc: Global, store: &SpanStore, query: &Query) -> Result<String, Al
     )
 }
 
-/// Returns the store's answer, as text.
-fn quickly(alloc: Global, store: &SpanStore, query: &Query) -> Result<String, AllocError> {
-    shown(alloc, store.answer(query).ok().ok_or(AllocError)?)
+/// Returns the store's answer, as text, or `None` if there is none. If memory ran out, the store is asked once more.
+fn quickly(alloc: Global, store: &SpanStore, query: &Query) -> Result<Option<String>, AllocError> {
+    match retry(Refusal::NoMemory, || store.answer(query)) {
+        Ok(answer) => Ok(Some(shown(alloc, answer)?)),
+        Err(_) => Ok(None),
+    }
 }
 
 /// Whether the store answers the query as the plain store of its entries.
 fn is_same(alloc: Global, store: &SpanStore, query: &Query) -> Result<bool, AllocError> {
-    let quick = quickly(alloc, store, query)?;
+    let Some(quick) = quickly(alloc, store, query)? else {
+        return Ok(false);
+    };
     let plain = plainly(alloc, store, query)?;
     Ok(quick == plain)
 }

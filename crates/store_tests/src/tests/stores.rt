@@ -481,6 +481,27 @@ fn a_store_is_opened(rt: HostRuntime) -> Result<(), Fail> {
 
 const FIRST: &[u64] = &[1, 2, 3];
 
+/// Applies three entries, and asks for everything.
+fn answers_after_three(alloc: Global, store: &mut SpanStore) -> Result<bool, AllocError> {
+    let mut same = true;
+    for number in 1..4u64 {
+        same = same && store.apply(entry_of(alloc, number, FIRST)?) == Ok(number);
+    }
+    Ok(same && same_answers(alloc, store, 1)?)
+}
+
+/// If memory runs out for an answer, the store answers the same query when it is asked again. The check of allocations
+/// fails each allocation in turn.
+#[test]
+fn memory_for_answers(rt: HostRuntime) -> Result<(), Fail> {
+    let alloc = rt.alloc();
+    let mut store = opened(alloc, RandomState::new(&rt)?)?;
+    let same = answers_after_three(alloc, &mut store);
+    drop(store);
+    assert!(rt; same?);
+    Ok(())
+}
+
 const SECOND: &[u64] = &[1, 1];
 
 /// An entry's number and the traces of its spans, and the store's answer.

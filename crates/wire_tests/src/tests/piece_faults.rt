@@ -175,7 +175,7 @@ fn hold_none(bytes: &mut Vec<u8>, code: u8) -> Result<(), AllocError> {
 }
 
 /// Returns a batch after an unknown field: nested containers from the one of this level on, one more than this number.
-fn nested(alloc: Global, first: usize, below: usize) -> Result<Vec<u8>, AllocError> {
+pub(crate) fn nested(alloc: Global, first: usize, below: usize) -> Result<Vec<u8>, AllocError> {
     let mut bytes = Vec::new(alloc);
     bytes.extend_from_slice(&[code_at(first), 0, 9])?;
     let last = first.saturating_add(below);

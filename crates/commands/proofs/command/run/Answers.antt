@@ -1,8 +1,7 @@
-use Rattle.std.proofs.Common.{inl, inr, refl, sym, subst, ◌∙◌, map, List, Option, ℕ, arith}
+use Rattle.std.proofs.Common.{inl, inr, refl, subst, map, List, Option, ℕ}
 use Rattle.commands.specs.GetRuns.{output_of as get_output, status_of as get_status}
 use Rattle.commands.specs.Playing.{output_of as play_output, status_of as play_status}
 use Rattle.text_lines.specs.RunErrors.{RunsAs}
-use Rattle.commands.specs.Words.{IsFaultOf}
 use Rattle.commands.specs.Asked.{Asks}
 use Rattle.commands.specs.declared.words.Command.TheVariants.{Get, Pipe, Play, Serve}
 use Rattle.commands.specs.Piping.{Pipes}
@@ -15,7 +14,7 @@ returns-in_default g c = inr (record {
   input_works = c.requires.input_works;
   fault = inr (inr (refl, c.requires.output_works));
   accepted = λ command a. refl;
-  bad_trace = λ limits t e. absurd (omega arith);
+  bad_trace = λ limits t e. absurd cc;
 })
 
 pub returns-in-Ok-Get : goal.returns-in-Ok-Get
@@ -29,7 +28,7 @@ returns-in-Ok-Get g c =
     inl (
       Get limits id,
       subst (Asks (map g.S.AsStr.text c.args.words.now)) c.in-Ok-Get.field-0-is c.in-Ok-Get.ensures.asked,
-      subst does c.in-Ok-Get.ensures.silent c.run_get.ensures,
+      subst does c.in-Ok-Get.ensures.silent c.run_get.ensures.runs,
     )
 
 pub returns-in-Ok-Pipe : goal.returns-in-Ok-Pipe
@@ -41,7 +40,7 @@ returns-in-Ok-Pipe g c =
     inl (
       Pipe limits,
       subst (Asks (map g.S.AsStr.text c.args.words.now)) c.in-Ok-Pipe.field-0-is c.in-Ok-Pipe.ensures.asked,
-      subst does c.in-Ok-Pipe.ensures.silent c.run_pipe.ensures,
+      subst does c.in-Ok-Pipe.ensures.silent c.run_pipe.ensures.pipes,
     )
 
 pub returns-in-Ok-Play : goal.returns-in-Ok-Play
@@ -53,7 +52,7 @@ returns-in-Ok-Play g c =
     inl (
       Play limits,
       subst (Asks (map g.S.AsStr.text c.args.words.now)) c.in-Ok-Play.field-0-is c.in-Ok-Play.ensures.asked,
-      subst does c.in-Ok-Play.ensures.silent c.run_play.ensures,
+      subst does c.in-Ok-Play.ensures.silent c.run_play.ensures.runs,
     )
 
 pub returns-in-Ok-Serve : goal.returns-in-Ok-Serve
@@ -72,7 +71,7 @@ pub returns-in-Err : goal.returns-in-Err
 returns-in-Err g c = inr (record {
   unread = refl;
   input_works = c.requires.input_works;
-  fault = subst (λ s. IsFaultOf s (g.W.Output.has_failed c.read_words.new.output)) (sym c.status.ensures) c.in-Err.ensures.status;
-  accepted = λ command a. c.status.ensures ∙ c.in-Err.ensures.accepted command a;
-  bad_trace = λ limits t e. c.in-Err.ensures.bad_trace limits t (sym c.status.ensures ∙ e);
+  fault = c.in-Err.ensures.status;
+  accepted = c.in-Err.ensures.accepted;
+  bad_trace = c.in-Err.ensures.bad_trace;
 })

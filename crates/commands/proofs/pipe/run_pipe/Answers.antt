@@ -1,12 +1,14 @@
-use Rattle.std.proofs.Common.{inl, inr, refl, [], arith, rules}
+use Rattle.std.proofs.Common.{inl, inr, refl, [], rules}
 use Rattle.std.proofs.KnownBytes.{Consumes-nil, Appends-nil}
+use Rattle.http_requests.specs.Waiting.{source_of}
 use Rattle.http_session.specs.Sessions.{none_yet}
 use Rattle.http_session.proofs.Turns.{nothing_was_due}
 use Rattle.http_session.specs.declared.exchanges.SessionErrorKind.TheVariants.{Memory}
+use Rattle.commands.proofs.ReadLimits.{session_limit}
 use Rattle.commands.proofs.pipe.run_pipe.Goals as goal
 
-pub returns-in_default : goal.returns-in_default
-returns-in_default g c =
+pub returns-in_default-clause-pipes : goal.returns-in_default-clause-pipes
+returns-in_default-clause-pipes g c =
     inr (record {
       error = record { answered = 0; written = 0; cause = Memory };
       status_is = refl;
@@ -21,7 +23,7 @@ returns-in_default g c =
         each = search rules;
         next_is = nothing_was_due;
         run = refl;
-        within = omega arith;
+        within = λ e. absurd (cc e);
         written = Appends-nil (g.W.Output.contents c.args.output.now);
         count = refl;
         made = 0;
@@ -32,8 +34,8 @@ returns-in_default g c =
       exact = λ _. (refl, refl);
     })
 
-pub returns-in-Ok-pipe : goal.returns-in-Ok-pipe
-returns-in-Ok-pipe g c =
+pub returns-in-Ok-pipe-clause-pipes : goal.returns-in-Ok-pipe-clause-pipes
+returns-in-Ok-pipe-clause-pipes g c =
     let both = rw (c.new-store.ensures, c.in-Ok.ensures) at c.in-Ok-pipe.ensures.ended in
     let works = c.in-Ok-pipe.ensures.works in
     inl (
@@ -49,7 +51,19 @@ returns-in-Ok-pipe g c =
       },
     )
 
-pub returns-in-Err : goal.returns-in-Err
-returns-in-Err g c =
+pub returns-in-Err-clause-pipes : goal.returns-in-Err-clause-pipes
+returns-in-Err-clause-pipes g c =
     let both = rw (c.new-store.ensures, c.in-Ok.ensures) at c.in-Err.ensures.error in
     inr (record { error = _; status_is = c.status_of.ensures; last = _; fails = both.0; exact = both.1 })
+
+pub returns-in_default-clause-limit : goal.returns-in_default-clause-limit
+returns-in_default-clause-limit g c = λ lost. absurd cc
+
+pub returns-in-Ok-pipe-clause-limit : goal.returns-in-Ok-pipe-clause-limit
+returns-in-Ok-pipe-clause-limit g c = λ lost. absurd cc
+
+pub returns-in-Err-clause-limit : goal.returns-in-Err-clause-limit
+returns-in-Err-clause-limit g c =
+    let failed = c.in-Err.ensures.error in
+    let source = source_of g.R.Input.remaining g.R.Input.gives in
+    session_limit source _ _ _ _ _ _ _ _ _ failed.0.cause failed.2 c.status_of.ensures

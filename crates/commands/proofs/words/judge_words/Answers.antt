@@ -3,7 +3,7 @@ use Rattle.std.proofs.Common.{rules, ◌≡◌, ◌∙◌, codes, map}
 use Rattle.commands.specs.Words.{TakesLimits, get_app, pipe_app, play_app, serve_app}
 use Rattle.commands.specs.Asked.{Reads, Takes, subcommand_of}
 use Rattle.commands.specs.declared.words.Command.TheVariants.{Get, Pipe, Play, Serve}
-use Rattle.commands.specs.declared.exit.Exit.TheVariants.{NoMemory}
+use Rattle.text_lines.specs.declared.exit_status.ExitStatus.TheVariants.{OutOfMemory}
 use Rattle.commands.proofs.Accepting.{of_get, of_pipe, of_play, of_serve}
 use Rattle.commands.proofs.Asking.{asked_for, asks_for}
 use Rattle.commands.proofs.words.judge_words.Goals as goal
@@ -20,7 +20,7 @@ returns-in_err-limits-clause-accepted g c command asks =
     let get : g.S.AsStr.text c.in-Some-first.name.now ≡ codes "get" = search rules in
     let behind = asked_for g.S.AsStr.text c.args.words.now c.in-Some.rest.now c.in-Some.field-0-0.now c.in-Some-first.name.now c.in-Some.ensures.cases.0
     c.in-Some-first.ensures.value (subcommand_of command) (Takes command) asks in
-    let want : c.in_err-limits.field-0.0 ≡ NoMemory =
+    let want : c.in_err-limits.field-0.0 ≡ OutOfMemory =
     of_get (map g.S.AsStr.text c.in-Some.rest.now) _ c.in_err-limits.ensures.accepted command (behind.0 ∙ get) behind.1 in
     search rules
 
@@ -36,7 +36,7 @@ returns-in_err-limits-2-clause-accepted g c command asks =
     let behind = asked_for g.S.AsStr.text c.args.words.now c.in-Some.rest.now c.in-Some.field-0-0.now c.in-Some-first.name.now c.in-Some.ensures.cases.0
     c.in-Some-first.ensures.value (subcommand_of command) (Takes command) asks in
     let p = err_from_is_err_and c.from_residual-in_err-limits-2.result c.from_residual-in_err-limits-2.ensures.1 in
-    let want : c.in_err-limits-2.field-0.0 ≡ NoMemory =
+    let want : c.in_err-limits-2.field-0.0 ≡ OutOfMemory =
     of_pipe (map g.S.AsStr.text c.in-Some.rest.now) _
     (λ limits takes. c.in_err-limits-2.ensures.accepted pipe_app limits c.pipe_command.ensures takes.0 takes.1) command (behind.0 ∙ pipe) behind.1 in
     rw (p.1, p.2) want
@@ -53,7 +53,7 @@ returns-in_err-limits-3-clause-accepted g c command asks =
     let behind = asked_for g.S.AsStr.text c.args.words.now c.in-Some.rest.now c.in-Some.field-0-0.now c.in-Some-first.name.now c.in-Some.ensures.cases.0
     c.in-Some-first.ensures.value (subcommand_of command) (Takes command) asks in
     let p = err_from_is_err_and c.from_residual-in_err-limits-3.result c.from_residual-in_err-limits-3.ensures.1 in
-    let want : c.in_err-limits-3.field-0.0 ≡ NoMemory =
+    let want : c.in_err-limits-3.field-0.0 ≡ OutOfMemory =
     of_play (map g.S.AsStr.text c.in-Some.rest.now) _
     (λ limits takes. c.in_err-limits-3.ensures.accepted play_app limits c.play_command.ensures takes.0 takes.1) command (behind.0 ∙ play) behind.1 in
     rw (p.1, p.2) want
@@ -69,7 +69,7 @@ returns-in_err-options-clause-accepted g c command asks =
     let serve : g.S.AsStr.text c.in-Some-first.name.now ≡ codes "serve" = search rules in
     let behind = asked_for g.S.AsStr.text c.args.words.now c.in-Some.rest.now c.in-Some.field-0-0.now c.in-Some-first.name.now c.in-Some.ensures.cases.0
     c.in-Some-first.ensures.value (subcommand_of command) (Takes command) asks in
-    let want : c.in_err-options.field-0.0 ≡ NoMemory =
+    let want : c.in_err-options.field-0.0 ≡ OutOfMemory =
     of_serve (map g.S.AsStr.text c.in-Some.rest.now) _ c.in_err-options.ensures.accepted command (behind.0 ∙ serve) behind.1 in
     search rules
 

@@ -1,6 +1,6 @@
 use Rattle.std.proofs.Common.{◌≡◌, IfErr, subst, sym}
 use Rattle.commands.specs.Words.{HasLimits}
-use Rattle.commands.specs.declared.exit.Exit.TheVariants.{Fault, NoMemory}
+use Rattle.text_lines.specs.declared.exit_status.ExitStatus.TheVariants.{Usage, OutOfMemory}
 use Rattle.commands.proofs.Accepting.{some_is_no_fault}
 use Rattle.commands.proofs.words.read_limits.Goals as goal
 
@@ -8,4 +8,4 @@ pub returns-clause-accepted : goal.returns-clause-accepted
 returns-clause-accepted g c app limits makes taken has =
     let rows = c.in_ok-matches.ensures.rows app makes in
     let found = c.limits_of.ensures.found limits (subst (λ rs. HasLimits rs limits) (sym rows) has) in
-    subst (λ r. IfErr r (λ e. e ≡ NoMemory)) (sym c.ok_or.ensures.value) (some_is_no_fault c.limits_of.result Fault _ found)
+    subst (λ r. IfErr r (λ e. e ≡ OutOfMemory)) (sym c.ok_or.ensures.value) (some_is_no_fault c.limits_of.result Usage _ found)

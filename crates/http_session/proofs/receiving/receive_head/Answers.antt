@@ -1,7 +1,7 @@
 use Rattle.std.proofs.Common.{take, sym, subst}
 use Rattle.http_requests.specs.Receiving.{ReadBuffer}
 use Rattle.http_session.specs.Incoming.{HasReceived, ReceivesOf}
-use Rattle.http_session.specs.declared.receiving.Stage.{Stage}
+use Rattle.http_session.specs.declared.receiving.SessionStage.{SessionStage}
 use Rattle.http_session.proofs.IncomingParts.{begins_request, cut_back}
 use Rattle.http_session.proofs.receiving.receive_head.Goals as goal
 
@@ -13,6 +13,6 @@ returns-in_ok-question-in-Whole-clause-incoming c =
     let asks = rw c.as_slice-in-Whole.ensures at c.in_ok-question-in-Whole.ensures.asks in
     let part = begins_request old.held n c.in-Whole.request c.in-Whole.size c.in_ok-question-in-Whole.question c.new-partial.result frames asks
     c.new-partial.ensures.part c.new-partial.ensures.judged c.new-partial.ensures.closes in
-    let incoming = subst (λ (s : Stage). HasReceived s (take n old.held)) (sym c.assign.ensures) part in
+    let incoming = subst (λ (s : SessionStage). HasReceived s (take n old.held)) (sym c.assign.ensures) part in
     subst (λ (b : ReadBuffer). ReceivesOf b c.receive_body.new.received c.receive_body.new.stage c.receive_body.result)
     (cut_back old c.take.new.self n c.take.ensures) (c.receive_body.ensures.incoming (take n old.held) incoming)

@@ -1,4 +1,4 @@
-use Rattle.std.proofs.Common.{◌≡◌, ◌≤◌, ◌+◌, ◌-◌, ◌++◌, List, ℕ, length, take, arith, ◌∙◌, ap, sym, subst, append_assoc, length-append}
+use Rattle.std.proofs.Common.{◌≡◌, ◌≤◌, ◌<◌, ◌+◌, ◌-◌, ◌++◌, List, ℕ, length, take, arith, ◌∙◌, ap, sym, subst, append_assoc, length-append}
 use Rattle.std.proofs.Math.Seq.{take-append-add}
 use Rattle.std.proofs.lemmas.List.{take-append-le}
 use Rattle.std.specs.Io.KnownBytes.{Appends}
@@ -16,17 +16,18 @@ up_to sent part rest all n whole left split within whole_is left_is =
     ∙ ap (take (length sent + n)) split
     ∙ ap (λ m. take m all) many
 
-within_all : (sent part rest all : List ℕ) (n whole left : ℕ) → sent ++ (part ++ rest) ≡ all → n ≤ length part → whole ≡ length all
-    → left ≡ length (part ++ rest) → whole - left + n ≤ length all
-within_all sent part rest all n whole left split within whole_is left_is =
-    omega (arith, within, whole_is, left_is, ap length split, length-append sent (part ++ rest), length-append part rest)
+not_all : (sent part rest all : List ℕ) (n whole left : ℕ) → sent ++ (part ++ rest) ≡ all → n < length part → whole ≡ length all
+    → left ≡ length (part ++ rest) → whole - left + n < length all
+not_all sent part rest all n whole left split short whole_is left_is =
+    omega (arith, short, whole_is, left_is, ap length split, length-append sent (part ++ rest), length-append part rest)
 
 pub returns-in-Err-clause-took : goal.returns-in-Err-clause-took
 returns-in-Err-clause-took g c =
     let sent = c.loop-response.invariant.0 in
     let part = c.loop-response.response.part in
     let n = c.in-Err.written in
-    let within : n ≤ length part = subst (λ (l : List ℕ). n ≤ length l) c.part.ensures.part c.in-Err.ensures.err.0 in
+    let short : n < length part = subst (λ (l : List ℕ). n < length l) c.part.ensures.part c.in-Err.ensures.err.0 in
+    let within : n ≤ length part = omega (arith, short) in
     let took : g.W.Output.takes c.loop-response.output (take n part) c.write_all.new.output =
     subst (λ (l : List ℕ). g.W.Output.takes c.loop-response.output (take n l) c.write_all.new.output) c.part.ensures.part c.in-Err.ensures.took in
     subst (λ (l : List ℕ). g.W.Output.takes c.args.output.now l c.write_all.new.output)
@@ -42,10 +43,11 @@ returns-in-Err-clause-err g c =
     let out0 = g.W.Output.contents c.args.output.now in
     let out1 = g.W.Output.contents c.loop-response.output in
     let out2 = g.W.Output.contents c.write_all.new.output in
-    let within : n ≤ length part = subst (λ (l : List ℕ). n ≤ length l) c.part.ensures.part c.in-Err.ensures.err.0 in
+    let short : n < length part = subst (λ (l : List ℕ). n < length l) c.part.ensures.part c.in-Err.ensures.err.0 in
+    let within : n ≤ length part = omega (arith, short) in
     let wrote : Appends out1 out2 (take n part) = subst (λ (l : List ℕ). Appends out1 out2 (take n l)) c.part.ensures.part c.in-Err.ensures.err.1 in (
-      within_all sent part c.loop-response.response.rest (to_come c.args.response)
-          n c.remaining-all.result c.remaining-in-loop-response.result c.loop-response.invariant.1 within c.remaining-all.ensures.length
+      not_all sent part c.loop-response.response.rest (to_come c.args.response)
+          n c.remaining-all.result c.remaining-in-loop-response.result c.loop-response.invariant.1 short c.remaining-all.ensures.length
           c.remaining-in-loop-response.ensures.length,
       subst (Appends out0 out2) (up_to sent part c.loop-response.response.rest (to_come c.args.response)
           n c.remaining-all.result c.remaining-in-loop-response.result c.loop-response.invariant.1 within c.remaining-all.ensures.length

@@ -6,6 +6,14 @@ use Rattle.trace_model.specs.declared.answer.Shown.{Shown}
 use Rattle.journal_traces.specs.Taking.{placed_taken}
 use Rattle.journal_traces.proofs.taken_answer.keep_all.Goals as goal
 
+pub loop-place-init : goal.loop-place-init
+loop-place-init c =
+    let process_of = c.requires.process_of in
+    record {
+      kept = c.in_ok-kept.ensures.items;
+      classes = record { process_of = process_of; each = c.requires.each; leads = c.new-classes.ensures process_of };
+    }
+
 pub loop-place-preserved : goal.loop-place-preserved
 loop-place-preserved c =
     let xs : List (List Placed) = map placed_taken c.args.traces.now in

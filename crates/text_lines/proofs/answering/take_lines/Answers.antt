@@ -3,6 +3,7 @@ use Rattle.std.proofs.lemmas.Result.{err_from_is_err_and}
 use Rattle.text_lines.specs.declared.run_error.RunError.TheVariants.{Device, Memory}
 use Rattle.text_lines.specs.declared.line_buffer.TheConstants.{MAX_READS}
 use Rattle.text_lines.proofs.Buffers.{moves_nothing}
+use Rattle.text_lines.proofs.Counting.{limit_is_reads, no_read, reads_on}
 use Rattle.text_lines.proofs.Progress.{begins, ends, goes_on, line_lost, stays, stops}
 use Rattle.text_lines.proofs.answering.take_lines.Goals as goal
 
@@ -16,6 +17,7 @@ returns-in_err-lines-clause-some g c =
 pub lines-init : goal.lines-init
 lines-init g c = record {
   so_far = begins g.T.LineHandler.takes _ _ c.args.handler.now c.in_ok-lines.lines c.args.buffer.now c.in_ok-lines.ensures c.requires.empty;
+  made = rw c.in_ok-lines.ensures (no_read g.R.Input.gives c.args.input.now MAX_READS);
   input_works = c.requires.input_works;
   output_works = c.requires.output_works;
 }
@@ -48,6 +50,7 @@ lines-preserved g c =
           goes_on g.T.LineHandler.takes _ _ _ _ _ _ _ _ _ _ _ c.next.new.self _ _ c.push.new.self _ _ _ _ c.next.new.line.items c.handle_line.new.reply.items
           c.lines.invariant.so_far
           (rw c.if-branch.true at c.in_ok-next.ensures.line) c.next.ensures.buffer c.in_ok-faulty.ensures says c.flush_if_large.ensures.moves;
+      made = reads_on g.R.Input.gives _ _ _ _ _ _ c.lines.invariant.made c.next.ensures.made;
       input_works = c.in_ok-next.ensures.works.0;
       output_works = c.in_ok-flush_if_large.ensures.works;
     }
@@ -66,3 +69,9 @@ returns-in_err-flush_if_large-clause-some g c =
 pub returns-clause-all : goal.returns-clause-all
 returns-clause-all g c =
     ends g.T.LineHandler.takes _ _ _ _ _ _ _ _ _ _ _ _ _ _ c.lines.invariant.so_far (rw c.if-branch.false at c.in_ok-next.ensures.line) c.next.ensures.buffer
+
+pub returns-in_err-next-clause-limit : goal.returns-in_err-next-clause-limit
+returns-in_err-next-clause-limit g c =
+    let p = err_from_is_err_and c.from_residual-in_err-next.result c.from_residual-in_err-next.ensures.1 in
+    rw (p.1, p.2) (limit_is_reads g.R.Input.gives _ _ _ _ _ _ (reads_on g.R.Input.gives _ _ _ _ _ _ c.lines.invariant.made c.next.ensures.made)
+    c.in_err-next.ensures.limit)

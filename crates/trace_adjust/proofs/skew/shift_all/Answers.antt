@@ -24,5 +24,5 @@ loop-place-preserved c =
     (ap (get_or c.loop-place.trace i) c.index-trace-place.is) c.requires.clocks c.requires.first (one ∙ ap (λ d. said_after s (shifted m d s.placed)) delta)
     c.loop-place.invariant
 
-pub returns-clause-ok : goal.returns-clause-ok
-returns-clause-ok c = all_written c.args.max_skew c.args.trace.now c.loop-place.trace c.loop-place.place (search rules) c.loop-place.invariant
+pub returns : goal.returns
+returns c = all_written c.args.max_skew c.args.trace.now c.loop-place.trace c.loop-place.place (search rules) c.loop-place.invariant

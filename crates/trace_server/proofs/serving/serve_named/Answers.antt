@@ -5,7 +5,7 @@ use Rattle.trace_server.proofs.Endings.{reported, unheard}
 use Rattle.trace_server.proofs.serving.serve_named.Goals as goal
 
 pub returns-in-Err : goal.returns-in-Err
-returns-in-Err g c = inr (inl (unheard _ _ (g.W.Output.has_failed c.write_listening.new.output) _ _ c.in-Err.error _ c.status.ensures c.in-Err.ensures))
+returns-in-Err g c = inr (inl (unheard _ _ (g.W.Output.has_failed c.write_listening.new.output) _ _ c.in-Err.error _ c.end_unwritten.ensures c.in-Err.ensures))
 
 pub returns : goal.returns
 returns g c =

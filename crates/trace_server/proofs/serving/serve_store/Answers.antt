@@ -6,7 +6,7 @@ use Rattle.trace_server.proofs.serving.serve_store.Goals as goal
 use Rattle.std.proofs.lemmas.Result.{IfOk-at_ok}
 
 pub returns-in_default : goal.returns-in_default
-returns-in_default g c = inl (0, broken_off _ (g.W.Output.has_failed c.args.output.now) (served_line 0) c.requires.output_works)
+returns-in_default g c = inl (0, broken_off _ (g.W.Output.has_failed c.args.output.now) (served_line 0) _ c.end_with.ensures c.requires.output_works)
 
 pub close_books-requires-clause-open : goal.close_books-requires-clause-open
 close_books-requires-clause-open g c =

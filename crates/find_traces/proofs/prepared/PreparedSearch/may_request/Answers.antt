@@ -2,7 +2,7 @@ use Rattle.std.proofs.Common.{◌≡◌, ◌∙◌, ap, sym, ℕ, List, false, B
 use Rattle.std.specs.Bool.{OnFalse}
 use Rattle.jaeger_model.specs.Tags.{tag_text}
 use Rattle.find_traces.specs.Wanting.{asks, requests_length}
-use Rattle.find_traces.proofs.Wanting.{no_length}
+use Rattle.find_traces.proofs.Wanting.{no_length, no_number}
 use Rattle.find_traces.proofs.prepared.PreparedSearch.may_request.Goals as goal
 
 pub returns-in-Some : goal.returns-in-Some
@@ -16,3 +16,13 @@ returns-in-Some c = by c.contains.result refl
         let none = no_length q.tags k text
         (ap (requests_length q) (sym c.in-Some.ensures) ∙ sym (c.self.invariant.lengths_asked c.in-Some.length) ∙ sym c.contains.ensures ∙ e) in
         ap (λ f. asks f (k, text)) (sym c.self.view_is) ∙ none
+
+pub returns-in-None : goal.returns-in-None
+returns-in-None c = by c.self.inside.has_number refl
+  where
+    by : (b : Bool) → c.self.inside.has_number ≡ b → OnFalse b ((k : List ℕ) → asks c.args.self.now (k, tag_text c.args.value.now) ≡ false)
+    by true e = tt
+    by false e = λ k.
+        let q = c.self.inside.query.now in
+        let text = tag_text c.args.value.now in
+        ap (λ f. asks f (k, text)) (sym c.self.view_is) ∙ no_number q.tags k text c.in-None.ensures (sym c.self.invariant.number_asked ∙ e)

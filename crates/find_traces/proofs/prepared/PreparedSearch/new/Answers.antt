@@ -2,7 +2,7 @@ use Rattle.std.proofs.Common.{◌∙◌, ap, ℕ, List, length}
 use Rattle.std.specs.List.{list_any}
 use Rattle.std.specs.Ordering.{eq_by_cmp, nat_cmp}
 use Rattle.jaeger_model.specs.Texts.{text_cmp}
-use Rattle.find_traces.specs.Wanting.{same_pair, key_bits}
+use Rattle.find_traces.specs.Wanting.{same_pair, key_bits, may_be_number}
 use Rattle.find_traces.proofs.prepared.PreparedSearch.new.Goals as goal
 
 pub invariant_of-result : goal.invariant_of-result
@@ -10,5 +10,6 @@ invariant_of-result c = record {
   keys_asked = λ k. c.in_ok-keys.ensures k ∙ ap (λ ts. list_any (λ (a : List ℕ × List ℕ). eq_by_cmp text_cmp k a.0) ts) c.as_slice-asked.ensures;
   bits_set = c.key_bits.ensures ∙ ap key_bits c.as_slice-asked.ensures;
   lengths_asked = λ n. c.in_ok-lengths.ensures n ∙ ap (λ ts. list_any (λ (a : List ℕ × List ℕ). eq_by_cmp nat_cmp n (length a.1)) ts) c.as_slice-asked.ensures;
+  number_asked = c.has_number.ensures ∙ ap (list_any (λ (a : List ℕ × List ℕ). may_be_number a.1)) c.as_slice-asked.ensures;
   pairs_asked = λ a. c.in_ok-pairs.ensures a ∙ ap (λ ts. list_any (same_pair a) ts) c.as_slice-asked.ensures;
 }

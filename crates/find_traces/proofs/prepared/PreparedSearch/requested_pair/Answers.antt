@@ -12,9 +12,5 @@ returns-then-not-contains c =
     let absent = no_key q.tags t.key (tag_text t.value) (sym (c.self.invariant.keys_asked t.key) ∙ sym c.contains.ensures ∙ c.if-not-contains.true) in
     ap (λ b. if b then Some (pair_of t) else None) (sym absent) ∙ ap (λ f. if_requested f (pair_of t)) c.self.view_is
 
-pub returns-then-not-may_request_key : goal.returns-then-not-may_request_key
-returns-then-not-may_request_key c =
-    ap (λ b. if b then Some (pair_of c.args.tag.now) else None) (sym (c.if-not-may_request_key.ensures (tag_text c.args.tag.now.value)))
-
 pub returns-then-not-may_request : goal.returns-then-not-may_request
 returns-then-not-may_request c = ap (λ b. if b then Some (pair_of c.args.tag.now) else None) (sym (c.if-not-may_request.ensures c.args.tag.now.key))

@@ -1,36 +1,20 @@
-use Rattle.std.proofs.Common.{◌≡◌, ◌∙◌, ℕ, Some, ap, sym, nat_cmp}
-use Rattle.std.specs.Prelude.{Option}
-use Rattle.std.specs.BTreeMap.{get}
-use Rattle.jaeger_model.specs.declared.batch.Process.{Process}
-use Rattle.journal_traces.specs.Classes.{Leads}
-use Rattle.journal_traces.specs.Taking.{HasProcess}
-use Rattle.journal_traces.proofs.Classes.{number_put}
-use Rattle.journal_traces.proofs.TakenSpans.{process_seen}
+use Rattle.std.proofs.Common.{◌≡◌, ◌∙◌, ap, subst, Option, ℕ}
+use Rattle.std.specs.Prelude.{IfSome}
 use Rattle.journal_traces.proofs.process_classes.ProcessClasses.class_of.Goals as goal
-use Rattle.journal_traces.proofs.process_classes.ProcessClasses.class_of.Goals.{In_ok-keep}
-
-pub returns-then-not-has-clause-class : goal.returns-then-not-has-clause-class
-returns-then-not-has-clause-class c = λ process_of has leads. ap process_of c.number-number.ensures
 
 pub returns-in-Some-clause-class : goal.returns-in-Some-clause-class
 returns-in-Some-clause-class c = λ process_of has leads.
-    leads.by_number c.number-number.result c.in-Some.class (sym c.known.ensures ∙ c.in-Some.is) ∙ ap process_of c.number-number.ensures
-
--- the number leads to the process of the span
-own : (c : In_ok-keep) (process_of : ℕ → Option Process) → HasProcess process_of c.args.span.now
-    → process_of c.number-number.result ≡ Some c.seen.result.process.now
-own c process_of has = sym (process_seen process_of c.args.span.now c.seen.result c.number-number.result c.seen.ensures c.number-number.ensures has)
+    let last = c.last_class.ensures process_of leads in
+    subst (λ (o : Option ℕ). IfSome o (λ class. process_of class ≡ process_of c.number-number.result)) c.in-Some.is last ∙ ap process_of c.number-number.ensures
 
 pub returns-clause-class : goal.returns-clause-class
-returns-clause-class c = λ process_of has leads. c.in_ok-class.ensures.class process_of (own c process_of has) leads ∙ ap process_of c.number-number.ensures
+returns-clause-class c = λ process_of has leads. c.in_ok-class.ensures.class process_of has leads ∙ ap process_of c.number-number.ensures
 
 pub returns-clause-leads : goal.returns-clause-leads
 returns-clause-leads c = λ process_of has leads.
-    let next = c.in_ok-class.ensures.leads process_of (own c process_of has) leads in
-    let same = c.in_ok-class.ensures.class process_of (own c process_of has) leads in
+    let next = c.in_ok-class.ensures.leads process_of has leads in
     record {
       by_process = next.by_process;
-      by_number = λ n class e.
-          number_put process_of c.number-number.result c.in_ok-class.class same n (get nat_cmp c.class_of_process.new.self.by_number n) class
-          (next.by_number n class) (sym (c.in_ok-keep.ensures n) ∙ e);
+      by_number = next.by_number;
+      last = c.in_ok-class.ensures.class process_of has leads;
     }

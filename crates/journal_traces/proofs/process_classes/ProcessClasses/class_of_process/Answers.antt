@@ -16,4 +16,5 @@ returns-clause-leads c = λ process_of own leads. record {
       (ap (λ t. cond t (Some c.args.number) (class_of_process c.args.self.now k)) (process_ties c.args.process.now k.0.now)
       ∙ sym (c.in_ok-insert.ensures.updates.0 k) ∙ e);
   by_number = leads.by_number;
+  last = leads.last;
 }

@@ -1,16 +1,17 @@
 use Rattle.std.proofs.Common.{◌≡◌, ◌∙◌, ◌<◌, ◌≤◌, ◌++◌, ◌∷◌, [], ◌+◌, false, List, map, length, take, ap, sym, subst, arith}
 use Rattle.std.specs.Prelude.{slice_index_or}
-use Rattle.std.specs.List.{list_any}
+use Rattle.std.specs.List.{list_any, All, AllZip}
 use Rattle.std.proofs.lemmas.List.{length-map, take_all}
 use Rattle.jaeger_model.specs.declared.placed.Placed.{Placed}
 use Rattle.trace_model.specs.declared.entry.Entry.{Entry}
 use Rattle.trace_model.specs.Searching.{matches, matching}
 use Rattle.trace_model.specs.Taking.{Taken}
-use Rattle.journal_traces.specs.Spotted.{Spotted, AreNumbered, entries_shared, trace_spotted, traces_spotted, are_spots_met}
-use Rattle.journal_traces.specs.Taking.{placed_taken}
+use Rattle.journal_traces.specs.declared.tag_candidates.TakenEntry.{TakenEntry}
+use Rattle.journal_traces.specs.Spotted.{Spotted, AreNumbered, IsTellingOf, entries_shared, process_numbered, trace_spotted, traces_spotted, are_spots_met}
+use Rattle.journal_traces.specs.Taking.{placed_taken, HaveProcesses}
 use Rattle.journal_traces.proofs.Cuts.{cuts}
 use Rattle.journal_traces.proofs.TakenSpans.{placed_got}
-use Rattle.journal_traces.proofs.Spotting.{trace_kept, trace_passed, trace_unmet, matching_found}
+use Rattle.journal_traces.proofs.Spotting.{trace_kept, trace_passed, trace_unmet, matching_found, none_matching}
 use Rattle.journal_traces.proofs.tag_candidates.TagCandidates.met_traces.Goals as goal
 use Rattle.journal_traces.proofs.tag_candidates.TagCandidates.met_traces.Goals.{then-are_spots_met+in_ok-take_spots, else-are_spots_met}
 
@@ -70,3 +71,23 @@ returns-clause-found c =
     ap (λ (s : Spotted). length s.traces) (sym c.self.view_is) ∙ cuts (trace_spotted (entries_shared was.entries.items) was.spots.items) was.starts.items in
     let end : length xs ≤ c.loop-place.place = omega (arith, many, length-map v.traces placed_taken, c.loop-place-test.false, c.len-place-end.ensures) in
     matching_found q (map placed_taken c.loop-place.traces) xs (c.loop-place.invariant.matching ∙ ap (matching q) (take_all c.loop-place.place xs end))
+
+pub returns-then-not-is_any_met-clause-found : goal.returns-then-not-is_any_met-clause-found
+returns-then-not-is_any_met-clause-found c =
+    let q = c.args.prepared.now in
+    let was = c.self.inside in
+    let met = c.in_ok-met.met.items in
+    let told = subst (λ (ts : List TakenEntry). AllZip (IsTellingOf q) ts met) c.deref.ensures.value c.in_ok-met.ensures in
+    let none = ap (list_any (λ b. b)) (sym c.deref-2.ensures.value) ∙ sym c.is_any_met.ensures ∙ c.if-not-is_any_met.true in
+    matching_found q (map placed_taken c.new-traces.result) (traces_spotted c.args.self.now)
+    (ap (λ (ts : List (List Taken)). matching q (map placed_taken ts)) c.new-traces.ensures
+    ∙ sym (none_matching q was.entries.items met was.spots.items told none was.starts.items)
+    ∙ ap (λ (s : Spotted). matching q (traces_spotted s)) c.self.view_is)
+
+pub returns-then-not-is_any_met-clause-numbers : goal.returns-then-not-is_any_met-clause-numbers
+returns-then-not-is_any_met-clause-numbers c =
+    let process_of = process_numbered c.args.self.now.entries in
+    record {
+      process_of = process_of;
+      each = subst (All (HaveProcesses process_of)) (sym c.new-traces.ensures) (λ j d le. absurd (omega arith));
+    }

@@ -2,8 +2,8 @@ use Rattle.std.proofs.Common.{sym, ap, ◌∙◌, drop}
 use Rattle.read_side.proofs.Rooms.{has_writer, has_entries, follows}
 use Rattle.read_side.proofs.keeper.Keeper.make_room.Goals as goal
 
-pub invariant_of-self-2 : goal.invariant_of-self-2
-invariant_of-self-2 g c =
+pub invariant_of-self : goal.invariant_of-self
+invariant_of-self g c =
     let inv = c.self.invariant in
     let old = c.in-Some.writer in
     let new = c.append_no_change-has_room.new.writer in

@@ -1,6 +1,7 @@
 use Rattle.std.proofs.Common.{◌++◌, ◌≡◌, ◌==◌, take, length, rules, true, false}
 use Rattle.text_lines.proofs.Taking.{gathers_more, takes_line, ends, no_feed}
 use Rattle.text_lines.proofs.Buffers.{moves_then}
+use Rattle.text_lines.proofs.Counting.{reads_on}
 use Rattle.text_lines.specs.Lines.{without_return, HasNoFeed}
 use Rattle.text_lines.proofs.line_buffer.LineBuffer.next.Goals as goal
 
@@ -28,6 +29,7 @@ pieces-preserved g c =
       gathered =
           rw all (gathers_more _ _ _ _ c.pieces.self _ c.pieces.line.items c.pieces.invariant.gathered plain goes
           (rw c.skip_all.ensures at c.in_ok-fill.ensures.read));
+      made = reads_on g.R.Input.gives _ _ _ _ _ _ c.pieces.invariant.made (rw c.skip_all.ensures at c.fill.ensures.made);
       moves = moves_then _ _ _ _ _ _ c.pieces.invariant.moves c.flush.ensures.moves;
       input_works = c.in_ok-fill.ensures.works;
       output_works = c.in_ok-flush.ensures.works;
@@ -38,3 +40,6 @@ returns-in_err-flush-clause-buffer g c = moves_then _ _ _ _ _ _ c.pieces.invaria
 
 pub returns-in_err-fill-clause-buffer : goal.returns-in_err-fill-clause-buffer
 returns-in_err-fill-clause-buffer g c = moves_then _ _ _ _ _ _ c.pieces.invariant.moves c.flush.ensures.moves
+
+pub returns-in_err-fill-clause-made : goal.returns-in_err-fill-clause-made
+returns-in_err-fill-clause-made g c = reads_on g.R.Input.gives _ _ _ _ _ _ c.pieces.invariant.made (rw c.skip_all.ensures at c.fill.ensures.made)

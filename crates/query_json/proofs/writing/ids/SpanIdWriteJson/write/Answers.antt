@@ -1,11 +1,9 @@
 use Rattle.std.proofs.Common.{◌∷◌, ◌++◌, [], ℕ, List, ap, sym}
 use Rattle.jaeger_model.specs.Ids.{span_text}
 use Rattle.query_json.proofs.Escapes.{escape_low_digits}
-use Rattle.query_json.proofs.Pages.{◌▸◌, Puts-is}
+use Rattle.query_json.proofs.Pages.{Puts-is}
 use Rattle.query_json.proofs.writing.ids.SpanIdWriteJson.write.Goals as goal
 
 pub returns : goal.returns
 unfolding span_text
-returns c =
-    Puts-is (c.push_str.ensures ▸ c.digits_of_number.ensures ▸ c.push_str-2.ensures)
-    (ap (λ (t : List ℕ). 34 ∷ (t ++ 34 ∷ [])) (sym (escape_low_digits 16 c.args.self.now.0)))
+returns c = Puts-is c.quoted_number.ensures (ap (λ (t : List ℕ). 34 ∷ (t ++ 34 ∷ [])) (sym (escape_low_digits 16 c.args.self.now.0)))

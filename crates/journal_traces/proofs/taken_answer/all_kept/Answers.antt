@@ -1,0 +1,9 @@
+use Rattle.journal_traces.proofs.taken_answer.all_kept.Goals as goal
+
+pub loop-place-init : goal.loop-place-init
+loop-place-init c =
+    let process_of = c.requires.process_of in
+    record {
+      kept = c.in_ok-kept.ensures.items;
+      classes = record { process_of = process_of; each = c.requires.each; leads = c.new-classes.ensures process_of };
+    }

@@ -1,0 +1,221 @@
+//! The connections that a worker accepts.
+
+use crate::gate::Gate;
+use crate::notices::print_accepts_no_more;
+use crate::sessions::Sessions;
+use crate::worker::{Server, WorkerOutcome};
+use libc::net::listen;
+use read_side::StoreName;
+use std::io;
+use std::io::ErrorKind;
+use std::net::{TcpListener, TcpStream};
+use std::os::fd::AsRawFd;
+use std::sync::Wait;
+use std::time::{Clock, Duration};
+
+/// The number of milliseconds without accepting after the system had no room for one more connection.
+const SHORTAGE_PAUSE: u64 = 100;
+
+/// The number of milliseconds for which a worker first leaves a connection to workers that have fewer. Each further
+/// time is twice as long.
+const DEFERRAL: u64 = 1;
+
+/// The number of times that it does so before it accepts the connection itself, after 127 ms in all.
+const MAX_DEFERRALS: u32 = 7;
+
+/// The length of the system's queue of connections that wait to be accepted, if the system allows it.
+const MAX_QUEUED: i32 = 4_096;
+
+// The error numbers of Linux.
+const ENOMEM: i32 = 12;
+
+const ENFILE: i32 = 23;
+
+const EMFILE: i32 = 24;
+
+const ENOBUFS: i32 = 105;
+
+/// The result of accepting.
+#[derive(Drop)]
+enum Arrival {
+    Came(TcpStream),
+    /// No connection is waiting.
+    Nobody,
+    /// The system has no room for one more.
+    Shortage(io::Error),
+    /// No more connections can be accepted.
+    Over(io::Error),
+}
+
+/// The state of a worker's accepting.
+#[derive(Drop)]
+pub(crate) struct Acceptor {
+    /// No more connections can be accepted.
+    over: bool,
+    /// A connection may be waiting.
+    pending: bool,
+    /// The number of times that the next connection was left to another worker.
+    deferrals: u32,
+    /// No connection is accepted before this time.
+    not_before: Duration,
+    outcome: WorkerOutcome,
+}
+
+/// Returns whether the error is temporary: the call was interrupted, or the client has disconnected.
+fn is_passing(error: &io::Error) -> bool {
+    matches!(
+        error.kind(),
+        ErrorKind::Interrupted | ErrorKind::ConnectionAborted
+    )
+}
+
+/// Returns whether the system has no memory, buffer or file descriptor left for one more connection.
+fn is_shortage(error: &io::Error) -> bool {
+    matches!(
+        error.raw_os_error(),
+        Some(ENOMEM | ENFILE | EMFILE | ENOBUFS)
+    )
+}
+
+/// Lengthens the system's queue, which `bind` leaves at 128, for clients that connect at the same time. If the system
+/// refuses, the queue keeps its length.
+pub(crate) fn lengthen_queue(listener: &TcpListener) {
+    let _status = listen(listener.as_raw_fd(), MAX_QUEUED);
+}
+
+/// Accepts a waiting connection. Retries after a temporary error.
+fn accept<N: StoreName, G: Gate, R: Wait>(rt: &R, server: &Server<'_, N, G>) -> Arrival {
+    for _ in rt.forever() {
+        match server.listener.accept() {
+            Ok((stream, _)) => return Arrival::Came(stream),
+            Err(error) if error.kind() == ErrorKind::WouldBlock => return Arrival::Nobody,
+            Err(error) if is_passing(&error) => {}
+            Err(error) if is_shortage(&error) => return Arrival::Shortage(error),
+            Err(error) => return Arrival::Over(error),
+        }
+    }
+    unreachable!()
+}
+
+impl Acceptor {
+    /// Creates the state before the first connection.
+    pub(crate) fn new() -> Acceptor {
+        Acceptor {
+            over: false,
+            pending: false,
+            deferrals: 0,
+            not_before: Duration::ZERO,
+            outcome: WorkerOutcome {
+                served: 0,
+                failed: false,
+            },
+        }
+    }
+
+    /// Returns whether one more connection may be accepted.
+    pub(crate) fn may_accept(&self, sessions: &Sessions) -> bool {
+        !self.over && !sessions.are_over()
+    }
+
+    /// Returns what was accepted.
+    pub(crate) fn outcome(&self) -> WorkerOutcome {
+        self.outcome
+    }
+
+    /// Records that the listener is ready.
+    pub(crate) fn arrived(&mut self) {
+        self.pending = true;
+    }
+
+    /// Returns when to look for a waiting connection.
+    pub(crate) fn due(&self) -> Option<Duration> {
+        if self.pending && !self.over {
+            Some(self.not_before)
+        } else {
+            None
+        }
+    }
+
+    /// Accepts nothing for this number of milliseconds.
+    fn pause(&mut self, now: Duration, milliseconds: u64) {
+        self.not_before = now.saturating_add(Duration::from_millis(milliseconds));
+    }
+
+    /// Returns whether a worker with this number of connections leaves the next one to a worker that has fewer.
+    fn defers<N: StoreName, G: Gate>(
+        &mut self,
+        server: &Server<'_, N, G>,
+        connections: usize,
+        now: Duration,
+    ) -> bool {
+        if self.deferrals >= MAX_DEFERRALS || server.loads.is_least(connections) {
+            return false;
+        }
+        let deferral = DEFERRAL << self.deferrals;
+        self.deferrals += 1;
+        self.pause(now, deferral);
+        true
+    }
+
+    /// Accepts a waiting connection, if it gets a place and a session can be claimed for it.
+    fn accept_one<N: StoreName, G: Gate, R: Wait + Eprint>(
+        &mut self,
+        rt: &R,
+        server: &Server<'_, N, G>,
+        worker: u32,
+        now: Duration,
+    ) -> Option<TcpStream> {
+        match accept(rt, server) {
+            Arrival::Came(stream) => {
+                server.notices.end_shortage();
+                self.deferrals = 0;
+                self.outcome.served = self.outcome.served.saturating_add(1);
+                server.sessions.count_accepted();
+                return Some(stream);
+            }
+            Arrival::Nobody => {
+                self.deferrals = 0;
+                self.pending = false;
+            }
+            Arrival::Shortage(error) => {
+                server.notices.print_shortage(rt, &error);
+                self.pause(now, SHORTAGE_PAUSE);
+            }
+            Arrival::Over(error) => {
+                print_accepts_no_more(rt, worker, &error);
+                self.over = true;
+                self.outcome.failed = true;
+            }
+        }
+        server.sessions.give_back();
+        server.loads.return_permit();
+        None
+    }
+
+    /// Accepts the next connection for a worker, if one is waiting, may be accepted, and isn't left to another worker.
+    /// The caller must give its place back.
+    pub(crate) fn next<N: StoreName, G: Gate, R: Wait + Clock + Eprint>(
+        &mut self,
+        rt: &R,
+        server: &Server<'_, N, G>,
+        worker: u32,
+        connections: usize,
+        now: Duration,
+    ) -> Option<TcpStream> {
+        let due = self.due()?;
+        if now < due || self.defers(server, connections, now) {
+            return None;
+        }
+        if !server.loads.take_permit() {
+            server.notices.print_all_taken(rt);
+            self.pause(now, SHORTAGE_PAUSE);
+            return None;
+        }
+        if !server.sessions.claim() {
+            server.loads.return_permit();
+            self.pause(now, DEFERRAL);
+            return None;
+        }
+        self.accept_one(rt, server, worker, now)
+    }
+}
