@@ -53,7 +53,7 @@ def read(crate, path):
 
 
 def apply(edit, crate):
-    """Applies an edit's pairs in memory, each to what those before it left, and raises Fault where one does not apply."""
+    """Returns the texts that an edit's pairs make of its files, each pair applied to what those before it left; raises Fault where one does not apply."""
     texts, changed = {}, False
     for path, old, new in pairs_of(edit):
         if path not in texts:
@@ -67,6 +67,7 @@ def apply(edit, crate):
         raise Fault("it has no pair of 'old:' and 'new:' lines")
     if not changed:
         raise Fault("it changes nothing")
+    return texts
 
 
 def folders():

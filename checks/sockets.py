@@ -695,7 +695,7 @@ def told_that_all_are_taken():
             first.socket.close()
             check(second.response().status == 200, "the one that waited isn't served")
         told = told_since(server, begin)
-        check(len(told) == 1 and told[0].startswith("as many connections are open as --connections lets be"), f"it told {told}")
+        check(len(told) == 1 and told[0].startswith("as many connections are open as --connections allows"), f"it told {told}")
 
 
 def told_what_is_counted():
