@@ -47,7 +47,7 @@ def posted_until_refused(server):
 
 
 def memory():
-    limit = 620 << 20
+    limit = 730 << 20
     with Server("--batches", 1_000_000, "--spans", 1_000_000, "--workers", 4, "--idle", 0, address_space=limit) as server:
         accepted, others = posted_until_refused(server)
         check(accepted > 0, "nothing was accepted")
