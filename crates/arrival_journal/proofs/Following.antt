@@ -53,7 +53,7 @@ kept_push limits h most most' keeps outlines outlines' most_outlines most_outlin
       legal = legal_push limits h e kept.legal follows.rises follows.unsent follows.batches follows.spans;
       room = let room = kept.room in omega arith;
       outlined = outlined ∙ ap (λ os. with_outline keeps os (outline_in e)) kept.outlined ∙ sym (outlines_push keeps h e);
-      room_for_outlines = let room = kept.room_for_outlines in omega arith;
+      room_for_outlines = λ kept_too. let room = kept.room_for_outlines kept_too in omega arith;
       counted = ap (λ k. k + length (spans_brought e.work)) kept.counted ∙ sym (span_count_push h e);
       last = last_push h e old new kept.last follows.rises noted;
       seats_fit = let fit = kept.seats_fit in omega arith;

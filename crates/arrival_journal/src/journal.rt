@@ -100,7 +100,11 @@ impl Journal {
         ensures { IfOk result (λ journal. journal.held ≡ record { limits = limits; entries = [] }) }
     {
         let entries = Vec::with_capacity(alloc, limits.batches as usize)?;
-        let outlines = Vec::with_capacity(alloc, limits.batches as usize)?;
+        let outlines = if keeps_outlines {
+            Vec::with_capacity(alloc, limits.batches as usize)?
+        } else {
+            Vec::new(alloc)
+        };
         let last_numbers = Vec::with_capacity(alloc, SEATS)?;
         let sent = SentBatches::with_room(alloc, BatchKeys::new(keys), limits.batches)?;
         Ok(Journal {

@@ -3,7 +3,8 @@ use Rattle.std.proofs.Common.{◌≡◌, ℕ, ℤ, List, Result, Ok, Err, IsOk, 
 use Rattle.thrift_binary.specs.Reading.{◌>>=◌}
 use Rattle.thrift_binary.specs.Fields.{Take}
 use Rattle.batch_codec.specs.declared.fault.DecodeError.{DecodeError}
-use Rattle.batch_codec.specs.Decoding.{Reading, Decodes, Takes, Fails-whole}
+use Rattle.batch_codec.specs.Decoding.{Reading, Decodes, Takes}
+use Rattle.batch_codec.proofs.FailsWhole.{Fails-whole}
 
 -- The slot of the field has the value that the field reads.
 pub takes-kept : {A S : Type 0} (take : Take S DecodeError) (s : S) (c : ℕ) (i : ℤ) (w left : List ℕ) (reads : Reading A) (into : A → S)

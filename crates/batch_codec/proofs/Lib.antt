@@ -18,4 +18,5 @@ pub mod LastOf
 pub mod Rows
 pub mod CanonTexts
 pub mod CanonSpelled
+pub mod FailsWhole
 pub mod Kept

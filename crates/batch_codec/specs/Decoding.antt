@@ -1,5 +1,5 @@
--- Reading from left to right, with the first fault; the results of the calls that read; and a lemma about them.
-use Rattle.std.specs.Prelude.{◌≡◌, ℕ, ℤ, List, Option, Some, None, Result, Ok, Err, Bool, if◌then◌else◌}
+-- Reading from left to right, with the first fault; the results of the calls that read.
+use Rattle.std.specs.Prelude.{◌≡◌, ℕ, ℤ, List, [], Option, Some, None, Result, Ok, Err, Bool, if◌then◌else◌}
 use Rattle.std.specs.Str.{is_utf8}
 use Rattle.std.specs.Int.{w32, w64, cast_unsigned}
 use Rattle.thrift_binary.specs.declared.fault.WireError.{WireError}
@@ -71,6 +71,11 @@ abbrev pub Decodes : {X Y : Type 0} → (X → Y) → Reading Y → List ℕ →
 Decodes view read old (Ok x) new = read old ≡ Ok (view x, new)
 Decodes view read old (Err e) new = Fails e (read old)
 
+-- After a fault of the bytes the cursor has none left; after want of memory nothing is said of it.
+abbrev pub Spends : {A : Type 0} → Result A DecodeError → List ℕ → Type 0
+Spends (Ok x) new = Unit {0}
+Spends (Err e) new = (e ≡ Memory → ⊥) → new ≡ []
+
 -- like `Decodes`, for one field, which changes the state so far
 abbrev pub Takes : {S : Type 0} → Take S DecodeError → S → ℕ → ℤ → List ℕ → Result (Unit {0}) DecodeError → S → List ℕ → Type 0
 Takes take s c i old (Ok x) t new = take s c i old ≡ Ok (t, new)
@@ -80,12 +85,3 @@ Takes take s c i old (Err e) t new = Fails e (take s c i old)
 abbrev pub Gives : {A : Type 0} → Result A DecodeError → Result A DecodeError → Type 0
 Gives (Ok x) read = read ≡ Ok x
 Gives (Err e) read = Fails e read
-
--- if each fault of a part is the fault of the whole reading, a call that fails by the part fails by the whole
-pub Fails-whole : {A B : Type 0} (e : DecodeError) (part : Result A DecodeError) (whole : Result B DecodeError)
-    → ((f : DecodeError) → part ≡ Err f → whole ≡ Err f) → Fails e part → Fails e whole
-Fails-whole Memory part whole same h = tt
-Fails-whole (Wire x) part whole same h = same (Wire x) h
-Fails-whole (Missing p i) part whole same h = same (Missing p i) h
-Fails-whole BadEnum part whole same h = same BadEnum h
-Fails-whole Trailing part whole same h = same Trailing h

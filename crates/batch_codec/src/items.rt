@@ -6,7 +6,8 @@ ghost use Rattle.thrift_binary.specs.Lists.{items_at, list_of};
 use crate::fault::{DecodeError, Decoded};
 use jaeger_model::Seq;
 use std::alloc::Global;
-use thrift_binary::{Cursor, WireError, types};
+use thrift_binary::types::STRUCT;
+use thrift_binary::{Cursor, WireError};
 
 /// A struct that occurs in lists.
 pub(crate) trait Element: Drop + Sized {
@@ -46,11 +47,11 @@ fn read_items<T: Element>(alloc: Global, size: u32, cursor: &mut Cursor<'_>) -> 
 /// Reads a list of structs. It never allocates by the claimed size alone.
 #[tactic(auto, unfolding(thrift_binary::specs::Lists::list_of))]
 pub(crate) fn read_list<T: Element>(alloc: Global, cursor: &mut Cursor<'_>) -> Decoded<Seq<T>>
-    ensures exact { Decodes (λ v. v) (list_of wire 12 T.reads) cursor.old result cursor.new }
+    ensures exact { Decodes (λ v. v) (list_of wire STRUCT T.reads) cursor.old result cursor.new }
     ensures no_longer { OnOk result (length cursor.new ≤ length cursor.old) }
 {
     let (found, size) = cursor.list_head()?;
-    if size != 0 && found != types::STRUCT {
+    if size != 0 && found != STRUCT {
         return Err(DecodeError::Wire(WireError::BadType));
     }
     Ok(Seq::from_vec(read_items(alloc, size, cursor)?))

@@ -1,12 +1,12 @@
 ghost use Rattle.std.specs.Prelude.{◌≡◌, ◌≤◌, length, OnOk, IfErr};
 ghost use Rattle.batch_codec.specs.declared.fault.DecodeError.TheVariants.{BadEnum};
-ghost use Rattle.batch_codec.specs.Decoding.{Decodes};
+ghost use Rattle.batch_codec.specs.Decoding.{Decodes, Spends};
 ghost use Rattle.batch_codec.specs.ReferenceReading.{reference_at, reference_from, kind_at, kind_of_number};
 
 use crate::fault::{DecodeError, Decoded, Part};
 use crate::fields::{Slots, read_fields, required};
 use crate::items::Element;
-use crate::values::{read_i32, read_id};
+use crate::values::{read_i32, read_id, refuse};
 use jaeger_model::{RefKind, SpanId, SpanRef, TraceId};
 use std::alloc::Global;
 use thrift_binary::Cursor;
@@ -109,8 +109,13 @@ pub fn kind_of_number(number: i32) -> Decoded<RefKind>
 pub fn read_kind(cursor: &mut Cursor<'_>) -> Decoded<RefKind>
     ensures exact { Decodes (λ k. k) kind_at cursor.old result cursor.new }
     ensures no_longer { OnOk result (length cursor.new ≤ length cursor.old) }
+    ensures spent { Spends result cursor.new }
 {
-    kind_of_number(read_i32(cursor)?)
+    let number = read_i32(cursor)?;
+    match kind_of_number(number) {
+        Ok(kind) => Ok(kind),
+        Err(error) => refuse(cursor, error),
+    }
 }
 
 impl Element for SpanRef {

@@ -1,5 +1,5 @@
 ghost use Rattle.std.specs.Prelude.{◌≡◌, ◌≤◌, ◌==◌, false, length, OnOk, OnErr};
-ghost use Rattle.batch_codec.specs.Decoding.{Decodes, Takes};
+ghost use Rattle.batch_codec.specs.Decoding.{Decodes, Spends, Takes};
 ghost use Rattle.batch_codec.specs.SpanReading.{span_at, span_from, take_span};
 
 use crate::fault::{Decoded, Part};
@@ -57,7 +57,8 @@ impl SpanSlots {
     ///
     /// # Errors
     ///
-    /// The first fault of the value's bytes, or out of memory. The fields read so far are then unchanged.
+    /// The first fault of the value's bytes, after which the cursor has none left, or out of memory. The fields read so
+    /// far are then unchanged.
     #[tactic(auto, unfolding(crate::specs::SpanReading::take_span))]
     #[inline(always)]
     pub fn put_value(
@@ -67,9 +68,10 @@ impl SpanSlots {
         id: i16,
         cursor: &mut Cursor<'_>,
     ) -> Decoded<()>
-        requires no_list { (code == 15) ≡ false }
+        requires no_list { (code == LIST) ≡ false }
         ensures exact { Takes take_span self.old code id cursor.old result self.new cursor.new }
         ensures unchanged { OnErr result (self.new ≡ self.old) }
+        ensures spent { Spends result cursor.new }
         ensures no_longer { OnOk result (length cursor.new ≤ length cursor.old) }
     {
         match (code, id) {
@@ -151,11 +153,17 @@ impl Element for Span {
 ///
 /// # Errors
 ///
-/// The first fault of its bytes, or out of memory.
+/// The first fault of its bytes, or out of memory. The cursor then has no bytes left.
 #[inline(never)]
 pub fn read_span(alloc: Global, cursor: &mut Cursor<'_>) -> Decoded<Span>
     ensures exact { Decodes (λ s. s) span_at cursor.old result cursor.new }
     ensures no_longer { OnOk result (length cursor.new ≤ length cursor.old) }
+    ensures spent { Spends result cursor.new }
 {
-    Span::read(alloc, cursor)
+    let read = Span::read(alloc, cursor);
+    if read.is_ok() {
+        return read;
+    }
+    *cursor = Cursor::new(&[]);
+    read
 }

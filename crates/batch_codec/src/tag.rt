@@ -1,6 +1,6 @@
 ghost use Rattle.std.specs.Prelude.{◌≡◌, ◌≤◌, ◌<◌, length, OnOk, IfErr};
 ghost use Rattle.batch_codec.specs.declared.fault.DecodeError.TheVariants.{BadEnum};
-ghost use Rattle.batch_codec.specs.Decoding.{Decodes, Gives};
+ghost use Rattle.batch_codec.specs.Decoding.{Decodes, Gives, Spends};
 ghost use Rattle.batch_codec.specs.TagReading.{tag_at, tag_from, type_at, type_of_number};
 
 use crate::fault::{DecodeError, Decoded, Part};
@@ -8,6 +8,7 @@ use crate::fields::{Slots, read_fields, required};
 use crate::items::Element;
 use crate::values::{
     ByteSlice, TextSlice, read_binary, read_bool, read_double, read_i32, read_i64, read_text,
+    refuse,
 };
 use jaeger_model::{Tag, TagValue, Value};
 use std::alloc::Global;
@@ -110,8 +111,13 @@ pub fn type_of_number(number: i32) -> Decoded<TagType>
 pub fn read_type(cursor: &mut Cursor<'_>) -> Decoded<TagType>
     ensures exact { Decodes (λ t. t) type_at cursor.old result cursor.new }
     ensures no_longer { OnOk result (length cursor.new ≤ length cursor.old) }
+    ensures spent { Spends result cursor.new }
 {
-    type_of_number(read_i32(cursor)?)
+    let number = read_i32(cursor)?;
+    match type_of_number(number) {
+        Ok(kind) => Ok(kind),
+        Err(error) => refuse(cursor, error),
+    }
 }
 
 #[tactic(auto, unfolding(crate::specs::TagReading::tag_from))]

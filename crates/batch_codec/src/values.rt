@@ -1,6 +1,6 @@
-ghost use Rattle.std.specs.Prelude.{◌≡◌, ◌≤◌, ◌<◌, List, ℕ, length, OnOk, IfOk};
+ghost use Rattle.std.specs.Prelude.{◌≡◌, ◌≤◌, ◌<◌, List, [], ℕ, length, Err, OnOk, IfOk};
 ghost use Rattle.std.specs.Int.{w64};
-ghost use Rattle.batch_codec.specs.Decoding.{Decodes, bool_at, double_at, i32_at, i64_at, id_at, text_at, binary_at};
+ghost use Rattle.batch_codec.specs.Decoding.{Decodes, Spends, bool_at, double_at, i32_at, i64_at, id_at, text_at, binary_at};
 
 use crate::fault::{DecodeError, Decoded};
 use jaeger_model::{Seq, Text};
@@ -60,6 +60,16 @@ impl<'a> ByteSlice<'a> {
     }
 }
 
+/// Returns the fault, and leaves no bytes.
+#[cold]
+pub(crate) fn refuse<T>(cursor: &mut Cursor<'_>, error: DecodeError) -> Decoded<T>
+    ensures spent { cursor.new ≡ [] }
+    ensures error { result ≡ Err error }
+{
+    *cursor = Cursor::new(&[]);
+    Err(error)
+}
+
 /// Reads a bool.
 ///
 /// # Errors
@@ -70,6 +80,7 @@ impl<'a> ByteSlice<'a> {
 pub fn read_bool(cursor: &mut Cursor<'_>) -> Decoded<bool>
     ensures exact { Decodes (λ b. b) bool_at cursor.old result cursor.new }
     ensures no_longer { OnOk result (length cursor.new ≤ length cursor.old) }
+    ensures spent { Spends result cursor.new }
 {
     Ok(cursor.read_bool()?)
 }
@@ -84,6 +95,7 @@ pub fn read_bool(cursor: &mut Cursor<'_>) -> Decoded<bool>
 pub fn read_double(cursor: &mut Cursor<'_>) -> Decoded<[u8; 8]>
     ensures exact { Decodes (λ b. b) double_at cursor.old result cursor.new }
     ensures no_longer { OnOk result (length cursor.new ≤ length cursor.old) }
+    ensures spent { Spends result cursor.new }
 {
     Ok(cursor.read_double()?)
 }
@@ -98,6 +110,7 @@ pub fn read_double(cursor: &mut Cursor<'_>) -> Decoded<[u8; 8]>
 pub fn read_i32(cursor: &mut Cursor<'_>) -> Decoded<i32>
     ensures exact { Decodes (λ z. z) i32_at cursor.old result cursor.new }
     ensures no_longer { OnOk result (length cursor.new ≤ length cursor.old) }
+    ensures spent { Spends result cursor.new }
 {
     Ok(cursor.read_i32()?)
 }
@@ -112,6 +125,7 @@ pub fn read_i32(cursor: &mut Cursor<'_>) -> Decoded<i32>
 pub fn read_i64(cursor: &mut Cursor<'_>) -> Decoded<i64>
     ensures exact { Decodes (λ z. z) i64_at cursor.old result cursor.new }
     ensures no_longer { OnOk result (length cursor.new ≤ length cursor.old) }
+    ensures spent { Spends result cursor.new }
 {
     Ok(cursor.read_i64()?)
 }
@@ -126,6 +140,7 @@ pub fn read_i64(cursor: &mut Cursor<'_>) -> Decoded<i64>
 pub fn read_id(cursor: &mut Cursor<'_>) -> Decoded<u64>
     ensures exact { Decodes (λ n. n) id_at cursor.old result cursor.new }
     ensures no_longer { OnOk result (length cursor.new ≤ length cursor.old) }
+    ensures spent { Spends result cursor.new }
 {
     Ok(cursor.read_i64()?.cast_unsigned())
 }
@@ -135,10 +150,11 @@ pub fn read_id(cursor: &mut Cursor<'_>) -> Decoded<u64>
 pub(crate) fn read_text<'a>(cursor: &mut Cursor<'a>) -> Decoded<TextSlice<'a>>
     ensures exact { Decodes (λ t. t) text_at cursor.old result cursor.new }
     ensures no_longer { OnOk result (length cursor.new ≤ length cursor.old) }
+    ensures spent { Spends result cursor.new }
 {
     let bytes = cursor.read_bytes()?;
     let Ok(text) = str::from_utf8(bytes) else {
-        return Err(DecodeError::Wire(WireError::BadText));
+        return refuse(cursor, DecodeError::Wire(WireError::BadText));
     };
     Ok(TextSlice::new(text))
 }
@@ -148,6 +164,7 @@ pub(crate) fn read_text<'a>(cursor: &mut Cursor<'a>) -> Decoded<TextSlice<'a>>
 pub(crate) fn read_binary<'a>(cursor: &mut Cursor<'a>) -> Decoded<ByteSlice<'a>>
     ensures exact { Decodes (λ b. b) binary_at cursor.old result cursor.new }
     ensures no_longer { OnOk result (length cursor.new ≤ length cursor.old) }
+    ensures spent { Spends result cursor.new }
 {
     Ok(ByteSlice::new(cursor.read_bytes()?))
 }
@@ -161,6 +178,7 @@ pub(crate) fn read_binary<'a>(cursor: &mut Cursor<'a>) -> Decoded<ByteSlice<'a>>
 pub fn read_owned_text(alloc: Global, cursor: &mut Cursor<'_>) -> Decoded<Text>
     ensures exact { Decodes (λ t. t) text_at cursor.old result cursor.new }
     ensures no_longer { OnOk result (length cursor.new ≤ length cursor.old) }
+    ensures spent { Spends result cursor.new }
 {
     Ok(read_text(cursor)?.to_text(alloc)?)
 }
@@ -174,6 +192,7 @@ pub fn read_owned_text(alloc: Global, cursor: &mut Cursor<'_>) -> Decoded<Text>
 pub fn read_owned_binary(alloc: Global, cursor: &mut Cursor<'_>) -> Decoded<Seq<u8>>
     ensures exact { Decodes (λ b. b) binary_at cursor.old result cursor.new }
     ensures no_longer { OnOk result (length cursor.new ≤ length cursor.old) }
+    ensures spent { Spends result cursor.new }
 {
     Ok(read_binary(cursor)?.to_seq(alloc)?)
 }

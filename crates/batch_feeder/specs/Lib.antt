@@ -6,6 +6,7 @@ pub mod LeastBytes
 pub mod Lists
 pub mod ShortValues
 pub mod ShortFields
+pub mod FieldLaws
 pub mod Tags
 pub mod Logs
 pub mod References

@@ -8,8 +8,8 @@ use Rattle.thrift_binary.specs.Reading.{Read, ◌>>=◌, string_at, size_at, lis
 use Rattle.thrift_binary.specs.Reading as wires
 use Rattle.thrift_binary.specs.Fields.{Take, fields_in, fields_at}
 use Rattle.thrift_binary.specs.Lists.{list_of}
-use Rattle.thrift_binary.specs.Skipping.{Skip, past, text, struct, items, pairs, container, width, leaf, is_container, value_at, skip_at, value_at-leaf}
-use Rattle.thrift_binary.specs.Skipping.{value_at-inside}
+use Rattle.thrift_binary.specs.Skipping.{Skip, past, text, struct, items, pairs, container, width, leaf, is_container, value_at, skip_at}
+use Rattle.thrift_binary.proofs.SkippedByLevel.{value_at-leaf, value_at-inside}
 use Rattle.batch_codec.specs.declared.fault.DecodeError.{DecodeError}
 use Rattle.batch_codec.specs.declared.fault.DecodeError.TheVariants.{Wire}
 use Rattle.batch_codec.specs.Decoding.{Reading, wire, skipped, bool_at, double_at, i32_at, i64_at, id_at, text_at, binary_at}

@@ -37,20 +37,18 @@ impl Partial for SharedPart {
     ghost resumes = { shared_part };
 
     fn more(&mut self, alloc: Global, piece: &mut Cursor<'_>) -> Decoded<Option<SharedProcess>> {
-        match self.process.more(alloc, piece) {
-            Err(error) => Err(error),
-            Ok(None) => Ok(None),
-            Ok(Some(process)) => Ok(Some(SharedProcess::new(alloc, process)?)),
-        }
+        let Some(process) = self.process.more(alloc, piece)? else {
+            return Ok(None);
+        };
+        Ok(Some(SharedProcess::new(alloc, process)?))
     }
 }
 
 impl PieceSlots for BatchSlots {
     ghost use Rattle.batch_codec.specs.EmptySlots.{no_batch};
     ghost use Rattle.batch_codec.specs.BatchReading.{take_batch, batch_from};
-    ghost use Rattle.batch_codec.proofs.AtStop.{batch_missing, never_short};
-    ghost use Rattle.batch_codec.proofs.CutBatches.{take_batch_safe};
     ghost use Rattle.batch_feeder.specs.Batches.{batch_continues};
+    ghost use Rattle.batch_feeder.specs.FieldLaws.{take_batch_safe, batch_not_short};
     ghost use Rattle.batch_feeder.specs.ShortFields.{take_batch_short};
 
     type FieldPart = BatchFieldPart;
@@ -124,7 +122,7 @@ impl PieceSlots for BatchSlots {
 
     ghost safe = { take_batch_safe };
 
-    ghost not_short = { λ s. never_short (batch_missing s) };
+    ghost not_short = { batch_not_short };
 
     ghost short = { take_batch_short };
 }

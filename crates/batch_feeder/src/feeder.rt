@@ -12,7 +12,10 @@ use crate::structs::Struct;
 use batch_codec::{BatchSlots, DecodeError, Decoded};
 use jaeger_model::Batch;
 use std::alloc::Global;
-use thrift_binary::{Cursor, WireError, types};
+use thrift_binary::types::{
+    BOOL, BYTE, DOUBLE, I16, I32, I64, LIST, MAP, SET, STOP, STRING, STRUCT,
+};
+use thrift_binary::{Cursor, WireError};
 use wire_pieces::size_of;
 
 /// A piece of at most this number of bytes is taken byte by byte.
@@ -68,6 +71,7 @@ fn advance(state: &mut State, alloc: Global, piece: &[u8]) -> Decoded<()>
     let mut left = Cursor::new(piece);
     match state {
         State::Reading(reading) => {
+            // For the prover: the match takes the cases of the clause `continues` apart.
             match reading.arrive(alloc, &mut left) {
                 Err(error) => return Err(error),
                 Ok(false) => return Ok(()),
@@ -149,12 +153,12 @@ fn min_bytes(code: u8) -> usize
     ensures table { result ≡ least code }
 {
     match code {
-        types::BOOL | types::BYTE | types::STRUCT => 1,
-        types::I16 => 2,
-        types::I32 | types::STRING => 4,
-        types::SET | types::LIST => 5,
-        types::MAP => 6,
-        types::I64 | types::DOUBLE => 8,
+        BOOL | BYTE | STRUCT => 1,
+        I16 => 2,
+        I32 | STRING => 4,
+        SET | LIST => 5,
+        MAP => 6,
+        I64 | DOUBLE => 8,
         _ => 0,
     }
 }
@@ -166,7 +170,7 @@ fn wanted(bytes: &[u8]) -> usize
     match bytes {
         [] => 1,
         [code] => wanted_of_type(*code),
-        [types::STRING, _, _, size @ ..] => wanted_of_string(size),
+        [STRING, _, _, size @ ..] => wanted_of_string(size),
         _ => 0,
     }
 }
@@ -175,7 +179,7 @@ fn wanted(bytes: &[u8]) -> usize
 fn wanted_of_type(code: u8) -> usize
     ensures quiet { AreQuiet (code ∷ []) result }
 {
-    if code == 0 {
+    if code == STOP {
         return 0;
     }
     2 + min_bytes(code)
@@ -183,7 +187,7 @@ fn wanted_of_type(code: u8) -> usize
 
 /// Returns the number of bytes to wait for after the head of a string field and the string's size.
 fn wanted_of_string(size: &[u8]) -> usize
-    ensures quiet { (a b : ℕ) → AreQuiet (11 ∷ a ∷ b ∷ size.now) result }
+    ensures quiet { (a b : ℕ) → AreQuiet (STRING ∷ a ∷ b ∷ size.now) result }
 {
     match size_of(size) {
         Some(length) => length as usize,
@@ -336,6 +340,7 @@ impl Feeder {
     fn feed_long(&mut self, alloc: Global, piece: &[u8]) -> Decoded<()>
         ensures feeds { Feeds (answers self.old) (answers self.new) piece.now result }
     {
+        // For the prover: the match takes the cases of the clause `keeps` apart.
         match self.read_waiting(alloc) {
             Err(error) => Err(error),
             Ok(()) => advance_or_refuse(&mut self.state, &mut self.wanted, alloc, piece),

@@ -213,14 +213,11 @@ pub(crate) fn enter_in_pieces<S: PieceSlots>(
     ensures no_longer { OnOk result (length piece.new ≤ length piece.old) }
 {
     let mut value = slots.begin(code, id, alloc);
-    match slots.more(&mut value, alloc, piece) {
-        Err(error) => Err(error),
-        Ok(true) => Ok(true),
-        Ok(false) => {
-            *next = Some(Step::Value(value));
-            Ok(false)
-        }
+    if slots.more(&mut value, alloc, piece)? {
+        return Ok(true);
     }
+    *next = Some(Step::Value(value));
+    Ok(false)
 }
 
 /// Stores the first bytes of a head, for which the piece is too short.
@@ -258,6 +255,7 @@ pub(crate) fn enter_fields<S: Fields>(
     ensures no_longer { OnOk result (length piece.new ≤ length piece.old) }
 {
     loop {
+        // For the prover: the matches take the cases of the clauses `reads` and `continues` apart.
         match read_fields(slots, alloc, piece) {
             Err(error) => return Err(error),
             Ok(FieldsEnd::Stop) => return Ok(true),
@@ -279,7 +277,7 @@ pub(crate) fn hold_next<V: Drop>(next: &mut Option<V>, step: V)
     *next = Some(step);
 }
 
-/// Returns the next step, if there is one.
+/// Stores the next step, if there is one.
 fn set_step<V: Drop>(step: &mut Step<V>, next: Option<Step<V>>)
     ensures { (s : Step V) → next ≡ Some s → step.new ≡ s }
 {
@@ -326,14 +324,11 @@ fn hold_field<S: Fields>(
     ensures no_longer { OnOk result (length piece.new ≤ length piece.old) }
 {
     let mut next = None;
-    match slots.enter(&mut next, code, id, alloc, piece) {
-        Err(error) => Err(error),
-        Ok(true) => hold_fields(slots, step, alloc, piece),
-        Ok(false) => {
-            set_step(step, next);
-            Ok(false)
-        }
+    if slots.enter(&mut next, code, id, alloc, piece)? {
+        return hold_fields(slots, step, alloc, piece);
     }
+    set_step(step, next);
+    Ok(false)
 }
 
 /// Reads fields from the first byte of a head on. If the piece ends before a head, the step is such a head again.
@@ -350,6 +345,7 @@ fn read_on<S: Fields>(
         piece.old piece.new result }
     ensures no_longer { OnOk result (length piece.new ≤ length piece.old) }
 {
+    // For the prover: the match takes the cases of the clause `reads` apart.
     match read_fields(slots, alloc, piece) {
         Err(error) => Err(error),
         Ok(FieldsEnd::Stop) => Ok(true),
@@ -387,6 +383,7 @@ pub(crate) fn more_fields<S: Fields>(
                 Ok(Some(Some((code, id)))) => hold_field(slots, step, code, id, alloc, piece),
             }
         }
+        // For the prover: the match takes the cases of the clause `continues` apart.
         Step::Value(held) => match slots.more(held, alloc, piece) {
             Err(error) => Err(error),
             Ok(false) => Ok(false),

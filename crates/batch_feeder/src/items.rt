@@ -15,7 +15,8 @@ use batch_codec::{DecodeError, Decoded, room};
 use jaeger_model::Seq;
 use std::alloc::Global;
 use std::mem;
-use thrift_binary::{Cursor, WireError, types};
+use thrift_binary::types::STRUCT;
+use thrift_binary::{Cursor, WireError};
 use wire_pieces::ListHead;
 
 /// Reads a number of values of a list, from the first byte of one, and stores what has arrived of the last one.
@@ -33,6 +34,7 @@ fn begin_items<P: Item>(
 {
     while *left > 0 {
         *left -= 1;
+        // For the prover: the match takes the cases of the clause `continues` apart.
         match P::begin(one, alloc, piece) {
             Err(error) => return Err(error),
             Ok(None) => return Ok(false),
@@ -64,6 +66,7 @@ fn next_items<P: Item>(
             return Ok(true);
         }
         *left -= 1;
+        // For the prover: the match takes the cases of the clause `continues` apart.
         match one.arrive(alloc, piece) {
             Err(error) => return Err(error),
             Ok(false) => return Ok(false),
@@ -87,7 +90,7 @@ impl<P: Item> ListPart<P> {
     pub(crate) fn new(alloc: Global) -> Self
         ensures fresh { (w : List ℕ) → list_from P.reads P.Partial.resumes
             result.items.items result.left result.head result.one w
-            ≡ list_of wire 12 P.reads w }
+            ≡ list_of wire STRUCT P.reads w }
     {
         let head = ListHead::new();
         ListPart {
@@ -114,7 +117,7 @@ impl<P: Item> ListPart<P> {
     #[inline]
     fn enter(&mut self, code: u8, size: u32, alloc: Global, piece: &mut Cursor<'_>) -> Decoded<bool>
         ensures continues { ContinuesTo self.new.items.items
-            (behind_head wire 12 P.reads (code, size))
+            (behind_head wire STRUCT P.reads (code, size))
             (list_from P.reads P.Partial.resumes self.new.items.items self.new.left self.new.head
             self.new.one) piece.old piece.new result }
         ensures no_longer { OnOk result (length piece.new ≤ length piece.old) }
@@ -123,7 +126,7 @@ impl<P: Item> ListPart<P> {
             self.items = Vec::new(alloc);
             return Ok(true);
         }
-        if code != types::STRUCT {
+        if code != STRUCT {
             return Err(DecodeError::Wire(WireError::BadType));
         }
         self.items = Vec::with_capacity(alloc, room(size, piece.rest().len(), P::min_bytes()))?;
@@ -147,6 +150,7 @@ impl<P: Item> ListPart<P> {
                 Ok(None) => Ok(false),
                 Ok(Some((code, size))) => self.enter(code, size, alloc, piece),
             },
+            // For the prover: the match takes the cases of the clause `continues` apart.
             Some(one) => match one.arrive(alloc, piece) {
                 Err(error) => Err(error),
                 Ok(false) => Ok(false),
@@ -162,12 +166,13 @@ impl<P: Item> ListPart<P> {
         alloc: Global,
         piece: &mut Cursor<'_>,
     ) -> Decoded<Option<Self>>
-        ensures continues { Lays S.holding (list_of wire 12 P.reads)
+        ensures continues { Lays S.holding (list_of wire STRUCT P.reads)
             (λ p. list_from P.reads P.Partial.resumes p.items.items p.left p.head p.one)
             slot.old slot.new piece.old piece.new result }
         ensures no_longer { OnOk result (length piece.new ≤ length piece.old) }
     {
         let mut part = ListPart::new(alloc);
+        // For the prover: the match takes the cases of the clause `continues` apart.
         match part.place(slot, alloc, piece) {
             Err(error) => Err(error),
             Ok(true) => Ok(None),
@@ -217,11 +222,12 @@ pub(crate) fn enter_list<P: Item, S: Slot<Seq<P::Value>>, V: Drop, F: FnOnce(Lis
     piece: &mut Cursor<'_>,
 ) -> Decoded<bool>
     requires callable { F.IsAlwaysCallable held }
-    ensures continues { Enlists S.holding (list_of wire 12 P.reads)
+    ensures continues { Enlists S.holding (list_of wire STRUCT P.reads)
         (λ p. list_from P.reads P.Partial.resumes p.items.items p.left p.head p.one) (F.post held)
         slot.old slot.new next.new piece.old piece.new result }
     ensures no_longer { OnOk result (length piece.new ≤ length piece.old) }
 {
+    // For the prover: the match takes the cases of the clause `continues` apart.
     match ListPart::begin(slot, alloc, piece) {
         Err(error) => Err(error),
         Ok(None) => Ok(true),

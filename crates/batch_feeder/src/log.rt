@@ -22,9 +22,8 @@ pub(crate) enum LogFieldPart {
 impl PieceSlots for LogSlots {
     ghost use Rattle.batch_codec.specs.EmptySlots.{no_log};
     ghost use Rattle.batch_codec.specs.LogReading.{take_log, log_from};
-    ghost use Rattle.batch_codec.proofs.AtStop.{log_missing, never_short};
-    ghost use Rattle.batch_codec.proofs.CutBatches.{take_log_safe};
     ghost use Rattle.batch_feeder.specs.Logs.{log_continues};
+    ghost use Rattle.batch_feeder.specs.FieldLaws.{take_log_safe, log_not_short};
     ghost use Rattle.batch_feeder.specs.ShortFields.{take_log_short};
 
     type FieldPart = LogFieldPart;
@@ -93,7 +92,7 @@ impl PieceSlots for LogSlots {
 
     ghost safe = { take_log_safe };
 
-    ghost not_short = { λ s. never_short (log_missing s) };
+    ghost not_short = { log_not_short };
 
     ghost short = { take_log_short };
 }

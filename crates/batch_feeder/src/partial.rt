@@ -112,12 +112,9 @@ pub(crate) fn place<P: Partial, S: Slot<P::Value>>(
         piece.old piece.new result }
     ensures no_longer { OnOk result (length piece.new ≤ length piece.old) }
 {
-    match part.more(alloc, piece) {
-        Err(error) => Err(error),
-        Ok(None) => Ok(false),
-        Ok(Some(value)) => {
-            slot.fill(value);
-            Ok(true)
-        }
-    }
+    let Some(value) = part.more(alloc, piece)? else {
+        return Ok(false);
+    };
+    slot.fill(value);
+    Ok(true)
 }

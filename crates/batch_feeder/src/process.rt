@@ -41,9 +41,8 @@ pub(crate) enum ProcessFieldPart {
 impl PieceSlots for ProcessParts {
     ghost use Rattle.batch_codec.specs.EmptySlots.{no_process};
     ghost use Rattle.batch_codec.specs.ProcessReading.{take_process, process_from};
-    ghost use Rattle.batch_codec.proofs.AtStop.{process_missing, never_short};
-    ghost use Rattle.batch_codec.proofs.CutBatches.{take_process_safe};
     ghost use Rattle.batch_feeder.specs.Processes.{process_continues};
+    ghost use Rattle.batch_feeder.specs.FieldLaws.{take_process_safe, process_not_short};
     ghost use Rattle.batch_feeder.specs.ShortFields.{take_process_short};
 
     type FieldPart = ProcessFieldPart;
@@ -120,7 +119,7 @@ impl PieceSlots for ProcessParts {
 
     ghost safe = { take_process_safe };
 
-    ghost not_short = { λ s. never_short (process_missing s) };
+    ghost not_short = { process_not_short };
 
     ghost short = { take_process_short };
 }

@@ -22,9 +22,8 @@ pub(crate) enum ReferenceFieldPart {
 impl PieceSlots for ReferenceSlots {
     ghost use Rattle.batch_codec.specs.EmptySlots.{no_reference};
     ghost use Rattle.batch_codec.specs.ReferenceReading.{take_reference, reference_from};
-    ghost use Rattle.batch_codec.proofs.AtStop.{reference_missing, never_short};
-    ghost use Rattle.batch_codec.proofs.CutBatches.{take_reference_safe};
     ghost use Rattle.batch_feeder.specs.References.{reference_continues};
+    ghost use Rattle.batch_feeder.specs.FieldLaws.{take_reference_safe, reference_not_short};
     ghost use Rattle.batch_feeder.specs.ShortFields.{take_reference_short};
 
     type FieldPart = ReferenceFieldPart;
@@ -97,7 +96,7 @@ impl PieceSlots for ReferenceSlots {
 
     ghost safe = { take_reference_safe };
 
-    ghost not_short = { λ s. never_short (reference_missing s) };
+    ghost not_short = { reference_not_short };
 
     ghost short = { take_reference_short };
 }

@@ -35,7 +35,7 @@ pub(crate) enum SpanFieldPart {
 /// Whether a field of this type and id is a number or a text of a span. Any other is a list, or is skipped.
 #[inline(always)]
 fn is_single(code: u8, id: i16) -> bool
-    ensures no_list { OnTrue result ((code == 15) ≡ false) }
+    ensures no_list { OnTrue result ((code == LIST) ≡ false) }
 {
     match (code, id) {
         (I64, 1 | 2 | 3 | 4 | 8 | 9) | (I32, 7) | (STRING, 5) => true,
@@ -46,9 +46,8 @@ fn is_single(code: u8, id: i16) -> bool
 impl PieceSlots for SpanSlots {
     ghost use Rattle.batch_codec.specs.EmptySlots.{no_span};
     ghost use Rattle.batch_codec.specs.SpanReading.{take_span, span_from};
-    ghost use Rattle.batch_codec.proofs.AtStop.{span_missing, never_short};
-    ghost use Rattle.batch_codec.proofs.CutBatches.{take_span_safe};
     ghost use Rattle.batch_feeder.specs.Spans.{span_continues};
+    ghost use Rattle.batch_feeder.specs.FieldLaws.{take_span_safe, span_not_short};
     ghost use Rattle.batch_feeder.specs.ShortFields.{take_span_short};
 
     type FieldPart = SpanFieldPart;
@@ -136,7 +135,7 @@ impl PieceSlots for SpanSlots {
 
     ghost safe = { take_span_safe };
 
-    ghost not_short = { λ s. never_short (span_missing s) };
+    ghost not_short = { span_not_short };
 
     ghost short = { take_span_short };
 }

@@ -27,14 +27,10 @@ impl<S: Fields> Partial for Struct<S> {
     ghost resumes = { λ p. struct_from S.takes S.resumes S.makes p.slots p.step };
 
     fn more(&mut self, alloc: Global, piece: &mut Cursor<'_>) -> Decoded<Option<S::Output>> {
-        match more_fields(&mut self.slots, &mut self.step, alloc, piece) {
-            Err(error) => Err(error),
-            Ok(false) => Ok(None),
-            Ok(true) => match self.take_made(alloc) {
-                Err(error) => Err(error),
-                Ok(made) => Ok(Some(made)),
-            },
+        if !more_fields(&mut self.slots, &mut self.step, alloc, piece)? {
+            return Ok(None);
         }
+        Ok(Some(self.take_made(alloc)?))
     }
 }
 
@@ -96,6 +92,7 @@ fn begin_fields<S: Fields>(
 {
     let mut slots = S::start(alloc);
     let mut next = None;
+    // For the prover: the match takes the cases of the clause `continues` apart.
     match enter_fields(&mut slots, &mut next, alloc, piece) {
         Err(error) => Err(error),
         Ok(true) => made(slots),
@@ -106,7 +103,8 @@ fn begin_fields<S: Fields>(
     }
 }
 
-/// Returns the fields so far and the next step. It isn't inlined, so that a complete struct costs no such part.
+/// Stores the fields so far and the next step, if there is one. It isn't inlined, so that a complete struct costs no
+/// such part.
 #[inline(never)]
 fn hold<S: PieceSlots>(part: &mut Option<Struct<S>>, slots: S, next: Option<Step<S::FieldPart>>)
     ensures { (s : Step S.FieldPart) → next ≡ Some s →
@@ -122,10 +120,7 @@ fn hold<S: PieceSlots>(part: &mut Option<Struct<S>>, slots: S, next: Option<Step
 fn made<S: PieceSlots>(slots: S) -> Decoded<Option<S::Output>>
     ensures { result ≡ made_of S.makes slots }
 {
-    match slots.whole() {
-        Err(error) => Err(error),
-        Ok(made) => Ok(Some(made)),
-    }
+    Ok(Some(slots.whole()?))
 }
 
 impl<S: PieceSlots> Struct<S> {

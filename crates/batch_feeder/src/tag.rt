@@ -60,9 +60,8 @@ pub(crate) enum TagFieldPart {
 impl PieceSlots for TagParts {
     ghost use Rattle.batch_codec.specs.EmptySlots.{no_tag};
     ghost use Rattle.batch_codec.specs.TagReading.{take_tag, tag_from};
-    ghost use Rattle.batch_codec.proofs.AtStop.{tag_missing, never_short};
-    ghost use Rattle.batch_codec.proofs.CutBatches.{take_tag_safe};
     ghost use Rattle.batch_feeder.specs.Tags.{tag_continues};
+    ghost use Rattle.batch_feeder.specs.FieldLaws.{take_tag_safe, tag_not_short};
     ghost use Rattle.batch_feeder.specs.ShortFields.{take_tag_short};
 
     type FieldPart = TagFieldPart;
@@ -174,7 +173,7 @@ impl PieceSlots for TagParts {
 
     ghost safe = { take_tag_safe };
 
-    ghost not_short = { λ s. never_short (tag_missing s) };
+    ghost not_short = { tag_not_short };
 
     ghost short = { take_tag_short };
 }

@@ -72,6 +72,7 @@ impl<V: Fixed<N>, const N: usize> Partial for FixedPart<V, N> {
     fn more(&mut self, _alloc: Global, piece: &mut Cursor<'_>) -> Decoded<Option<V>> {
         match self.bytes.more(piece) {
             None => Ok(None),
+            // For the prover: the match takes the cases of the clause `spells` apart.
             Some(bytes) => match V::of(&bytes) {
                 Ok(value) => Ok(Some(value)),
                 Err(error) => Err(error),

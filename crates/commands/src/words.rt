@@ -362,7 +362,7 @@ fn answer<W: Output>(alloc: Global, output: &mut W, text: &[u8], status: ExitSta
     }
 }
 
-/// Reads the command of the words, of which the first is the program's name.
+/// Reads the command of the words. The first word is the program's name.
 ///
 /// The second word is the subcommand, and clap reads those after it. A fault of the words, or a request for help, is
 /// answered on the output.

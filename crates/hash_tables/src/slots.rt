@@ -1,4 +1,4 @@
-//! Walks over places, each of which has 0 if it is free, else a row plus one.
+//! Walks over places: a free one has 0, any other a row plus one.
 
 ghost use Rattle.std.specs.Prelude.{◌≡◌, ℕ, ◌+◌, ◌*◌, ◌^◌, ◌<◌, ◌≤◌, List, [], ◌∷◌, ◌++◌, length, get_or, count_by};
 ghost use Rattle.hash_tables.specs.Leading.{start_of, place_after, is_taken, steps, AreTaken, Walked, LeadsIn};

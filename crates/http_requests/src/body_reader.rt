@@ -38,7 +38,7 @@ enum Stage {
     Refused(BadRequest),
 }
 
-/// A body of which a part was taken. It holds none of the bytes.
+/// A body that was taken in part. It holds none of the bytes.
 #[derive(Clone, Copy, Debug)]
 pub struct BodyReader {
     stage: Stage,

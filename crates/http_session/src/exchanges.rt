@@ -132,7 +132,7 @@ fn write_response<C: Respond>(connection: &mut C, response: Response) -> Result<
     ensures took { C.takes connection.old (part_written (to_come response) result) connection.new }
     ensures writing { IfErr result (λ e. e.cause ≡ Writing) }
 {
-    match connection.respond(response) {
+    match connection.send_response(response) {
         Ok(()) => Ok(()),
         Err(written) => Err(PartialWrite {
             written,

@@ -87,6 +87,16 @@ pub(crate) fn question_of(
                 Ok(Question::Settled(Verdict::Reject(ErrorReply::UnsupportedType)))
             }
         }
-        _ => Ok(Question::Settled(Verdict::Reject(ErrorReply::NotAllowed(endpoint)))),
+        (
+            Method::Post,
+            Endpoint::Trace
+            | Endpoint::Services
+            | Endpoint::OperationNames
+            | Endpoint::Operations
+            | Endpoint::Dependencies,
+        )
+        | (Method::Other, _) => {
+            Ok(Question::Settled(Verdict::Reject(ErrorReply::NotAllowed(endpoint))))
+        }
     }
 }

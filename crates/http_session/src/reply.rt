@@ -4,7 +4,7 @@ ghost use Rattle.query_http.specs.Responses.{response};
 ghost use Rattle.query_http.specs.Statuses.{code_of};
 ghost use Rattle.query_json.specs.Parts.{to_come};
 ghost use Rattle.query_json.specs.Trees.{answer_tree};
-ghost use Rattle.http_session.specs.Replies.{status_of, allow_of, closes, takes_no_memory, response_of, error_message, error_status, refusal_status};
+ghost use Rattle.http_session.specs.Replies.{status_of, allow_of, closes, takes_no_memory, response_of, error_message, error_status, methods_of, refusal_status};
 ghost use Rattle.http_session.specs.Replies.{refusal_message, bad_request_status, bad_request_message, error_body};
 ghost use Rattle.http_session.specs.declared.reply.Reply.TheVariants as reply;
 
@@ -12,7 +12,7 @@ use crate::fixed::{accepted, internal_error, out_of_memory};
 use crate::response::Response;
 use crate::verdict::ErrorReply;
 use http_requests::BadRequest;
-use query_http::{Endpoint, Status, respond, response_head_of};
+use query_http::{Endpoint, Status, respond, response_head};
 use query_json::{AnswerParts, error_bytes};
 use std::alloc::{AllocError, Global};
 use trace_model::{Answer, Refusal};
@@ -148,7 +148,7 @@ fn answered(
         response (code_of status) (compact_text (answer_tree answer)) [] close) }
 {
     let parts = AnswerParts::new(alloc, answer)?;
-    let head = response_head_of(alloc, status, parts.remaining(), "", close)?;
+    let head = response_head(alloc, status, parts.remaining(), "", close)?;
     if parts.remaining() > MAX_JOINED {
         return Response::in_parts(head, parts);
     }
@@ -187,6 +187,20 @@ fn fixed_error(error: ErrorReply, close: bool) -> Option<&'static [u8]>
     }
 }
 
+/// Returns the methods that an endpoint accepts.
+fn methods_of(endpoint: Endpoint) -> &'static str
+    ensures { result.now ≡ methods_of endpoint }
+{
+    match endpoint {
+        Endpoint::Traces => "GET, POST",
+        Endpoint::Trace
+        | Endpoint::Services
+        | Endpoint::OperationNames
+        | Endpoint::Operations
+        | Endpoint::Dependencies => "GET",
+    }
+}
+
 impl Reply {
     /// Returns the status of the response.
     pub fn status(&self) -> Status
@@ -207,8 +221,7 @@ impl Reply {
         ensures { result.now ≡ allow_of self.now }
     {
         match self {
-            Reply::Error(ErrorReply::NotAllowed(Endpoint::Traces)) => "GET, POST",
-            Reply::Error(ErrorReply::NotAllowed(_)) => "GET",
+            Reply::Error(ErrorReply::NotAllowed(endpoint)) => methods_of(*endpoint),
             _ => "",
         }
     }

@@ -16,7 +16,7 @@ pub trait Respond: Connection {
     /// # Errors
     ///
     /// The output failed. Returns how many of the bytes it took before, which is never all of them.
-    fn respond(&mut self, response: Response) -> Result<(), usize>
+    fn send_response(&mut self, response: Response) -> Result<(), usize>
         ensures ok { OnOk result (Appends (Self.contents self.old) (Self.contents self.new)
             (to_come response)) }
         ensures took { Self.takes self.old (part_sent (to_come response) result) self.new }
@@ -30,7 +30,7 @@ pub trait Respond: Connection {
 
 /// Writes all of the response before it returns. Allocates nothing.
 impl<'a, R: Input, W: Output> Respond for Join<'a, R, W> {
-    fn respond(&mut self, response: Response) -> Result<(), usize> {
+    fn send_response(&mut self, response: Response) -> Result<(), usize> {
         write_parts(self, response)
     }
 }

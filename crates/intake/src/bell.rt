@@ -27,13 +27,16 @@ impl Bell {
     }
 
     /// Rings, and wakes all sleeping threads. If none sleeps, it makes no system call; of several rings after one
-    /// sleep only the first makes one.
-    pub(crate) fn ring(&self) {
+    /// sleep only the first makes one. Returns whether it woke a thread.
+    pub(crate) fn ring(&self) -> bool {
         self.rings.fetch_add(1, Ordering::SeqCst);
         // A thread that hasn't announced its sleep yet finds the new count when it is about to.
-        if self.awaited.load(Ordering::SeqCst) != 0 && self.awaited.swap(0, Ordering::SeqCst) != 0 {
+        let wakes = self.awaited.load(Ordering::SeqCst) != 0
+            && self.awaited.swap(0, Ordering::SeqCst) != 0;
+        if wakes {
             self.rings.wake_all();
         }
+        wakes
     }
 
     /// Whether it rings within this number of spins.

@@ -14,7 +14,7 @@
 //! * `account`: the result of a job. `accounts`: the results of all jobs. `clerk`: the [`Clerk`]. `books`: what
 //!   it returns.
 //! * `shared`: the state that all of them share. `bell`: wakes a sleeping thread.
-//! * `opening`: [`desk`]. `closing`: the [`Desk`], which closes the queue.
+//! * `opening`: [`desk`]. `desk_handle`: the [`Desk`], which closes the queue.
 //! * `live`: a seat and a pass as the backend of a session: the [`Live`].
 #![tactic(auto)]
 
@@ -24,8 +24,8 @@ mod bell;
 mod books;
 mod cell;
 mod clerk;
-mod closing;
 mod denial;
+mod desk_handle;
 mod inbox;
 mod job;
 mod live;
@@ -39,8 +39,8 @@ pub use account::Account;
 pub use accounts::Accounts;
 pub use books::Books;
 pub use clerk::{Clerk, Turn};
-pub use closing::Desk;
 pub use denial::Denial;
+pub use desk_handle::Desk;
 pub use inbox::Inbox;
 pub use live::Live;
 pub use opening::desk;

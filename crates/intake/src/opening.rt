@@ -8,7 +8,7 @@ ghost use Rattle.intake.specs.Turns.{IsNewClerk};
 
 use crate::bell::Bell;
 use crate::clerk::Clerk;
-use crate::closing::Desk;
+use crate::desk_handle::Desk;
 use crate::inbox::Inbox;
 use crate::queue::{MakeSeat, Queue, QueueEnd};
 use crate::seat::Seat;

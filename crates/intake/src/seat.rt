@@ -207,7 +207,9 @@ impl<N: StoreName> Seat<N> {
         {
             Ok(()) => {
                 self.handed = number;
-                self.shared.jobs.ring();
+                if self.shared.jobs.ring() {
+                    return Ok(ticket.without_spins());
+                }
                 Ok(ticket)
             }
             Err(job) => {

@@ -62,7 +62,7 @@ impl<N: StoreName> Shared<N> {
     /// Closes the desk: no seat submits anything from then on.
     pub(crate) fn close(&self) {
         self.closed.store(true, Ordering::SeqCst);
-        self.jobs.ring();
+        let _woken = self.jobs.ring();
     }
 
     /// Stores the outcome of a seat's job, and its receipt, if it has one.
@@ -83,7 +83,7 @@ impl<N: StoreName> Shared<N> {
         }
         cell.store_outcome(outcome);
         if let Some(bell) = self.bell(seat) {
-            bell.ring();
+            let _woken = bell.ring();
         }
     }
 
@@ -91,7 +91,7 @@ impl<N: StoreName> Shared<N> {
     pub(crate) fn end(&self) {
         self.ended.store(true, Ordering::SeqCst);
         for bell in &self.replies {
-            bell.ring();
+            let _woken = bell.ring();
         }
     }
 }

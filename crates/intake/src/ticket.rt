@@ -34,6 +34,8 @@ pub struct Ticket<N: StoreName> {
     entry: Arc<Entry>,
     cell: Arc<Cell<N>>,
     shared: Arc<Shared<N>>,
+    /// The number of spins before it sleeps.
+    spins: u32,
 }
 
 impl<N: StoreName> Model for Ticket<N> {
@@ -58,7 +60,16 @@ impl<N: StoreName> Ticket<N> {
             entry,
             cell,
             shared,
+            spins: SPINS,
         }
+    }
+
+    /// Returns the ticket for a job whose submission woke the clerk. It sleeps at once, since a thread that wakes
+    /// takes longer than the spins.
+    pub(crate) fn without_spins(self) -> Ticket<N>
+        ensures { result ≡ self }
+    {
+        Ticket { spins: 0, ..self }
     }
 
     /// Waits for the answer. An acknowledgement's list has at the place an entry that answers for the job's: its
@@ -122,7 +133,7 @@ impl<N: StoreName> Ticket<N> {
     fn await_ring<R: Wait>(&self, rt: &R, rings: u64) {
         match self.shared.bell(self.entry.seat) {
             Some(bell) => {
-                let _slept = bell.wait(rt, rings, SPINS);
+                let _slept = bell.wait(rt, rings, self.spins);
             }
             // Impossible: each seat has a bell.
             None => yield_now(),

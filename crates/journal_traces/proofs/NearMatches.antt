@@ -17,6 +17,7 @@ use Rattle.trace_model.specs.Places.{entry_at}
 use Rattle.trace_model.specs.Searching.{is_named, is_timed, has_tag}
 use Rattle.trace_model.specs.Works.{batch_brought}
 use Rattle.trace_model.proofs.Traces.{or_cases}
+use Rattle.span_steps.specs.SpanConditions.{meets_span_conditions}
 use Rattle.arrival_journal.specs.declared.outline.Outline.{Outline}
 use Rattle.arrival_journal.specs.Outlines.{outline_in}
 use Rattle.trace_assembly.specs.Rows.{is_of}
@@ -44,7 +45,7 @@ none_near q (Some x) is = absurd (cc is)
 
 -- ---- a process by its service
 pub of_service : (q : Find) (o : Process) (s : Span) → same_text q.service o.service ≡ true
-    → ((same_text q.operation [] || same_text q.operation s.operation) && is_timed q (record { process = o; span = s })) ≡ meets (near q) o s
+    → meets_span_conditions q (record { process = o; span = s }) ≡ meets (near q) o s
 of_service q o s e =
     let asked : Bool = same_text q.operation [] || same_text q.operation s.operation in
     let timed : Bool = is_timed q (record { process = o; span = s }) in

@@ -1,11 +1,12 @@
 -- Traces that are collected by their spots among entries that are collected once each.
 use Rattle.std.proofs.Common.{◌≡◌, ℕ, zero, suc, ◌+◌, ◌-◌, ◌<◌, ◌≤◌, ◌≢◌, Bool, true, false, ◌||◌, ◌&&◌, cond, List, [], ◌∷◌, ◌++◌, map, length, take, drop}
 use Rattle.std.proofs.Common.{get_or, append_assoc, refl, sym, ap, subst, ◌∙◌, arith, Some, None, Option, ⊎_elim}
-use Rattle.std.specs.Prelude.{slice_get, slice_range, slice_index_or, slice_set, filter, IfSome, IfOk, Result, Ok, Err, option_map}
+use Rattle.std.specs.Prelude.{slice_get, slice_range, slice_index_or, slice_set, IfSome, IfOk, Result, Ok, Err, option_map}
 use Rattle.std.specs.List.{list_any, cons_option, All, AllZip}
 use Rattle.std.specs.Option.{option_and_then}
 use Rattle.std.proofs.Math.Seq.{drop-cons}
 use Rattle.std.proofs.lemmas.Bool.{false≢true, cases_eq, or_right}
+use Rattle.std.proofs.lemmas.List.{length-map}
 use Rattle.std.proofs.lemmas.List.{append-nil, take-map, drop-map, take_more, take-append-drop, drop_all, length-set, get_or-set_same, get_or-set_other}
 use Rattle.std.proofs.lemmas.List.Elements.{filter_map-append, filter-append}
 use Rattle.std.proofs.lemmas.List.Folds.{list_any-append}
@@ -214,6 +215,14 @@ trace_unmet q ts met (s ∷ ss) told e =
 -- ---- a part of the spots
 pub range_spotted : (es : List Entry) (ss : List TakenSpot) (a b : ℕ) → trace_spotted es (slice_range ss a b) ≡ slice_range (trace_spotted es ss) a b
 range_spotted es ss a b = let f = taken_spotted es in sym (ap (take (b - a)) (drop-map f a ss) ∙ take-map f (b - a) (drop a ss))
+
+pub part_spotted : (es : List Entry) (ss : List TakenSpot) (starts : List ℕ) (k : ℕ)
+    → trace_spotted es (slice_index_or (cut_at ss starts) k []) ≡ slice_index_or (cut_at (trace_spotted es ss) starts) k []
+part_spotted es ss [] k = refl
+part_spotted es ss (s ∷ starts) zero =
+    range_spotted es ss s (next_start (length ss) starts)
+    ∙ ap (λ n. slice_range (trace_spotted es ss) s (next_start n starts)) (sym (length-map ss (taken_spotted es)))
+part_spotted es ss (s ∷ starts) (suc k) = part_spotted es ss starts k
 
 -- ---- no entry has a span that meets the search
 unmet_at : (met : List Bool) (n : ℕ) → list_any (λ b. b) met ≡ false → get_or met n false ≡ false

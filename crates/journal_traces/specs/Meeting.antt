@@ -1,5 +1,5 @@
--- The conditions of a search, by what they read.
-use Rattle.std.specs.Prelude.{◌≡◌, Bool, true, false, ◌&&◌, ◌||◌, [], Option, Some, None}
+-- The conditions of a search that need a span's process.
+use Rattle.std.specs.Prelude.{◌≡◌, Bool, true, false, ◌&&◌, Option, Some, None}
 use Rattle.std.specs.List.{list_all}
 use Rattle.jaeger_model.specs.declared.batch.Process.{Process}
 use Rattle.jaeger_model.specs.declared.placed.Placed.{Placed}
@@ -7,10 +7,6 @@ use Rattle.jaeger_model.specs.Texts.{same_text}
 use Rattle.trace_model.specs.declared.query.Find.{Find}
 use Rattle.trace_model.specs.Searching.{has_tag}
 use Rattle.find_traces.specs.Wanting.{Beside}
-
--- the operation is the requested one; an empty one matches all
-abbrev pub has_operation : Find → Placed → Bool
-has_operation q p = same_text q.operation [] || same_text q.operation p.span.operation
 
 -- the service is the requested one, and the tags are there
 abbrev pub of_service_with_tags : Find → Placed → Bool

@@ -9,12 +9,12 @@ ghost use Rattle.trace_model.specs.Seeing.{seen};
 ghost use Rattle.journal_traces.specs.Lasting.{AreTold};
 ghost use Rattle.journal_traces.specs.Standing.{process_at, spans_named};
 
-use crate::span_conditions::is_met_alone;
 use crate::spotted_spans::seen_at;
 use arrival_journal::Journal;
 use find_traces::{JudgedProcess, PreparedSearch};
 use jaeger_model::{Process, Seen};
 use service_index::ServicePlaces;
+use span_steps::meets_span_conditions;
 use std::alloc::{AllocError, Global};
 use std::marker::Model;
 use trace_assembly::Spot;
@@ -111,7 +111,7 @@ impl<'a> Judging<'a> {
         ensures found { IfOk result (λ b. b ≡ matches self.old.0 (seen at.entry)) }
         ensures same { self.new ≡ self.old }
     {
-        if !self.is_of_service(place) || !is_met_alone(at, self.prepared.query()) {
+        if !self.is_of_service(place) || !meets_span_conditions(at, self.prepared.query()) {
             return Ok(false);
         }
         let process = self.judged_at(alloc, place, at.process)?;

@@ -7,13 +7,14 @@
 //! * `service_candidates`: which traces a search by a service alone considers, if many entries are of that
 //!   service.
 //! * `late_candidates`: the traces that start after some time.
-//! * `span_conditions`: the conditions of a search, one after the other.
+//! * `span_conditions`: the conditions of a search that need a span's process.
 //! * `judging`: spans judged one after the other.
 //! * `candidates`: these traces, as a search reads them.
 //! * `window`: a window of time in microseconds.
 //! * `window_candidates`: the traces that may have a span in a window.
-//! * `seeing`: collects the traces in a window of time, with the numbers of their services.
+//! * `window_taking`: collects the traces in a window of time, with the numbers of their services.
 //! * `window_traces`: these traces, with each of their entries collected once.
+//! * `trace_parts`: the items of several traces in one list.
 //! * `taken_spot`: where a span is among the collected entries.
 //! * `tag_candidates`: the traces that a search by tags considers, with each of their entries collected once.
 //! * `tag_taking`: collects them from the journal, by numbers alone.
@@ -33,7 +34,6 @@ mod process_classes;
 mod pruning;
 mod recurring;
 mod search_candidates;
-mod seeing;
 mod service_candidates;
 mod span_conditions;
 mod spotted_spans;
@@ -44,15 +44,16 @@ mod taken_answer;
 mod taken_search;
 mod taken_spot;
 mod taking;
+mod trace_parts;
 mod window;
 mod window_candidates;
+mod window_taking;
 mod window_traces;
 
 pub use candidates::Candidates;
 pub use gathering::gather;
 pub use late_candidates::spots_after;
 pub use search_candidates::spots_along;
-pub use seeing::{ring_ids, take_within};
 pub use service_candidates::spots_reported;
 pub use tag_candidates::TagCandidates;
 pub use tag_taking::take_candidates;
@@ -62,4 +63,5 @@ pub use taken_search::TakenSearch;
 pub use taking::take_trace;
 pub use window::search_window;
 pub use window_candidates::spots_within;
+pub use window_taking::{ring_ids, take_within};
 pub use window_traces::WindowTraces;

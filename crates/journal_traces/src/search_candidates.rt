@@ -13,9 +13,9 @@ ghost use Rattle.journal_traces.specs.Standing.{batch_at};
 use crate::pruning::EntryFilter;
 use crate::spotted_spans::batch_at;
 use arrival_journal::Journal;
-use jaeger_model::{Process, Seen, Span, Text, TraceId};
+use jaeger_model::{Process, Seen, Span, TraceId};
 use service_index::Places;
-use span_steps::is_timed;
+use span_steps::meets_span_conditions;
 use std::alloc::{AllocError, Global};
 use trace_assembly::{Assembly, Spots};
 use trace_model::Find;
@@ -59,20 +59,12 @@ fn is_trace_before(before: Option<TraceId>, trace: TraceId) -> bool
     }
 }
 
-/// Whether the operation is the requested one, if one is requested.
-fn is_requested_operation(query: &Find, operation: &Text) -> bool
-    ensures { result ≡ (same_text query.now.operation []
-        || same_text query.now.operation operation.now) }
-{
-    query.operation.as_str() == "" || query.operation == *operation
-}
-
 /// Whether a span of the requested service meets every condition of the search but those on tags.
 fn is_met_without_tags(query: &Find, at: Seen<'_>) -> bool
     requires { same_text query.now.service at.process.now.service ≡ true }
     ensures { result ≡ meets (near query.now) at.entry.process.now at.entry.span.now }
 {
-    is_requested_operation(query, &at.span.operation) && is_timed(at, query)
+    meets_span_conditions(at, query)
 }
 
 /// Whether the span meets these conditions, and its trace is not the one of the span before.

@@ -1,4 +1,4 @@
-//! The traces of which a service brought a span, by the numbers of the services of entries: no span is read.
+//! The traces with a span of a service, by the numbers of the services of entries: no span is read.
 
 ghost use Rattle.std.specs.Prelude.{◌≡◌, ◌<◌, ◌^◌, IfOk, map, filter, length};
 ghost use Rattle.std.specs.List.{list_any};

@@ -1,6 +1,6 @@
 //! The traces that a search by tags considers, with each of their entries collected once.
 
-ghost use Rattle.std.specs.Prelude.{◌≡◌, ◌+◌, ◌<◌, ◌≤◌, List, [], ◌∷◌, ◌++◌, map, length, slice_index_or, slice_range, IfOk, IfSome, OnOk};
+ghost use Rattle.std.specs.Prelude.{◌≡◌, ◌<◌, List, [], ◌∷◌, ◌++◌, map, length, slice_index_or, IfOk, IfSome, OnOk};
 ghost use Rattle.std.specs.Arc.{arc_value};
 ghost use Rattle.std.specs.Option.{option_and_then};
 ghost use Rattle.std.specs.List.{list_any, All, AllZip};
@@ -14,11 +14,13 @@ ghost use Rattle.journal_traces.specs.Spotted.{spot_of, taken_spotted, trace_spo
 ghost use Rattle.journal_traces.specs.Spotted.{IsTold, IsTellingOf, entry_shared, entries_shared, process_numbered, AreNumbered};
 ghost use Rattle.journal_traces.specs.Taking.{placed_taken, HasProcess, ShareByNumber};
 
-use crate::span_conditions::{has_tags, is_met_alone, judge};
+use crate::span_conditions::{has_tags, judge};
 use crate::taken::TakenTraces;
 use crate::taken_spot::TakenSpot;
+use crate::trace_parts::trace_part;
 use find_traces::{JudgedProcess, PreparedSearch};
 use jaeger_model::{Batch, Seen};
+use span_steps::meets_span_conditions;
 use std::alloc::{AllocError, Global};
 use std::marker::Model;
 use std::sync::Arc;
@@ -75,7 +77,7 @@ fn is_span_met(
     requires { IsJudgedAs prepared.now at.process.now judged.now }
     ensures { IfOk result (λ b. b ≡ matches prepared.now (seen at.entry)) }
 {
-    if !is_met_alone(at, prepared.query()) {
+    if !meets_span_conditions(at, prepared.query()) {
         return Ok(false);
     }
     has_tags(alloc, judged, at.span)
@@ -218,25 +220,6 @@ fn take_spots(
     Ok(())
 }
 
-/// Returns the start of the trace after the one at a place, or the end.
-fn next_start(starts: &[usize], place: usize, end: usize) -> usize
-    requires { place < length starts.now }
-    ensures { result ≡ slice_index_or starts.now (place + 1) end }
-{
-    match starts.get(place + 1) {
-        Some(next) => *next,
-        None => end,
-    }
-}
-
-fn part(spots: &[TakenSpot], start: usize, end: usize) -> &[TakenSpot]
-    requires ordered { start ≤ end }
-    requires within { end ≤ length spots.now }
-    ensures { result.now ≡ slice_range spots.now start end }
-{
-    &spots[start..end]
-}
-
 impl<'q> TagCandidates<'q> {
     /// Makes candidates with no traces and no entries.
     pub(crate) fn new(alloc: Global, query: &'q Find) -> Self
@@ -269,12 +252,7 @@ impl<'q> TagCandidates<'q> {
         ensures { trace_spotted self.now.entries result.now ≡
             slice_index_or self.now.traces place [] }
     {
-        if place >= self.starts.len() {
-            return &[];
-        }
-        let start = self.starts[place];
-        let end = next_start(&self.starts, place, self.spots.len());
-        part(&self.spots, start, end)
+        trace_part(&self.spots, &self.starts, place)
     }
 
     /// Adds an entry, and whether one of its spans may meet the search.
@@ -326,7 +304,7 @@ impl<'q> TagCandidates<'q> {
         Ok(())
     }
 
-    /// Judges the entries, and returns the traces that have a span of an entry of which a span may meet the search.
+    /// Judges the entries, and returns the traces that have a span of an entry that may meet the search.
     /// The search finds the same among these as among all. No trace is looked at if no entry has such a span.
     ///
     /// # Errors

@@ -1,8 +1,9 @@
 //! Traces whose spans were collected from a store.
 
-ghost use Rattle.std.specs.Prelude.{◌≡◌, List, [], ◌∷◌, ◌++◌, ◌+◌, ◌<◌, ◌≤◌, OnOk, length, slice_index_or, slice_range};
+ghost use Rattle.std.specs.Prelude.{◌≡◌, List, [], ◌∷◌, ◌++◌, OnOk, length, slice_index_or};
 ghost use Rattle.trace_model.specs.Taking.{Taken};
 
+use crate::trace_parts::trace_part;
 use std::alloc::{AllocError, Global};
 use std::marker::Model;
 use trace_model::TakenSpan;
@@ -29,25 +30,6 @@ impl Model for TakenTraces {
     ghost invariant = { λ t. AreStarts (length t.spans.items) t.starts.items };
 }
 
-/// Returns the start of the trace after the one at a place, or the end.
-fn next_start(starts: &[usize], place: usize, end: usize) -> usize
-    requires { place < length starts.now }
-    ensures { result ≡ slice_index_or starts.now (place + 1) end }
-{
-    match starts.get(place + 1) {
-        Some(next) => *next,
-        None => end,
-    }
-}
-
-fn part(spans: &[TakenSpan], start: usize, end: usize) -> &[TakenSpan]
-    requires ordered { start ≤ end }
-    requires within { end ≤ length spans.now }
-    ensures { result.now ≡ slice_range spans.now start end }
-{
-    &spans[start..end]
-}
-
 impl TakenTraces {
     /// Makes an empty list.
     pub fn new(alloc: Global) -> TakenTraces
@@ -70,12 +52,7 @@ impl TakenTraces {
     pub fn trace(&self, place: usize) -> &[TakenSpan]
         ensures { result.now ≡ slice_index_or self.now place [] }
     {
-        if place >= self.starts.len() {
-            return &[];
-        }
-        let start = self.starts[place];
-        let end = next_start(&self.starts, place, self.spans.len());
-        part(&self.spans, start, end)
+        trace_part(&self.spans, &self.starts, place)
     }
 
     /// Appends a trace with no spans.

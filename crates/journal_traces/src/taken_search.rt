@@ -8,10 +8,11 @@ ghost use Rattle.trace_model.specs.Seeing.{seen};
 ghost use Rattle.journal_traces.specs.Taking.{placed_taken, HasProcess, HaveProcesses, ShareByNumber};
 ghost use Rattle.journal_traces.specs.TakenSearch.{AreJudged, traces_taken, query_taken};
 
-use crate::span_conditions::{has_tags, is_met_alone, judge};
+use crate::span_conditions::{has_tags, judge};
 use crate::taken::TakenTraces;
 use find_traces::{JudgedProcess, PreparedSearch, Searched};
 use jaeger_model::{Seen, TraceId};
+use span_steps::meets_span_conditions;
 use std::alloc::{AllocError, Global};
 use std::collections::BTreeMap;
 use std::marker::Model;
@@ -58,7 +59,7 @@ fn is_match<'a>(
         AreJudged prepared.now process_of judged.old → Some at.entry.process.now ≡ process_of number →
         AreJudged prepared.now process_of judged.new }
 {
-    if !is_met_alone(at, prepared.query()) {
+    if !meets_span_conditions(at, prepared.query()) {
         return Ok(false);
     }
     if let Some(process) = judged.get(&number) {

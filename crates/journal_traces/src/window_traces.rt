@@ -1,11 +1,12 @@
 //! The traces of a window of time, by the spots of their spans, with each of their entries collected once.
 
-ghost use Rattle.std.specs.Prelude.{◌≡◌, ◌+◌, ◌<◌, ◌≤◌, [], ◌∷◌, ◌++◌, length, slice_index_or, slice_range, IfOk, OnOk};
+ghost use Rattle.std.specs.Prelude.{◌≡◌, [], ◌∷◌, ◌++◌, length, slice_index_or, IfOk, OnOk};
 ghost use Rattle.std.specs.Arc.{arc_value};
 ghost use Rattle.journal_traces.specs.Cutting.{cut_at, AreStarts};
 ghost use Rattle.journal_traces.specs.Windowed.{entries_seen, taken_reported, trace_reported, traces_reported};
 
 use crate::taken_spot::TakenSpot;
+use crate::trace_parts::trace_part;
 use call_links::NumberedSpan;
 use std::alloc::{AllocError, Global};
 use std::marker::Model;
@@ -82,37 +83,13 @@ impl WindowSpots {
     }
 }
 
-/// Returns the start of the trace after the one at a place, or the end.
-fn next_start(starts: &[usize], place: usize, end: usize) -> usize
-    requires { place < length starts.now }
-    ensures { result ≡ slice_index_or starts.now (place + 1) end }
-{
-    match starts.get(place + 1) {
-        Some(next) => *next,
-        None => end,
-    }
-}
-
-fn part(spots: &[TakenSpot], start: usize, end: usize) -> &[TakenSpot]
-    requires ordered { start ≤ end }
-    requires within { end ≤ length spots.now }
-    ensures { result.now ≡ slice_range spots.now start end }
-{
-    &spots[start..end]
-}
-
 /// Returns the spots of the trace at a place, which counts from 0; none if there is no such trace.
 fn spots_of(taken: &WindowSpots, place: usize) -> &[TakenSpot]
     requires { AreStarts (length taken.now.spots.items) taken.now.starts.items }
     ensures { result.now ≡
         slice_index_or (cut_at taken.now.spots.items taken.now.starts.items) place [] }
 {
-    if place >= taken.starts.len() {
-        return &[];
-    }
-    let start = taken.starts[place];
-    let end = next_start(&taken.starts, place, taken.spots.len());
-    part(&taken.spots, start, end)
+    trace_part(&taken.spots, &taken.starts, place)
 }
 
 /// Returns the span at a spot, with the number of its service.

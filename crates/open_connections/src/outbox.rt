@@ -205,7 +205,7 @@ impl<C: TryConnection> Connection for Outbox<C> {
 }
 
 impl<C: TryConnection> Respond for Outbox<C> {
-    fn respond(&mut self, response: Response) -> Result<(), usize> {
+    fn send_response(&mut self, response: Response) -> Result<(), usize> {
         let mut waiting = Waiting::new(response);
         let all = waiting.len();
         if all == 0 {

@@ -20,7 +20,7 @@ pub struct Socket {
 }
 
 impl Socket {
-    /// Wraps a stream in non-blocking mode of which no read has failed.
+    /// Wraps a stream in non-blocking mode; none of its reads has failed.
     pub fn new(stream: TcpStream) -> Socket
         ensures { result.failed ≡ false }
     {

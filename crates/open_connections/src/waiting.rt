@@ -27,7 +27,7 @@ impl Model for Waiting {
 }
 
 impl Waiting {
-    /// Wraps a response of which nothing was written.
+    /// Wraps a response before any of it is written.
     pub(crate) fn new(response: Response) -> Waiting
         ensures { to_come result ≡ to_come response }
     {

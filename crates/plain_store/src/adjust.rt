@@ -101,7 +101,7 @@ fn next_clock(
     }
 }
 
-/// Returns the clock of the first of the places, each of which is followed by its parent's.
+/// Returns the clock of the first place; each place is followed by its parent's.
 fn clock_down(
     alloc: Global,
     trace: &[Placed],

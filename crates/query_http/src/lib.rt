@@ -24,5 +24,5 @@ pub use fault::{Parameter, QueryFault};
 pub use form::{Pair, form_pairs};
 pub use paths::{Endpoint, endpoints, find_endpoint};
 pub use query::{parse_query, path_and_form, read_query};
-pub use response::{respond, response_head, response_head_of};
+pub use response::{respond, response_head};
 pub use status::Status;

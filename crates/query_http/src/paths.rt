@@ -64,7 +64,10 @@ fn strip_prefix<'p>(path: &'p str, front: &str) -> &'p str
     requires { (rest : List ℕ) × (path.now ≡ front.now ++ rest) }
     ensures { path.now ≡ front.now ++ result.now }
 {
-    path.strip_prefix(front).unwrap_or("")
+    match path.strip_prefix(front) {
+        Some(rest) => rest,
+        None => unreachable!(),
+    }
 }
 
 /// Strips a suffix from a path.
@@ -72,7 +75,10 @@ fn strip_suffix<'p>(path: &'p str, end: &str) -> &'p str
     requires { (part : List ℕ) × (path.now ≡ part ++ end.now) }
     ensures { path.now ≡ result.now ++ end.now }
 {
-    path.strip_suffix(end).unwrap_or("")
+    match path.strip_suffix(end) {
+        Some(part) => part,
+        None => unreachable!(),
+    }
 }
 
 /// Returns the part of an endpoint's path, not decoded; empty if the endpoint has none.
@@ -86,7 +92,7 @@ fn part_of(endpoint: Endpoint, path: &str) -> &str
             strip_prefix(path, "/api/services/"),
             "/operations",
         ),
-        _ => "",
+        Endpoint::Traces | Endpoint::Services | Endpoint::Operations | Endpoint::Dependencies => "",
     }
 }
 

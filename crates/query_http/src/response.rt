@@ -79,7 +79,7 @@ fn push_close(out: &mut Vec<u8>, close: bool) -> Result<(), AllocError>
 /// # Errors
 ///
 /// Out of memory, and nothing else.
-pub fn response_head_of(
+pub fn response_head(
     alloc: Global,
     status: Status,
     length: usize,
@@ -98,24 +98,6 @@ pub fn response_head_of(
     Ok(out)
 }
 
-/// Returns the head of a response with this body ([`response_head_of`]).
-///
-/// # Errors
-///
-/// Out of memory, and nothing else.
-pub fn response_head(
-    alloc: Global,
-    status: Status,
-    body: &[u8],
-    allow: &str,
-    close: bool,
-) -> Result<Vec<u8>, AllocError>
-    ensures { IfOk result (λ v. v.items ++ body.now ≡
-        response (code_of status) body.now allow.now close) }
-{
-    response_head_of(alloc, status, body.len(), allow, close)
-}
-
 /// Returns the bytes of a response: its head ([`response_head`]), and then the body.
 ///
 /// # Errors
@@ -130,7 +112,7 @@ pub fn respond(
 ) -> Result<Vec<u8>, AllocError>
     ensures { IfOk result (λ v. v.items ≡ response (code_of status) body.now allow.now close) }
 {
-    let mut out = response_head(alloc, status, body, allow, close)?;
+    let mut out = response_head(alloc, status, body.len(), allow, close)?;
     out.extend_from_slice(body)?;
     Ok(out)
 }

@@ -2,7 +2,7 @@
 use Rattle.std.proofs.Common.{◌≡◌, ◌<◌, ◌≤◌, ◌+◌, ℕ, Bool, true, false, List, [], ◌∷◌, ◌++◌, length, length-append, map, drop, get_or, refl, sym, ap, subst}
 use Rattle.std.proofs.Common.{◌∙◌, append_assoc, append-nil, arith, true≢false, Result, Ok, Err, Vec, Global, IfOk, Some}
 use Rattle.std.specs.Str.{IsUtf8}
-use Rattle.std.specs.Prelude.{slice_get, vec_capacity}
+use Rattle.std.specs.Prelude.{◌-◌, slice_get}
 use Rattle.std.proofs.lemmas.List.{drop_all, drop_more, get_or-map, length-map}
 use Rattle.std.proofs.lemmas.Option.{get_or_from_slice_get}
 use Rattle.std.proofs.lemmas.Str.{IsUtf8-append, IsUtf8-nil}
@@ -21,7 +21,7 @@ pub Adds-nothing : (a : Page) → Adds a a []
 Adds-nothing a = record {
   before = λ h. h;
   behind = λ h. sym (append-nil a.bytes.items);
-  capacity = omega arith;
+  room = omega arith;
   lacks = λ had full. absurd (clash a.full had full);
   counts = λ full small. omega arith;
 }
@@ -42,7 +42,7 @@ pub Adds-then : {a b c : Page} {xs ys : List ℕ} → Adds a b xs → Adds b c y
 Adds-then {a = a} {b = b} {c = c} {xs = xs} {ys = ys} p q = record {
   before = λ room. p.before (q.before room);
   behind = λ room. q.behind room ∙ ap (λ l. l ++ ys) (p.behind (q.before room)) ∙ append_assoc a.bytes.items xs ys;
-  capacity = omega (arith, p.capacity, q.capacity);
+  room = omega (arith, p.room, q.room);
   lacks = λ had full. by had full b.full refl;
   counts = λ full small.
       let last : c.lost ≡ b.lost + length ys = q.counts (stays_full p full) small in
@@ -50,9 +50,9 @@ Adds-then {a = a} {b = b} {c = c} {xs = xs} {ys = ys} p q = record {
       omega (arith, first, last, length-append xs ys);
 }
   where
-    by : a.full ≡ false → c.full ≡ true → (t : Bool) → b.full ≡ t → vec_capacity a.bytes < length a.bytes.items + length (xs ++ ys)
+    by : a.full ≡ false → c.full ≡ true → (t : Bool) → b.full ≡ t → a.bytes.room - length a.bytes.items < length (xs ++ ys)
     by had full true e = omega (arith, p.lacks had e, length-append xs ys)
-    by had full false e = omega (arith, p.capacity, q.lacks e full, ap length (p.behind e), length-append a.bytes.items xs, length-append xs ys)
+    by had full false e = omega (arith, p.room, q.lacks e full, ap length (p.behind e), length-append a.bytes.items xs, length-append xs ys)
 
 pub Adds-is : {a b : Page} {xs ys : List ℕ} → Adds a b xs → xs ≡ ys → Adds a b ys
 Adds-is {a = a} {b = b} p e = subst (Adds a b) e p
@@ -70,12 +70,12 @@ Puts-is {a = a} {b = b} p e = subst (Puts a b) e p
 
 -- a page that wasn't full has the text
 pub finished : {E : Type 0} (r : Result (Vec ℕ Global) E) {old now : Page} {text : List ℕ} → old.bytes.items ≡ [] → Puts old now text
-    → IfOk r (λ v. (now.full ≡ false) × (v ≡ now.bytes)) → IfOk r (λ v. v.items ≡ text)
-finished (Ok v) {text = text} none p h = ap (λ (w : Vec ℕ Global). w.items) h.1 ∙ p.adds.behind h.0 ∙ ap (λ (l : List ℕ). l ++ text) none
+    → IfOk r (λ v. (now.full ≡ false) × (v.items ≡ now.bytes.items)) → IfOk r (λ v. v.items ≡ text)
+finished (Ok v) {text = text} none p h = h.1 ∙ p.adds.behind h.0 ∙ ap (λ (l : List ℕ). l ++ text) none
 finished (Err e) none p h = tt
 
 pub finished_utf8 : {E : Type 0} (r : Result (Vec ℕ Global) E) {old now : Page} {text : List ℕ} → old.bytes.items ≡ [] → Puts old now text
-    → IfOk r (λ v. (now.full ≡ false) × (v ≡ now.bytes)) → IfOk r (λ v. IsUtf8 v.items)
+    → IfOk r (λ v. (now.full ≡ false) × (v.items ≡ now.bytes.items)) → IfOk r (λ v. IsUtf8 v.items)
 finished_utf8 {E = E} (Ok v) none p h = subst IsUtf8 (sym (finished {E = E} (Ok v) none p h)) p.utf8
 finished_utf8 (Err e) none p h = tt
 

@@ -1,7 +1,6 @@
 -- Runs of pieces of an answer's text.
 use Rattle.std.proofs.Common.{◌≡◌, ◌<◌, ◌≤◌, ◌+◌, ◌∙◌, ℕ, zero, suc, List, [], ◌∷◌, ◌++◌, true, false, Bool, length, drop, get_or, map, refl, sym, ap, subst}
 use Rattle.std.proofs.Common.{append_assoc, append-nil, arith}
-use Rattle.std.specs.Prelude.{vec_capacity}
 use Rattle.std.proofs.lemmas.List.{drop_all, drop_more, length-map}
 use Rattle.serde_json.specs.Data.{Data}
 use Rattle.serde_json.specs.View.{items_of}
@@ -169,16 +168,13 @@ Fills-next {a = a} {b = b} {c = c} {mid = mid} {to = to} f n below had_room = re
   fits = λ most h. (n.fits most (f.fits most h)).1;
   room = λ most h cap had.
       let small = (n.fits most (f.fits most h)).0 in
-      not_full c.full (λ full. let lacks = n.puts.adds.lacks had_room full in let grown = f.puts.adds.capacity in
+      not_full c.full (λ full. let lacks = n.puts.adds.lacks had_room full in let grown = f.puts.adds.room in
       omega (arith, lacks, grown, small, cap, below));
 }
 
 pub put_items : {a b : Page} {xs : List ℕ} → Puts a b xs → b.full ≡ false → a.bytes.items ≡ [] → b.bytes.items ≡ xs
 put_items {xs = xs} p room none = p.adds.behind room ∙ ap (λ (l : List ℕ). l ++ xs) none
 
-pub within_capacity : (p : Page) → length p.bytes.items ≤ vec_capacity p.bytes
-within_capacity p = omega (arith, p.bytes.ok.0, p.bytes.ok.1)
-
 -- an open page stays open if nothing is written
 pub open_still : {a b : Page} {xs : List ℕ} → Puts a b xs → a.full ≡ false → length xs ≡ 0 → b.full ≡ false
-open_still {a = a} {b = b} p had none = not_full b.full (λ full. let lacks = p.adds.lacks had full in omega (arith, lacks, none, within_capacity a))
+open_still {a = a} {b = b} p had none = not_full b.full (λ full. let lacks = p.adds.lacks had full in omega (arith, lacks, none))

@@ -1,4 +1,5 @@
 pub mod Around
+pub mod Buffers
 pub mod LentTraces
 pub mod Named
 pub mod Naming

@@ -1,5 +1,5 @@
 -- What is written to a page.
-use Rattle.std.specs.Prelude.{◌≡◌, ◌+◌, ◌<◌, ◌≤◌, ◌^◌, ℕ, true, false, List, ◌++◌, length, vec_capacity}
+use Rattle.std.specs.Prelude.{◌≡◌, ◌+◌, ◌-◌, ◌<◌, ◌≤◌, ◌^◌, ℕ, true, false, List, ◌++◌, length}
 use Rattle.std.specs.Str.{IsUtf8}
 use Rattle.query_json.specs.declared.writing.page.Page.{Page}
 
@@ -8,8 +8,8 @@ use Rattle.query_json.specs.declared.writing.page.Page.{Page}
 pub record Adds (old new : Page) (bytes : List ℕ) : Type 0 where
   pub before : new.full ≡ false → old.full ≡ false
   pub behind : new.full ≡ false → new.bytes.items ≡ old.bytes.items ++ bytes
-  pub capacity : vec_capacity old.bytes ≤ vec_capacity new.bytes
-  pub lacks : old.full ≡ false → new.full ≡ true → vec_capacity old.bytes < length old.bytes.items + length bytes
+  pub room : old.bytes.room ≤ new.bytes.room
+  pub lacks : old.full ≡ false → new.full ≡ true → old.bytes.room - length old.bytes.items < length bytes
   pub counts : old.full ≡ true → new.lost + 1 < 2 ^ 64 → new.lost ≡ old.lost + length bytes
 
 -- and they are text

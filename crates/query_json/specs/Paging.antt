@@ -1,5 +1,5 @@
 -- The texts of an answer's parts.
-use Rattle.std.specs.Prelude.{◌≡◌, ◌+◌, ◌≤◌, ◌⊎◌, ℕ, false, List, [], length, unwrap_or, vec_capacity}
+use Rattle.std.specs.Prelude.{◌≡◌, ◌+◌, ◌≤◌, ◌⊎◌, ℕ, false, List, [], length, unwrap_or}
 use Rattle.query_json.specs.declared.paging.PagedAnswer.{PagedAnswer}
 use Rattle.query_json.specs.declared.writing.page.Page.{Page}
 use Rattle.query_json.specs.Pieces.{AreWritable, runs_of}
@@ -25,7 +25,7 @@ next_page p = unwrap_or p.later p.page
 pub record HasRoom (p : PagedAnswer) : Type 0 where
   pub most : ℕ
   pub fit : AllFit most (left_of p)
-  pub room : 16384 + most ≤ vec_capacity (next_page p).bytes
+  pub room : 16384 + most ≤ (next_page p).bytes.room
 
 -- the following text can be made, and there is room for each part of it
 pub record IsReady (p : PagedAnswer) : Type 0 where

@@ -1,5 +1,5 @@
 -- Runs of pieces of an answer's text: one for each item, and one for the end.
-use Rattle.std.specs.Prelude.{◌≡◌, ◌+◌, ◌<◌, ◌≤◌, ℕ, zero, suc, false, List, [], ◌∷◌, ◌++◌, length, drop, flat_map, vec_capacity}
+use Rattle.std.specs.Prelude.{◌≡◌, ◌+◌, ◌<◌, ◌≤◌, ℕ, zero, suc, false, List, [], ◌∷◌, ◌++◌, length, drop, flat_map}
 use Rattle.query_json.specs.declared.writing.page.Page.{Page}
 use Rattle.query_json.specs.Around.{head_text, tail_text}
 use Rattle.query_json.specs.Page.{Puts}
@@ -75,4 +75,4 @@ pub record Fills (enough : ℕ) (old new : Page) (from to : List (List (List ℕ
   pub text : text_of from ≡ bytes ++ text_of to
   pub ended : from ≡ [] → to ≡ []
   pub fits : (most : ℕ) → AllFit most from → AllFit most to
-  pub room : (most : ℕ) → AllFit most from → enough + most ≤ vec_capacity old.bytes → old.full ≡ false → new.full ≡ false
+  pub room : (most : ℕ) → AllFit most from → enough + most ≤ old.bytes.room → old.full ≡ false → new.full ≡ false

@@ -1,5 +1,5 @@
 //! Makes the text of an answer part by part, on one page.
-ghost use Rattle.std.specs.Prelude.{◌≡◌, ◌+◌, ◌^◌, ◌≤◌, ◌<◌, ◌⊎◌, ◌++◌, [], None, false, true, IfOk, OnOk, get_or, length, vec_capacity};
+ghost use Rattle.std.specs.Prelude.{◌≡◌, ◌+◌, ◌^◌, ◌≤◌, ◌<◌, ◌⊎◌, ◌++◌, [], None, false, true, IfOk, OnOk, get_or, length};
 ghost use Rattle.serde_json.specs.Written.{compact_text};
 ghost use Rattle.query_json.specs.Page.{Puts};
 ghost use Rattle.query_json.specs.Pieces.{AreWritable, item_trees, runs_of};
@@ -166,13 +166,13 @@ fn measure(alloc: Global, items: &Items, from: Position) -> Result<(u64, usize),
 fn page_for(alloc: Global, largest: usize) -> Result<Page, AllocError>
     ensures empty { IfOk result (λ p. p.bytes.items ≡ []) }
     ensures open { IfOk result (λ p. p.full ≡ false) }
-    ensures room { IfOk result (λ p. 16384 + largest ≤ vec_capacity p.bytes) }
+    ensures room { IfOk result (λ p. 16384 + largest ≤ p.bytes.room) }
 {
     let Some(room) = largest.checked_add(PART_BYTES) else {
         // Impossible: no piece has nearly 2^64 bytes.
         return Err(AllocError);
     };
-    Ok(Page::new(Vec::with_capacity(alloc, room)?))
+    Page::with_room(alloc, room)
 }
 
 impl PagedAnswer {
@@ -186,7 +186,7 @@ impl PagedAnswer {
         ensures rest { rest_of result ≡ [] }
     {
         PagedAnswer {
-            page: Page::new(text),
+            page: Page::of_text(text),
             later: None,
             items: Items::none(alloc),
             next: Position { run: 1, piece: 0 },
@@ -225,7 +225,7 @@ impl PagedAnswer {
             part_of p ++ rest_of p ≡ compact_text (items_tree (item_trees items))) }
         ensures some { IfOk result (λ p. IsSome (part_of p) (rest_of p)) }
     {
-        let mut page = Page::new(Vec::with_capacity(alloc, INITIAL_CAPACITY)?);
+        let mut page = Page::with_room(alloc, INITIAL_CAPACITY)?;
         write_start(&mut page);
         let end = fill(&mut page, &items, Position::first(), FIRST_PART_BYTES);
         if page.is_full() {

@@ -1,5 +1,6 @@
 //! Writes the text of trees without building them.
 //!
+//! * `buffer`: bytes that grow at their end.
 //! * `page`: a text that grows piece by piece.
 //! * `plain`: whether a text needs no escape in a string.
 //! * `values`: tags, references, operations and links.
@@ -16,6 +17,7 @@ ghost use Rattle.query_json.specs.Runs.{separator};
 ghost use Rattle.query_json.specs.Trees.{list};
 
 mod answer;
+mod buffer;
 mod ids;
 mod page;
 mod plain;

@@ -8,7 +8,7 @@ use crate::labels::{Label, Labels, is_label};
 use hash_tables::Sought;
 use std::hash::{BuildHasher, Hash, Hasher, RandomState};
 
-/// Returns the hash of a label, each part of which is delimited.
+/// Returns the hash of a label whose parts are delimited.
 pub(crate) fn label_hash(keys: RandomState, label: Label<'_>) -> u64
     ensures { result ≡ hash_of keys (label_value label.entry) }
 {

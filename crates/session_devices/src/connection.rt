@@ -33,7 +33,7 @@ impl<'a, R, W> Join<'a, R, W> {
 impl<'a, R: Input, W: Output> Input for Join<'a, R, W> {
     ghost remaining = { λ s. R.remaining s.input.now };
 
-    // The references stay the same too, so the lender learns what became of the values behind them.
+    // The references stay the same too, so the lender learns what became of the values that they refer to.
     ghost gives = { λ s given t. R.gives s.input.now given t.input.now
         × (t.input.ghost_name ≡ s.input.ghost_name) × (t.output ≡ s.output) };
 

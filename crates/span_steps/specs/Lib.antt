@@ -1,1 +1,2 @@
+pub mod SpanConditions
 pub mod Warnings

@@ -1,18 +1,18 @@
 //! The conditions of a search on a span's service, operation, duration and start.
 
-ghost use Rattle.std.specs.Prelude.{◌≡◌, [], ◌||◌};
-ghost use Rattle.jaeger_model.specs.Texts.{same_text};
+ghost use Rattle.std.specs.Prelude.{◌≡◌};
 ghost use Rattle.trace_model.specs.Searching.{at_least, at_most, bound, is_named, is_timed};
 ghost use Rattle.trace_model.specs.Seeing.{seen};
+ghost use Rattle.span_steps.specs.SpanConditions.{has_operation, meets_span_conditions};
 
-use jaeger_model::{Seen, Text};
+use jaeger_model::Seen;
 use trace_model::Find;
 
-/// Whether the text is the requested one; an empty request matches every text.
-fn matches_text(asked: &Text, text: &Text) -> bool
-    ensures { result ≡ (same_text asked.now [] || same_text asked.now text.now) }
+/// Whether the operation is that of the search; an empty one matches every one.
+fn has_operation(at: Seen, query: &Find) -> bool
+    ensures { result ≡ has_operation query.now (seen at.entry) }
 {
-    asked.as_str() == "" || asked == text
+    query.operation.as_str() == "" || query.operation == at.span.operation
 }
 
 /// Whether the value is at or above the bound, if there is one.
@@ -46,7 +46,7 @@ pub fn duration_bound(duration: i64) -> Option<i64>
 pub fn is_named(at: Seen, query: &Find) -> bool
     ensures { result ≡ is_named query.now (seen at.entry) }
 {
-    query.service == at.process.service && matches_text(&query.operation, &at.span.operation)
+    query.service == at.process.service && has_operation(at, query)
 }
 
 /// Whether duration and start are within the bounds of the search, in microseconds; a duration's bound of 0 is
@@ -58,4 +58,12 @@ pub fn is_timed(at: Seen, query: &Find) -> bool
         && is_at_most(duration_bound(query.duration_max), at.span.duration)
         && is_at_least(query.start_min, at.span.start)
         && is_at_most(query.start_max, at.span.start)
+}
+
+/// Whether the span meets the conditions of the search that need neither its process nor its tags: operation,
+/// duration and start. An empty operation matches every one.
+pub fn meets_span_conditions(at: Seen, query: &Find) -> bool
+    ensures { result ≡ meets_span_conditions query.now (seen at.entry) }
+{
+    has_operation(at, query) && is_timed(at, query)
 }

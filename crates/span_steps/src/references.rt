@@ -47,10 +47,9 @@ pub fn parent_first(span: &mut Span)
 /// # Errors
 ///
 /// Out of memory, and nothing else.
-pub fn with_parent_first(alloc: Global, placed: Placed) -> Result<Placed, AllocError>
+pub fn with_parent_first(alloc: Global, mut placed: Placed) -> Result<Placed, AllocError>
     ensures { IfOk result (λ p. p ≡ with_parent_first placed) }
 {
-    let mut placed = placed;
     refer_to_parent(alloc, &mut placed.span)?;
     parent_first(&mut placed.span);
     Ok(placed)

@@ -7,20 +7,20 @@
 //!
 //! * `arrange`: what one more entry changes in what is shown.
 //! * `collected`: what the answer to a query needs of a store.
-//! * `common`: which searches read all traces, and not a service's entries.
 //! * `finding`: searches over traces in the journal.
 //! * `found_traces`, `tag_search`, `window_calls`: what a search found or may find, and traces whose calls are
 //!   requested, collected from the store.
+//! * `search_plan`: which searches read all traces, and not a service's entries.
 //! * `store`: the [`SpanStore`].
 //! * `replaying`: a store made of a list of entries.
 #![tactic(auto)]
 
 mod arrange;
 mod collected;
-mod common;
 mod finding;
 mod found_traces;
 mod replaying;
+mod search_plan;
 mod store;
 mod tag_search;
 mod window_calls;

@@ -1,4 +1,4 @@
-//! A store made of a list of entries, some of which it may refuse.
+//! A store made of a list of entries; it may refuse some.
 
 ghost use Rattle.std.specs.Prelude.{◌≡◌, map, OnOk, IfOk, IfErr};
 ghost use Rattle.std.specs.Arc.{arc_value};

@@ -22,12 +22,12 @@ ghost use Rattle.span_store.specs.NextEntry.{next_entry};
 
 use crate::arrange::apply_entry;
 use crate::collected::{Collected, Form};
-use crate::common::{
+use crate::finding;
+use crate::found_traces::FoundTraces;
+use crate::search_plan::{
     COMMON_ONE_IN, ENTRIES_PER_TRACE, MAX_TRIES, TRACES_PER_ENTRY, TRY_GROWTH, are_few, first_try,
     has_window, is_by_service_alone, is_full, is_promising,
 };
-use crate::finding;
-use crate::found_traces::FoundTraces;
 use crate::tag_search::TagSearch;
 use crate::window_calls::WindowCalls;
 use arrival_journal::{Journal, Record};

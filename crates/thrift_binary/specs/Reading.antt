@@ -1,7 +1,6 @@
--- Reading from left to right, with the first fault, and lemmas about it.
+-- Reading from left to right, with the first fault.
 use Rattle.std.specs.Prelude.{◌≡◌, ℕ, ℤ, ◌^◌, List, [], ◌∷◌, length, take, drop, Option, Some, None, Result, Ok, Err, Bool, true, false, ◌&&◌, ◌||◌, nat_lt}
 use Rattle.std.specs.Prelude.{◌==◌, if◌then◌else◌}
-use Rattle.std.proofs.Common.{◌∙◌}
 use Rattle.std.specs.Int.{Width, w16, cast_signed}
 use Rattle.byteorder.specs.Endian.{big_number}
 use Rattle.thrift_binary.specs.declared.fault.WireError.{WireError}
@@ -94,14 +93,3 @@ map_at w = do
   v ← byte_at k.1
   n ← size_at v.1
   if (n.0 == 0) || (is_code k.0 && is_code v.0) then Ok (((k.0, v.0), n.0), n.1) else Err BadType
-
-pub Reads-same : {X Y : Type 0} (view : X → Y) (f g : List ℕ → Read Y) (old : List ℕ) (r : Result X WireError) (new : List ℕ) → f old ≡ g old
-    → Reads view g old r new → Reads view f old r new
-Reads-same view f g old (Ok x) new e h = e ∙ h
-Reads-same view f g old (Err d) new e h = (e ∙ h.0, h.1)
-
--- an error that a `?` returns
-pub Reads-exit : {X Y : Type 0} (view : X → Y) (f : List ℕ → Read Y) (old : List ℕ) (r : Result X WireError) (d : WireError) (new : List ℕ) → r ≡ Err d
-    → f old ≡ Err d → new ≡ [] → Reads view f old r new
-Reads-exit view f old (Ok x) d new e h n = absurd cc
-Reads-exit view f old (Err c) d new e h n = (cc, n)

@@ -4,7 +4,7 @@ ghost use Rattle.thrift_binary.specs.Spelling.{Beginning, IsBool, IsI32, IsI64, 
 ghost use Rattle.thrift_binary.specs.Reading.{Reads, bytes_at, byte_at, bool_at, number_at, signed_at, size_at, string_at, field_at, list_at, map_at};
 
 use crate::fault::WireError;
-use crate::types::is_code;
+use crate::types::{STOP, is_code};
 use byteorder::{BigEndian, ByteOrder};
 use std::marker::Model;
 
@@ -279,11 +279,11 @@ impl<'a> Cursor<'a> {
         ensures exact { Reads (λ x. x) field_at self.old result self.new }
         ensures shorter { OnOk result (length self.new < length self.old) }
         ensures spelled { IfOk result (λ f.
-            MatchOption f (self.old ≡ 0 ∷ self.new) (λ h.
+            MatchOption f (self.old ≡ STOP ∷ self.new) (λ h.
             Beginning (IsFieldHead h.0 h.1) self.old self.new)) }
     {
         let code = self.read_byte()?;
-        if code == 0 {
+        if code == STOP {
             return Ok(None);
         }
         let id = self.read_i16()?;

@@ -1,7 +1,9 @@
-//! The type codes of the protocol. No other code is a type; 0 instead of a field's type is the stop byte.
+//! The type codes of the protocol. No other code is a type.
 ghost use Rattle.std.specs.Prelude.{◌≡◌};
 ghost use Rattle.thrift_binary.specs.Reading.{is_code};
 
+/// No type. In place of a field's type it is the stop byte, which ends a struct.
+pub const STOP: u8 = 0;
 /// One byte, 1 for true and 0 for false.
 pub const BOOL: u8 = 2;
 /// One byte.

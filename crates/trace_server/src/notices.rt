@@ -15,10 +15,10 @@ use text_lines::{ExitStatus, RunError};
 use trace_model::{Answer, Limits, Refusal};
 
 /// The measured size of a span with one tag, in bytes.
-const BYTES_WITH_ONE_TAG: u64 = 410;
+const BYTES_WITH_ONE_TAG: u64 = 420;
 
 /// The measured size of a span with five tags, in bytes.
-const BYTES_WITH_FIVE_TAGS: u64 = 700;
+const BYTES_WITH_FIVE_TAGS: u64 = 710;
 
 /// The numbers of requests answered 500 at which a line is printed.
 const PRINTED_FAILURES: [u64; 7] = [1, 10, 100, 1_000, 10_000, 100_000, 1_000_000];

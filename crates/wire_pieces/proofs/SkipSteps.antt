@@ -7,7 +7,7 @@ use Rattle.thrift_binary.specs.declared.fault.WireError.TheVariants.{Truncated, 
 use Rattle.thrift_binary.specs.Reading.{◌>>=◌, Read, field_at, string_at, size_at, list_at, map_at, is_code}
 use Rattle.thrift_binary.specs.Fields.{fields_in, fields_at}
 use Rattle.thrift_binary.specs.Skipping.{Skip, past, both, times, text, width, struct, items, pairs, container, leaf, is_container, value_at, skip_at}
-use Rattle.thrift_binary.specs.Skipping.{value_at-leaf, value_at-deep, value_at-inside}
+use Rattle.thrift_binary.proofs.SkippedByLevel.{value_at-leaf, value_at-deep, value_at-inside}
 use Rattle.thrift_binary.proofs.CutSkip.{value_cut}
 use Rattle.wire_pieces.specs.declared.heads.FieldHead.{FieldHead}
 use Rattle.wire_pieces.specs.declared.skip.AlternatingValues.{AlternatingValues}

@@ -9,7 +9,7 @@ use crate::fault::PieceError;
 use crate::numbers::Size;
 use crate::partial_bytes::PartialBytes;
 use byteorder::{BigEndian, ByteOrder};
-use thrift_binary::types::is_code;
+use thrift_binary::types::{STOP, is_code};
 use thrift_binary::{Cursor, WireError};
 
 /// Continues a signed number of 16 bits with a piece.
@@ -95,7 +95,7 @@ impl FieldHead {
                 let Some(code) = piece.next() else {
                     return Ok(None);
                 };
-                if code == 0 {
+                if code == STOP {
                     return Ok(Some(None));
                 }
                 let mut part = TypedId {

@@ -4,7 +4,7 @@ ghost use Rattle.wire_pieces.specs.Pieces.{Takes};
 use std::marker::Model;
 use thrift_binary::Cursor;
 
-/// A buffer for N bytes of which fewer have arrived. Contracts see the bytes that have.
+/// A buffer for N bytes; fewer have arrived. Contracts see those that have.
 #[derive(Drop)]
 pub struct PartialBytes<const N: usize> {
     bytes: [u8; N],

@@ -13,12 +13,16 @@ use crate::heads::{FieldHead, ListHead};
 use crate::maps::MapHead;
 use crate::numbers::Size;
 use crate::past::SkippedBytes;
+use smallvec::SmallVec;
 use std::alloc::Global;
 use std::mem;
 use thrift_binary::{Cursor, WireError, types};
 
 /// The greatest number of levels of containers in a skipped value.
 const MAX_LEVELS: usize = 64;
+
+/// The number of containers around the innermost one that are stored without an allocation.
+const INLINE_LEVELS: usize = 2;
 
 /// Values of two alternating types, and the number that remain.
 #[derive(Drop)]
@@ -71,6 +75,13 @@ pub(crate) enum Frame {
     Turns(AlternatingValues),
 }
 
+/// The rest of a container that has been read to its end.
+impl Default for Frame {
+    fn default() -> Self {
+        Frame::Turns(AlternatingValues::none())
+    }
+}
+
 /// The part of the innermost container that is being read.
 #[derive(Drop)]
 pub(crate) enum Current {
@@ -89,12 +100,12 @@ pub(crate) enum Progress {
 }
 
 /// A value of any type that is skipped, with at most 64 levels of containers. A bool may be any byte here, and a
-/// string any bytes. It stores a few bytes for each container that it is in.
+/// string any bytes. It stores a few bytes for each container that it is in, and allocates only from the third one on.
 #[derive(Drop)]
 pub struct Skipping {
     now: Current,
     top: Frame,
-    below: Vec<Frame>,
+    below: SmallVec<Frame, INLINE_LEVELS>,
 }
 
 fn width(code: u8) -> usize
@@ -157,7 +168,7 @@ impl Skipping {
                 next: code,
                 left: 1,
             }),
-            below: Vec::new(alloc),
+            below: SmallVec::new(alloc),
         }
     }
 

@@ -9,7 +9,7 @@ use std::alloc::Global;
 use std::mem;
 use thrift_binary::Cursor;
 
-/// The bytes after a length, of which some have arrived.
+/// The bytes after a length; some have arrived.
 #[derive(Drop)]
 pub(crate) struct Body {
     left: usize,

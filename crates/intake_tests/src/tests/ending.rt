@@ -363,7 +363,7 @@ fn is_answered<N: StoreName, R: Wait>(
     !is_left
 }
 
-/// Whether each ticket is answered by the books, and a further batch is refused. The store's answers are counted.
+/// Whether the books answer each ticket, and a further batch is refused. The store's answers are counted.
 fn is_whole<N: StoreName, R: Wait>(
     rt: &R,
     alloc: Global,
@@ -441,7 +441,7 @@ fn left_over<N: StoreName, R: Wait>(
     }
 }
 
-/// Two seats submit five jobs, of which the clerk serves one; the desk is closed, and the clerk leaves: four are
+/// Two seats submit five jobs. The clerk serves one; the desk is closed, and the clerk leaves: four are
 /// left. If memory ran out it may be fewer jobs.
 fn leaves<N: StoreName, R: Wait>(rt: &R, alloc: Global, opened: OpenDesk<N>) -> bool
     requires seats { AllMayHandIn opened.clerk.desk opened.floor.four.a.seat

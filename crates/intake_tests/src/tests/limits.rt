@@ -45,7 +45,7 @@ fn is_in_force<N: StoreName, R: Wait>(
     is_learnt(rt, pass, answer) == Ok(3) && is_found(pass, 2) && !is_found(pass, 1)
 }
 
-/// The place of the limit, of which the pass learns.
+/// The place of the limit that the pass learns.
 fn is_learnt<N: StoreName, R: Wait>(
     rt: &R,
     pass: &mut Pass<N>,

@@ -1,5 +1,5 @@
 //! A text that is written piece by piece.
-ghost use Rattle.std.specs.Prelude.{◌≡◌, ℕ, List, ◌+◌, ◌<◌, ◌≤◌, ◌-◌, ◌^◌, ◌∷◌, ◌++◌, [], false, true, IfOk, OnErr, decimal, drop, length, take, vec_capacity};
+ghost use Rattle.std.specs.Prelude.{◌≡◌, ℕ, List, ◌+◌, ◌<◌, ◌≤◌, ◌-◌, ◌^◌, ◌∷◌, ◌++◌, [], false, true, IfOk, OnErr, decimal, drop, length, take};
 ghost use Rattle.std.specs.Fmt.{signed_decimal};
 ghost use Rattle.std.specs.List.{prefix_len};
 ghost use Rattle.std.specs.Str.{IsAscii};
@@ -8,6 +8,7 @@ ghost use Rattle.json.specs.Run.{is_plain};
 ghost use Rattle.jaeger_model.specs.Ids.{low_digits};
 ghost use Rattle.jaeger_model.specs.Tags.{hex_text};
 
+use super::buffer::Buffer;
 use super::plain::is_plain;
 use std::alloc::{AllocError, Global};
 use std::str;
@@ -16,7 +17,7 @@ use std::str;
 /// counts the bytes that are written to it. [`Page::finish`] reports that it was full.
 #[derive(Drop)]
 pub(crate) struct Page {
-    bytes: Vec<u8>,
+    bytes: Buffer,
     full: bool,
     /// The number of bytes that were written to it while it was full.
     lost: usize,
@@ -25,8 +26,7 @@ pub(crate) struct Page {
 impl Page {
     ghost use Rattle.query_json.specs.Page.{Adds, Puts};
 
-    /// Returns a page that appends to these bytes. It allocates only once their capacity is used up.
-    pub(crate) fn new(bytes: Vec<u8>) -> Page
+    fn of_buffer(bytes: Buffer) -> Page
         ensures bytes { result.bytes ≡ bytes }
         ensures full { result.full ≡ false }
     {
@@ -37,13 +37,30 @@ impl Page {
         }
     }
 
+    /// Returns an empty page. It allocates only once this number of bytes is used up.
+    pub(crate) fn with_room(alloc: Global, room: usize) -> Result<Page, AllocError>
+        ensures items { IfOk result (λ p. p.bytes.items ≡ []) }
+        ensures room { IfOk result (λ p. p.bytes.room ≡ room) }
+        ensures full { IfOk result (λ p. p.full ≡ false) }
+    {
+        Ok(Page::of_buffer(Buffer::with_room(alloc, room)?))
+    }
+
+    /// Returns a page with a finished text.
+    pub(crate) fn of_text(text: Vec<u8>) -> Page
+        ensures items { result.bytes.items ≡ text.items }
+        ensures full { result.full ≡ false }
+    {
+        Page::of_buffer(Buffer::of_bytes(text))
+    }
+
     /// Returns a full page, which only counts bytes. It doesn't allocate.
     pub(crate) fn without_room(alloc: Global) -> Page
         ensures full { result.full ≡ true }
         ensures lost { result.lost ≡ 0 }
     {
         Page {
-            bytes: Vec::new(alloc),
+            bytes: Buffer::of_bytes(Vec::new(alloc)),
             full: true,
             lost: 0,
         }
@@ -64,13 +81,13 @@ impl Page {
 
     /// Returns the text, unless the page is full.
     pub(crate) fn finish(self) -> Result<Vec<u8>, AllocError>
-        ensures ok { IfOk result (λ v. (self.full ≡ false) × (v ≡ self.bytes)) }
+        ensures ok { IfOk result (λ v. (self.full ≡ false) × (v.items ≡ self.bytes.items)) }
         ensures full { OnErr result (self.full ≡ true) }
     {
         if self.full {
             return Err(AllocError);
         }
-        Ok(self.bytes)
+        Ok(self.bytes.into_bytes())
     }
 
     /// Returns the number of bytes on it.
@@ -87,10 +104,10 @@ impl Page {
         self.bytes.as_slice()
     }
 
-    /// Clears it, and keeps its capacity.
+    /// Clears it, and keeps its room.
     pub(crate) fn clear(&mut self)
         ensures items { self.new.bytes.items ≡ [] }
-        ensures capacity { vec_capacity self.new.bytes ≡ vec_capacity self.old.bytes }
+        ensures room { self.new.bytes.room ≡ self.old.bytes.room }
         ensures full { self.new.full ≡ self.old.full }
     {
         self.bytes.clear();
@@ -103,13 +120,14 @@ impl Page {
         self.full
     }
 
+    #[inline]
     fn add(&mut self, bytes: &[u8])
         ensures { Adds self.old self.new bytes.now }
     {
         if self.is_full() {
             self.lost = self.lost.saturating_add(bytes.len());
         } else {
-            self.full = self.bytes.extend_from_slice(bytes).is_err();
+            self.full = !self.bytes.append(bytes);
         }
     }
 

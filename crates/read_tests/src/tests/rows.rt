@@ -96,7 +96,7 @@ fn reading_learning_and_moving_on(rt: HostRuntime) -> Result<(), Fail> {
 }
 
 /// The front of the first pass, whether it settled, the front of the second and whether trace 1 was in its answer,
-/// and the front of the first pass after a fourth entry was admitted of which it learnt nothing.
+/// and the front of the first pass after a fourth entry was admitted that it learnt nothing of.
 pub fn moved_on<N: StoreName, R: Wait>(
     rt: &R,
     alloc: Global,

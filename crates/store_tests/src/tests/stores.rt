@@ -291,7 +291,7 @@ fn limits_as_the_plain_store(rt: HostRuntime) -> Result<(), Fail> {
     Ok(())
 }
 
-/// Applies 30 entries with spans of three traces each, most of which come more than once. Each is accepted.
+/// Applies 30 entries with spans of three traces each; most traces come more than once. Each entry is accepted.
 fn takes_traces(alloc: Global, store: &mut SpanStore) -> Result<bool, AllocError> {
     let mut taken = true;
     for number in 1..31 {
@@ -323,7 +323,7 @@ fn same_many_traces(alloc: Global, keys: RandomState, limit: u32) -> Result<bool
     Ok(taken? && same?)
 }
 
-/// Many traces, most of which come more than once, also under a limit of traces: their ids share few places.
+/// Many traces, also under a limit of traces: most come more than once, and their ids share few places.
 #[test]
 fn many_traces_as_the_plain_store(rt: HostRuntime) -> Result<(), Fail> {
     let keys = RandomState::new(&rt)?;

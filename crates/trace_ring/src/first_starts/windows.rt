@@ -29,7 +29,7 @@ impl FirstStarts {
         self.len()
     }
 
-    /// Counts the traces in blocks whose ranges reach into the window, some of which may have left. It is a guess
+    /// Counts the traces in blocks whose ranges reach into the window; some may have left. It is a guess
     /// of how many may have a span there, and no answer.
     pub fn count_within(&self, window: Window) -> usize {
         let mut count: usize = 0;

@@ -42,7 +42,7 @@ fn batch_of(alloc: Global, row: Row) -> Result<Batch, AllocError> {
     })
 }
 
-/// A row of which a span with its process is made.
+/// A row that a span with its process is made of.
 pub(crate) trait SpanRow: Copy {
     fn placed(self, alloc: Global) -> Result<Placed, AllocError>;
 }

@@ -128,7 +128,7 @@ fn are_lent_moved(
     }
 }
 
-/// Returns the first pair of which the spans with these indexes aren't borrowed and moved as it says; None if all
+/// Returns the first pair whose spans with these indexes aren't borrowed and moved as it says; None if all
 /// are.
 fn first_unmoved(alloc: Global, indexes: &[u32]) -> Result<Option<usize>, AllocError> {
     first_mismatch(&PAIRS, |(times, limit, _, _)| {

@@ -368,7 +368,7 @@ fn with_process(alloc: Global, trace: u64, is_flagged: bool) -> Result<Placed, A
     kept(placed, set)
 }
 
-/// Adds spans of three traces, of which the process of one has the tag `p`.
+/// Adds spans of three traces; the process of one has the tag `p`.
 fn add_three(alloc: Global, spans: &mut Vec<Placed>, flagged: u64) -> Result<(), AllocError> {
     for trace in 1..4u64 {
         spans.push(with_process(alloc, trace, trace == flagged)?)?;

@@ -47,7 +47,7 @@ const TAG: &str = "0c0001 0b0001 00000001 61 0f0002 0c 00000001 0b0001 00000001 
 
 const TAG_END: &str = "00 00 0f0002 0c 00000000 00";
 
-/// Returns an encoded batch without spans, with a number.
+/// An encoded batch without spans, with the number 1.
 const NUMBERED: &str = "0c0001 0b0001 00000001 61 00 0f0002 0c 00000000 0a0003 0000000000000001 00";
 
 /// Returns a batch without spans, with the number 1.

@@ -154,7 +154,7 @@ fn any_cut(rt: HostRuntime) -> Result<(), Fail> {
     Ok(())
 }
 
-/// Whether a skipped value of so many levels below one of this type has the same result in pieces as in one.
+/// Whether a skipped value with this number of levels below one of this type has the same result in pieces as in one.
 fn is_same_nested(alloc: Global, first: usize, below: usize) -> Result<bool, AllocError> {
     let bytes = nested(alloc, first, below)?;
     are_same_bytes(alloc, &bytes)

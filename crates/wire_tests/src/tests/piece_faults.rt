@@ -8,8 +8,8 @@ use std::mem::drop;
 use std::test::*;
 use thrift_binary::{WireError, types};
 use trace_samples::exchanges::BATCH;
+use trace_samples::first_mismatch;
 use trace_samples::spellings::ALL;
-use trace_samples::{first_mismatch, retry};
 
 /// A batch without spans.
 const WHOLE: &[u8] =
@@ -34,24 +34,15 @@ fn a_refusal_stays(rt: HostRuntime) {
     assert!(rt; answers(alloc, &[0], WHOLE) == [missing; 4]);
 }
 
-/// Returns the fault of decoding, tried a second time if memory ran out.
+/// Returns the fault of decoding.
 fn fault_of(alloc: Global, bytes: &[u8]) -> Option<DecodeError> {
-    retry(DecodeError::Memory, || decode(alloc, bytes)).err()
-}
-
-/// Returns the result of the bytes in one piece, tried a second time if memory ran out.
-fn answers_of(alloc: Global, bytes: &[u8]) -> [Result<(), DecodeError>; 4] {
-    let said = answers(alloc, bytes, &[]);
-    if said[3] == Err(DecodeError::Memory) {
-        return answers(alloc, bytes, &[]);
-    }
-    said
+    decode(alloc, bytes).err()
 }
 
 /// Whether feeding the bytes succeeds, and the end reports too few bytes, as decoding does.
 fn is_short(alloc: Global, bytes: &[u8]) -> bool {
     let truncated = DecodeError::Wire(WireError::Truncated);
-    answers_of(alloc, bytes) == [Ok(()), Ok(()), Ok(()), Err(truncated)]
+    answers(alloc, bytes, &[]) == [Ok(()), Ok(()), Ok(()), Err(truncated)]
         && fault_of(alloc, bytes) == Some(truncated)
 }
 
@@ -73,7 +64,7 @@ fn each_beginning_is_truncated(rt: HostRuntime) -> Result<(), Fail> {
     let alloc = rt.alloc();
     assert_eq!(rt; BATCH.len(), 104);
     assert_eq!(rt; short_beginnings(alloc, BATCH), 104);
-    assert!(rt; answers_of(alloc, BATCH) == [Ok(()); 4]);
+    assert!(rt; answers(alloc, BATCH, &[]) == [Ok(()); 4]);
     assert!(rt; fault_of(alloc, BATCH).is_none());
     Ok(())
 }
@@ -92,8 +83,7 @@ const CLAIMS: [&[u8]; 9] = [
     b"\x0d\x00\x09\x0f\x0c\x7f\xff\xff\xff\x08\x7f\xff\xff\xff",
 ];
 
-/// Little memory is enough: the check of allocations sees that all of it takes four allocations, one for each list,
-/// set or map that is skipped, and fails each.
+/// No memory is needed: the check of allocations sees that all of it takes no allocation.
 #[test]
 fn sizes_beyond_the_bytes(rt: HostRuntime) {
     let alloc = rt.alloc();
@@ -130,7 +120,7 @@ fn is_refused_below_0(alloc: Global, claim: &[u8]) -> Result<bool, AllocError> {
     bytes.extend_from_slice(b"\x80\x00\x00")?;
     let short = is_short(alloc, &bytes);
     bytes.push(0)?;
-    let fed = answers_of(alloc, &bytes) == [Err(fault); 4];
+    let fed = answers(alloc, &bytes, &[]) == [Err(fault); 4];
     Ok(short && fed && fault_of(alloc, &bytes) == Some(fault))
 }
 

@@ -3,7 +3,7 @@ use Rattle.batch_codec.proofs.Texts.{text_at-text, text_at-bad}
 use Rattle.batch_codec.proofs.values.read_text.Goals as goal
 
 pub returns-in_default-clause-exact : goal.returns-in_default-clause-exact
-returns-in_default-clause-exact c = text_at-bad _ _ _ c.in_ok-bytes.ensures.exact c.in_default.ensures.cases.0
+returns-in_default-clause-exact c = rw c.refuse.ensures.error (text_at-bad _ _ _ c.in_ok-bytes.ensures.exact c.in_default.ensures.cases.0)
 
 pub returns-clause-exact : goal.returns-clause-exact
 returns-clause-exact c =

@@ -57,7 +57,7 @@ push_outline-requires c = λ keeps.
     ∙ (ap (λ (x : Entry). admission_by c.args.self.now.held x) c.into_entry-entry.ensures ∙ c.requires) in
     let follows : MayFollow was.limits h e = subst (IsSaid was.limits h e) may (admission_says was.limits h e) in
     let all : was.outlines.items ≡ map outline_in h = c.self.invariant.outlined ∙ ap (λ b. outlines_kept b h) keeps in
-    omega (arith, ap length all, length-map h outline_in, c.self.invariant.room_for_outlines, follows.batches)
+    omega (arith, ap length all, length-map h outline_in, c.self.invariant.room_for_outlines keeps, follows.batches)
 
 pub push_reserved-requires : goal.push_reserved-requires
 push_reserved-requires c =

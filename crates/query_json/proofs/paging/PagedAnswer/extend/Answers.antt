@@ -1,5 +1,5 @@
 use Rattle.std.proofs.Common.{◌≡◌, ◌+◌, ◌≤◌, ◌++◌, ◌∙◌, ℕ, List, None, false, length, length-append, ap, inl, inr, sym, append_assoc, arith}
-use Rattle.std.specs.Prelude.{unwrap_or, vec_capacity}
+use Rattle.std.specs.Prelude.{unwrap_or}
 use Rattle.query_json.specs.declared.paging.PagedAnswer.{PagedAnswer}
 use Rattle.query_json.specs.declared.writing.page.Page.{Page}
 use Rattle.query_json.specs.Paging.{HasRoom, IsReady, left_of}
@@ -17,8 +17,8 @@ module _ (p : PagedAnswer) (new : Page) (to : List (List (List ℕ))) (ready : I
   was_open : p.page.full ≡ false
   was_open = sym (ap (λ (q : Page). q.full) (same_page p.page)) ∙ ready.open_page
 
-  has_room : (h : HasRoom p) → 16384 + h.most ≤ vec_capacity p.page.bytes
-  has_room h = omega (arith, h.room, ap (λ (q : Page). vec_capacity q.bytes) (same_page p.page))
+  has_room : (h : HasRoom p) → 16384 + h.most ≤ p.page.bytes.room
+  has_room h = omega (arith, h.room, ap (λ (q : Page). q.bytes.room) (same_page p.page))
 
   stays_open : new.full ≡ false
   stays_open = elim ready.fits [
@@ -64,7 +64,7 @@ returns-clause-ready c =
         | inr h ↦ inr (record {
           most = h.most;
           fit = f.fits h.most h.fit;
-          room = omega (arith, has_room p new _ c.requires.ready c.requires.later f h, f.puts.adds.capacity, ap (λ (q : Page). vec_capacity q.bytes) same);
+          room = omega (arith, has_room p new _ c.requires.ready c.requires.later f h, f.puts.adds.room, ap (λ (q : Page). q.bytes.room) same);
         })
       ];
       left = omega (arith, put, left, c.len.ensures, c.len-before.ensures);

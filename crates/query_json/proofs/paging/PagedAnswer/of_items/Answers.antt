@@ -19,9 +19,9 @@ returns-then-end-count-clause-text c =
     ap text_of (sym (left_first rs c.first.result.run c.first.result.piece c.first.ensures.run c.first.ensures.piece)) ∙ f.text
     ∙ ap (λ ls. f.bytes ++ text_of ls) none ∙ append-nil f.bytes in
     let put = put_items (c.write_start.ensures ▸ f.puts) c.in_ok-text.ensures.ok.0
-    (ap (λ b. b.items) c.new-page.ensures.bytes ∙ c.in_ok-with_capacity.ensures.items) in
+    c.in_ok-page.ensures.items in
     ap (λ l. part_of c.whole.result ++ l) c.whole.ensures.rest ∙ append-nil (part_of c.whole.result) ∙ c.whole.ensures.part
-    ∙ ap (λ b. b.items) c.in_ok-text.ensures.ok.1 ∙ put
+    ∙ c.in_ok-text.ensures.ok.1 ∙ put
     ∙ ap (λ l. front_text ++ l) (sym all) ∙ whole_text c.args.items c.requires
 
 pub returns-clause-text : goal.returns-clause-text
@@ -32,7 +32,7 @@ returns-clause-text c =
     let left = left_at rs end.run end.piece in
     let first = ap text_of (sym (left_first rs c.first.result.run c.first.result.piece c.first.ensures.run c.first.ensures.piece)) ∙ f.text in
     let put = put_items (c.write_start.ensures ▸ f.puts) (sym c.if-is_full.ensures)
-    (ap (λ b. b.items) c.new-page.ensures.bytes ∙ c.in_ok-with_capacity.ensures.items) in
+    c.in_ok-page.ensures.items in
     let whole = ap (λ l. l ++ text_of left) put ∙ append_assoc front_text f.bytes (text_of left) ∙ ap (λ l. front_text ++ l) (sym first)
     ∙ whole_text c.args.items c.requires in
     IfOk-weaker c.in_parts.result _ _ (λ p given. given ∙ whole) c.in_parts.ensures.text
@@ -41,7 +41,7 @@ pub returns-clause-some : goal.returns-clause-some
 returns-clause-some c =
     let f = c.fill-end.ensures.fills in
     let put = put_items (c.write_start.ensures ▸ f.puts) (sym c.if-is_full.ensures)
-    (ap (λ b. b.items) c.new-page.ensures.bytes ∙ c.in_ok-with_capacity.ensures.items) in
+    c.in_ok-page.ensures.items in
     let front : length front_text ≡ 9 = refl in
     IfOk-weaker c.in_parts.result _ _
     (λ p given empty. absurd (omega (arith, ap length (sym empty ∙ given ∙ put), length-append front_text f.bytes, front))) c.in_parts.ensures.part

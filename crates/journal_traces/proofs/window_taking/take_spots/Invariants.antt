@@ -1,7 +1,7 @@
 use Rattle.journal_traces.specs.Windowed.{traces_reported, AreWindowed}
 use Rattle.journal_traces.proofs.Spotting.{Anything}
 use Rattle.journal_traces.proofs.TakingSpans.{IsTaking}
-use Rattle.journal_traces.proofs.seeing.take_spots.Given as goal
+use Rattle.journal_traces.proofs.window_taking.take_spots.Given as goal
 
 abbrev pub invariant-loop-spot : goal.invariant-loop-spot
 invariant-loop-spot l = record {

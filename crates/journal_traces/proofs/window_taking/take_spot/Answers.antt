@@ -9,7 +9,7 @@ use Rattle.journal_traces.specs.Spotted.{AddsSpan}
 use Rattle.journal_traces.specs.Windowed.{ServedEntry, entry_seen, entries_seen, entries_in, traces_reported}
 use Rattle.journal_traces.proofs.Spotting.{below_got}
 use Rattle.journal_traces.proofs.Windowing.{pushed_known, pushed_adds, placed_there}
-use Rattle.journal_traces.proofs.seeing.take_spot.Goals as goal
+use Rattle.journal_traces.proofs.window_taking.take_spot.Goals as goal
 
 pub returns-in_ok-push_spot-clause-taken : goal.returns-in_ok-push_spot-clause-taken
 returns-in_ok-push_spot-clause-taken c =

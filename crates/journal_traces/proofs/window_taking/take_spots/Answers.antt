@@ -4,7 +4,7 @@ use Rattle.journal_traces.specs.Windowed.{traces_reported}
 use Rattle.journal_traces.proofs.Spotting.{Anything, taking_added}
 use Rattle.journal_traces.proofs.TakingSpans.{IsTaking, taking_none}
 use Rattle.journal_traces.proofs.Windowing.{begun_known, begun_traces}
-use Rattle.journal_traces.proofs.seeing.take_spots.Goals as goal
+use Rattle.journal_traces.proofs.window_taking.take_spots.Goals as goal
 
 pub loop-spot-init : goal.loop-spot-init
 loop-spot-init c =

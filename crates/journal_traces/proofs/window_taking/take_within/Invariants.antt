@@ -6,7 +6,7 @@ use Rattle.trace_assembly.specs.Rows.{spots_of}
 use Rattle.journal_traces.specs.Standing.{trace_named}
 use Rattle.journal_traces.specs.Taking.{placed_taken}
 use Rattle.journal_traces.specs.Windowed.{traces_reported, AreWindowed}
-use Rattle.journal_traces.proofs.seeing.take_within.Given as goal
+use Rattle.journal_traces.proofs.window_taking.take_within.Given as goal
 
 abbrev pub invariant-loop-place : goal.invariant-loop-place
 invariant-loop-place l = record {

@@ -2,7 +2,7 @@ use Rattle.std.proofs.Common.{◌≡◌, ◌+◌, ◌-◌, length, subst, arith,
 use Rattle.std.specs.Arc.{arc_value}
 use Rattle.journal_traces.specs.Windowed.{HasService}
 use Rattle.journal_traces.proofs.Windowing.{shared_still, shared_known, served_at}
-use Rattle.journal_traces.proofs.seeing.number_of.Goals as goal
+use Rattle.journal_traces.proofs.window_taking.number_of.Goals as goal
 
 pub returns-clause-traces : goal.returns-clause-traces
 returns-clause-traces c =

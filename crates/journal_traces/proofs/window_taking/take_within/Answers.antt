@@ -16,8 +16,8 @@ use Rattle.journal_traces.specs.Windowed.{entries_seen, traces_reported, AreWind
 use Rattle.journal_traces.proofs.SkippedTraces.{skipped}
 use Rattle.journal_traces.proofs.Spots.{no_id, kept_more, left_out}
 use Rattle.journal_traces.proofs.Windowing.{new_known, new_traces, zeros_known, traces_numbered}
-use Rattle.journal_traces.proofs.seeing.take_within.Goals as goal
-use Rattle.journal_traces.proofs.seeing.take_within.Goals.{then-reaches_window+in_ok-take_spots, else-reaches_window}
+use Rattle.journal_traces.proofs.window_taking.take_within.Goals as goal
+use Rattle.journal_traces.proofs.window_taking.take_within.Goals.{then-reaches_window+in_ok-take_spots, else-reaches_window}
 
 pub loop-place-init : goal.loop-place-init
 loop-place-init c =

@@ -1,4 +1,4 @@
-//! Closing a desk, and the last receipt.
+//! The handle of a desk: closing it, and its last receipt.
 
 ghost use Rattle.std.specs.Prelude.{◌≡◌, IfErr};
 ghost use Rattle.trace_model.specs.declared.refusal.Refusal.TheVariants.{NoMemory};

@@ -1,0 +1,36 @@
+//! The items of several traces in one list, with the number of items before each trace.
+
+ghost use Rattle.std.specs.Prelude.{◌≡◌, ◌+◌, ◌<◌, ◌≤◌, [], length, slice_index_or, slice_range};
+ghost use Rattle.journal_traces.specs.Cutting.{cut_at, AreStarts};
+
+/// Returns the start of the trace after the one at a place, or the end.
+fn next_start(starts: &[usize], place: usize, end: usize) -> usize
+    requires { place < length starts.now }
+    ensures { result ≡ slice_index_or starts.now (place + 1) end }
+{
+    match starts.get(place + 1) {
+        Some(next) => *next,
+        None => end,
+    }
+}
+
+fn part<T>(items: &[T], start: usize, end: usize) -> &[T]
+    requires ordered { start ≤ end }
+    requires within { end ≤ length items.now }
+    ensures { result.now ≡ slice_range items.now start end }
+{
+    &items[start..end]
+}
+
+/// Returns the items of the trace at a place, which counts from 0; none if there is no such trace.
+pub(crate) fn trace_part<'a, T>(items: &'a [T], starts: &[usize], place: usize) -> &'a [T]
+    requires { AreStarts (length items.now) starts.now }
+    ensures { result.now ≡ slice_index_or (cut_at items.now starts.now) place [] }
+{
+    if place >= starts.len() {
+        return &[];
+    }
+    let start = starts[place];
+    let end = next_start(starts, place, items.len());
+    part(items, start, end)
+}
