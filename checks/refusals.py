@@ -1,44 +1,54 @@
 #!/usr/bin/env python3
-"""Tries the wrong bodies of all crates, each on the functions that it changes alone, and keeps what came of each.
+"""Tries the wrong bodies of all crates, many by one check, each judged on the functions that it changes, and keeps what came of each.
 
-    checks/refusals.py [CRATE..] [--only WORD] [--built] [--again OUTCOME] [--minutes N]
+    checks/refusals.py [CRATE..] [--only WORD] [--built] [--again OUTCOME] [--minutes N] [--jobs N]
     checks/refusals.py --counts
 
-Each edit of crates/NAME/must-fail and wrong-bodies/NAME is applied in a copy of the repository, in which `rt check --only` then checks the
-functions whose bodies it changes, and those that they call. That takes seconds where `rt must-fail`, by which wrong_bodies.py tries an edit,
-checks the whole crate. Where these functions are still proved, as callers of a changed helper without a contract may not be, or where the edit
-is in no function, the whole crate is checked. Crates come lowest first; libraries below a crate that aren't built are built first.
+A function is proved by the contracts of those that it calls, and never by their bodies. So edits of crates/NAME/must-fail and wrong-bodies/NAME
+that change the bodies of different functions are applied together, as a round, in a copy of the repository, and one `rt check --only` checks
+these functions and those that they call. An edit is refused if the check gives a cause in a function that it changes: an error in its lines or its
+proof files, or a goal of its own that isn't proved. A call of a function that isn't proved is no such cause.
 
-What came of an edit is a line of wrong-bodies/results.tsv, written as it comes, so the script may be stopped and started again: an edit is
-passed over where its own text and its crate's src/, specs/ and proofs/ are those of its line. The columns: crate; edit; outcome; what was
-checked, functions or `crate`; the first line that says why; seconds of a processor; the commit; sums of the crate's text and of the edit's.
+An edit is tried alone if it does more than change bodies, if it changes a function of a cycle of calls or a `const fn`, or if its round gave no cause
+in its functions. Its functions are checked first; if they are still proved, or it is in no function, the whole crate is. If a round can't be
+judged (it doesn't compile, the check was killed, an error is in none of its functions), the edits to which its errors point are tried alone and
+the others again, or the round in two halves. Crates come lowest first, `--jobs N` of them side by side, each in a copy of its own; a
+check takes 0.5 to 2 GB. Libraries below a crate that aren't built are built first.
 
-    refused       a changed function, or one that it calls, is not proved: a clause, a call's premise or an invariant fails
+What came of an edit is a line of wrong-bodies/results.tsv, written after each check, so the script may be stopped and started again: an edit is
+passed over if its own text and its crate's src/, specs/ and proofs/ are those of its line. The columns: crate; edit; outcome; what was checked,
+functions or `crate`; the first line that says why; seconds of a processor, of a round its share; the commit; sums of the crate's text and of the edit's.
+
+    refused       a changed function, or of an edit that is tried alone one that it calls, is not proved: a clause, a call's premise or an
+                  invariant fails
     by a name     refused only where a proof names what the edit took away, which says little of a contract: keep the names, change a value
     at a limit    the prover gave no verdict within its limits
     not refused   the whole crate is still proved with the edit
     bad edit      it doesn't apply, or the compiler or the prover can't read it
     not tried     the check was killed or stopped for another reason
 
-An edit that is refused on a function alone is refused by `rt must-fail` too: that function is a part of the crate. It doesn't show that the
-function is proved with its own body, which `rt ci` shows, nor that the edit is refused over other libraries than those that it was tried with:
-a change in a crate below makes no line stale. `--again` tries edits anew whose line has that outcome, or `all`. Status 1 where an edit that
-was tried was not refused for its meaning.
+An edit that is refused on a function is refused by `rt must-fail` too: that function is a part of the crate. The line doesn't show that
+the function is proved with its own body, which `rt ci` shows: a function that has no proof counts here as refused. Nor does it show that the edit
+is refused over other libraries than those that it was tried with: a change in a crate below makes no line stale. `--again` tries edits anew whose
+line has that outcome, or `all`. Status 1 if an edit that was tried was not refused for its meaning.
 """
 
+import concurrent.futures
+import contextlib
 import hashlib
 import os
 import pathlib
 import re
-import resource
 import shutil
 import subprocess
 import sys
 import tempfile
+import threading
 import time
 
+from bodies import change_of, rounds_of
 from crates import asked_of, below, lists
-from edits import Fault, apply, folders, pairs_of
+from edits import Fault, folders
 
 TOP = pathlib.Path(__file__).resolve().parent.parent
 RESULTS = TOP / "wrong-bodies" / "results.tsv"
@@ -47,15 +57,18 @@ REFUSED, BY_NAME, AT_LIMIT = "refused", "by a name", "at a limit"
 NOT_REFUSED, BAD, NOT_TRIED = "not refused", "bad edit", "not tried"
 OUTCOMES = (REFUSED, BY_NAME, AT_LIMIT, NOT_REFUSED, BAD, NOT_TRIED)
 
-FUNCTION = re.compile(r"(?P<indent> *)(?:pub(?:\([a-z ]+\))? )?(?:const )?(?:unsafe )?fn (?P<name>\w+)")
-CLOSES = re.compile(r"(?P<indent> *)\}")
-OWNER = re.compile(r"(?:pub(?:\([a-z ]+\))? )?(?:impl|trait)\b")
-ERROR = re.compile(r"(?:\./)?(?P<file>\S+?):\d+:\d+: error: (?P<said>.*)")
+ERROR = re.compile(r"(?:\./)?(?P<file>\S+?):(?P<line>\d+):\d+: error(?P<code>\[[\w-]+\])?: (?P<said>.*)")
 # How a check says that a proof names what is gone, or that the edited text can't be read.
 GONE = re.compile(r"has no field|is not in scope|has no `|was not admitted")
 UNREADABLE = re.compile(r"is not in scope|has no field|is no name|operand is missing|expected the end|cannot continue")
 LIMIT = re.compile(r"antt ran out of (?:stack|the (?:steps|memory) that)|(?:outgrew the memory limit|stopped at the step limit) \(")
 UNPROVED = re.compile(r"fn (\S+): (?:not proved|no proof)")
+VERDICT = re.compile(r"fn \w+::(?P<name>\S+): (?P<said>.*)")
+# The part of a verdict that names a file that could be written.
+EXPECTED = re.compile(r" expected answers in [^;]*;")
+# What stands in a verdict for the functions that this one calls, and where the name of a closure says in which function it is.
+CALLS = re.compile(r"(?:; |: )?it calls `.*")
+CLOSURE = re.compile(r"(?P<module>(?:\w+::)*)fn::(?P<name>.+)::\w+\+Fn(?:Mut|Once)?::\w+")
 
 
 def sum_of(*texts):
@@ -72,159 +85,26 @@ def crate_sum(crate):
     return sum_of(*(part for file in files for part in (str(file.relative_to(crate)).encode(), file.read_bytes())))
 
 
-def rows_kept():
-    """Returns the lines that earlier runs left, by crate and edit."""
-    if not RESULTS.is_file():
-        return {}
-    lines = RESULTS.read_text(encoding="utf-8").splitlines()[1:]
-    rows = [dict(zip(COLUMNS, line.split("\t"))) for line in lines]
-    return {(row["crate"], row["edit"]): row for row in rows}
+class Rows:
+    """The lines of results.tsv, which crates that are tried side by side share."""
+
+    def __init__(self):
+        """Reads the lines that earlier runs left."""
+        lines = RESULTS.read_text(encoding="utf-8").splitlines()[1:] if RESULTS.is_file() else []
+        rows = [dict(zip(COLUMNS, line.split("\t"))) for line in lines]
+        self.by_edit, self.lock = {(row["crate"], row["edit"]): row for row in rows}, threading.Lock()
+
+    def keep(self, rows):
+        """Takes in rows, and writes all lines in the order of crates and edits."""
+        with self.lock:
+            self.by_edit.update({(row["crate"], row["edit"]): row for row in rows})
+            lines = ["\t".join(COLUMNS), *("\t".join(row[name] for name in COLUMNS) for _, row in sorted(self.by_edit.items()))]
+            part = RESULTS.with_suffix(".part")
+            part.write_text("\n".join(lines) + "\n", encoding="utf-8")
+            os.replace(part, RESULTS)
 
 
-def keep(rows):
-    """Writes all lines, in the order of crates and edits."""
-    lines = ["\t".join(COLUMNS), *("\t".join(row[name] for name in COLUMNS) for _, row in sorted(rows.items()))]
-    part = RESULTS.with_suffix(".part")
-    part.write_text("\n".join(lines) + "\n", encoding="utf-8")
-    os.replace(part, RESULTS)
-
-
-# ---- which functions an edit changes
-
-
-def line_of(text, old):
-    """Returns the number of the line with this text."""
-    return text[: text.index(old)].count("\n")
-
-
-def function_around(lines, at):
-    """Returns the number of the line where the function begins whose text has this line, or None."""
-    closed = len(lines[at]) + 1
-    for number in range(at, -1, -1):
-        begins = FUNCTION.match(lines[number])
-        if begins and len(begins["indent"]) < closed:
-            return number
-        ends = CLOSES.match(lines[number]) if number < at else None
-        if ends:
-            closed = min(closed, len(ends["indent"]))
-    return None
-
-
-def without_brackets(text):
-    """Returns a type's text without what its angle brackets hold."""
-    depth, kept = 0, []
-    for before, letter in zip(" " + text, text):
-        depth += letter == "<"
-        if not depth:
-            kept.append(letter)
-        depth -= letter == ">" and before not in "-="
-    return "".join(kept)
-
-
-def last_name(text):
-    """Returns the last name of a path, without references and arguments."""
-    names = re.findall(r"\w+", re.sub(r"&\s*(?:'\w+ )?(?:mut )?", "", without_brackets(text)))
-    return names[-1] if names else ""
-
-
-def owners_of(header):
-    """Returns the names that a check may give the type of an impl or a trait that begins so."""
-    head = re.sub(r"^(?:pub(?:\([a-z ]+\))? )?(?:impl|trait)\b", "", header.partition("{")[0].partition(" where ")[0]).strip()
-    if header.lstrip().startswith(("trait", "pub trait")):
-        return [last_name(head.partition(":")[0])]
-    if head.startswith("<"):
-        head = head[len(head) - len(without_leading(head)) :].strip()
-    trait, is_of, kind = head.partition(" for ")
-    if not is_of:
-        return [last_name(head)]
-    plain, argument = last_name(kind) + last_name(trait), last_name(trait.partition("<")[2].rpartition(">")[0])
-    return [plain + argument, plain] if argument else [plain]
-
-
-def without_leading(head):
-    """Returns what stands behind the parameters that an impl begins with."""
-    depth = 0
-    for at, letter in enumerate(head):
-        depth += letter == "<"
-        depth -= letter == ">" and head[at - 1] not in "-="
-        if not depth:
-            return head[at + 1 :]
-    return ""
-
-
-def module_of(path):
-    """Returns the path of a file's module below the crate."""
-    parts = pathlib.PurePosixPath(path).with_suffix("").parts[1:]
-    return "::".join(part for part in parts if part not in ("lib", "main", "mod"))
-
-
-def names_of(lines, at, module):
-    """Returns the names that a check may give the function that begins at this line."""
-    begins, before = FUNCTION.match(lines[at]), f"{module}::" if module else ""
-    if not begins["indent"]:
-        return [before + begins["name"]]
-    owner = next((number for number in range(at, -1, -1) if OWNER.match(lines[number])), None)
-    if owner is None:
-        return []
-    ends = [f"{name}::{begins['name']}" for name in owners_of(" ".join(lines[owner:at]))]
-    # (a method stands in the module of its type, which may be another)
-    return [*(before + end for end in ends), *ends]
-
-
-def changed_functions(edit, crate):
-    """Returns, for each function that the edit changes, the names that a check may give it, or its module's where there is none."""
-    found = []
-    for path, old, _ in pairs_of(edit):
-        text = (crate / path).read_text(encoding="utf-8")
-        # (what an earlier pair put in is no text of the crate)
-        if not path.startswith("src/") or old not in text:
-            continue
-        lines = text.split("\n")
-        begins = function_around(lines, line_of(text, old))
-        if begins is not None:
-            names = [*names_of(lines, begins, module_of(path)), module_of(path)]
-            found += [names] if names not in found else []
-    return found
-
-
-# ---- one try
-
-
-class Room:
-    """A copy of the repository, in which edits are tried."""
-
-    def __init__(self, folder):
-        """Copies the text of all crates."""
-        self.folder, self.ready = pathlib.Path(folder), set()
-        shutil.copytree(TOP / "crates", self.folder / "crates", ignore=shutil.ignore_patterns("out", "must-fail"))
-        for file in ("crates.txt", "HANDLES"):
-            shutil.copy2(TOP / file, self.folder / file)
-
-    def crate(self, name):
-        """Returns the folder of a crate."""
-        return self.folder / "crates" / name
-
-    def take(self, name):
-        """Takes along what was built of the crates below one, and what checks of it kept."""
-        for other in below([name], lists()) - self.ready:
-            if (TOP / "crates" / other / "out" / "rlib").is_dir() and other != name:
-                shutil.copytree(TOP / "crates" / other / "out" / "rlib", self.crate(other) / "out" / "rlib", copy_function=linked)
-                self.ready.add(other)
-        kept = TOP / "crates" / name / "out" / "incremental"
-        if kept.is_dir():
-            shutil.copytree(kept, self.crate(name) / "out" / "incremental")
-
-    def leave(self, name):
-        """Removes what checks of the crate kept."""
-        shutil.rmtree(self.crate(name) / "out" / "incremental", ignore_errors=True)
-
-    def check(self, name, words):
-        """Runs rt check, and returns its status, what it said, and the seconds of a processor that it took."""
-        before = resource.getrusage(resource.RUSAGE_CHILDREN)
-        ran = subprocess.run(["rt", "check", "--jobs", "1", *words], cwd=self.crate(name), stdin=subprocess.DEVNULL, stdout=subprocess.PIPE,
-                             stderr=subprocess.STDOUT, text=True, errors="replace")
-        after = resource.getrusage(resource.RUSAGE_CHILDREN)
-        return ran.returncode, ran.stdout, after.ru_utime + after.ru_stime - before.ru_utime - before.ru_stime
+# ---- a copy of the repository
 
 
 def linked(one, other):
@@ -235,8 +115,88 @@ def linked(one, other):
         shutil.copy2(one, other)
 
 
+class Room:
+    """A copy of the repository, in which edits of one crate are tried."""
+
+    def __init__(self, folder, name, shelf):
+        """Copies the text of all crates, what was built of those below the crate, and what checks of it kept."""
+        self.folder, self.name, self.shelf = pathlib.Path(folder), name, shelf
+        self.crate = self.folder / "crates" / name
+        shutil.copytree(TOP / "crates", self.folder / "crates", ignore=shutil.ignore_patterns("out", "must-fail"))
+        for file in ("crates.txt", "HANDLES"):
+            shutil.copy2(TOP / file, self.folder / file)
+        for other in self.below():
+            built = next((it for it in (shelf / other, TOP / "crates" / other / "out" / "rlib") if (it / "stamp").is_file()), None)
+            if built:
+                shutil.copytree(built, self.library(other), copy_function=linked)
+        kept = TOP / "crates" / name / "out" / "incremental"
+        if kept.is_dir():
+            shutil.copytree(kept, self.crate / "out" / "incremental")
+
+    def below(self):
+        """Returns the crates below this one."""
+        return below([self.name], lists()) - {self.name}
+
+    def library(self, name):
+        """Returns where a crate's library is."""
+        return self.folder / "crates" / name / "out" / "rlib"
+
+    def leave(self):
+        """Puts the libraries that were built here on the shelf, for the crates that come later."""
+        for other in self.below():
+            if (self.library(other) / "stamp").is_file() and not (self.shelf / other).exists():
+                shutil.copytree(self.library(other), self.shelf / other, copy_function=linked)
+
+    def check(self, words):
+        """Runs rt check, and returns its status, what it said, and the seconds of a processor that it took."""
+        with subprocess.Popen(["rt", "check", "--jobs", "1", *words], cwd=self.crate, stdin=subprocess.DEVNULL, stdout=subprocess.PIPE,
+                              stderr=subprocess.STDOUT, text=True, errors="replace") as ran:
+            said = ran.stdout.read()
+            _, status, used = os.wait4(ran.pid, 0)
+            ran.returncode = os.waitstatus_to_exitcode(status)
+        return ran.returncode, said, used.ru_utime + used.ru_stime
+
+    def check_functions(self, functions):
+        """Checks the functions, each by the first of its names that the check knows; returns the check, with the names."""
+        steps, spent = [0] * len(functions), 0.0
+        while True:
+            names = [function.names[step] for function, step in zip(functions, steps)]
+            status, said, seconds = self.check([word for name in names for word in ("--only", name)])
+            spent += seconds
+            unknown = [at for at, name in enumerate(names) if f"`{name}`" in said] or range(len(names))
+            ahead = [at for at in unknown if steps[at] + 1 < len(functions[at].names)]
+            if not (fits_nothing(status, said) and ahead):
+                return Check(status, said, spent, dict(zip(functions, names)))
+            for at in ahead:
+                steps[at] += 1
+
+    @contextlib.contextmanager
+    def changed(self, changes):
+        """Has these changes in the crate's files for a while."""
+        was = {path: (self.crate / path).read_text(encoding="utf-8") for change in changes for path in change.files}
+        texts = {path: text.split("\n") for path, text in was.items()}
+        for change in changes:
+            for (path, number), line in change.lines.items():
+                texts[path][number] = line
+        try:
+            for path, lines in texts.items():
+                (self.crate / path).write_text("\n".join(lines), encoding="utf-8")
+            yield
+        finally:
+            for path, text in was.items():
+                (self.crate / path).write_text(text, encoding="utf-8")
+
+
+# ---- what a check said
+
+
+def fits_nothing(status, said):
+    """Whether a check says that no function has a name that --only gave it."""
+    return status == 2 and not re.search(r"^only=", said, re.M) and ("only" in said or "has no function" in said)
+
+
 def outcome_of(status, said, edited):
-    """Returns what a check with an edit of these files came to, and the line that says why; None where what it checked is proved."""
+    """Returns what a check with an edit of these files came to, and the line that says why; None if what it checked is proved."""
     lines = said.splitlines()
     errors = [(found["file"], found["said"], line) for line in lines if (found := ERROR.match(line))]
     has_ended = any(line.startswith(("only=", "logic=")) for line in lines)
@@ -256,48 +216,105 @@ def outcome_of(status, said, edited):
     return REFUSED, next(iter(meant), next((line for line in lines if UNPROVED.match(line)), lines[-1]))
 
 
-def fits_nothing(status, said):
-    """Whether a check says that no function has a name that --only gave it."""
-    return status == 2 and "only" in said and not re.search(r"^only=", said, re.M)
+class Check:
+    """What a check of functions said, each of which it was asked by a name."""
+
+    def __init__(self, status, said, seconds, names):
+        """Reads the verdicts and the errors."""
+        self.status, self.said, self.seconds, self.names = status, said, seconds, names
+        self.errors = [found for line in said.splitlines() if (found := ERROR.match(line))]
+        self.verdicts = {}
+        for found in filter(None, map(VERDICT.match, said.splitlines())):
+            self.verdicts.setdefault(owner_of(found["name"]), []).append(found)
+
+    def is_of(self, error, change):
+        """Whether an error is in the lines or the proof files of a function that this changes."""
+        if change.has_line(error["file"], int(error["line"]) - 1):
+            return True
+        return any(error["file"].startswith(f"proofs/{self.names[it].replace('::', '/')}/") for it in change.functions)
+
+    def is_verdict_on(self, changes):
+        """Whether the check came to its end, could read the changes, and has no error outside their functions."""
+        edited = {path for change in changes for path in change.files}
+        unread = [it for it in self.errors if it["code"] or it["file"] in edited and UNREADABLE.search(it["said"])]
+        strange = [it for it in self.errors if not any(self.is_of(it, change) for change in changes)]
+        return self.status in (0, 1, 3) and bool(re.search(r"^only=", self.said, re.M)) and not unread and not strange
+
+    def cause_in(self, change):
+        """Returns the line by which the change is refused for its meaning, in a function of its own, or None."""
+        own = [it for it in self.errors if self.is_of(it, change)]
+        if any(LIMIT.search(it[0]) for it in own):
+            return None
+        meant = [it[0] for it in own if not (it["file"].startswith("proofs/") and GONE.search(it["said"]))]
+        if own:
+            return next(iter(meant), None)
+        verdicts = [it for function in change.functions for it in self.verdicts.get(self.names[function], [])]
+        return next((it[0] for it in verdicts if CALLS.sub("", it["said"]).startswith("no proof: ")), None)
+
+    def proves(self, change):
+        """Whether each function that this changes is proved."""
+        found = [self.verdicts.get(self.names[it], []) for it in change.functions]
+        return all(found) and all(it["said"] == "proved" for verdicts in found for it in verdicts)
+
+    def checked(self, change):
+        """Returns the names by which the change's functions were checked."""
+        return " ".join(self.names[it] for it in change.functions)
 
 
-def words_for(choice):
-    """Returns the flags of a check of these functions."""
-    return [word for name in choice for word in ("--only", name)]
+def owner_of(name):
+    """Returns the name of the function in which a closure is, and that of any other function as it is."""
+    found = CLOSURE.fullmatch(name)
+    return found["module"] + found["name"] if found else name
 
 
-def try_alone(room, name, functions, edited):
-    """Checks the functions, by the first of each one's names that a check knows; returns outcome, why, what was checked, and seconds."""
-    spent = 0.0
-    for step in range(max(map(len, functions), default=0)):
-        choice = [names[min(step, len(names) - 1)] for names in functions]
-        status, said, seconds = room.check(name, words_for(choice))
-        spent += seconds
-        if not fits_nothing(status, said):
-            return *outcome_of(status, said, edited), " ".join(choice), spent
-    return None, "", "", spent
+# ---- trying
 
 
-def try_edit(room, name, edit):
-    """Tries an edit in the room, and returns outcome, why, what was checked, and seconds of a processor."""
-    crate = room.crate(name)
-    try:
-        functions, texts = changed_functions(edit, crate), apply(edit, crate)
-    except (Fault, OSError, ValueError) as why:
-        return BAD, str(why), "", 0.0
-    was = {path: (crate / path).read_text(encoding="utf-8") for path in texts}
-    try:
-        for path, text in texts.items():
-            (crate / path).write_text(text, encoding="utf-8")
-        outcome, why, checked, spent = try_alone(room, name, functions, texts)
-        if outcome:
-            return outcome, why, checked, spent
-        status, said, seconds = room.check(name, [])
-        outcome, why = outcome_of(status, said, texts)
+def try_alone(room, change, spent, is_proved=False):
+    """Tries a change alone, at once on the whole crate if its functions are known to be proved; returns outcome, why, what was checked, seconds."""
+    with room.changed([change]):
+        if change.functions and not is_proved:
+            check = room.check_functions(change.functions)
+            outcome, why = outcome_of(check.status, check.said, change.files)
+            spent += check.seconds
+            if outcome and not fits_nothing(check.status, check.said):
+                return outcome, why, check.checked(change), spent
+        status, said, seconds = room.check([])
+        outcome, why = outcome_of(status, said, change.files)
         return outcome or NOT_REFUSED, why, "crate", spent + seconds
-    finally:
-        for path, text in was.items():
-            (crate / path).write_text(text, encoding="utf-8")
+
+
+def parts_of(changes, check):
+    """Returns the lists in which to try the changes of a round that can't be judged."""
+    blamed = [it for it in changes if any(check.is_of(error, it) for error in check.errors if error["code"] or UNREADABLE.search(error["said"]))]
+    others = [it for it in changes if it not in blamed]
+    if blamed:
+        return [*([it] for it in blamed), *([others] if others else [])]
+    return [changes[: len(changes) // 2], changes[len(changes) // 2 :]]
+
+
+def try_round(room, changes, asked, spent=0.0):
+    """Tries changes of different functions by one check, and yields each with outcome, why, what was checked and seconds, of which each has spent
+    some before. Nothing is begun after the time that was asked for."""
+    if time.monotonic() > asked.ends:
+        return
+    if len(changes) == 1:
+        yield changes[0], *try_alone(room, changes[0], spent)
+        return
+    with room.changed(changes):
+        check = room.check_functions([function for change in changes for function in change.functions])
+    spent += check.seconds / len(changes)
+    if not check.is_verdict_on(changes):
+        for part in parts_of(changes, check):
+            yield from try_round(room, part, asked, spent)
+        return
+    causes = [(change, check.cause_in(change)) for change in changes]
+    for change, why in causes:
+        if why:
+            yield change, REFUSED, why, check.checked(change), spent
+    for change, why in causes:
+        if not why and time.monotonic() < asked.ends:
+            yield change, *try_alone(room, change, spent, check.proves(change))
 
 
 # ---- all of them
@@ -331,7 +348,7 @@ def commit():
 
 
 def label(edit):
-    """Returns an edit's path below the repository, without its crate where that is said beside it."""
+    """Returns an edit's path below the repository, without its crate, which is said beside it."""
     return f"{'gate' if edit.parent.name == 'must-fail' else 'more'}/{edit.stem}"
 
 
@@ -340,30 +357,55 @@ def is_known(row, sums, again):
     return row and (row["crate_sum"], row["edit_sum"]) == sums and again not in ("all", row["outcome"]) and row["outcome"] != NOT_TRIED
 
 
-def try_crate(room, name, edits, rows, asked):
+def outcomes_of(room, edits, asked):
+    """Tries the edits, and yields each with outcome, why, what was checked, and seconds of a processor."""
+    changes = []
+    for edit in edits:
+        try:
+            changes.append(change_of(edit, room.crate))
+        except (Fault, OSError, ValueError) as why:
+            yield edit, BAD, str(why), "", 0.0
+    rounds = [*rounds_of([it for it in changes if it.is_of_bodies]), *([it] for it in changes if not it.is_of_bodies)]
+    for changes in rounds:
+        for change, *came in try_round(room, changes, asked):
+            yield change.edit, *came
+
+
+def try_crate(name, edits, rows, asked):
     """Tries the crate's edits that are not known, and keeps each outcome."""
-    text = crate_sum(room.crate(name))
-    todo = [(edit, sum_of(edit.read_bytes())) for edit in edits if asked.only in edit.name]
-    todo = [(edit, own) for edit, own in todo if not is_known(rows.get((name, label(edit))), (text, own), asked.again)]
-    if not todo:
+    text = crate_sum(TOP / "crates" / name)
+    sums = {edit: (text, sum_of(edit.read_bytes())) for edit in edits if asked.only in edit.name}
+    todo = [edit for edit in sums if not is_known(rows.by_edit.get((name, label(edit))), sums[edit], asked.again)]
+    if not todo or time.monotonic() > asked.ends or (asked.built and not is_built(name)):
         return
-    room.take(name)
-    for edit, own in todo:
-        if time.monotonic() > asked.ends:
-            break
-        outcome, why, checked, seconds = try_edit(room, name, edit)
-        why = " ".join(why.replace(str(room.folder), "").split())[:160]
-        values = (name, label(edit), outcome, checked, why, f"{seconds:.0f}", asked.commit, text, own)
-        rows[name, label(edit)] = dict(zip(COLUMNS, values))
-        keep(rows)
-        print(f"{name} {label(edit)}: {outcome} ({checked}, {seconds:.0f} s): {why}", flush=True)
-    room.leave(name)
+    with tempfile.TemporaryDirectory(prefix=f"refusals-{name}-") as folder:
+        room = Room(folder, name, asked.shelf)
+        for edit, outcome, why, checked, seconds in outcomes_of(room, todo, asked):
+            why = " ".join(EXPECTED.sub("", why.replace(folder, "")).split())[:160]
+            values = (name, label(edit), outcome, checked, why, f"{seconds:.0f}", asked.commit, *sums[edit])
+            rows.keep([dict(zip(COLUMNS, values))])
+            print(f"{name} {label(edit)}: {outcome} ({checked}, {seconds:.0f} s): {why}", flush=True)
+        room.leave()
+
+
+def try_all(edits, rows, asked):
+    """Tries the edits of the crates that are asked for; if it is interrupted, checks that run end first."""
+    names = [name for name in by_layer() if not asked.crates or name in asked.crates]
+    with tempfile.TemporaryDirectory(prefix="refusals-shelf-") as folder, concurrent.futures.ThreadPoolExecutor(asked.jobs) as pool:
+        asked.shelf = pathlib.Path(folder)
+        runs = [pool.submit(try_crate, name, edits[name], rows, asked) for name in names]
+        try:
+            for run in runs:
+                run.result()
+        except BaseException:
+            asked.ends = float("-inf")
+            raise
 
 
 def report(rows, edits):
     """Prints the edits that were not refused for their meaning, and the counts; returns the exit status."""
     there = {(name, label(edit)) for name, found in edits.items() for edit in found}
-    lines = [row for key, row in sorted(rows.items()) if key in there]
+    lines = [row for key, row in sorted(rows.by_edit.items()) if key in there]
     for row in lines:
         if row["outcome"] != REFUSED:
             print(f"{row['outcome']}: {row['crate']} {row['edit']}: {row['why']}")
@@ -379,7 +421,8 @@ def arguments():
     words.add_argument("--only", metavar="WORD", default="", help="only edits whose name has this word")
     words.add_argument("--built", action="store_true", help="only crates below which all libraries are built")
     words.add_argument("--again", metavar="OUTCOME", choices=("all", *OUTCOMES), help="try those with this outcome anew")
-    words.add_argument("--minutes", type=float, default=float("inf"), help="begin no further edit after so many minutes")
+    words.add_argument("--minutes", type=float, default=float("inf"), help="begin no further check after so many minutes")
+    words.add_argument("--jobs", type=int, default=1, metavar="N", help="this many crates side by side")
     words.add_argument("--counts", action="store_true", help="try nothing, and print what came of those that were tried")
     asked = words.parse_args()
     asked.ends, asked.commit = time.monotonic() + 60 * asked.minutes, commit()
@@ -388,15 +431,11 @@ def arguments():
 
 def main():
     """Tries what is asked, and reports."""
-    asked, rows, edits = arguments(), rows_kept(), edits_by_crate()
+    asked, rows, edits = arguments(), Rows(), edits_by_crate()
     if lacking := [name for name in asked.crates if name not in edits]:
         sys.exit(f"there is no crate {lacking[0]}")
     if not asked.counts:
-        with tempfile.TemporaryDirectory(prefix="refusals-") as folder:
-            room = Room(folder)
-            for name in by_layer():
-                if (not asked.crates or name in asked.crates) and (not asked.built or is_built(name)):
-                    try_crate(room, name, edits[name], rows, asked)
+        try_all(edits, rows, asked)
     return report(rows, edits)
 
 
