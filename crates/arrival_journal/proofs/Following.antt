@@ -8,9 +8,9 @@ use Rattle.trace_model.specs.Works.{spans_brought}
 use Rattle.trace_model.specs.declared.admission.Admission.TheVariants.{Added}
 use Rattle.trace_model.specs.Refusals.{admission}
 use Rattle.trace_model.proofs.Admissions.{MayFollow, IsSaid, admission_says}
-use Rattle.sent_batches.specs.Sent.{Sent, IsKept as SentKept}
+use Rattle.sent_batches.specs.Sent.{Sent, IsSentKept}
 use Rattle.trace_model.proofs.Legality.{legal_push, span_count_push, last_number_push}
-use Rattle.arrival_journal.specs.Invariants.{IsKept}
+use Rattle.arrival_journal.specs.Invariants.{IsJournalKept}
 use Rattle.arrival_journal.specs.declared.outline.Outline.{Outline}
 use Rattle.arrival_journal.specs.Outlines.{outline_in, outlines_kept, with_outline}
 use Rattle.std.proofs.lemmas.List.{map_push}
@@ -41,11 +41,11 @@ kept_at false h outlines i o kept found = absurd (let e : slice_get (outlines_ke
 
 pub kept_push : (limits : Limits) (h : List Entry) (most most' : ℕ) (keeps : Bool) (outlines outlines' : List Outline) (most_outlines most_outlines' spans : ℕ)
     (e : Entry) (old new : List ℕ) (seats seats' : ℕ)
-    → (sent sent' : Sent) → IsKept limits h most keeps outlines most_outlines spans old seats sent → admission limits h e ≡ Ok Added
+    → (sent sent' : Sent) → IsJournalKept limits h most keeps outlines most_outlines spans old seats sent → admission limits h e ≡ Ok Added
     → outlines' ≡ with_outline keeps outlines (outline_in e)
     → ((seat : ℕ) → get_or new seat 0 ≡ (if e.seat == seat then e.number else get_or old seat 0)) → most' ≡ most → most_outlines' ≡ most_outlines
-    → seats' ≡ seats → SentKept (h ++ e ∷ []) sent' → sent'.room ≡ sent.room
-    → IsKept limits (h ++ e ∷ []) most' keeps outlines' most_outlines' (spans + length (spans_brought e.work)) new seats' sent'
+    → seats' ≡ seats → IsSentKept (h ++ e ∷ []) sent' → sent'.room ≡ sent.room
+    → IsJournalKept limits (h ++ e ∷ []) most' keeps outlines' most_outlines' (spans + length (spans_brought e.work)) new seats' sent'
 kept_push limits h most most' keeps outlines outlines' most_outlines most_outlines' spans e old new seats seats' sent sent' kept added outlined noted same
     same_outlines stays sent_kept sent_room =
     let follows : MayFollow limits h e = subst (IsSaid limits h e) added (admission_says limits h e) in

@@ -42,11 +42,11 @@ impl Model for Journal {
 
     ghost Value = { Journaled };
 
-    ghost use Rattle.arrival_journal.specs.Invariants.{IsKept};
+    ghost use Rattle.arrival_journal.specs.Invariants.{IsJournalKept};
 
     ghost view = { λ j. record { held = record { limits = j.limits; entries = map arc_value j.entries.items } } };
 
-    ghost invariant = { λ j. IsKept j.limits (map arc_value j.entries.items)
+    ghost invariant = { λ j. IsJournalKept j.limits (map arc_value j.entries.items)
         (vec_capacity j.entries) j.keeps_outlines j.outlines.items (vec_capacity j.outlines) j.spans
         j.last_numbers.items (vec_capacity j.last_numbers) j.sent };
 }

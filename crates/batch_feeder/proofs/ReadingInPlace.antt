@@ -12,8 +12,9 @@ use Rattle.thrift_binary.proofs.Cuts.{values_have_ends, faults_have_places}
 use Rattle.thrift_binary.proofs.CutReadings.{field_cut}
 use Rattle.thrift_binary.proofs.CutFields.{fields_step}
 use Rattle.wire_pieces.specs.declared.heads.FieldHead.{FieldHead}
+use Rattle.wire_pieces.specs.declared.heads.Head.{Head}
 use Rattle.wire_pieces.specs.Pieces.{Comes, NeedsMore, Refuses, Reaches}
-use Rattle.wire_pieces.specs.Heads.{head_from, fields_value}
+use Rattle.wire_pieces.specs.Heads.{head_from, head_of, fields_value}
 use Rattle.wire_pieces.proofs.Steps.{comes-is, comes-trans, comes-inside, refuses-inside, comes-lift, refuses-lift, comes-refuses}
 use Rattle.batch_codec.specs.declared.fault.DecodeError.{DecodeError}
 use Rattle.batch_codec.specs.declared.fault.DecodeError.TheVariants.{Wire, Missing, BadEnum, Trailing, Memory}
@@ -116,9 +117,9 @@ field-code (b ∷ u) v c i is = at (eqb b 0) is
     at false h = behind_id (signed_at w16 2 u) h
 
 -- a head that the bytes are too few for
-pub head-short : (h k : FieldHead) (w v : List ℕ) (o : Option (Option (ℕ × ℤ))) → ((u : List ℕ) → head_from h u ≡ field_at u) → field_at w ≡ Err Truncated
-    → Reaches Truncated (λ x. x) (head_from h) (head_from k) w v o → NeedsMore Truncated (head_from h) (head_from k) w v
+pub head-short : (h k : FieldHead) (w v : List ℕ) (o : Option Head) → ((u : List ℕ) → head_from h u ≡ field_at u) → field_at w ≡ Err Truncated
+    → Reaches Truncated head_of (head_from h) (head_from k) w v o → NeedsMore Truncated (head_from h) (head_from k) w v
 head-short h k w v None fresh few g = g
 head-short h k w v (Some x) fresh few g =
-    absurd (let e : ◌≡◌ {A = Result (Option (ℕ × ℤ) × List ℕ) WireError} (Ok (x, v ++ [])) (Err Truncated) = sym (g.same []) ∙ fresh (w ++ [])
+    absurd (let e : ◌≡◌ {A = Result (Option (ℕ × ℤ) × List ℕ) WireError} (Ok (head_of x, v ++ [])) (Err Truncated) = sym (g.same []) ∙ fresh (w ++ [])
     ∙ ap field_at (append-nil w) ∙ few in cc)

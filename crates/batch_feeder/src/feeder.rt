@@ -34,6 +34,7 @@ pub(crate) enum State {
 fn assign<V: Drop>(place: &mut V, value: V)
     ensures { place.new ≡ value }
 {
+    // For the prover: the call is generic in the value, so that the old one is dropped without its type being opened.
     *place = value;
 }
 
@@ -370,6 +371,7 @@ impl Feeder {
         let state = self.state;
         match state {
             State::Reading(reading) => {
+                // For the prover: an explicit drop is cheaper than one at the end of the block.
                 drop(reading);
                 Err(DecodeError::Wire(WireError::Truncated))
             }
@@ -390,6 +392,7 @@ pub fn decode_pieces(alloc: Global, pieces: &[Vec<u8>]) -> Decoded<Batch>
     let mut feeder = Feeder::new(alloc);
     for piece in pieces {
         if let Err(error) = feeder.feed(alloc, piece.as_slice()) {
+            // For the prover: an explicit drop is cheaper than one at the end of the block.
             drop(feeder);
             return Err(error);
         }

@@ -15,7 +15,7 @@ use crate::partial::fault_of;
 use batch_codec::{DecodeError, Decoded};
 use std::alloc::Global;
 use thrift_binary::{Cursor, WireError};
-use wire_pieces::FieldHead;
+use wire_pieces::{FieldHead, Head};
 
 /// The fields of a struct that were read so far.
 ///
@@ -379,8 +379,8 @@ pub(crate) fn more_fields<S: Fields>(
             match head.more(piece) {
                 Err(error) => Err(fault_of(error)),
                 Ok(None) => Ok(false),
-                Ok(Some(None)) => Ok(true),
-                Ok(Some(Some((code, id)))) => hold_field(slots, step, code, id, alloc, piece),
+                Ok(Some(Head::Stop)) => Ok(true),
+                Ok(Some(Head::Field(code, id))) => hold_field(slots, step, code, id, alloc, piece),
             }
         }
         // For the prover: the match takes the cases of the clause `continues` apart.

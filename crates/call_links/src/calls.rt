@@ -43,7 +43,7 @@ pub(crate) fn call_to<'t, 'a>(
         return None;
     }
     let caller = *first.get(&parent)?;
-    if caller.number() == span.number() {
+    if caller.service_number() == span.service_number() {
         return None;
     }
     Some((caller, span))

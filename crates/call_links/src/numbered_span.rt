@@ -19,7 +19,7 @@ use trace_model::{Entry, ServiceName, reported_in};
 pub struct NumberedSpan<'a> {
     entry: &'a Arc<Entry>,
     index: u32,
-    number: u32,
+    service_number: u32,
     /// The id of the span, read once: spans are scattered in memory, and the calls of a trace ask for it again.
     id: u64,
     /// The id of its parent, or 0 if it has none.
@@ -35,7 +35,7 @@ impl<'a> Model for NumberedSpan<'a> {
 
     ghost Value = { Taken };
 
-    ghost view = { λ s. record { span = slice_get (placed_brought (arc_value s.entry.now).work) s.index; number = s.number } };
+    ghost view = { λ s. record { span = slice_get (placed_brought (arc_value s.entry.now).work) s.index; number = s.service_number } };
 
     ghost invariant = { λ s. IsSome (slice_get (placed_brought (arc_value s.entry.now).work) s.index)
         × HasIds s.id s.parent (slice_get (placed_brought (arc_value s.entry.now).work) s.index) };
@@ -67,19 +67,19 @@ fn seen_in(entry: &Entry, index: u32) -> Option<Seen<'_>>
 }
 
 impl<'a> NumberedSpan<'a> {
-    /// Makes the span of the entry at an index, which counts from 0, with this number; `None` if the entry has no such
-    /// span.
+    /// Makes the span of the entry at an index, which counts from 0, with this number of its service; `None` if the
+    /// entry has no such span.
     #[tactic(auto, using(crate::proofs::Gathering::id_kept, crate::proofs::Gathering::parent_kept))]
-    pub fn new(entry: &'a Arc<Entry>, index: u32, number: u32) -> Option<NumberedSpan<'a>>
+    pub fn new(entry: &'a Arc<Entry>, index: u32, service_number: u32) -> Option<NumberedSpan<'a>>
         ensures span { option_and_then (λ s. s.span) result ≡
             slice_get (placed_brought (arc_value entry.now).work) index }
-        ensures number { IfSome result (λ s. s.number ≡ number) }
+        ensures number { IfSome result (λ s. s.number ≡ service_number) }
     {
         let seen = seen_in(entry, index)?;
         Some(NumberedSpan {
             entry,
             index,
-            number,
+            service_number,
             id: id_of(seen),
             parent: parent_id(seen),
         })
@@ -92,7 +92,7 @@ impl<'a> NumberedSpan<'a> {
         NumberedSpan {
             entry: self.entry,
             index: self.index,
-            number: self.number,
+            service_number: self.service_number,
             id: self.id,
             parent: self.parent,
         }
@@ -113,10 +113,10 @@ impl<'a> NumberedSpan<'a> {
     }
 
     /// Returns the number of its service.
-    pub(crate) fn number(&self) -> u32
+    pub(crate) fn service_number(&self) -> u32
         ensures { result ≡ self.now.number }
     {
-        self.number
+        self.service_number
     }
 
     /// Returns the span as it was reported: its parent need not be among its references.

@@ -83,13 +83,14 @@ fn ranks(alloc: Global, numbers: &[u32]) -> Result<BTreeMap<u32, usize>, AllocEr
     Ok(ranks)
 }
 
-/// Returns the rank of a number, or 0 if it has none.
-fn rank(ranks: &BTreeMap<u32, usize>, number: u32) -> usize
-    ensures { result ≡ unwrap_or (get nat_cmp ranks.now number) 0 }
+/// Returns the rank of a number.
+fn rank(ranks: &BTreeMap<u32, usize>, number: u32) -> Result<usize, AllocError>
+    ensures { IfOk result (λ rank. rank ≡ unwrap_or (get nat_cmp ranks.now number) 0) }
 {
     match ranks.get(&number) {
-        Some(rank) => *rank,
-        None => 0,
+        Some(rank) => Ok(*rank),
+        // Impossible: each service of a tally has a name, and so a rank.
+        None => Err(AllocError),
     }
 }
 
@@ -104,8 +105,9 @@ fn by_ranks<'a>(
 {
     let mut ranked = BTreeMap::new(alloc);
     for (numbers, tally) in tallies {
-        let key = (rank(ranks, numbers.0), rank(ranks, numbers.1));
-        ranked.insert(key, tally)?;
+        let caller = rank(ranks, numbers.0)?;
+        let callee = rank(ranks, numbers.1)?;
+        ranked.insert((caller, callee), tally)?;
     }
     Ok(ranked)
 }

@@ -20,7 +20,7 @@ pub(crate) fn numbers_of(call: Call<'_, '_>) -> (u32, u32)
     ensures { result ≡ numbers_called (numbered_call call.entry) }
 {
     let (caller, callee) = call;
-    (caller.number(), callee.number())
+    (caller.service_number(), callee.service_number())
 }
 
 /// Returns the tally of services after a call, by their number of calls before it.
@@ -36,6 +36,7 @@ pub(crate) fn tally_after<'a>(call: Call<'_, 'a>, before: u64) -> Result<Tally<'
     }) }
 {
     let Some(calls) = before.checked_add(1) else {
+        // Impossible: no memory holds the spans of 2^64 calls.
         return Err(AllocError);
     };
     let (caller, callee) = call;

@@ -9,7 +9,7 @@ use Rattle.text_lines.specs.declared.exit_status.ExitStatus.{ExitStatus}
 use Rattle.text_lines.specs.declared.run_error.RunError.{RunError}
 use Rattle.text_lines.specs.Lines.{lines_of}
 use Rattle.text_lines.specs.RunErrors.{Finishes, IsWhyOf, StopsShort, WritesSome, status_by}
-use Rattle.text_lines.specs.Taking.{AnswersAll, AnswersSome, LineReply, TakesEach}
+use Rattle.text_lines.specs.Taking.{AllAnswered, SomeAnswered, LineReply, TakesEach}
 use Rattle.text_lines.specs.Results.{LineResult}
 use Rattle.text_lines.proofs.LineResults.{lines_come_to, said_append}
 use Rattle.text_lines.proofs.Wholes.{some_after, some_more, stops_all, stops_some}
@@ -26,7 +26,7 @@ lines_judged s limits lines reply t start e = lines_come_to line_result (λ (a b
     each w n line reply v e s same = (e.0 ∙ ap (λ h. (line_result n h line).held) same, e.1 ∙ ap (λ h. (line_result n h line).reply) same)
 
 module _ (in0 in1 out0 out1 out2 : Option (List ℕ)) (i o : Bool) (limits : Limits) (id : TraceId) (held0 held1 : Held) (faulty : Bool) where
-  pub finishes : held0 ≡ nothing_held limits → AnswersAll TakesBatch in0 in1 out0 out1 held0 held1 faulty → (found : Bool) (status : ExitStatus)
+  pub finishes : held0 ≡ nothing_held limits → AllAnswered TakesBatch in0 in1 out0 out1 held0 held1 faulty → (found : Bool) (status : ExitStatus)
       → found ≡ is_some (found_in held1 id) → Appends out1 out2 (trace_lines (found_in held1 id)) → status ≡ status_at faulty found → i ≡ false → o ≡ false
       → Finishes in0 in1 out0 out2 i o (output_of limits id) (status_of limits id) status
   finishes start a found status f reply s ie oe =
@@ -46,7 +46,7 @@ module _ (in0 in1 out0 out1 out2 : Option (List ℕ)) (i o : Bool) (limits : Lim
       }
 
   -- the lines of the trace were not written whole
-  pub stops_late : held0 ≡ nothing_held limits → AnswersAll TakesBatch in0 in1 out0 out1 held0 held1 faulty → (h : RunError)
+  pub stops_late : held0 ≡ nothing_held limits → AllAnswered TakesBatch in0 in1 out0 out1 held0 held1 faulty → (h : RunError)
       → WritesSome out1 out2 (trace_lines (found_in held1 id)) → IsWhyOf h o → i ≡ false
       → StopsShort in0 in1 out0 out2 i o (output_of limits id) (status_by h)
   stops_late start a h some why ie =
@@ -57,7 +57,7 @@ module _ (in0 in1 out0 out1 out2 : Option (List ℕ)) (i o : Bool) (limits : Lim
       (subst (WritesSome out0 out2) whole (some_after out0 out1 out2 _ _ a.written some)) why ie
 
   -- not all lines were taken
-  pub stops_early : held0 ≡ nothing_held limits → (h : RunError) → AnswersSome TakesBatch in0 in1 out0 out1 held0 i o h
+  pub stops_early : held0 ≡ nothing_held limits → (h : RunError) → SomeAnswered TakesBatch in0 in1 out0 out1 held0 i o h
       → StopsShort in0 in1 out0 out1 i o (output_of limits id) (status_by h)
   stops_early start h a =
       let all = a.first.taken ++ a.first.rest in

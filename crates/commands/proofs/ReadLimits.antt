@@ -7,7 +7,7 @@ use Rattle.http_session.specs.declared.exchanges.SessionErrorKind.{SessionErrorK
 use Rattle.http_session.specs.declared.exchanges.SessionErrorKind.TheVariants.{Reading, Writing, Memory}
 use Rattle.text_lines.specs.declared.exit_status.ExitStatus.{ExitStatus}
 use Rattle.text_lines.specs.declared.exit_status.ExitStatus.TheVariants.{DeviceFailed}
-use Rattle.text_lines.specs.declared.line_buffer.TheConstants.{MAX_READS}
+use Rattle.session_devices.specs.declared.limits.TheConstants.{MAX_READS}
 use Rattle.text_lines.specs.Reads.{GivesEach, MakesReads, StatusIsReads}
 use Rattle.trace_model.specs.declared.limits.Limits.{Limits}
 use Rattle.jaeger_model.specs.declared.ids.TraceId.{TraceId}

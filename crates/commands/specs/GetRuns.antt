@@ -1,5 +1,5 @@
 -- What `get` writes for an input.
-use Rattle.std.specs.Prelude.{◌≡◌, ℕ, Bool, true, false, List, [], ◌++◌, flat_map, Option, Some, None, is_some, Result, Ok, Err, codes}
+use Rattle.std.specs.Prelude.{◌≡◌, ℕ, Bool, true, false, List, [], ◌++◌, flat_map, Option, Some, None, is_some, codes}
 use Rattle.std.specs.Fmt.{decimal, signed_decimal}
 use Rattle.jaeger_model.specs.declared.ids.TraceId.{TraceId}
 use Rattle.jaeger_model.specs.declared.placed.Placed.{Placed}
@@ -11,9 +11,7 @@ use Rattle.trace_model.specs.Histories.{events}
 use Rattle.trace_model.specs.Showing.{trace_found}
 use Rattle.text_lines.specs.declared.exit_status.ExitStatus.{ExitStatus}
 use Rattle.text_lines.specs.declared.exit_status.ExitStatus.TheVariants.{Success, NotFound, FaultyLine}
-use Rattle.text_lines.specs.declared.run_error.RunError.{RunError}
 use Rattle.text_lines.specs.Lines.{lines_of}
-use Rattle.text_lines.specs.RunErrors.{Finishes, StopsShort, status_by as status_of_error}
 use Rattle.text_lines.specs.Taking.{LineReply, Takes}
 use Rattle.text_lines.specs.Results.{LineResult, result_of_lines}
 use Rattle.commands.specs.LineFaults.{fault_text}
@@ -87,11 +85,3 @@ abbrev pub status_of : Limits → TraceId → List ℕ → ExitStatus
 status_of limits id input =
     let all = all_lines limits (lines_of input) in
     status_by all.reply.faulty (is_some (found_in all.held id))
-
--- A run of `get` returned a status: that of the whole input, with its output; or, if it stopped short, that of the
--- error.
-abbrev pub RunsGet : Limits → TraceId → (in0 in1 out0 out1 : Option (List ℕ)) → Bool → Bool → Result ExitStatus RunError → Type 0
-RunsGet limits id in0 in1 out0 out1 in_failed out_failed (Ok status) =
-    Finishes in0 in1 out0 out1 in_failed out_failed (output_of limits id) (status_of limits id) status
-RunsGet limits id in0 in1 out0 out1 in_failed out_failed (Err error) =
-    StopsShort in0 in1 out0 out1 in_failed out_failed (output_of limits id) (status_of_error error)

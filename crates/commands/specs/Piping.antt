@@ -8,6 +8,7 @@ use Rattle.http_session.specs.declared.exchanges.SessionErrorKind.{SessionErrorK
 use Rattle.http_session.specs.declared.exchanges.SessionErrorKind.TheVariants.{Reading, Writing, Memory}
 use Rattle.http_session.specs.declared.exchanges.SessionError.{SessionError}
 use Rattle.pipe_session.specs.Exact.{IsExact}
+use Rattle.session_devices.specs.Traffic.{Traffic}
 use Rattle.text_lines.specs.declared.exit_status.ExitStatus.{ExitStatus}
 use Rattle.text_lines.specs.declared.exit_status.ExitStatus.TheVariants.{Success, DeviceFailed, OutOfMemory}
 
@@ -35,6 +36,7 @@ pub record PipesUpTo (in0 in1 out0 out1 : Option (List ℕ)) (in_failed out_fail
   pub fails : FailsAs DirectSubmits DirectReads in0 in1 out0 out1 (record { limits = limits; entries = [] }) last in_failed out_failed error
   pub exact : IsExact (record { limits = limits; entries = [] }) (fails.opens ++ exchange_due fails.next) last
 
-abbrev pub Pipes : Option (List ℕ) → Option (List ℕ) → Option (List ℕ) → Option (List ℕ) → Bool → Bool → Limits → ExitStatus → Type 0
-Pipes in0 in1 out0 out1 in_failed out_failed limits status =
-    ((status ≡ Success) × PipesToTheEnd in0 in1 out0 out1 in_failed out_failed limits) ⊎ PipesUpTo in0 in1 out0 out1 in_failed out_failed limits status
+abbrev pub Pipes : Traffic → Traffic → Limits → ExitStatus → Type 0
+Pipes input output limits status =
+    ((status ≡ Success) × PipesToTheEnd input.before input.after output.before output.after input.failed output.failed limits)
+    ⊎ PipesUpTo input.before input.after output.before output.after input.failed output.failed limits status

@@ -1,6 +1,7 @@
 -- What `serve` writes.
-use Rattle.std.specs.Prelude.{◌≡◌, ℕ, ◌⊎◌, Bool, false, List, Option}
+use Rattle.std.specs.Prelude.{◌≡◌, ℕ, ◌⊎◌, false, List}
 use Rattle.std.specs.Io.KnownBytes.{Appends}
+use Rattle.session_devices.specs.Traffic.{Traffic}
 use Rattle.serve_options.specs.declared.host.Host.{Host}
 use Rattle.trace_model.specs.declared.limits.Limits.{Limits}
 use Rattle.text_lines.specs.declared.exit_status.ExitStatus.{ExitStatus}
@@ -9,12 +10,11 @@ use Rattle.trace_server.specs.Serving.{Serves, StopsIn}
 
 -- the address can't be used, and a line says so; or a prefix of the line was written, because the output failed or memory
 -- ran out
-abbrev pub TurnsDown : Option (List ℕ) → Option (List ℕ) → Bool → ExitStatus → Type 0
-TurnsDown out0 out1 out_failed status =
+abbrev pub TurnsDown : Traffic → ExitStatus → Type 0
+TurnsDown output status =
     (line : List ℕ)
-    × (((status ≡ DeviceFailed) × Appends out0 out1 line × (out_failed ≡ false)) ⊎ StopsIn out0 out1 out_failed line status)
+    × (((status ≡ DeviceFailed) × Appends output.before output.after line × (output.failed ≡ false)) ⊎ StopsIn output line status)
 
 -- the server serves, or the address can't be used
-abbrev pub ServesOrNot : Host → Limits → ℕ → Option (List ℕ) → Option (List ℕ) → Bool → ExitStatus → Type 0
-ServesOrNot host limits workers out0 out1 out_failed status =
-    Serves host limits workers out0 out1 out_failed status ⊎ TurnsDown out0 out1 out_failed status
+abbrev pub ServesOrNot : Host → Limits → ℕ → Traffic → ExitStatus → Type 0
+ServesOrNot host limits workers output status = Serves host limits workers output status ⊎ TurnsDown output status

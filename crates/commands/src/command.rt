@@ -1,5 +1,6 @@
 //! Runs the command of the program's words over an input and an output.
 ghost use Rattle.std.specs.Prelude.{◌≡◌, false, map};
+ghost use Rattle.session_devices.specs.Traffic.{traffic_of};
 ghost use Rattle.commands.specs.Running.{Runs};
 
 use crate::get::run_get;
@@ -18,9 +19,11 @@ use std::thread::Threads;
 use std::time::Clock;
 use text_lines::ExitStatus;
 
-/// Runs the command of the words, and returns the exit status: `DeviceFailed` if and only if a device failed or the
-/// limit of reads was reached, and for `serve` also if a socket failed. Words that name no command, and a trace's id
-/// that can't be read, are answered on the output, and nothing is read then. `serve` doesn't read the input either.
+/// Runs the command of the words, and returns the exit status: `DeviceFailed` if a device failed or the limit of reads
+/// was reached, and for `serve` also if a socket failed. That no other cause gives it is said only of `get`, `play` and
+/// `pipe`, by the clause `limit` of [`run_get`], [`run_play`] and [`run_pipe`]. Words that name no command, and a
+/// trace's id that can't be read, are answered on the output, and nothing is read then. `serve` doesn't read the input
+/// either.
 ///
 /// To add a subcommand, add a line here, and one in `Does` of `specs/Running.antt`.
 pub fn run<H, S: AsStr, R: Input, W: Output>(
@@ -40,9 +43,8 @@ where
         + Sync,
     requires input_works { R.has_failed input.old ≡ false }
     requires output_works { W.has_failed output.old ≡ false }
-    ensures { Runs (map S.text words.now) (R.remaining input.old) (R.remaining input.new)
-        (W.contents output.old) (W.contents output.new) (R.has_failed input.new)
-        (W.has_failed output.new) result }
+    ensures { Runs (map S.text words.now) (traffic_of R.remaining R.has_failed input.old input.new)
+        (traffic_of W.contents W.has_failed output.old output.new) result }
 {
     let Ok(keys) = RandomState::new(rt) else {
         return ExitStatus::OutOfMemory;

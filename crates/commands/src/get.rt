@@ -9,8 +9,9 @@
 
 ghost use Rattle.std.specs.Prelude.{◌≡◌, false, IfErr};
 ghost use Rattle.text_lines.specs.Reads.{LimitIsReads, StatusIsReads};
-ghost use Rattle.text_lines.specs.RunErrors.{RunsAs};
-ghost use Rattle.commands.specs.GetRuns.{RunsGet, nothing_held, output_of, status_by as status_at, status_of as status_for};
+ghost use Rattle.session_devices.specs.Traffic.{traffic_of};
+ghost use Rattle.text_lines.specs.RunErrors.{RunsAs, RunsOrStops, expected_of};
+ghost use Rattle.commands.specs.GetRuns.{nothing_held, output_of, status_by as status_at, status_of as status_for};
 
 mod batches;
 mod line_fault;
@@ -48,9 +49,9 @@ fn take_all<R: Input, W: Output>(
     requires nothing { batches.old ≡ nothing_held limits }
     requires input_works { R.has_failed input.old ≡ false }
     requires output_works { W.has_failed output.old ≡ false }
-    ensures runs { RunsGet limits trace (R.remaining input.old) (R.remaining input.new)
-        (W.contents output.old) (W.contents output.new) (R.has_failed input.new)
-        (W.has_failed output.new) result }
+    ensures runs { RunsOrStops (traffic_of R.remaining R.has_failed input.old input.new)
+        (traffic_of W.contents W.has_failed output.old output.new)
+        (expected_of (output_of limits trace) (status_for limits trace)) result }
     ensures limit { IfErr result (LimitIsReads R.gives input.old input.new
         (R.has_failed input.new) (W.has_failed output.new)) }
 {
@@ -70,9 +71,9 @@ fn finish<R: Input, W: Output>(
 ) -> Result<ExitStatus, RunError>
     requires input_works { R.has_failed input.old ≡ false }
     requires output_works { W.has_failed output.old ≡ false }
-    ensures runs { RunsGet limits trace (R.remaining input.old) (R.remaining input.new)
-        (W.contents output.old) (W.contents output.new) (R.has_failed input.new)
-        (W.has_failed output.new) result }
+    ensures runs { RunsOrStops (traffic_of R.remaining R.has_failed input.old input.new)
+        (traffic_of W.contents W.has_failed output.old output.new)
+        (expected_of (output_of limits trace) (status_for limits trace)) result }
     ensures limit { IfErr result (LimitIsReads R.gives input.old input.new
         (R.has_failed input.new) (W.has_failed output.new)) }
 {
@@ -102,9 +103,9 @@ pub fn run_get<R: Input, W: Output>(
 ) -> ExitStatus
     requires input_works { R.has_failed input.old ≡ false }
     requires output_works { W.has_failed output.old ≡ false }
-    ensures runs { RunsAs (R.remaining input.old) (R.remaining input.new) (W.contents output.old)
-        (W.contents output.new) (R.has_failed input.new) (W.has_failed output.new)
-        (output_of limits trace) (status_for limits trace) result }
+    ensures runs { RunsAs (traffic_of R.remaining R.has_failed input.old input.new)
+        (traffic_of W.contents W.has_failed output.old output.new)
+        (expected_of (output_of limits trace) (status_for limits trace)) result }
     ensures limit { StatusIsReads R.gives input.old input.new (R.has_failed input.new)
         (W.has_failed output.new) result }
 {

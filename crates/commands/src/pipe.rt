@@ -1,5 +1,6 @@
 //! `pipe`: a session over standard input and output.
 ghost use Rattle.std.specs.Prelude.{◌≡◌};
+ghost use Rattle.session_devices.specs.Traffic.{traffic_of};
 ghost use Rattle.text_lines.specs.Reads.{StatusIsReads};
 ghost use Rattle.text_lines.specs.RunErrors.{BothWork};
 ghost use Rattle.commands.specs.Piping.{Pipes, cause_status};
@@ -33,8 +34,8 @@ pub fn run_pipe<R: Input, W: Output>(
     limits: Limits,
 ) -> ExitStatus
     requires { BothWork (R.has_failed input.old) (W.has_failed output.old) }
-    ensures pipes { Pipes (R.remaining input.old) (R.remaining input.new) (W.contents output.old)
-        (W.contents output.new) (R.has_failed input.new) (W.has_failed output.new) limits result }
+    ensures pipes { Pipes (traffic_of R.remaining R.has_failed input.old input.new)
+        (traffic_of W.contents W.has_failed output.old output.new) limits result }
     ensures limit { StatusIsReads R.gives input.old input.new (R.has_failed input.new)
         (W.has_failed output.new) result }
 {

@@ -7,7 +7,8 @@
 
 ghost use Rattle.std.specs.Prelude.{◌≡◌, false};
 ghost use Rattle.text_lines.specs.Reads.{StatusIsReads};
-ghost use Rattle.text_lines.specs.RunErrors.{RunsAs};
+ghost use Rattle.session_devices.specs.Traffic.{traffic_of};
+ghost use Rattle.text_lines.specs.RunErrors.{RunsAs, expected_of};
 ghost use Rattle.trace_model.specs.declared.limits.Limits.{Limits as LimitsValue};
 ghost use Rattle.schedule_core.specs.Machine.{new_machine};
 ghost use Rattle.commands.specs.Playing.{StandsAt, output_of, play_status, status_of as status_for};
@@ -41,9 +42,9 @@ fn play_lines<R: Input, W: Output>(
     requires input_works { R.has_failed input.old ≡ false }
     requires output_works { W.has_failed output.old ≡ false }
     ensures runs { (limits : LimitsValue) → StandsAt script.old (new_machine limits) →
-        RunsAs (R.remaining input.old) (R.remaining input.new) (W.contents output.old)
-        (W.contents output.new) (R.has_failed input.new) (W.has_failed output.new)
-        (output_of limits) (status_for limits) result }
+        RunsAs (traffic_of R.remaining R.has_failed input.old input.new)
+        (traffic_of W.contents W.has_failed output.old output.new)
+        (expected_of (output_of limits) (status_for limits)) result }
     ensures limit { StatusIsReads R.gives input.old input.new (R.has_failed input.new)
         (W.has_failed output.new) result }
 {
@@ -69,9 +70,9 @@ pub fn run_play<R: Input, W: Output>(
 ) -> ExitStatus
     requires input_works { R.has_failed input.old ≡ false }
     requires output_works { W.has_failed output.old ≡ false }
-    ensures runs { RunsAs (R.remaining input.old) (R.remaining input.new) (W.contents output.old)
-        (W.contents output.new) (R.has_failed input.new) (W.has_failed output.new)
-        (output_of limits) (status_for limits) result }
+    ensures runs { RunsAs (traffic_of R.remaining R.has_failed input.old input.new)
+        (traffic_of W.contents W.has_failed output.old output.new)
+        (expected_of (output_of limits) (status_for limits)) result }
     ensures limit { StatusIsReads R.gives input.old input.new (R.has_failed input.new)
         (W.has_failed output.new) result }
 {

@@ -1,5 +1,6 @@
 //! `serve`: a server on an address of this machine.
 ghost use Rattle.std.specs.Prelude.{◌≡◌, false};
+ghost use Rattle.session_devices.specs.Traffic.{traffic_of};
 ghost use Rattle.commands.specs.Serving.{ServesOrNot, TurnsDown};
 
 use serve_options::ServeOptions;
@@ -22,7 +23,7 @@ fn turn_down<W: Output>(
     error: &io::Error,
 ) -> ExitStatus
     requires { W.has_failed output.old ≡ false }
-    ensures { TurnsDown (W.contents output.old) (W.contents output.new) (W.has_failed output.new)
+    ensures { TurnsDown (traffic_of W.contents W.has_failed output.old output.new)
         result }
 {
     let Ok(line) = format!(in alloc; "cannot listen on {address}: {error}\n") else {
@@ -48,7 +49,7 @@ where
     W: Output,
     requires output_works { W.has_failed output.old ≡ false }
     ensures { ServesOrNot options.host options.limits options.workers
-        (W.contents output.old) (W.contents output.new) (W.has_failed output.new) result }
+        (traffic_of W.contents W.has_failed output.old output.new) result }
 {
     let address = SocketAddr::new(options.host.address(), options.port);
     let listener = match TcpListener::bind(rt, address) {

@@ -11,12 +11,21 @@ ghost use Rattle.commands.specs.Asked.{Reads, Takes};
 
 use crate::words::{limits_of, matches_of, number, with_limits};
 use clap::{Arg, ArgMatches, value_parser};
-use serve_options::{Host, ServeOptions};
+use serve_options::{Host, MAX_CONNECTIONS, MAX_QUEUE, MAX_SECONDS, MAX_WORKERS, ServeOptions};
 use std::alloc::{AllocError, Global};
 use std::convert::AsStr;
 use std::io;
 use std::io::Write;
 use text_lines::ExitStatus;
+
+/// The upper ends of the options' ranges, as clap takes them.
+const WORKERS_END: i64 = MAX_WORKERS as i64;
+
+const QUEUE_END: i64 = MAX_QUEUE as i64;
+
+const CONNECTIONS_END: i64 = MAX_CONNECTIONS as i64;
+
+const SECONDS_END: i64 = MAX_SECONDS as i64;
 
 /// Defines the option `--host`.
 fn host_option<'a>(alloc: Global) -> Arg<'a>
@@ -44,7 +53,7 @@ fn workers_option<'a>(alloc: Global) -> Arg<'a>
     ensures rule { rule_of result ≡ workers_rule }
     ensures own { result.global ≡ false }
 {
-    let workers = value_parser!(u16).range(1..=64);
+    let workers = value_parser!(u16).range(1..=WORKERS_END);
     let help = "How many threads serve connections, 1 to 64";
     number(alloc, "workers", workers, "4", help)
 }
@@ -54,7 +63,7 @@ fn queue_option<'a>(alloc: Global) -> Arg<'a>
     ensures rule { rule_of result ≡ queue_rule }
     ensures own { result.global ≡ false }
 {
-    let queue = value_parser!(u16).range(1..=4_096);
+    let queue = value_parser!(u16).range(1..=QUEUE_END);
     let help = "How many batches may wait to be accepted, 1 to 4096";
     number(alloc, "queue", queue, "256", help)
 }
@@ -73,7 +82,7 @@ fn connections_option<'a>(alloc: Global) -> Arg<'a>
     ensures rule { rule_of result ≡ connections_rule }
     ensures own { result.global ≡ false }
 {
-    let connections = value_parser!(u32).range(1..=65_536);
+    let connections = value_parser!(u32).range(1..=CONNECTIONS_END);
     let help = "How many connections may be open at a time, 1 to 65536";
     number(alloc, "connections", connections, "1024", help)
 }
@@ -83,7 +92,7 @@ fn idle_option<'a>(alloc: Global) -> Arg<'a>
     ensures rule { rule_of result ≡ idle_rule }
     ensures own { result.global ≡ false }
 {
-    let idle = value_parser!(u32).range(0..=86_400);
+    let idle = value_parser!(u32).range(0..=SECONDS_END);
     let help =
         "After how many seconds without a byte a connection is closed, up to 86400; 0 for never";
     number(alloc, "idle", idle, "300", help).value_name("SECONDS")
@@ -94,7 +103,7 @@ fn report_option<'a>(alloc: Global) -> Arg<'a>
     ensures rule { rule_of result ≡ report_rule }
     ensures own { result.global ≡ false }
 {
-    let report = value_parser!(u32).range(0..=86_400);
+    let report = value_parser!(u32).range(0..=SECONDS_END);
     let help =
         "Every how many seconds to say on standard error what was counted, up to 86400; 0 for never";
     number(alloc, "report", report, "0", help).value_name("SECONDS")
@@ -155,6 +164,7 @@ fn host_of<W: Write>(matches: &ArgMatches<'_>, writer: &mut W) -> Result<Host, E
 {
     match asked_host(matches) {
         Some(host) => Ok(host),
+        // The text is there, since clap gives the option its default.
         None => match write_bad_host(writer, matches.get_str("host").unwrap_or("")) {
             Ok(()) => Err(ExitStatus::Usage),
             Err(_) => Err(ExitStatus::DeviceFailed),

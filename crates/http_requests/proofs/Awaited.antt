@@ -4,9 +4,9 @@ use Rattle.httparse.specs.Grammar.{RequestHead, NeverHasRequest}
 use Rattle.http_requests.specs.Asked.{body_length}
 use Rattle.http_requests.specs.Heads.{TakesHead, EndsLine}
 use Rattle.http_requests.specs.Requests.{HasBody, Spells, PassesMost, IsMalformed, AwaitsBody, AwaitsAfter, AwaitsRequest}
-use Rattle.http_requests.specs.declared.asked.BodyLength.{BodyLength}
-use Rattle.http_requests.specs.declared.asked.BodyLength.TheVariants.{Bytes, Chunked, Unreadable, TooLarge}
-use Rattle.http_requests.specs.declared.asked.BadRequest.TheVariants as bad_request
+use Rattle.http_requests.specs.declared.request.BodyLength.{BodyLength}
+use Rattle.http_requests.specs.declared.request.BodyLength.TheVariants.{Bytes, Chunked, Unreadable, TooLarge}
+use Rattle.http_requests.specs.declared.request.BadRequest.TheVariants as bad_request
 use Rattle.http_requests.proofs.Once.{head_once, request_stays}
 
 body_is_not_there : (size : BodyLength) (text body rest : List ℕ) → HasBody size text body → AwaitsBody size (text ++ rest) → ⊥

@@ -11,7 +11,8 @@ use Rattle.http_requests.specs.ChunkLooks.{LooksBy, LooksAtLine}
 use Rattle.http_requests.specs.declared.chunked.line.TheConstants.{MAX_LINE_BYTES}
 use Rattle.http_requests.specs.declared.chunked.looks.Look.{Look}
 use Rattle.http_requests.specs.declared.chunked.looks.Look.TheVariants.{Whole, More, Never}
-use Rattle.http_requests.specs.declared.chunked.trailer.TheConstants.{MAX_TRAILER_BYTES, MAX_FIELDS}
+use Rattle.http_requests.specs.declared.chunked.trailer.TheConstants.{MAX_TRAILER_BYTES}
+use Rattle.http_requests.specs.declared.head.TheConstants.{MAX_FIELDS}
 use Rattle.http_requests.proofs.ChunkPrefixes.{line_whole, line_when_short, line_when_full, line_never, trailer_when_full, trailer_never}
 use Rattle.http_requests.proofs.ChunkSizes.{line_unended}
 

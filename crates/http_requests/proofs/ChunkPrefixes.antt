@@ -6,7 +6,8 @@ use Rattle.httparse.specs.Grammar.{ChunkLine, print_chunk_line, HasNoChunkLine, 
 use Rattle.httparse.specs.Spans.{IsChunkLineAt, IsSectionOf, IsSectionWithin, SectionOverflows, header_bytes, name_and_value}
 use Rattle.httparse.specs.declared.spans.HeaderSpan.{HeaderSpan}
 use Rattle.http_requests.specs.declared.chunked.line.TheConstants.{MAX_LINE_BYTES}
-use Rattle.http_requests.specs.declared.chunked.trailer.TheConstants.{MAX_TRAILER_BYTES, MAX_FIELDS}
+use Rattle.http_requests.specs.declared.chunked.trailer.TheConstants.{MAX_TRAILER_BYTES}
+use Rattle.http_requests.specs.declared.head.TheConstants.{MAX_FIELDS}
 use Rattle.http_requests.specs.Chunks.{IsSizeLine, IsSomeSizeLine, IsTrailer, HasNone, NeverHas}
 
 -- the bytes, and more, as the first n and the rest

@@ -9,10 +9,10 @@ use Rattle.http_requests.specs.Chunks.{IsSizeLine, IsSomeSizeLine, IsTrailer, Is
 use Rattle.http_requests.proofs.ChunkOnce.{same_cut}
 use Rattle.http_requests.proofs.ChunkSizes.{zero_line, zero_line_is}
 use Rattle.http_requests.proofs.ChunkAfter.{lacks_after, after_chunks, no_line, no_content, no_trailer}
-use Rattle.http_requests.specs.declared.asked.TheConstants.{MAX_BODY_BYTES}
+use Rattle.http_requests.specs.declared.request.TheConstants.{MAX_BODY_BYTES}
 use Rattle.http_requests.specs.Requests.{AwaitsChunks, HasBody, PassesMost}
 use Rattle.http_requests.specs.Bodies.{AwaitsLine, AwaitsRest, IsLineEnd, begins_line_end, may_begin_line_end}
-use Rattle.http_requests.specs.declared.asked.BodyLength.TheVariants.{Chunked}
+use Rattle.http_requests.specs.declared.request.BodyLength.TheVariants.{Chunked}
 use Rattle.http_requests.specs.LineLaws.{cut_before}
 
 -- ---- CR LF

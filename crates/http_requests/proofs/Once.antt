@@ -8,15 +8,15 @@ use Rattle.httparse.specs.Grammar.{LineEnd, LineEnd.{crlf}, RequestHead, IsReque
 use Rattle.httparse.proofs.GrammarLemmas.{request_unique, ReadsRequest-append, print_request-append}
 use Rattle.http_requests.specs.Chunks.{IsDecided, HasNone}
 use Rattle.http_requests.proofs.ChunkOnce.{same_cut, body_once, body_is_not_large, never_longer}
-use Rattle.http_requests.specs.declared.asked.TheConstants.{MAX_BODY_BYTES}
+use Rattle.http_requests.specs.declared.request.TheConstants.{MAX_BODY_BYTES}
 use Rattle.http_requests.specs.Asked.{body_length}
 use Rattle.http_requests.specs.Heads.{TakesHead, HasNoHead}
 use Rattle.http_requests.specs.Requests.{HasBody, Spells, IsUnreadable, PassesMost, BodyBreaks, BreaksAfter, IsMalformed}
-use Rattle.http_requests.specs.declared.asked.BodyLength.{BodyLength}
-use Rattle.http_requests.specs.declared.asked.BodyLength.TheVariants.{Bytes, Chunked, Unreadable, TooLarge}
-use Rattle.http_requests.specs.declared.asked.BadRequest.{BadRequest}
-use Rattle.http_requests.specs.declared.asked.BadRequest.TheVariants.{Head, Body}
-use Rattle.http_requests.specs.declared.asked.BadRequest.TheVariants as bad_request
+use Rattle.http_requests.specs.declared.request.BodyLength.{BodyLength}
+use Rattle.http_requests.specs.declared.request.BodyLength.TheVariants.{Bytes, Chunked, Unreadable, TooLarge}
+use Rattle.http_requests.specs.declared.request.BadRequest.{BadRequest}
+use Rattle.http_requests.specs.declared.request.BadRequest.TheVariants.{Head, Body}
+use Rattle.http_requests.specs.declared.request.BadRequest.TheVariants as bad_request
 
 -- ---- heads
 

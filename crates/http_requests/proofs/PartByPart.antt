@@ -7,9 +7,9 @@ use Rattle.http_requests.specs.Waiting.{Source}
 use Rattle.http_requests.specs.Receiving.{ReadBuffer, ReadsOn, ReadsOnWhile, IsRead, ReadFails, StopsWhile, put_back}
 use Rattle.http_requests.specs.Bodies.{TakesBody, BreaksBody}
 use Rattle.http_requests.specs.InParts.{IsPart, AwaitsMore, Comes, TakesOn, TakesPart}
-use Rattle.http_requests.specs.declared.asked.BodyLength.{BodyLength}
-use Rattle.http_requests.specs.declared.asked.BadRequest.{BadRequest}
-use Rattle.http_requests.specs.declared.asked.BadRequest.TheVariants as bad_request
+use Rattle.http_requests.specs.declared.request.BodyLength.{BodyLength}
+use Rattle.http_requests.specs.declared.request.BadRequest.{BadRequest}
+use Rattle.http_requests.specs.declared.request.BadRequest.TheVariants as bad_request
 use Rattle.http_requests.specs.declared.body_reader.BodyReader.{BodyReader}
 use Rattle.http_requests.specs.declared.body_reader.BodyLook.TheVariants.{Whole, More, Malformed}
 use Rattle.http_requests.specs.declared.read_buffer.ReadError.{ReadError}

@@ -8,20 +8,20 @@ use Rattle.httparse.specs.Grammar.{RequestHead, print_request}
 use Rattle.httparse.specs.declared.spans.RequestSpans.{RequestSpans}
 use Rattle.httparse.specs.declared.spans.HeaderSpan.{HeaderSpan}
 use Rattle.http_requests.specs.Heads.{TakesHead, IsWholeHead, AwaitsHead}
-use Rattle.http_requests.specs.declared.asked.Method.{Method}
+use Rattle.http_requests.specs.declared.request.Method.{Method}
 use Rattle.http_requests.specs.Asked.{asked_by, pairs_of, method_of, has_batch_type, closes_by}
 use Rattle.http_requests.specs.Requests.{HasBody, BodyBreaks, BreaksAfter, IsMalformed, AwaitsBody, AwaitsRequest}
 use Rattle.http_requests.specs.Waiting.{Source}
 use Rattle.http_requests.specs.Receiving.{ReadBuffer, ReadsOnWhile, StopsWhile, put_back, FindsHead, FindsNone, TakesRequest, FindsBadRequest}
 use Rattle.session_devices.specs.Takings.{Takings}
 use Rattle.http_requests.specs.Bodies.{TakesBody, BreaksBody}
-use Rattle.http_requests.specs.declared.asked.BodyLength.{BodyLength}
-use Rattle.http_requests.specs.declared.asked.BadRequest.{BadRequest}
+use Rattle.http_requests.specs.declared.request.BodyLength.{BodyLength}
+use Rattle.http_requests.specs.declared.request.BadRequest.{BadRequest}
 use Rattle.http_requests.specs.declared.read_buffer.ReadError.{ReadError}
 use Rattle.http_requests.proofs.Readings.{prefixes_join, prefix_taken, widened, stops_after}
 use Rattle.http_requests.specs.Framing.{Frames}
-use Rattle.http_requests.specs.declared.asked.BadRequest.TheVariants as bad_request
-use Rattle.http_requests.specs.declared.asked.Request.{Request}
+use Rattle.http_requests.specs.declared.request.BadRequest.TheVariants as bad_request
+use Rattle.http_requests.specs.declared.request.Request.{Request}
 
 -- a part of the start, whatever follows that
 pub slice_of_prefix : (prefix more : List ℕ) (start end : ℕ) → start ≤ end → end ≤ length prefix

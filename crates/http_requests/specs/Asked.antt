@@ -5,12 +5,12 @@ use Rattle.jaeger_model.specs.Decimal.{is_digits, number_of}
 use Rattle.jaeger_model.specs.Texts.{same_text}
 use Rattle.httparse.specs.Grammar.{RequestHead, trim_ows}
 use Rattle.httparse.specs.Spans.{name_and_value}
-use Rattle.http_requests.specs.declared.asked.TheConstants.{MAX_BODY_BYTES}
+use Rattle.http_requests.specs.declared.request.TheConstants.{MAX_BODY_BYTES}
 use Rattle.http_requests.specs.Fields.{Pairs, same_name, values_of, have_token, all_are}
-use Rattle.http_requests.specs.declared.asked.Method.{Method}
-use Rattle.http_requests.specs.declared.asked.Method.TheVariants.{Get, Post, Other}
-use Rattle.http_requests.specs.declared.asked.BodyLength.{BodyLength}
-use Rattle.http_requests.specs.declared.asked.BodyLength.TheVariants.{Bytes, Chunked, Unreadable, TooLarge}
+use Rattle.http_requests.specs.declared.request.Method.{Method}
+use Rattle.http_requests.specs.declared.request.Method.TheVariants.{Get, Post, Other}
+use Rattle.http_requests.specs.declared.request.BodyLength.{BodyLength}
+use Rattle.http_requests.specs.declared.request.BodyLength.TheVariants.{Bytes, Chunked, Unreadable, TooLarge}
 
 abbrev pub pairs_of : RequestHead → Pairs
 pairs_of h = map name_and_value h.fields

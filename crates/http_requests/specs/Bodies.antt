@@ -4,14 +4,14 @@ use Rattle.std.specs.Io.KnownBytes.{IsAtEnd}
 use Rattle.httparse.specs.Ascii.{crlf_bytes}
 use Rattle.http_requests.specs.Chunks.{IsSomeSizeLine, IsContent, Chunk, IsChunk, texts, contents, HasNone, Lacks}
 use Rattle.http_requests.specs.ChunkLooks.{EndsNoLine}
-use Rattle.http_requests.specs.declared.asked.TheConstants.{MAX_BODY_BYTES}
+use Rattle.http_requests.specs.declared.request.TheConstants.{MAX_BODY_BYTES}
 use Rattle.http_requests.specs.Requests.{HasBody, BodyBreaks, IsShorter, AwaitsBody}
 use Rattle.http_requests.specs.Waiting.{Source}
 use Rattle.http_requests.specs.Receiving.{ReadBuffer, ReadsOnWhile, put_back}
 use Rattle.session_devices.specs.Takings.{Takings}
-use Rattle.http_requests.specs.declared.asked.BodyLength.{BodyLength}
-use Rattle.http_requests.specs.declared.asked.BodyLength.TheVariants.{Chunked}
-use Rattle.http_requests.specs.declared.asked.BadRequest.{BadRequest}
+use Rattle.http_requests.specs.declared.request.BodyLength.{BodyLength}
+use Rattle.http_requests.specs.declared.request.BodyLength.TheVariants.{Chunked}
+use Rattle.http_requests.specs.declared.request.BadRequest.{BadRequest}
 
 -- ---- a text of one kind at the start
 

@@ -4,7 +4,8 @@ use Rattle.std.specs.List.{flat_map}
 use Rattle.httparse.specs.Ascii.{crlf_bytes}
 use Rattle.httparse.specs.Grammar.{ChunkLine, IsChunkLine, print_chunk_line, chunk_size, Field, IsField, LineEnd, print_section}
 use Rattle.http_requests.specs.declared.chunked.line.TheConstants.{MAX_LINE_BYTES}
-use Rattle.http_requests.specs.declared.chunked.trailer.TheConstants.{MAX_TRAILER_BYTES, MAX_FIELDS}
+use Rattle.http_requests.specs.declared.chunked.trailer.TheConstants.{MAX_TRAILER_BYTES}
+use Rattle.http_requests.specs.declared.head.TheConstants.{MAX_FIELDS}
 
 -- A size line: hexadecimal digits, optional extensions, and CR LF. The length limit is the session's; RFC 9112,
 -- section 7.1, has none.

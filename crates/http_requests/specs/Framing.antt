@@ -4,8 +4,8 @@ use Rattle.httparse.specs.Grammar.{RequestHead}
 use Rattle.http_requests.specs.Heads.{TakesHead}
 use Rattle.http_requests.specs.Asked.{IsBounded, body_length}
 use Rattle.http_requests.specs.Requests.{Describes}
-use Rattle.http_requests.specs.declared.asked.BodyLength.{BodyLength}
-use Rattle.http_requests.specs.declared.asked.Request.{Request}
+use Rattle.http_requests.specs.declared.request.BodyLength.{BodyLength}
+use Rattle.http_requests.specs.declared.request.Request.{Request}
 
 -- the head at the start has this length, asks this, and announces a body of this length
 pub record Frames (bytes : List ℕ) (len : ℕ) (r : Request) (size : BodyLength) : Type 0 where

@@ -4,10 +4,10 @@ use Rattle.http_requests.specs.Chunks.{IsSizeLine, IsContent, IsTrailer, Chunk, 
 use Rattle.http_requests.specs.declared.chunked.looks.Look.{Look}
 use Rattle.http_requests.specs.declared.chunked.looks.Look.TheVariants as look
 use Rattle.session_devices.specs.Takings.{Takings}
-use Rattle.http_requests.specs.declared.asked.TheConstants.{MAX_BODY_BYTES}
-use Rattle.http_requests.specs.declared.asked.BodyLength.{BodyLength}
-use Rattle.http_requests.specs.declared.asked.BodyLength.TheVariants.{Bytes, Chunked, Unreadable, TooLarge}
-use Rattle.http_requests.specs.declared.asked.BadRequest.TheVariants as bad_request
+use Rattle.http_requests.specs.declared.request.TheConstants.{MAX_BODY_BYTES}
+use Rattle.http_requests.specs.declared.request.BodyLength.{BodyLength}
+use Rattle.http_requests.specs.declared.request.BodyLength.TheVariants.{Bytes, Chunked, Unreadable, TooLarge}
+use Rattle.http_requests.specs.declared.request.BadRequest.TheVariants as bad_request
 use Rattle.http_requests.specs.declared.body_reader.BodyLook.{BodyLook}
 use Rattle.http_requests.specs.declared.body_reader.BodyLook.TheVariants.{Whole, More, Malformed}
 use Rattle.http_requests.specs.declared.body_reader.BodyReader.{BodyReader}

@@ -7,10 +7,10 @@ use Rattle.http_requests.specs.Heads.{TakesHead, AwaitsHead}
 use Rattle.http_requests.specs.Asked.{body_length}
 use Rattle.http_requests.specs.Requests.{Spells, IsHeadOf, IsMalformed, AwaitsRequest}
 use Rattle.http_requests.specs.Waiting.{Gives, Source, counted, ReadsWhile, FailsToRead}
-use Rattle.http_requests.specs.declared.asked.BodyLength.{BodyLength}
-use Rattle.http_requests.specs.declared.asked.BadRequest.{BadRequest}
-use Rattle.http_requests.specs.declared.asked.BadRequest.TheVariants as bad_request
-use Rattle.http_requests.specs.declared.asked.Request.{Request}
+use Rattle.http_requests.specs.declared.request.BodyLength.{BodyLength}
+use Rattle.http_requests.specs.declared.request.BadRequest.{BadRequest}
+use Rattle.http_requests.specs.declared.request.BadRequest.TheVariants as bad_request
+use Rattle.http_requests.specs.declared.request.Request.{Request}
 use Rattle.http_requests.specs.declared.read_buffer.ReadError.{ReadError}
 use Rattle.http_requests.specs.declared.read_buffer.ReadError.TheVariants.{Reading, Memory}
 use Rattle.http_requests.specs.declared.reading.Next.{Next}

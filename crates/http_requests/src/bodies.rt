@@ -4,9 +4,9 @@ ghost use Rattle.http_requests.specs.Waiting.{source_of};
 ghost use Rattle.http_requests.specs.Receiving.{KnowsItsEnd, StopsWhile, SameUnlessReading};
 ghost use Rattle.http_requests.specs.Bodies.{ReadsBody};
 
-use crate::asked::{BadRequest, BodyLength};
 use crate::body_reader::{BodyLook, BodyReader};
 use crate::read_buffer::{ReadBuffer, ReadError};
+use crate::request::{BadRequest, BodyLength};
 use crate::sink::Sink;
 use session_devices::Input;
 

@@ -7,9 +7,9 @@ ghost use Rattle.http_requests.specs.Bodies.{AwaitsRest, IsLineEnd, Begins, begi
 ghost use Rattle.http_requests.specs.InParts.{IsPart, HasLooked, Comes, ComesOr, Leaves, LeavesOr, TakesOn, TakesText};
 ghost use Rattle.http_requests.specs.declared.body_reader.Stage.TheVariants as stage;
 
-use crate::asked::{BadRequest, BodyLength, MAX_BODY_BYTES};
 use crate::chunked::{Look, MAX_TRAILER_BYTES, look_for_size, look_for_trailer};
 use crate::read_buffer::ReadBuffer;
+use crate::request::{BadRequest, BodyLength, MAX_BODY_BYTES};
 use crate::searching::{Search, look_when_due};
 use crate::sink::Sink;
 
@@ -55,9 +55,9 @@ impl Search for Trailer {
 
     type Found = usize;
 
-    const DUE: usize = MAX_TRAILER_BYTES;
+    const MAX_LENGTH: usize = MAX_TRAILER_BYTES;
 
-    ghost DUE = { 8192 };
+    ghost MAX_LENGTH = { 8192 };
 
     ghost awaits = { HasNone IsTrailer };
 

@@ -7,11 +7,11 @@ use httparse::spans::{EMPTY_HEADER_SPAN, HeaderSpan, RequestSpans, parse_request
 /// The length limit of a head, with its empty line. RFC 9112 sets none; this is a limit of the session.
 pub(crate) const MAX_HEAD_BYTES: usize = 8192;
 
-/// The number of fields that a head may have: a limit of the session.
+/// The number of fields that a head or a trailer may have: a limit of the session.
 pub(crate) const MAX_FIELDS: usize = 64;
 
 /// Room for one field more than a head may have, so that one too many is noticed.
-const FIELD_ROOM: usize = 65;
+const FIELD_ROOM: usize = MAX_FIELDS + 1;
 
 /// The search for a head, with room for its fields.
 #[derive(Drop)]
@@ -33,9 +33,9 @@ impl Search for HeadSearch {
 
     type Found = RequestSpans;
 
-    const DUE: usize = MAX_HEAD_BYTES;
+    const MAX_LENGTH: usize = MAX_HEAD_BYTES;
 
-    ghost DUE = { 8192 };
+    ghost MAX_LENGTH = { 8192 };
 
     ghost awaits = { AwaitsHead };
 

@@ -4,13 +4,13 @@
 ghost use Rattle.std.specs.Prelude.{◌≡◌, ℕ, List, [], ◌++◌};
 ghost use Rattle.httparse.specs.Grammar.{RequestHead as RequestHeadValue, NeverHasRequest};
 ghost use Rattle.http_requests.specs.declared.head.TheConstants.{MAX_HEAD_BYTES, MAX_FIELDS};
-ghost use Rattle.http_requests.specs.declared.asked.TheConstants.{MAX_BODY_BYTES};
-ghost use Rattle.http_requests.specs.declared.read_buffer.TheConstants.{MAX_READS};
+ghost use Rattle.http_requests.specs.declared.request.TheConstants.{MAX_BODY_BYTES};
+ghost use Rattle.session_devices.specs.declared.limits.TheConstants.{MAX_READS};
 ghost use Rattle.http_requests.specs.declared.room.TheConstants.{PIECE};
 ghost use Rattle.http_requests.specs.Heads.{TakesHead, EndsLine};
 ghost use Rattle.http_requests.specs.Requests.{Spells, IsMalformed, AwaitsRequest};
-ghost use Rattle.http_requests.specs.declared.asked.BadRequest.{BadRequest as BadRequestValue};
-ghost use Rattle.http_requests.specs.declared.asked.BadRequest.TheVariants.{TooLarge};
+ghost use Rattle.http_requests.specs.declared.request.BadRequest.{BadRequest as BadRequestValue};
+ghost use Rattle.http_requests.specs.declared.request.BadRequest.TheVariants.{TooLarge};
 
 /// The limits of a session: the bytes and fields of a head, the bytes of a body, the number of reads, and the bytes
 /// that one read asks for.

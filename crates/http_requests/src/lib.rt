@@ -12,7 +12,7 @@
 //!
 //! * `head`: finds a head at the start of bytes.
 //! * `fields`: the fields of a head, by name.
-//! * `asked`: what a session reads from a head: method, target, length of the body, whether it closes.
+//! * `request`: what a session reads from a head: method, target, length of the body, whether it closes.
 //! * `bodies`: reads a body, by its length or in chunks.
 //! * `body_reader`: a body that is read step by step.
 //! * `read_buffer`: the bytes that were read and not yet taken.
@@ -25,7 +25,6 @@
 //! * `laws`: laws of what bytes start with.
 #![tactic(auto)]
 
-mod asked;
 mod bodies;
 mod body_reader;
 pub mod chunked;
@@ -35,15 +34,17 @@ pub mod laws;
 mod line_ends;
 mod read_buffer;
 mod reading;
+mod request;
 mod room;
 mod searching;
 mod sink;
 
-pub use asked::{BadRequest, BodyLength, Method, Request};
 pub use bodies::read_body;
 pub use body_reader::{BodyLook, BodyReader};
 pub use chunked::Look;
-pub use read_buffer::{MAX_READS, ReadBuffer, ReadError};
+pub use read_buffer::{ReadBuffer, ReadError};
 pub use reading::{HeadWait, Next, next_head};
+pub use request::{BadRequest, BodyLength, Method, Request};
 pub use room::{PIECE, SpareRoom};
+pub use session_devices::MAX_READS;
 pub use sink::Sink;

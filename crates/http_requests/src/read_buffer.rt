@@ -3,12 +3,9 @@ ghost use Rattle.http_requests.specs.Waiting.{source_of};
 ghost use Rattle.http_requests.specs.Receiving.{ReadsOn, IsRead, ReadFails, SameUnlessReading};
 
 use crate::room::{Room, SpareRoom};
-use session_devices::Input;
+use session_devices::{Input, MAX_READS};
 use std::alloc::{AllocError, Global};
 use std::marker::Model;
-
-/// The number of reads that one session may make. One more counts as a failed read.
-pub const MAX_READS: u64 = 1_099_511_627_776;
 
 /// Why no more bytes could be read.
 #[derive(Clone, Copy, Debug, PartialEq, Eq)]

@@ -6,10 +6,10 @@ ghost use Rattle.http_requests.specs.InParts.{HasSeen, SeesAll};
 ghost use Rattle.http_requests.specs.Waiting.{source_of};
 ghost use Rattle.http_requests.specs.Receiving.{KnowsItsEnd, StopsWhile, Finds, SameUnlessReading};
 
-use crate::asked::{BodyLength, Request, frame};
 use crate::chunked::Look;
 use crate::head::HeadSearch;
 use crate::read_buffer::{ReadBuffer, ReadError};
+use crate::request::{BodyLength, Request, request_of};
 use crate::searching::look_when_due;
 use session_devices::Input;
 
@@ -49,7 +49,7 @@ impl HeadWait {
         let mut search = HeadSearch::new();
         match look_when_due(bytes, self.seen, &mut search) {
             Look::Whole(spans) => {
-                let (request, size) = frame(bytes, &search.headers, spans);
+                let (request, size) = request_of(bytes, &search.headers, spans);
                 Look::Whole((request, spans.len, size))
             }
             Look::More => {

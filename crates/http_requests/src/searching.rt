@@ -12,9 +12,9 @@ pub(crate) trait Search {
 
     /// The length limit of the text. Once this number of bytes is received, a search is due whether or not a line
     /// ended.
-    const DUE: usize;
+    const MAX_LENGTH: usize;
 
-    ghost DUE: { ℕ };
+    ghost MAX_LENGTH: { ℕ };
 
     /// The text has not come, and still may.
     ghost awaits: { List ℕ → Type 0 };
@@ -34,7 +34,7 @@ pub(crate) trait Search {
 
     /// While no search is due, the text stays awaited.
     ghost awaited_still: { (bytes : List ℕ) (seen : ℕ) → awaits (take seen bytes) →
-        is_due bytes seen DUE ≡ false → awaits bytes };
+        is_due bytes seen MAX_LENGTH ≡ false → awaits bytes };
 }
 
 /// Searches if the text may have come with the bytes after the first `seen`, or can't come later. It was awaited in the
@@ -44,7 +44,7 @@ pub(crate) fn look_when_due<S: Search>(bytes: &[u8], seen: usize, sought: &mut S
     requires before { S.awaits (take seen bytes.now) }
     ensures { LooksFor S.awaits (S.finds sought.new) S.never_has bytes.now result }
 {
-    if is_due(bytes, seen, S::DUE) {
+    if is_due(bytes, seen, S::MAX_LENGTH) {
         sought.look(bytes)
     } else {
         Look::More

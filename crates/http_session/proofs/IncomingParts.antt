@@ -13,11 +13,11 @@ use Rattle.http_requests.specs.Requests.{HasBody, BodyBreaks, Spells, IsMalforme
 use Rattle.http_requests.specs.Receiving.{ReadBuffer, put_back}
 use Rattle.http_requests.specs.Framing.{Frames}
 use Rattle.http_requests.specs.InParts.{IsPart, Comes, AwaitsMore, TakesOn}
-use Rattle.http_requests.specs.declared.asked.BodyLength.{BodyLength}
-use Rattle.http_requests.specs.declared.asked.BodyLength.TheVariants.{Bytes, Chunked, Unreadable, TooLarge}
-use Rattle.http_requests.specs.declared.asked.BadRequest.{BadRequest}
-use Rattle.http_requests.specs.declared.asked.BadRequest.TheVariants as bad_request
-use Rattle.http_requests.specs.declared.asked.Request.{Request}
+use Rattle.http_requests.specs.declared.request.BodyLength.{BodyLength}
+use Rattle.http_requests.specs.declared.request.BodyLength.TheVariants.{Bytes, Chunked, Unreadable, TooLarge}
+use Rattle.http_requests.specs.declared.request.BadRequest.{BadRequest}
+use Rattle.http_requests.specs.declared.request.BadRequest.TheVariants as bad_request
+use Rattle.http_requests.specs.declared.request.Request.{Request}
 use Rattle.http_requests.specs.declared.body_reader.BodyReader.{BodyReader}
 use Rattle.http_requests.specs.declared.body_reader.BodyLook.TheVariants as look
 use Rattle.http_requests.proofs.Once.{head_stays}

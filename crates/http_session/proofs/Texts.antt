@@ -2,7 +2,7 @@
 use Rattle.std.proofs.Common.{◌≡◌, ℕ, List, sym, ap, ◌∙◌}
 use Rattle.http_requests.specs.Asked.{asked_by}
 use Rattle.http_requests.specs.Requests.{IsHeadOf}
-use Rattle.http_requests.specs.declared.asked.Request.{Request}
+use Rattle.http_requests.specs.declared.request.Request.{Request}
 use Rattle.http_session.specs.Verdicts.{asked_of}
 
 pub asked_is : (bytes : List ℕ) (r : Request) (w : IsHeadOf bytes r) → asked_by w.head ≡ asked_of bytes r

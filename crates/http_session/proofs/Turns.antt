@@ -6,11 +6,11 @@ use Rattle.std.proofs.KnownBytes.{Consumes-trans, Consumes-kept, Appends-trans, 
 use Rattle.std.proofs.lemmas.List.{flat_map_more}
 use Rattle.std.proofs.lemmas.List.Elements.{All-append, All-cons, All-nil}
 use Rattle.session_devices.specs.Takings.{Takings, LeavesOther}
-use Rattle.http_requests.specs.declared.read_buffer.TheConstants.{MAX_READS}
+use Rattle.session_devices.specs.declared.limits.TheConstants.{MAX_READS}
 use Rattle.http_requests.specs.Requests.{IsMalformed, AwaitsRequest}
 use Rattle.http_requests.specs.Waiting.{Gives, Source, FailsToRead}
 use Rattle.http_requests.specs.Receiving.{ReadBuffer, ReadsOnWhile, StopsWhile, SameUnlessReading}
-use Rattle.http_requests.specs.declared.asked.BadRequest.{BadRequest}
+use Rattle.http_requests.specs.declared.request.BadRequest.{BadRequest}
 use Rattle.http_requests.specs.declared.read_buffer.ReadError.{ReadError}
 use Rattle.http_requests.specs.declared.read_buffer.ReadError.TheVariants as why
 use Rattle.http_requests.proofs.Awaiting.{uncounted}

@@ -9,7 +9,7 @@ use Rattle.http_requests.specs.Requests.{Spells, IsMalformed, AwaitsRequest}
 use Rattle.http_requests.specs.Waiting.{Source}
 use Rattle.http_requests.specs.Receiving.{ReadBuffer, ReadsOnWhile, StopsWhile, put_back}
 use Rattle.http_requests.specs.InParts.{HasSeen, IsPart, HasLooked, AwaitsMore}
-use Rattle.http_requests.specs.declared.asked.BadRequest.{BadRequest}
+use Rattle.http_requests.specs.declared.request.BadRequest.{BadRequest}
 use Rattle.http_requests.specs.declared.read_buffer.ReadError.{ReadError}
 use Rattle.http_requests.specs.declared.read_buffer.ReadError.TheVariants.{Reading, Memory}
 use Rattle.http_session.specs.Verdicts.{Judges, BeginsWithQuery}

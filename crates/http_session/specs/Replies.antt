@@ -6,8 +6,8 @@ use Rattle.trace_model.specs.declared.answer.Answer.{Answer}
 use Rattle.trace_model.specs.declared.answer.Answer.TheVariants as give
 use Rattle.trace_model.specs.declared.refusal.Refusal.{Refusal}
 use Rattle.trace_model.specs.declared.refusal.Refusal.TheVariants as why
-use Rattle.http_requests.specs.declared.asked.BadRequest.{BadRequest}
-use Rattle.http_requests.specs.declared.asked.BadRequest.TheVariants as bad_request
+use Rattle.http_requests.specs.declared.request.BadRequest.{BadRequest}
+use Rattle.http_requests.specs.declared.request.BadRequest.TheVariants as bad_request
 use Rattle.query_http.specs.declared.paths.Endpoint.{Endpoint}
 use Rattle.query_http.specs.declared.paths.Endpoint.TheVariants as at
 use Rattle.query_http.specs.Faults.{parameter_name}

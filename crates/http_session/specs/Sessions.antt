@@ -7,12 +7,12 @@ use Rattle.jaeger_model.specs.declared.batch.Batch.{Batch}
 use Rattle.trace_model.specs.declared.query.Query.{Query}
 use Rattle.trace_model.specs.declared.answer.Answer.{Answer}
 use Rattle.trace_model.specs.declared.refusal.Refusal.{Refusal}
-use Rattle.http_requests.specs.declared.read_buffer.TheConstants.{MAX_READS}
+use Rattle.session_devices.specs.declared.limits.TheConstants.{MAX_READS}
 use Rattle.http_requests.specs.Asked.{asked_by}
 use Rattle.http_requests.specs.Requests.{Spells, IsMalformed, AwaitsRequest}
 use Rattle.http_requests.specs.declared.read_buffer.ReadError.{ReadError}
 use Rattle.http_requests.specs.declared.read_buffer.ReadError.TheVariants as why
-use Rattle.http_requests.specs.declared.asked.BadRequest.{BadRequest}
+use Rattle.http_requests.specs.declared.request.BadRequest.{BadRequest}
 use Rattle.http_session.specs.Verdicts.{Judges, BeginsWithQuery}
 use Rattle.http_session.specs.Replies.{closes, takes_no_memory, response_of}
 use Rattle.http_session.specs.declared.verdict.Verdict.{Verdict}

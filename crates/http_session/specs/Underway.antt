@@ -1,7 +1,7 @@
 -- A session between two requests.
 use Rattle.std.specs.Prelude.{◌≡◌, ℕ, ◌+◌, ◌*◌, ◌≤◌, List, ◌++◌, length, All}
 use Rattle.std.specs.Io.KnownBytes.{Consumes, Appends}
-use Rattle.http_requests.specs.declared.read_buffer.TheConstants.{MAX_READS}
+use Rattle.session_devices.specs.declared.limits.TheConstants.{MAX_READS}
 use Rattle.http_requests.specs.declared.room.TheConstants.{PIECE}
 use Rattle.http_requests.specs.Receiving.{ReadBuffer, KnowsItsEnd, turns}
 use Rattle.http_session.specs.Sessions.{Exchange, IsOpen, texts, responses, Submits, Reads, Run}

@@ -5,15 +5,15 @@ use Rattle.trace_model.specs.declared.query.Query.{Query}
 use Rattle.httparse.specs.Grammar.{RequestHead}
 use Rattle.http_requests.specs.Asked.{Asked, asked_by}
 use Rattle.http_requests.specs.Heads.{TakesHead}
-use Rattle.http_requests.specs.declared.asked.Method.{Method}
-use Rattle.http_requests.specs.declared.asked.Method.TheVariants.{Get, Post, Other}
-use Rattle.http_requests.specs.declared.asked.Request.{Request}
+use Rattle.http_requests.specs.declared.request.Method.{Method}
+use Rattle.http_requests.specs.declared.request.Method.TheVariants.{Get, Post, Other}
+use Rattle.http_requests.specs.declared.request.Request.{Request}
 use Rattle.query_http.specs.declared.fault.Parameter.{Parameter}
 use Rattle.query_http.specs.declared.paths.Endpoint.{Endpoint}
 use Rattle.query_http.specs.declared.paths.Endpoint.TheVariants.{Traces, Trace, Services, OperationNames, Operations, Dependencies}
 use Rattle.query_http.specs.Paths.{IsPath, IsNoPath}
-use Rattle.query_http.specs.Forms.{pairs_of}
-use Rattle.query_http.specs.Queries.{query_at, path_of, form_of}
+use Rattle.query_http.specs.QueryStrings.{pairs_of}
+use Rattle.query_http.specs.Queries.{query_at, path_of, query_string_of}
 use Rattle.http_session.specs.declared.verdict.ErrorReply.TheVariants.{NoSuchPath, NotAllowed, UnsupportedType, BatchRefused, BadParameter, NoMemory}
 use Rattle.http_session.specs.declared.verdict.Verdict.{Verdict}
 use Rattle.http_session.specs.declared.verdict.Verdict.TheVariants.{Submit, Ask, Reject}
@@ -76,7 +76,7 @@ pub record BeginsWithQuery (bytes : List ℕ) : Type 0 where
 -- by the method: a query, a batch, or a method that the endpoint doesn't accept
 abbrev pub JudgesMethod : Asked → List ℕ → Verdict → Endpoint → List ℕ → Type 0
 JudgesMethod a body v e part =
-    ((a.method ≡ Get) × JudgesQuery (query_at e part (pairs_of (form_of a.target))) v)
+    ((a.method ≡ Get) × JudgesQuery (query_at e part (pairs_of (query_string_of a.target))) v)
     ⊎ ((e ≡ Traces) × (a.method ≡ Post) × JudgesBatch a.has_batch_type body v)
     ⊎ ((allows e a.method ≡ false) × (v ≡ Reject (NotAllowed e)))
 

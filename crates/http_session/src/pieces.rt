@@ -138,12 +138,8 @@ impl Session {
                 }));
             }
             Incoming::Malformed(bad_request) => {
-                if let Err(partial_write) = write_reply(
-                    alloc,
-                    connection,
-                    Reply::Malformed(bad_request),
-                    true,
-                ) {
+                let refused = Reply::Malformed(bad_request);
+                if let Err(partial_write) = write_reply(alloc, connection, refused, true) {
                     return Err(partial_write.after(answered));
                 }
                 return Ok(Progress::Ended(Ended {
@@ -209,6 +205,7 @@ impl Session {
             × (self.new.received.left + 1 ≡ self.old.received.left)
             × (backend.new ≡ backend.old)) }
     {
+        // For the prover: the matches take the cases of the clause `goes_on` apart.
         match self.answer_held(rt, alloc, router, connection, backend) {
             Ok(Progress::Paused) => {}
             Ok(progress) => return Ok(progress),
@@ -221,7 +218,6 @@ impl Session {
                 cause: cause_of(why),
             });
         }
-        // For the prover: the match takes the cases of the clause `goes_on` apart.
         match self.answer_held(rt, alloc, router, connection, backend) {
             Ok(progress) => Ok(progress),
             Err(error) => Err(error),

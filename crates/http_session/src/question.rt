@@ -1,7 +1,7 @@
 ghost use Rattle.std.specs.Prelude.{◌≡◌, IfOk, OnErr, slice_range};
 ghost use Rattle.http_requests.specs.Requests.{IsHeadOf};
 ghost use Rattle.query_http.specs.Paths.{endpoint_rows};
-ghost use Rattle.query_http.specs.Forms.{pairs_of};
+ghost use Rattle.query_http.specs.QueryStrings.{pairs_of};
 ghost use Rattle.query_http.specs.Queries.{query_at};
 ghost use Rattle.http_session.specs.Verdicts.{JudgesQuery, AsksQuery, asked_of};
 ghost use Rattle.http_session.specs.Questions.{Asks};
@@ -9,7 +9,7 @@ ghost use Rattle.http_session.specs.Questions.{Asks};
 use crate::verdict::{ErrorReply, Verdict};
 use http_requests::{Method, Request};
 use matchit::Router;
-use query_http::{Endpoint, QueryFault, find_endpoint, path_and_form, read_query};
+use query_http::{Endpoint, QueryFault, find_endpoint, read_query, split_target};
 use std::alloc::{AllocError, Global};
 
 /// The question that the head of a request asks.
@@ -30,11 +30,11 @@ fn judge_query(
     alloc: Global,
     endpoint: Endpoint,
     part: &str,
-    form: &str,
+    query_string: &str,
 ) -> Result<Verdict, AllocError>
-    ensures { IfOk result (JudgesQuery (query_at endpoint part.now (pairs_of form.now))) }
+    ensures { IfOk result (JudgesQuery (query_at endpoint part.now (pairs_of query_string.now))) }
 {
-    match read_query(alloc, endpoint, part, form) {
+    match read_query(alloc, endpoint, part, query_string) {
         Ok(query) => Ok(Verdict::Ask(query)),
         Err(QueryFault::Bad(parameter)) => Ok(Verdict::Reject(ErrorReply::BadParameter(parameter))),
         Err(QueryFault::NoMemory) => Err(AllocError),
@@ -70,13 +70,13 @@ pub(crate) fn question_of(
     ensures asks { IfOk result (Asks (asked_of head.now request.now)) }
     ensures memory { OnErr result (AsksQuery (asked_of head.now request.now)) }
 {
-    let (path, form) = path_and_form(target_of(head, request));
+    let (path, query_string) = split_target(target_of(head, request));
     let Some((endpoint, part)) = find_endpoint(router, path) else {
         return Ok(Question::Settled(Verdict::Reject(ErrorReply::NoSuchPath)));
     };
     match (request.method, endpoint) {
         // For the prover: the match takes the clause of `judge_query` apart, one case for each outcome.
-        (Method::Get, _) => match judge_query(alloc, endpoint, part, form) {
+        (Method::Get, _) => match judge_query(alloc, endpoint, part, query_string) {
             Ok(verdict) => Ok(Question::Settled(verdict)),
             Err(_) => Err(AllocError),
         },

@@ -4,8 +4,8 @@ ghost use Rattle.query_http.specs.Responses.{response};
 ghost use Rattle.query_http.specs.Statuses.{code_of};
 ghost use Rattle.query_json.specs.Parts.{to_come};
 ghost use Rattle.query_json.specs.Trees.{answer_tree};
-ghost use Rattle.http_session.specs.Replies.{status_of, allow_of, closes, takes_no_memory, response_of, error_message, error_status, methods_of, refusal_status};
-ghost use Rattle.http_session.specs.Replies.{refusal_message, bad_request_status, bad_request_message, error_body};
+ghost use Rattle.http_session.specs.Replies.{status_of, allow_of, closes, takes_no_memory, response_of, error_message, error_status, methods_of};
+ghost use Rattle.http_session.specs.Replies.{refusal_status, refusal_message, bad_request_status, bad_request_message, error_body};
 ghost use Rattle.http_session.specs.declared.reply.Reply.TheVariants as reply;
 
 use crate::fixed::{accepted, internal_error, out_of_memory};
@@ -209,7 +209,7 @@ impl Reply {
         match self {
             Reply::Accepted => Status::Accepted,
             Reply::Answered(Answer::Trace(None)) => Status::NotFound,
-            Reply::Answered(_) => Status::Success,
+            Reply::Answered(_) => Status::Ok,
             Reply::Refused(refusal) => refusal_status(*refusal),
             Reply::Error(error) => error_status(*error),
             Reply::Malformed(bad_request) => bad_request_status(*bad_request),

@@ -39,11 +39,16 @@ impl Response {
         }
     }
 
-    /// Creates a response of a head and an answer. More than `i64::MAX` bytes count as out of memory.
+    /// Creates a response of a head and an answer.
+    ///
+    /// # Errors
+    ///
+    /// More than `i64::MAX` bytes count as out of memory.
     pub fn in_parts(head: Vec<u8>, answer: AnswerParts) -> Result<Response, AllocError>
         ensures { IfOk result (λ r. to_come r ≡ head.items ++ to_come answer) }
     {
         if head.len() + answer.remaining() > i64::MAX as usize {
+            // Impossible: no answer's text has 2^63 bytes.
             return Err(AllocError);
         }
         Ok(Response {

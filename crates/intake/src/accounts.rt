@@ -1,6 +1,6 @@
 //! What became of all jobs.
 
-ghost use Rattle.std.specs.Prelude.{◌≡◌, ◌<◌, ◌≤◌, ◌↔◌, ◌^◌, ◌++◌, ◌∷◌, [], length, IsTrue, MatchBool};
+ghost use Rattle.std.specs.Prelude.{◌≡◌, ◌<◌, ◌≤◌, ◌↔◌, ◌^◌, ◌++◌, ◌∷◌, [], length, IsTrue};
 ghost use Rattle.intake.specs.Books.{acknowledged, refused};
 
 use crate::account::Account;
@@ -74,33 +74,15 @@ impl Accounts {
         self.count() >= MAX_ACCOUNTS
     }
 
-    /// Appends an account. Returns false, with nothing added, only if another owner had added one; there is no
-    /// other.
-    #[tactic(auto, using(crate::proofs::Accounting::both_counted))]
-    fn try_add(&mut self, account: &Account) -> bool
-        requires { length self.old < 2 ^ 62 }
-        ensures { MatchBool result (self.new ≡ self.old ++ account.now ∷ []) (self.new ≡ self.old) }
-    {
-        if !self.log.add(account) {
-            return false;
-        }
-        if account.answer.is_ok() {
-            self.acknowledged += 1;
-        }
-        true
-    }
-
     /// Appends an account. Allocates nothing.
+    #[tactic(auto, using(crate::proofs::Accounting::both_counted))]
     pub(crate) fn add<R: Wait>(&mut self, rt: &R, account: &Account)
         requires { length self.old < 2 ^ 62 }
         ensures { self.new ≡ self.old ++ account.now ∷ [] }
     {
-        // The first try succeeds: nobody else adds accounts.
-        for _ in rt.forever() {
-            if self.try_add(account) {
-                return;
-            }
+        self.log.add(rt, account);
+        if account.answer.is_ok() {
+            self.acknowledged += 1;
         }
-        unreachable!()
     }
 }

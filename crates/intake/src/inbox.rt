@@ -70,6 +70,7 @@ impl<N: StoreName> Inbox<N> {
     {
         match self.last.get(seat as usize) {
             Some(number) => *number,
+            // There is no such seat, so it submitted no job.
             None => 0,
         }
     }

@@ -1,6 +1,6 @@
 //! Where batches and limits are submitted.
 
-ghost use Rattle.std.specs.Prelude.{◌≡◌, ◌≤◌, ◌+◌, true, false, length, [], MatchOption, OnOk, OnErr, IfOk, IfErr};
+ghost use Rattle.std.specs.Prelude.{◌≡◌, ◌+◌, true, false, length, [], MatchOption, OnOk, OnErr, IfOk, IfErr};
 ghost use Rattle.std.specs.Arc.{arc_value};
 ghost use Rattle.crossbeam_queue.specs.Passes.{view, IsPassOf, ruled_capacity};
 ghost use Rattle.trace_model.specs.declared.entry.Work.TheVariants as brings;
@@ -16,7 +16,7 @@ use read_side::StoreName;
 use std::alloc::Global;
 use std::marker::Model;
 use std::sync::{Arc, Wait};
-use trace_model::{Entry, Refusal, Work};
+use trace_model::{Entry, Refusal, TraceLimit, Work};
 
 /// A seat. Contracts see its desk and number, the jobs that it submitted, and whether it may submit more.
 #[derive(Drop)]
@@ -151,10 +151,8 @@ impl<N: StoreName> Seat<N> {
         &mut self,
         rt: &R,
         alloc: Global,
-        limit: u32,
+        limit: TraceLimit,
     ) -> Result<Ticket<N>, Refusal>
-        requires limit { limit ≤ 1000000 }
-
         ensures may { OnOk result (HasNextNumber self.old) }
         ensures job { IfOk result (λ ticket. ticket ≡ next_job self.old (brings.TraceLimit limit)) }
         ensures handed_in { OnOk result

@@ -1,4 +1,4 @@
--- The classes of numbers whose processes are equal.
+-- The classes of keys whose processes are equal.
 use Rattle.std.proofs.Common.{◌≡◌, ◌∙◌, ◌==◌, ℕ, Bool, true, false, Option, Some, None, cond, eqb-true, refl, sym, ap, if◌then◌else◌}
 use Rattle.std.specs.Prelude.{unwrap_or}
 use Rattle.jaeger_model.specs.declared.batch.Process.{Process}
@@ -18,12 +18,12 @@ module _ (process_of : ℕ → Option Process) (p : Process) (own : ℕ) (leads 
       by true same e = ap process_of (sym (same_value own class e)) ∙ leads ∙ ap (λ (r : Process). Some r) ((same_process-decides p q).0 same)
       by false other e = before e
 
--- once a number has a class, whatever class a number has leads to its process
-module _ (process_of : ℕ → Option Process) (number own : ℕ) (leads : process_of own ≡ process_of number) where
-  pub number_put : (n : ℕ) (old : Option ℕ) (class : ℕ) → (old ≡ Some class → process_of class ≡ process_of n)
-      → (if number == n then Some own else old) ≡ Some class → process_of class ≡ process_of n
-  number_put n old class before e = by (number == n) refl e
+-- once a key has a class, whatever class a key has leads to its process
+module _ (process_of : ℕ → Option Process) (key own : ℕ) (leads : process_of own ≡ process_of key) where
+  pub key_put : (n : ℕ) (old : Option ℕ) (class : ℕ) → (old ≡ Some class → process_of class ≡ process_of n)
+      → (if key == n then Some own else old) ≡ Some class → process_of class ≡ process_of n
+  key_put n old class before e = by (key == n) refl e
     where
-      by : (t : Bool) → (number == n) ≡ t → (if t then Some own else old) ≡ Some class → process_of class ≡ process_of n
-      by true same e = ap process_of (sym (same_value own class e)) ∙ leads ∙ ap process_of (eqb-true number n same)
+      by : (t : Bool) → (key == n) ≡ t → (if t then Some own else old) ≡ Some class → process_of class ≡ process_of n
+      by true same e = ap process_of (sym (same_value own class e)) ∙ leads ∙ ap process_of (eqb-true key n same)
       by false other e = before e

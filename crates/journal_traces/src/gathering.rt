@@ -35,7 +35,8 @@ fn spot_count(spots: Spots<'_>) -> usize {
 }
 
 /// Returns the trace of the spans at the spots, in their order, to be shown within the store's limits, and as
-/// reported if `raw` is set. The spots are read twice, so that no more memory is allocated than they need.
+/// reported if `raw` is set. The key of a span's process is the place of its entry. The spots are read twice, so that
+/// no more memory is allocated than they need.
 ///
 /// # Errors
 ///
@@ -50,21 +51,21 @@ pub fn gather(
     ensures spans { IfOk result (λ g. spans_there g.spans.items ≡
         spans_named journal.now.held.entries spots.entry) }
     ensures places { IfOk result (λ g.
-        AreAt journal.now.held.entries (spans_there g.spans.items) g.places.items) }
+        AreAt journal.now.held.entries (spans_there g.spans.items) g.process_keys.items) }
     ensures form { IfOk result (λ g. (g.limits ≡ limits) × (g.raw ≡ raw)) }
 {
     let count = spot_count(spots.again());
     let mut spans = Vec::with_capacity(alloc, count)?;
-    let mut places = Vec::with_capacity(alloc, count)?;
+    let mut process_keys = Vec::with_capacity(alloc, count)?;
     for spot in spots {
         if let Some(kept) = kept_at(journal, spot)? {
             spans.push(kept)?;
-            places.push(spot.place)?;
+            process_keys.push(spot.place)?;
         }
     }
     Ok(KeptTrace {
         spans,
-        places,
+        process_keys,
         limits,
         raw,
     })

@@ -1,10 +1,10 @@
-//! The numbers that are in several traces of an answer.
+//! The keys of processes that are in several traces of an answer.
 
 use std::alloc::{AllocError, Global};
 use std::collections::BTreeMap;
 use trace_model::TakenSpan;
 
-/// In which traces a number is.
+/// In which traces a key is.
 #[derive(Clone, Copy)]
 enum SeenIn {
     /// Only in the one at this place.
@@ -12,16 +12,18 @@ enum SeenIn {
     Several,
 }
 
-/// The numbers of taken spans that are in several traces, counting only traces with several numbers.
+/// The process keys of taken spans that are in several traces, counting only traces with several keys.
 #[derive(Drop)]
 pub(crate) struct Recurring {
     seen: BTreeMap<u32, SeenIn>,
 }
 
-/// Whether all of the spans have the same number.
-pub(crate) fn are_of_one_entry(spans: &[TakenSpan]) -> bool {
+/// Whether all of the spans have the same process key: mostly those of one entry do.
+pub(crate) fn have_one_key(spans: &[TakenSpan]) -> bool {
     match spans.first() {
-        Some(first) => spans.iter().all(|span| span.number() == first.number()),
+        Some(first) => spans
+            .iter()
+            .all(|span| span.process_key() == first.process_key()),
         None => true,
     }
 }
@@ -33,35 +35,35 @@ impl Recurring {
         }
     }
 
-    fn add_number(&mut self, number: u32, place: usize) -> Result<(), AllocError> {
-        let seen = match self.seen.get(&number).copied() {
+    fn add_key(&mut self, key: u32, place: usize) -> Result<(), AllocError> {
+        let seen = match self.seen.get(&key).copied() {
             None => SeenIn::One(place),
             Some(SeenIn::One(one)) if one != place => SeenIn::Several,
             Some(_) => return Ok(()),
         };
-        self.seen.insert(number, seen)?;
+        self.seen.insert(key, seen)?;
         Ok(())
     }
 
     /// Adds the spans of the trace at a place. A trace of one entry is ignored, since no process is compared in it.
-    /// Of consecutive spans with one number, only the first is looked up.
+    /// Of consecutive spans with one key, only the first is looked up.
     pub(crate) fn add(&mut self, spans: &[TakenSpan], place: usize) -> Result<(), AllocError> {
-        if are_of_one_entry(spans) {
+        if have_one_key(spans) {
             return Ok(());
         }
         let mut before = None;
         for span in spans {
-            let number = span.number();
-            if before != Some(number) {
-                self.add_number(number, place)?;
-                before = Some(number);
+            let key = span.process_key();
+            if before != Some(key) {
+                self.add_key(key, place)?;
+                before = Some(key);
             }
         }
         Ok(())
     }
 
-    /// Whether the number is in several of the traces.
-    pub(crate) fn has(&self, number: u32) -> bool {
-        matches!(self.seen.get(&number), Some(SeenIn::Several))
+    /// Whether the key is in several of the traces.
+    pub(crate) fn has(&self, key: u32) -> bool {
+        matches!(self.seen.get(&key), Some(SeenIn::Several))
     }
 }

@@ -45,7 +45,7 @@ fn mark_trace(marks: &mut [bool], ring: &Ring, row: u32, trace: TraceId)
         marks.new ≡ map (λ t. p t || same_trace t trace) ring.now.ids }
 {
     if let Some(place) = ring.place_with_guess(row, trace) {
-        marks[place as usize] = true;
+        marks[place] = true;
     }
 }
 

@@ -186,7 +186,7 @@ fn are_spots_met(met: &[bool], spots: &[TakenSpot]) -> bool
     spots.iter().any(|spot| is_spot_met(met, *spot))
 }
 
-/// Returns the span at a spot. Its number is that of its entry.
+/// Returns the span at a spot. The key of its process is the number of its entry.
 fn taken_at(entries: &[TakenEntry], spot: &TakenSpot) -> Result<Option<TakenSpan>, AllocError>
     ensures span { IfOk result (λ t. option_and_then (λ s. s.span) t ≡
         span_at (entries_shared entries.now) (spot_of spot.now)) }
@@ -199,7 +199,8 @@ fn taken_at(entries: &[TakenEntry], spot: &TakenSpot) -> Result<Option<TakenSpan
     }
 }
 
-/// Adds the trace of the spans at these spots, in their order. The number of each span is that of its entry.
+/// Adds the trace of the spans at these spots, in their order. The key of each span's process is the number of its
+/// entry.
 fn take_spots(
     traces: &mut TakenTraces,
     entries: &[TakenEntry],

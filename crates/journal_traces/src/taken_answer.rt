@@ -11,35 +11,35 @@ ghost use Rattle.journal_traces.specs.Taking.{placed_taken, HasProcess, HaveProc
 ghost use Rattle.journal_traces.specs.TakenSearch.{traces_taken, query_taken};
 
 use crate::process_classes::ProcessClasses;
-use crate::recurring::{Recurring, are_of_one_entry};
+use crate::recurring::{Recurring, have_one_key};
 use crate::taken::TakenTraces;
 use crate::taken_search::TakenSearch;
 use jaeger_model::TraceId;
 use std::alloc::{AllocError, Global};
 use trace_model::{AnsweredTrace, KeptTrace, Limits, TakenSpan};
 
-/// Returns the place under which a span is shown: the class of its number, or the number itself if the trace has no
-/// other.
-fn place_of<'a>(
+/// Returns the key under which a span is shown: the class of the key of its process, or this key itself if the trace
+/// has no other.
+fn key_of<'a>(
     classes: &mut ProcessClasses<'a>,
     span: &'a TakenSpan,
     alone: bool,
 ) -> Result<u32, AllocError>
-    ensures place { (process_of : ℕ → Option ProcessValue) →
+    ensures key { (process_of : ℕ → Option ProcessValue) →
         HasProcess process_of span.now → Leads process_of classes.old →
-        IfOk result (λ place. process_of place ≡ process_of span.now.number) }
+        IfOk result (λ key. process_of key ≡ process_of span.now.number) }
     ensures leads { (process_of : ℕ → Option ProcessValue) →
         HasProcess process_of span.now → Leads process_of classes.old →
         OnOk result (Leads process_of classes.new) }
 {
     if alone {
-        return Ok(span.number());
+        return Ok(span.process_key());
     }
     classes.class_of(span)
 }
 
 /// Returns the trace of these spans, which are in their entries, to be shown adjusted. Spans whose processes are
-/// equal get one place, that of the first entry of the answer with that process. So a reader of the answer compares
+/// equal get one key, that of the first entry of the answer with that process. So a reader of the answer compares
 /// a process once for each trace, however many entries brought it.
 fn kept_trace<'a>(
     alloc: Global,
@@ -50,25 +50,25 @@ fn kept_trace<'a>(
     ensures spans { IfOk result (λ t. spans_there t.spans.items ≡ placed_taken spans.now) }
     ensures shared { (process_of : ℕ → Option ProcessValue) → HaveProcesses process_of spans.now →
         Leads process_of classes.old →
-        IfOk result (λ t. ShareProcesses (spans_there t.spans.items) t.places.items) }
+        IfOk result (λ t. ShareProcesses (spans_there t.spans.items) t.process_keys.items) }
     ensures leads { (process_of : ℕ → Option ProcessValue) → HaveProcesses process_of spans.now →
         Leads process_of classes.old → OnOk result (Leads process_of classes.new) }
     ensures form { IfOk result (λ t. (t.limits ≡ limits) × (t.raw ≡ false)) }
 {
     let mut kept = Vec::with_capacity(alloc, spans.len())?;
-    let mut places = Vec::with_capacity(alloc, spans.len())?;
-    let alone = are_of_one_entry(spans);
+    let mut process_keys = Vec::with_capacity(alloc, spans.len())?;
+    let alone = have_one_key(spans);
     for span in spans {
         let one = span.kept()?;
-        let place = place_of(classes, span, alone)?;
+        let key = key_of(classes, span, alone)?;
         if one.is_there() {
             kept.push(one)?;
-            places.push(u64::from(place))?;
+            process_keys.push(u64::from(key))?;
         }
     }
     Ok(KeptTrace {
         spans: kept,
-        places,
+        process_keys,
         limits,
         raw: false,
     })
@@ -91,7 +91,7 @@ fn kept_at<'a>(
     Ok(AnsweredTrace::kept(trace))
 }
 
-/// Returns the numbers that are in several of the traces at the places.
+/// Returns the keys that are in several of the traces at the places.
 fn recurring_at(
     alloc: Global,
     traces: &TakenTraces,
@@ -104,7 +104,7 @@ fn recurring_at(
     Ok(recurring)
 }
 
-/// Returns the numbers that are in several of the traces.
+/// Returns the keys that are in several of the traces.
 fn recurring_in(alloc: Global, traces: &TakenTraces) -> Result<Recurring, AllocError> {
     let mut recurring = Recurring::new(alloc);
     for place in 0..traces.count() {

@@ -18,16 +18,16 @@ use std::collections::BTreeMap;
 use std::marker::Model;
 use trace_model::TakenSpan;
 
-/// Judged processes by the numbers of their spans; `None` for one that is not of the search's service.
-type JudgedByNumber<'a> = BTreeMap<u32, Option<JudgedProcess<'a>>>;
+/// Judged processes by their keys; `None` for one that is not of the search's service.
+type JudgedByKey<'a> = BTreeMap<u32, Option<JudgedProcess<'a>>>;
 
-/// A search over taken traces. It judges the process of each number at most once; only then is its service
+/// A search over taken traces. It judges the process of each key at most once; only then is its service
 /// compared. Contracts see the search and the traces, each with its taken spans.
 #[derive(Drop)]
 pub struct TakenSearch<'a> {
     traces: &'a TakenTraces,
     prepared: &'a PreparedSearch<'a>,
-    judged: JudgedByNumber<'a>,
+    judged: JudgedByKey<'a>,
 }
 
 impl<'a> Model for TakenSearch<'a> {
@@ -43,31 +43,31 @@ impl<'a> Model for TakenSearch<'a> {
     ghost invariant = { λ s. IsSearching s.prepared.now s.traces.now s.judged };
 }
 
-/// Whether a span whose process has this number meets every condition of the search. Its process is judged unless it
+/// Whether a span whose process has this key meets every condition of the search. Its process is judged unless it
 /// was before, and only if the span has the requested operation, duration and start.
 fn is_match<'a>(
     alloc: Global,
     prepared: &'a PreparedSearch<'a>,
-    judged: &mut JudgedByNumber<'a>,
-    number: u32,
+    judged: &mut JudgedByKey<'a>,
+    key: u32,
     at: Seen<'a>,
 ) -> Result<bool, AllocError>
     ensures found { (process_of : ℕ → Option ProcessValue) →
-        AreJudged prepared.now process_of judged.old → Some at.entry.process.now ≡ process_of number →
+        AreJudged prepared.now process_of judged.old → Some at.entry.process.now ≡ process_of key →
         IfOk result (λ b. b ≡ matches prepared.now (seen at.entry)) }
     ensures judged { (process_of : ℕ → Option ProcessValue) →
-        AreJudged prepared.now process_of judged.old → Some at.entry.process.now ≡ process_of number →
+        AreJudged prepared.now process_of judged.old → Some at.entry.process.now ≡ process_of key →
         AreJudged prepared.now process_of judged.new }
 {
     if !meets_span_conditions(at, prepared.query()) {
         return Ok(false);
     }
-    if let Some(process) = judged.get(&number) {
+    if let Some(process) = judged.get(&key) {
         return has_tags(alloc, process, at.span);
     }
     let process = judge(alloc, prepared, at.process)?;
     let is_match = has_tags(alloc, &process, at.span)?;
-    judged.insert(number, process)?;
+    judged.insert(key, process)?;
     Ok(is_match)
 }
 
@@ -75,7 +75,7 @@ fn is_match<'a>(
 fn is_found<'a>(
     alloc: Global,
     prepared: &'a PreparedSearch<'a>,
-    judged: &mut JudgedByNumber<'a>,
+    judged: &mut JudgedByKey<'a>,
     spans: &'a [TakenSpan],
 ) -> Result<bool, AllocError>
     ensures found { (process_of : ℕ → Option ProcessValue) →
@@ -86,7 +86,7 @@ fn is_found<'a>(
         AreJudged prepared.now process_of judged.new }
 {
     for span in spans {
-        let is_match = is_match(alloc, prepared, judged, span.number(), span.seen())?;
+        let is_match = is_match(alloc, prepared, judged, span.process_key(), span.seen())?;
         if is_match {
             return Ok(true);
         }

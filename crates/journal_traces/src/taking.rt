@@ -12,7 +12,7 @@ use std::alloc::AllocError;
 use trace_assembly::{Spot, Spots};
 use trace_model::TakenSpan;
 
-/// Collects the span at a spot. Its number is the place of its entry.
+/// Collects the span at a spot. The key of its process is the place of its entry.
 fn taken_at(journal: &Journal, spot: Spot) -> Result<Option<TakenSpan>, AllocError>
     requires few { length journal.now.held.entries < 2 ^ 32 }
     ensures span { IfOk result (λ t. option_and_then (λ s. s.span) t ≡
@@ -28,7 +28,7 @@ fn taken_at(journal: &Journal, spot: Spot) -> Result<Option<TakenSpan>, AllocErr
     Ok(taken)
 }
 
-/// Adds the trace of the spans at these spots, in their order. The number of each span is the place of its entry.
+/// Adds the trace of the spans at these spots, in their order. The key of each span's process is the place of its entry.
 ///
 /// # Errors
 ///

@@ -9,7 +9,7 @@ ghost use Rattle.open_connections.specs.Open.{IsOpen, HasCome, Delivers, stays_o
 
 use crate::nonblocking::TryConnection;
 use crate::outbox::Outbox;
-use http_session::{Progress as Piece, Session, SessionError, SpareRoom};
+use http_session::{Progress, Session, SessionError, SpareRoom};
 use matchit::Router;
 use query_http::Endpoint;
 use std::alloc::Global;
@@ -104,7 +104,7 @@ impl<C: TryConnection> OpenConnection<C> {
         alloc: Global,
         router: &Router<Endpoint>,
         backend: &mut B,
-    ) -> Result<Piece, SessionError>
+    ) -> Result<Progress, SessionError>
         requires routes { router.now ≡ endpoint_rows }
         requires input_works { C.has_failed self.old.connection.connection ≡ false }
         requires output_works { self.old.connection.failed ≡ false }
@@ -210,10 +210,10 @@ impl<C: TryConnection> OpenConnection<C> {
             return ConnectionProgress::Failed;
         };
         match piece {
-            Piece::Paused => ConnectionProgress::Paused,
-            Piece::Answered => self.after_response(),
-            Piece::Ended(ended) if ended.clean => ConnectionProgress::Ended,
-            Piece::Ended(_) => ConnectionProgress::Closing,
+            Progress::Paused => ConnectionProgress::Paused,
+            Progress::Answered => self.after_response(),
+            Progress::Ended(ended) if ended.clean => ConnectionProgress::Ended,
+            Progress::Ended(_) => ConnectionProgress::Closing,
         }
     }
 

@@ -118,6 +118,7 @@ impl<C: TryConnection + Drop> ConnectionSet<C> {
             backend.now self.new }
     {
         let outbox = Outbox::new(alloc, connection);
+        // For the prover: the law is used for the clause `underway`.
         a_new_session_is_underway::<T, Outbox<C>, B>(&outbox, backend);
         let open = OpenConnection::new(alloc, outbox, now);
         let Ok(key) = self.connections.insert(open) else {
@@ -160,6 +161,7 @@ impl<C: TryConnection + Drop> ConnectionSet<C> {
                 session,
                 ..
             } = open;
+            // For the prover: an explicit drop is cheaper than one at the end of the block.
             drop(session);
             return ConnectionTurn::Left(progress, connection);
         }

@@ -2,13 +2,10 @@ ghost use Rattle.std.specs.Prelude.{◌≡◌, false, None};
 ghost use Rattle.std.specs.Io.{ReadsAtMost};
 
 use crate::nonblocking::TryConnection;
-use session_devices::{Failed, Input};
+use session_devices::{Failed, Input, MAX_INTERRUPTIONS};
 use std::io::{self, ErrorKind, Read, Write};
 use std::net::TcpStream;
 use std::os::fd::{AsRawFd, RawFd};
-
-/// How many interruptions by a signal make a call count as failed.
-const MAX_INTERRUPTIONS: u32 = 1_000_000;
 
 /// A TCP stream in non-blocking mode as a connection. Nothing is known about the bytes that it carries.
 #[derive(Drop)]

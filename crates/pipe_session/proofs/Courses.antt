@@ -4,7 +4,7 @@ use Rattle.std.proofs.Common.{length-append}
 use Rattle.std.proofs.lemmas.List.Elements.{All-head, All-tail}
 use Rattle.trace_model.specs.Held.{Held}
 use Rattle.http_requests.specs.Asked.{asked_by}
-use Rattle.http_requests.specs.declared.asked.BadRequest.{BadRequest}
+use Rattle.http_requests.specs.declared.request.BadRequest.{BadRequest}
 use Rattle.http_requests.proofs.Once.{Breaks, breaks_all, request_is_some, request_once, no_request, one_bad_request, nothing_is_no_bad_request}
 use Rattle.http_session.specs.Sessions.{Exchange, IsExchange, IsOpen, texts, Ending, Ending.{clean, closing, malformed}, last_of, IsEnding}
 use Rattle.http_session.specs.Replies.{closes}

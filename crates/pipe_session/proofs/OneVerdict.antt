@@ -5,13 +5,13 @@ use Rattle.batch_codec.specs.declared.fault.DecodeError.{DecodeError}
 use Rattle.trace_model.specs.declared.query.Query.{Query}
 use Rattle.batch_codec.specs.BatchReading.{decoded}
 use Rattle.http_requests.specs.Asked.{Asked}
-use Rattle.http_requests.specs.declared.asked.Method.{Method}
-use Rattle.http_requests.specs.declared.asked.Method.TheVariants.{Get, Post, Other}
+use Rattle.http_requests.specs.declared.request.Method.{Method}
+use Rattle.http_requests.specs.declared.request.Method.TheVariants.{Get, Post, Other}
 use Rattle.query_http.specs.declared.fault.Parameter.{Parameter}
 use Rattle.query_http.specs.declared.paths.Endpoint.{Endpoint}
 use Rattle.query_http.specs.declared.paths.Endpoint.TheVariants.{Traces, Trace, Services, OperationNames, Operations, Dependencies}
-use Rattle.query_http.specs.Forms.{pairs_of}
-use Rattle.query_http.specs.Queries.{query_at, path_of, form_of}
+use Rattle.query_http.specs.QueryStrings.{pairs_of}
+use Rattle.query_http.specs.Queries.{query_at, path_of, query_string_of}
 use Rattle.query_http.proofs.PathLaws.{one_endpoint}
 use Rattle.http_session.specs.Verdicts.{allows, JudgesQuery, JudgesBatch, JudgesMethod, Judges}
 use Rattle.http_session.specs.declared.verdict.ErrorReply.TheVariants.{NoSuchPath, NotAllowed, UnsupportedType, BatchRefused, BadParameter, NoMemory}
@@ -37,7 +37,7 @@ method_verdict Other e query batch = Reject (NotAllowed e)
 
 verdict_at : Asked → List ℕ → Endpoint → List ℕ → Verdict
 verdict_at a body e part =
-    method_verdict a.method e (query_verdict (query_at e part (pairs_of (form_of a.target)))) (batch_verdict a.has_batch_type (decoded body))
+    method_verdict a.method e (query_verdict (query_at e part (pairs_of (query_string_of a.target)))) (batch_verdict a.has_batch_type (decoded body))
 
 -- ---- each verdict is that
 
@@ -89,7 +89,7 @@ by_neither Other e query batch not = refl
 by_method : (a : Asked) (body : List ℕ) (v : Verdict) (e : Endpoint) (part : List ℕ) → v ≢ Reject NoMemory → JudgesMethod a body v e part
     → v ≡ verdict_at a body e part
 unfolding verdict_at
-by_method a body v e part memory (inl get) = by_query (query_at e part (pairs_of (form_of a.target))) v get.1 ∙ by_get a.method e _ _ get.0
+by_method a body v e part memory (inl get) = by_query (query_at e part (pairs_of (query_string_of a.target))) v get.1 ∙ by_get a.method e _ _ get.0
 by_method a body v e part memory (inr (inl post)) = by_batch a.has_batch_type body v memory post.2 ∙ by_post a.method e _ _ post.1 post.0
 by_method a body v e part memory (inr (inr neither)) = neither.1 ∙ by_neither a.method e _ _ neither.0
 

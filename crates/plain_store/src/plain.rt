@@ -48,7 +48,7 @@ fn events_of(alloc: Global, work: &Work) -> Result<Vec<StoreEvent>, AllocError>
 {
     match work {
         Work::Batch(batch) => arrival_events(alloc, domain(alloc, batch)?),
-        Work::TraceLimit(limit) => one(alloc, StoreEvent::Limited(*limit)),
+        Work::TraceLimit(limit) => one(alloc, StoreEvent::Limited(limit.get())),
     }
 }
 
@@ -117,7 +117,7 @@ pub fn get_trace(
 fn made(alloc: Global, spans: Seq<Shown>) -> AnsweredTrace
     ensures { result ≡ spans }
 {
-    AnsweredTrace::made(ShownTrace::without_places(alloc, spans))
+    AnsweredTrace::made(ShownTrace::without_keys(alloc, spans))
 }
 
 /// Returns the spans of a trace as they are shown: as reported if `raw` is set, else adjusted.

@@ -4,8 +4,8 @@ use Rattle.trace_model.specs.declared.query.Query.{Query}
 use Rattle.query_http.specs.declared.fault.Parameter.{Parameter}
 use Rattle.query_http.specs.declared.paths.Endpoint.{Endpoint}
 use Rattle.query_http.specs.Paths.{IsPath, IsNoPath}
-use Rattle.query_http.specs.Forms.{pairs_of}
-use Rattle.query_http.specs.Queries.{query_at, path_of, form_of}
+use Rattle.query_http.specs.QueryStrings.{pairs_of}
+use Rattle.query_http.specs.Queries.{query_at, path_of, query_string_of}
 use Rattle.query_http.specs.declared.fault.QueryFault.{QueryFault}
 use Rattle.query_http.specs.declared.fault.QueryFault.TheVariants.{NoPath, Bad, NoMemory}
 
@@ -21,7 +21,7 @@ pub record AsksEndpoint (target : List ℕ) (read : Result Query Parameter) : Ty
   pub endpoint : Endpoint
   pub part : List ℕ
   pub path : IsPath endpoint part (path_of target)
-  pub asked : query_at endpoint part (pairs_of (form_of target)) ≡ read
+  pub asked : query_at endpoint part (pairs_of (query_string_of target)) ≡ read
 
 -- the query of a target: its endpoint's query, no path, or the first invalid parameter, unless memory ran out
 abbrev pub AsksTarget : Result Query QueryFault → List ℕ → Type 0

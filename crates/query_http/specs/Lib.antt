@@ -1,6 +1,6 @@
 pub mod Faults
 pub mod Paths
-pub mod Forms
+pub mod QueryStrings
 pub mod Numbers
 pub mod Queries
 pub mod Answering

@@ -14,7 +14,7 @@ use Rattle.query_http.specs.declared.fault.Parameter.TheVariants as bad
 use Rattle.query_http.specs.declared.paths.Endpoint.{Endpoint}
 use Rattle.query_http.specs.declared.paths.Endpoint.TheVariants as at
 use Rattle.query_http.specs.Faults.{parameter_name}
-use Rattle.query_http.specs.Forms.{parameter, values_of, split_at, question_mark, colon}
+use Rattle.query_http.specs.QueryStrings.{parameter, values_of, split_at, question_mark, colon}
 use Rattle.query_http.specs.Numbers.{read_number, read_duration}
 
 infixl 10 ◌>>=◌
@@ -168,5 +168,5 @@ query_at at.Dependencies part ps = links_at ps
 abbrev pub path_of : List ℕ → List ℕ
 path_of target = (unwrap_or (split_at question_mark target) (target, [])).0
 
-abbrev pub form_of : List ℕ → List ℕ
-form_of target = (unwrap_or (split_at question_mark target) (target, [])).1
+abbrev pub query_string_of : List ℕ → List ℕ
+query_string_of target = (unwrap_or (split_at question_mark target) (target, [])).1

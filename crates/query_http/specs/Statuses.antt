@@ -4,7 +4,7 @@ use Rattle.query_http.specs.declared.status.Status.{Status}
 use Rattle.query_http.specs.declared.status.Status.TheVariants as status
 
 abbrev pub code_of : Status → ℕ
-code_of status.Success = 200
+code_of status.Ok = 200
 code_of status.Accepted = 202
 code_of status.BadRequest = 400
 code_of status.NotFound = 404

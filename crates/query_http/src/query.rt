@@ -1,15 +1,15 @@
 ghost use Rattle.std.specs.Prelude.{◌≡◌, IfOk};
 ghost use Rattle.query_http.specs.Answering.{Asks, AsksTarget};
-ghost use Rattle.query_http.specs.Forms.{pairs_of};
+ghost use Rattle.query_http.specs.QueryStrings.{pairs_of};
 ghost use Rattle.query_http.specs.Paths.{endpoint_rows};
 ghost use Rattle.query_http.specs.Queries.{time_at, length_at, limit_at, required, text_of, find_at, text_part, raw_at, operations_at, links_at, query_at};
-ghost use Rattle.query_http.specs.Queries.{path_of, form_of};
+ghost use Rattle.query_http.specs.Queries.{path_of, query_string_of};
 ghost use Rattle.query_http.specs.declared.paths.Endpoint.TheVariants as at;
 
 use crate::fault::{Parameter, QueryFault};
-use crate::form::{Pair, find_parameter, form_pairs, split_query};
 use crate::number::{read_duration, read_number};
 use crate::paths::{Endpoint, find_endpoint};
+use crate::query_string::{Pair, find_parameter, query_pairs, split_query};
 use crate::tags::{copy_text, requested_tags};
 use jaeger_model::{Text, parse_trace};
 use matchit::Router;
@@ -166,11 +166,11 @@ pub fn read_query(
     alloc: Global,
     endpoint: Endpoint,
     part: &str,
-    form: &str,
+    query_string: &str,
 ) -> Result<Query, QueryFault>
-    ensures { Asks (λ q. q) result (query_at endpoint part.now (pairs_of form.now)) }
+    ensures { Asks (λ q. q) result (query_at endpoint part.now (pairs_of query_string.now)) }
 {
-    let pairs = form_pairs(alloc, form.as_bytes())?;
+    let pairs = query_pairs(alloc, query_string.as_bytes())?;
     match endpoint {
         Endpoint::Traces => Ok(Query::Find(read_find(alloc, &pairs)?)),
         Endpoint::Trace => read_trace_query(&pairs, part),
@@ -184,9 +184,9 @@ pub fn read_query(
 }
 
 /// Splits a target into its path and its query string, at its first `?`.
-pub fn path_and_form(target: &str) -> (&str, &str)
+pub fn split_target(target: &str) -> (&str, &str)
     ensures path { result.0.now ≡ path_of target.now }
-    ensures form { result.1.now ≡ form_of target.now }
+    ensures query_string { result.1.now ≡ query_string_of target.now }
 {
     split_query(target).unwrap_or((target, ""))
 }
@@ -205,9 +205,9 @@ pub fn parse_query(
     requires { router.now ≡ endpoint_rows }
     ensures { AsksTarget result target.now }
 {
-    let (path, form) = path_and_form(target);
+    let (path, query_string) = split_target(target);
     let Some((endpoint, part)) = find_endpoint(router, path) else {
         return Err(QueryFault::NoPath);
     };
-    read_query(alloc, endpoint, part, form)
+    read_query(alloc, endpoint, part, query_string)
 }

@@ -8,7 +8,7 @@ ghost use Rattle.query_http.specs.Responses as spec;
 #[derive(Clone, Copy, Debug, PartialEq, Eq)]
 pub enum Status {
     /// 200 OK.
-    Success,
+    Ok,
     /// 202 Accepted.
     Accepted,
     /// 400 Bad Request.
@@ -35,7 +35,7 @@ impl Status {
         ensures { result ≡ code_of self }
     {
         match self {
-            Status::Success => 200,
+            Status::Ok => 200,
             Status::Accepted => 202,
             Status::BadRequest => 400,
             Status::NotFound => 404,
@@ -53,7 +53,7 @@ impl Status {
         ensures { result.now ≡ spec.reason (code_of self) }
     {
         match self {
-            Status::Success => b"OK",
+            Status::Ok => b"OK",
             Status::Accepted => b"Accepted",
             Status::BadRequest => b"Bad Request",
             Status::NotFound => b"Not Found",

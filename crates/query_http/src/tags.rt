@@ -4,10 +4,10 @@ ghost use Rattle.query_http.specs.Queries.{tags_from, or_bad, texts_in, object_t
 ghost use Rattle.serde_json.specs.View.{view, members_view};
 ghost use Rattle.serde_json.specs.Read.{read};
 ghost use Rattle.query_http.specs.declared.fault.Parameter.TheVariants as bad;
-ghost use Rattle.query_http.specs.Forms.{values_of, split_at};
+ghost use Rattle.query_http.specs.QueryStrings.{values_of, split_at};
 
 use crate::fault::{Parameter, QueryFault};
-use crate::form::{Pair, find_parameter, split_tag};
+use crate::query_string::{Pair, find_parameter, split_tag};
 use jaeger_model::{Seq, Text};
 use serde_json::{Map, Value};
 use std::alloc::{AllocError, Global};

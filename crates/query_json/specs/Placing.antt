@@ -12,42 +12,42 @@ use Rattle.query_json.specs.Numbering.{IsByPlace, IsFirst, numbered}
 use Rattle.query_json.specs.Trees.{processes_of}
 use Rattle.query_json.specs.Writing.{process_place}
 
--- the map by places of entries, with one more inserted if its place is known
+-- the map by keys, with one more inserted if its key is known
 abbrev pub kept_under : Option ℕ → ℕ → (ℕ → Option ℕ) → ℕ → Option ℕ
-kept_under None number old entry = old entry
-kept_under (Some own) number old entry = if own == entry then Some number else old entry
+kept_under None number old key = old key
+kept_under (Some own) number old key = if own == key then Some number else old key
 
--- the number is the place of the process of one of the first spans, whose entry has that place
-pub record IsKnown (spans : List Shown) (entries : List ℕ) (i entry number : ℕ) : Type 0 where
+-- the number is the place of the process of one of the first spans, which has that key
+pub record IsKnown (spans : List Shown) (keys : List ℕ) (i key number : ℕ) : Type 0 where
   pub index : ℕ
   pub before : index < i
-  pub stands : slice_get entries index ≡ Some entry
+  pub stands : slice_get keys index ≡ Some key
   pub counted : (d : Placed) → among (get_or (spans_of spans) index d).process (processes_of (take i spans)) ≡ true
   pub place : (d : Placed) → number ≡ place (get_or (spans_of spans) index d).process (processes_of spans)
 
--- whatever the map has for the place of an entry
+-- whatever the map has for a key
 abbrev pub AreKnown : List Shown → List ℕ → ℕ → (ℕ → Option ℕ) → Type 0
-AreKnown spans entries i known = (entry number : ℕ) → known entry ≡ Some number → IsKnown spans entries i entry number
+AreKnown spans keys i known = (key number : ℕ) → known key ≡ Some number → IsKnown spans keys i key number
 
 -- n of the spans have been added
-pub record HasPlaces (spans : List Shown) (entries : List ℕ) (i : ℕ) (p : Placing) : Type 0 where
+pub record HasPlaces (spans : List Shown) (keys : List ℕ) (i : ℕ) (p : Placing) : Type 0 where
   pub by_place : IsByPlace p.numbering
   pub processes : numbered p.numbering ≡ processes_of (take i spans)
   pub firsts : All (IsFirst spans) p.numbering.processes.items
   pub places : p.places.items ≡ map (process_place (processes_of spans)) (take i spans)
-  pub known : AreKnown spans entries i (get nat_cmp p.known)
+  pub known : AreKnown spans keys i (get nat_cmp p.known)
 
 -- the process of s, the span after n others, has been added, and this is its place
-pub record HasPlace (spans : List Shown) (entries : List ℕ) (i : ℕ) (s : Shown) (p : Placing) (number : ℕ) : Type 0 where
+pub record HasPlace (spans : List Shown) (keys : List ℕ) (i : ℕ) (s : Shown) (p : Placing) (number : ℕ) : Type 0 where
   pub by_place : IsByPlace p.numbering
   pub processes : numbered p.numbering ≡ processes_of (take (i + 1) spans)
   pub firsts : All (IsFirst spans) p.numbering.processes.items
-  pub known : AreKnown spans entries (i + 1) (get nat_cmp p.known)
+  pub known : AreKnown spans keys (i + 1) (get nat_cmp p.known)
   pub place : number ≡ process_place (processes_of spans) s
 
--- s is the span at the index, and this is the place of its entry
-pub record ComesNext (spans : List Shown) (entries : List ℕ) (i : ℕ) (s : Shown) (entry : Option ℕ) : Type 0 where
+-- s is the span at the index, and this is its key
+pub record ComesNext (spans : List Shown) (keys : List ℕ) (i : ℕ) (s : Shown) (key : Option ℕ) : Type 0 where
   pub within : i < length spans
   pub is : s ≡ get_or spans i s
-  pub stands : entry ≡ slice_get entries i
-  pub shares : ShareProcesses (spans_of spans) entries
+  pub stands : key ≡ slice_get keys i
+  pub shares : ShareProcesses (spans_of spans) keys

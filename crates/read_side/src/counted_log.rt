@@ -4,6 +4,7 @@ ghost use Rattle.read_side.specs.CountedLogs.{head_of, with_item};
 
 use logbook::{Gain, Offer, Plain, Play, Rule, Seen, Start, Word};
 use std::marker::Model;
+use std::sync::Wait;
 
 /// The rule of the list: its word has the number of its items.
 pub struct CountedRule;
@@ -117,7 +118,7 @@ impl<T> CountedLog<T> {
 
     /// Appends an item. Returns false, with nothing added, only if another owner had added an item; there is no
     /// other.
-    pub fn add(&mut self, item: &T) -> bool
+    fn try_add(&mut self, item: &T) -> bool
         requires { length self.old.items < 2 ^ 62 }
         ensures { MatchBool result (self.new ≡ with_item self.old item.now) (self.new ≡ self.old) }
     {
@@ -134,5 +135,19 @@ impl<T> CountedLog<T> {
         self.seen = seen;
         self.len = len + 1;
         true
+    }
+
+    /// Appends an item. Allocates nothing.
+    pub fn add<R: Wait>(&mut self, rt: &R, item: &T)
+        requires { length self.old.items < 2 ^ 62 }
+        ensures { self.new ≡ with_item self.old item.now }
+    {
+        // The first try succeeds: nobody else adds items.
+        for _ in rt.forever() {
+            if self.try_add(item) {
+                return;
+            }
+        }
+        unreachable!()
     }
 }

@@ -232,6 +232,7 @@ impl<N: StoreName> Pass<N> {
         let Some(inside) = self.visitor.enter() else {
             return false;
         };
+        // It can't be dropped, so what it replaces is matched: nothing.
         match mem::replace(&mut self.inside, Some(inside)) {
             None => {}
             Some(_) => unreachable!(),

@@ -21,10 +21,7 @@ use std::alloc::{AllocError, Global};
 use std::hash::RandomState;
 use std::marker::Model;
 use std::sync::Arc;
-use trace_model::{Admission, Answer, Entry, Limits, Query, Work};
-
-/// The greatest limit on the traces that are shown.
-const MAX_TRACES: u32 = 1_000_000;
+use trace_model::{Admission, Answer, Entry, Limits, Query, TraceLimit, Work};
 
 /// The machine with the two copies that it keeps.
 #[derive(Drop)]
@@ -85,9 +82,9 @@ impl MachineState {
         ensures { IfOk result (λ o. record { outcome = o; machine = self.new } ≡
             limits_by self.old seat limit (slice_get self.old.numbers seat)) }
     {
-        if limit > MAX_TRACES {
+        let Some(limit) = TraceLimit::new(limit) else {
             return Ok(Outcome::Unknown);
-        }
+        };
         self.put(seat, Work::TraceLimit(limit))
     }
 
@@ -227,6 +224,7 @@ impl MachineState {
             Step::Enter { reader } => Ok(self.enter(reader)),
             Step::Read { reader, query } => {
                 let outcome = self.read(reader, &query);
+                // For the prover: an explicit drop is cheaper than one at the end of the block.
                 drop(query);
                 outcome
             }

@@ -28,6 +28,7 @@ pub fn play(
 {
     let mut world = World::new(alloc, keys, limits)?;
     let outcomes = outcomes_of(alloc, &mut world, steps);
+    // For the prover: an explicit drop is cheaper than one at the end of the block.
     drop(world);
     outcomes
 }

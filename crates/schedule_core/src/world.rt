@@ -40,12 +40,14 @@ impl World {
         ensures { Steps self.old step result self.new }
     {
         let Some(state) = &mut self.state else {
+            // For the prover: an explicit drop is cheaper than one at the end of the block.
             drop(step);
             return Outcome::Refused(Refusal::NoMemory);
         };
         match state.step(step) {
             Ok(outcome) => outcome,
             Err(_) => {
+                // For the prover: `drop` is generic in the state, so its type isn't opened.
                 drop(self.state.take());
                 Outcome::Refused(Refusal::NoMemory)
             }

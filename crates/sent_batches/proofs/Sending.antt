@@ -27,7 +27,7 @@ use Rattle.trace_model.proofs.LastEntries.{last_entry}
 use Rattle.trace_model.proofs.Lists.{map_agree}
 use Rattle.trace_model.proofs.Resent.{sent_as, limit_not_sent, alike}
 use Rattle.sent_batches.specs.Hashing.{hash_of, batch_hash}
-use Rattle.sent_batches.specs.Sent.{has_number, numbered_from, work_hash, hash_after, is_sent_after, Sent, IsKept}
+use Rattle.sent_batches.specs.Sent.{has_number, numbered_from, work_hash, hash_after, is_sent_after, Sent, IsSentKept}
 use Rattle.hash_tables.specs.Leading.{LeadsTo}
 
 -- ---- batches that were sent as one another
@@ -215,7 +215,7 @@ pub record OneMore (h : List Entry) (e : Entry) (sent : Sent) : Type 0 where
 
 pub one_more : (entries : List (Arc Entry Global)) (a : Arc Entry Global) (e : Entry) (sent : Sent) → 0 < length entries
     → a ≡ get_or entries (length entries - 1) a → e ≡ arc_value a
-    → IsKept (before_last (map arc_value entries)) sent → length entries ≤ sent.room → OneMore (map arc_value entries) e sent
+    → IsSentKept (before_last (map arc_value entries)) sent → length entries ≤ sent.room → OneMore (map arc_value entries) e sent
 one_more entries a e sent some is value kept room =
     let h = before_last (map arc_value entries) in
     let last : h ++ e ∷ [] ≡ map arc_value entries = last_entry entries a e some is value in
@@ -223,10 +223,10 @@ one_more entries a e sent some is value kept room =
     let few : length sent.befores < sent.room = omega (arith, numbered_few 0 h, ap length kept.befores, length-append h (e ∷ [])) in
     record { last = last; within = within; befores = few; hashes = omega (arith, ap length kept.hashes, length-map sent.befores (hash_after sent.keys h)) }
 
-pub kept_same : (h : List Entry) (e : Entry) (sent : Sent) → IsKept (before_last h) sent → has_number e.work ≡ false → OneMore h e sent → IsKept h sent
+pub kept_same : (h : List Entry) (e : Entry) (sent : Sent) → IsSentKept (before_last h) sent → has_number e.work ≡ false → OneMore h e sent → IsSentKept h sent
 kept_same h e sent kept none more =
     let before = before_last h in
-    subst (λ (l : List Entry). IsKept l sent) more.last record {
+    subst (λ (l : List Entry). IsSentKept l sent) more.last record {
       fits = kept.fits;
       within = more.within;
       befores = kept.befores ∙ sym (same_rows before e none);
@@ -236,10 +236,10 @@ kept_same h e sent kept none more =
       leads = kept.leads;
     }
 
-pub kept_more : (h : List Entry) (e : Entry) (b : Batch) (sent more : Sent) → IsKept h sent → e.work ≡ brings.Batch b → is_some b.seq_no ≡ true
+pub kept_more : (h : List Entry) (e : Entry) (b : Batch) (sent more : Sent) → IsSentKept h sent → e.work ≡ brings.Batch b → is_some b.seq_no ≡ true
     → length (h ++ e ∷ []) ≤ sent.room
     → more.keys ≡ sent.keys → more.room ≡ sent.room → more.befores ≡ sent.befores ++ length h ∷ [] → more.hashes ≡ sent.hashes ++ batch_hash sent.keys b ∷ []
-    → LeadsTo (sent.hashes ++ batch_hash sent.keys b ∷ []) more.slots → IsKept (h ++ e ∷ []) more
+    → LeadsTo (sent.hashes ++ batch_hash sent.keys b ∷ []) more.slots → IsSentKept (h ++ e ∷ []) more
 kept_more h e b sent more kept brought num room keys rooms befores hashes leads =
     let has : has_number e.work ≡ true = ap has_number brought ∙ num in
     let rows : more.befores ≡ numbered_from 0 (h ++ e ∷ []) = befores ∙ ap (λ ks. ks ++ length h ∷ []) kept.befores ∙ sym (more_rows h e has) in

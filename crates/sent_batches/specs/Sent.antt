@@ -47,7 +47,7 @@ pub record AreAfterEntries (h : List Entry) (befores : List ℕ) : Type 0 where
   pub within : (row : ℕ) → row < length befores → get_or befores row 0 < length h
 
 -- the index is that of these entries
-pub record IsKept (h : List Entry) (sent : Sent) : Type 0 where
+pub record IsSentKept (h : List Entry) (sent : Sent) : Type 0 where
   pub fits : sent.room < 2 ^ 32
   pub within : length h ≤ sent.room
   pub befores : sent.befores ≡ numbered_from 0 h

@@ -5,7 +5,7 @@ ghost use Rattle.std.specs.Arc.{arc_value};
 ghost use Rattle.trace_model.specs.Resending.{SentOnceAfter, sent_before};
 ghost use Rattle.trace_model.specs.Histories.{before_last};
 ghost use Rattle.trace_model.specs.declared.entry.Entry.{Entry as EntryValue};
-ghost use Rattle.sent_batches.specs.Sent.{IsKept, has_number, work_hash};
+ghost use Rattle.sent_batches.specs.Sent.{IsSentKept, has_number, work_hash};
 
 use crate::keys::BatchKeys;
 use crate::sought::SoughtBatch;
@@ -46,7 +46,7 @@ impl SentBatches {
     ///
     /// Out of memory, and nothing else.
     pub fn with_room(alloc: Global, keys: BatchKeys, batches: u32) -> Result<Self, AllocError>
-        ensures kept { IfOk result (λ sent. IsKept [] sent) }
+        ensures kept { IfOk result (λ sent. IsSentKept [] sent) }
         ensures room { IfOk result (λ sent. sent.room ≡ batches) }
     {
         let places = RowPlaces::with_room(alloc, batches)?;
@@ -71,7 +71,7 @@ impl SentBatches {
     /// None if there is no such entry or this one has no batch with a number. The hash is the one that
     /// [`BatchKeys::hash`] computes of the entry's work.
     pub fn find(&self, entries: &[Arc<Entry>], entry: &Entry, hash: u64) -> Option<u32>
-        requires kept { IsKept (map arc_value entries.now) self.now }
+        requires kept { IsSentKept (map arc_value entries.now) self.now }
         requires hash { has_number entry.now.work ≡ true →
             hash ≡ work_hash self.now.keys entry.now.work }
         requires once { SentOnceAfter [] (map arc_value entries.now) }
@@ -95,12 +95,12 @@ impl SentBatches {
     /// has a number. Allocates nothing.
     pub fn add(&mut self, entries: &[Arc<Entry>], hash: u64)
         requires some { 0 < length entries.now }
-        requires kept { IsKept (before_last (map arc_value entries.now)) self.old }
+        requires kept { IsSentKept (before_last (map arc_value entries.now)) self.old }
         requires room { length entries.now ≤ self.old.room }
         requires hash { (e : EntryValue) →
             map arc_value entries.now ≡ before_last (map arc_value entries.now) ++ e ∷ [] →
             has_number e.work ≡ true → hash ≡ work_hash self.old.keys e.work }
-        ensures kept { IsKept (map arc_value entries.now) self.new }
+        ensures kept { IsSentKept (map arc_value entries.now) self.new }
         ensures room { self.new.room ≡ self.old.room }
         ensures keys { self.new.keys ≡ self.old.keys }
     {

@@ -11,4 +11,4 @@ mod options;
 
 pub use host::Host;
 pub use lines::{Counted, FailureLine, FullnessLine, HeldText, TooLargeLine, level_of};
-pub use options::ServeOptions;
+pub use options::{MAX_CONNECTIONS, MAX_QUEUE, MAX_SECONDS, MAX_WORKERS, ServeOptions};

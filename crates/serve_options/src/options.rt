@@ -4,6 +4,18 @@ ghost use Rattle.serve_options.specs.Ranges.{IsWithin};
 use crate::host::Host;
 use trace_model::Limits;
 
+/// The greatest number of threads that serve connections.
+pub const MAX_WORKERS: u16 = 64;
+
+/// The greatest number of batches that may wait to be accepted.
+pub const MAX_QUEUE: u16 = 4_096;
+
+/// The greatest number of connections that may be open at a time.
+pub const MAX_CONNECTIONS: u32 = 65_536;
+
+/// The greatest number of seconds of an option: a day.
+pub const MAX_SECONDS: u32 = 86_400;
+
 /// The options of a server. Each value is within its range.
 #[derive(Clone, Copy, Debug)]
 pub struct ServeOptions {
@@ -52,13 +64,13 @@ impl ServeOptions {
         ensures reports { IfSome result (λ o. o.report ≡ report) }
     {
         if workers < 1
-            || workers > 64
+            || workers > MAX_WORKERS
             || queue < 1
-            || queue > 4_096
+            || queue > MAX_QUEUE
             || connections < 1
-            || connections > 65_536
-            || idle > 86_400
-            || report > 86_400
+            || connections > MAX_CONNECTIONS
+            || idle > MAX_SECONDS
+            || report > MAX_SECONDS
         {
             return None;
         }

@@ -14,7 +14,7 @@ use Rattle.service_index.proofs.Extending.{Grows, numbers_agree, named_extends}
 use Rattle.service_index.proofs.Linking.{FindsLabel, AreKeys, linked_more, row_by_key, row_within, number_known, number_new, service_own, service_new, none_of}
 use Rattle.trace_model.proofs.Lists.{is_position}
 use Rattle.trace_model.specs.Works.{service_brought}
-use Rattle.service_index.specs.Reported.{Reported, reporters, service_at, service_label, service_labels, group_in, group_of, AreGroups, IsKept}
+use Rattle.service_index.specs.Reported.{Reported, reporters, service_at, service_label, service_labels, group_in, group_of, AreGroups, ArePlacesKept}
 use Rattle.service_index.proofs.PlacesGrouping.{reporters_push, as_many_reporters, service_old, service_last, group_old, group_new, groups_more}
 
 -- the number of entries before the last one
@@ -42,7 +42,7 @@ pub row_is : (h : List Entry) (numbers : List ℕ) (s : List ℕ) → AreNumbers
     → row_of (service_labels h) numbers (service_label s) ≡ position_or_len (same_text s) (map (service_at h) numbers)
 row_is h numbers s held = row_by_key (service_labels h) (service_label s) (service_at h) (same_text s) numbers [] (service_asked h s) held
 
-linked_still : (h0 h : List Entry) (e : Entry) (old : Reported) → h0 ++ e ∷ [] ≡ h → IsKept h0 old
+linked_still : (h0 h : List Entry) (e : Entry) (old : Reported) → h0 ++ e ∷ [] ≡ h → ArePlacesKept h0 old
     → IsLinked (reporters h0) (map (service_at h) old.services.numbers) old.newest old.earlier
 linked_still h0 h e old is k =
     subst (λ (x : List (List ℕ)). IsLinked (reporters h0) x old.newest old.earlier)
@@ -71,7 +71,7 @@ row_added h numbers now n r more row =
 pub record HasOneMore (h0 h : List Entry) (e : Entry) (old : Reported) (services : Table) (groups : List ℕ) (s n group : ℕ) : Type 0 where
   pub is : h0 ++ e ∷ [] ≡ h
   pub at : n ≡ length h0
-  pub kept : IsKept h0 old
+  pub kept : ArePlacesKept h0 old
   pub named : IsNamed (service_labels h) services
   pub numbers : services.numbers ≡ with_number (service_labels h) old.services.numbers n
   pub row : s ≡ row_of (service_labels h) old.services.numbers ((service_labels h).at n)
@@ -168,7 +168,7 @@ numbered_new h0 h e old services groups s n group m beyond =
 pub kept_more : (h0 h : List Entry) (e : Entry) (old : Reported) (services : Table) (newest earlier groups : List ℕ) (s n group : ℕ)
     → HasOneMore h0 h e old services groups s n group
     → newest ≡ newest_with old.newest s (n + 1) → earlier ≡ old.earlier ++ get_or old.newest s 0 ∷ []
-    → IsKept h (record { services = services; newest = newest; earlier = earlier; groups = groups; batches = old.batches })
+    → ArePlacesKept h (record { services = services; newest = newest; earlier = earlier; groups = groups; batches = old.batches })
 kept_more h0 h e old services newest earlier groups s n group m to f =
     let b = followed h0 h e old services groups s n group m in
     let numbered : IsNumbered h services.numbers s (service_brought e.work) = elim (cases_lt s (length old.services.numbers)) [
@@ -191,7 +191,7 @@ kept_more h0 h e old services newest earlier groups s n group m to f =
     }
 
 -- ---- the newest place of a service
-pub newest_own : (h : List Entry) (kept : Reported) (s : List ℕ) (r at : ℕ) → IsKept h kept
+pub newest_own : (h : List Entry) (kept : Reported) (s : List ℕ) (r at : ℕ) → ArePlacesKept h kept
     → r ≡ row_of (service_labels h) kept.services.numbers (service_label s) → r < length kept.services.numbers → at ≡ get_or kept.newest r 0
     → IsNewest (reporters h) s at (length (reporters h))
 newest_own h kept s r at k is below e =
@@ -202,14 +202,15 @@ newest_own h kept s r at k is below e =
     (subst (λ (x : List ℕ). IsNewest (reporters h) x (get_or kept.newest r 0) (length (reporters h))) own (k.linked.last r (omega arith)))
 
 -- a service with no row has no entry
-none_reported : (h : List Entry) (kept : Reported) (s : List ℕ) (r : ℕ) → IsKept h kept → r ≡ row_of (service_labels h) kept.services.numbers (service_label s)
+none_reported : (h : List Entry) (kept : Reported) (s : List ℕ) (r : ℕ) → ArePlacesKept h kept
+    → r ≡ row_of (service_labels h) kept.services.numbers (service_label s)
     → length kept.services.numbers ≤ r → list_any (same_text s) (reporters h) ≡ false
 none_reported h kept s r k is past =
     let o = length-map kept.services.numbers (service_at h) in
     sym (k.linked.same (same_text s))
     ∙ service_new (map (service_at h) kept.services.numbers) s r (is ∙ row_is h kept.services.numbers s k.named.numbers) (omega arith)
 
-pub newest_none : (h : List Entry) (kept : Reported) (s : List ℕ) (r at : ℕ) → IsKept h kept
+pub newest_none : (h : List Entry) (kept : Reported) (s : List ℕ) (r at : ℕ) → ArePlacesKept h kept
     → r ≡ row_of (service_labels h) kept.services.numbers (service_label s) → length kept.services.numbers ≤ r → at ≡ 0
     → IsNewest (reporters h) s at (length (reporters h))
 newest_none h kept s r at k is past e =
@@ -221,7 +222,8 @@ newest_none h kept s r at k is past e =
     }
 
 -- ---- the number of a service that is asked for
-pub group_own : (h : List Entry) (kept : Reported) (s : List ℕ) (r : ℕ) → IsKept h kept → r ≡ row_of (service_labels h) kept.services.numbers (service_label s)
+pub group_own : (h : List Entry) (kept : Reported) (s : List ℕ) (r : ℕ) → ArePlacesKept h kept
+    → r ≡ row_of (service_labels h) kept.services.numbers (service_label s)
     → r < length kept.services.numbers
     → Some (get_or kept.services.numbers r 0) ≡ group_of h s
 group_own h kept s r k is below =
@@ -237,11 +239,12 @@ group_own h kept s r k is below =
     let low : group_in h s < length (reporters h) = omega arith in
     ap Some number ∙ sym (ap (λ b. cond b (Some (group_in h s)) None) (lt-ltb (group_in h s) (length (reporters h)) low))
 
-pub group_none : (h : List Entry) (kept : Reported) (s : List ℕ) (r : ℕ) → IsKept h kept → r ≡ row_of (service_labels h) kept.services.numbers (service_label s)
+pub group_none : (h : List Entry) (kept : Reported) (s : List ℕ) (r : ℕ) → ArePlacesKept h kept
+    → r ≡ row_of (service_labels h) kept.services.numbers (service_label s)
     → length kept.services.numbers ≤ r → None ≡ group_of h s
 group_none h kept s r k is past =
     sym (ap (λ b. cond b (Some (group_in h s)) None) (is_position (same_text s) (reporters h) [] ∙ none_reported h kept s r k is past))
 
 -- as many services as newest places
-pub newest_rows : (h : List Entry) (kept : Reported) → IsKept h kept → length kept.newest ≡ length kept.services.numbers
+pub newest_rows : (h : List Entry) (kept : Reported) → ArePlacesKept h kept → length kept.newest ≡ length kept.services.numbers
 newest_rows h kept k = k.linked.as_many ∙ length-map kept.services.numbers (service_at h)

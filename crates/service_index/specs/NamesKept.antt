@@ -38,7 +38,7 @@ pub record Kept : Type 0 where
   pub index : Index
 
 -- the index is that of the arrivals of these entries
-pub record IsKept (h : List Entry) (kept : Kept) : Type 0 where
+pub record AreNamesKept (h : List Entry) (kept : Kept) : Type 0 where
   pub numbers : AreOf h kept.numbers.entry_of kept.numbers.firsts
   pub kinds : AreKinds h kept.numbers.kinds
   pub indexed : IsIndexed (names_of h) kept.index

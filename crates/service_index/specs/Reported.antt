@@ -60,7 +60,7 @@ pub record Reported : Type 0 where
   pub batches : ℕ
 
 -- the index is that of these entries
-pub record IsKept (h : List Entry) (kept : Reported) : Type 0 where
+pub record ArePlacesKept (h : List Entry) (kept : Reported) : Type 0 where
   pub fits : kept.batches < 2 ^ 32
   pub room : kept.services.room ≡ kept.batches
   pub few : length kept.services.numbers ≤ length h

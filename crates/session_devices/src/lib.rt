@@ -7,6 +7,7 @@
 //! * `watched`: std's readers and writers as devices.
 //! * `memory`: devices over memory.
 //! * `connection`: an input and an output as one.
+//! * `limits`: how often a device is read, and a call retried.
 #![tactic(auto)]
 
 ghost use Rattle.std.specs.Prelude.{◌≡◌, ℕ, List, Bool, true, Option, ◌<◌, length, take, OnErr, IfOk, []};
@@ -15,10 +16,12 @@ ghost use Rattle.std.specs.Io.{ReadsAtMost, WritesAtMost};
 ghost use Rattle.session_devices.specs.Takings.{TakesNothing, TakesJoined};
 
 mod connection;
+mod limits;
 mod memory;
 mod watched;
 
 pub use connection::{Connection, Join};
+pub use limits::{MAX_INTERRUPTIONS, MAX_READS};
 pub use memory::{MemoryInput, MemoryOutput};
 pub use watched::Watched;
 

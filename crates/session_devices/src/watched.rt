@@ -1,10 +1,8 @@
 ghost use Rattle.std.specs.Prelude.{◌≡◌, false};
 
+use crate::limits::MAX_INTERRUPTIONS;
 use crate::{Failed, Input, Output};
 use std::io::{ErrorKind, Read, Write};
-
-/// How many interruptions by a signal make a call count as failed.
-const MAX_INTERRUPTIONS: u32 = 1_000_000;
 
 /// A reader or a writer of std as a device. Every error is a failure, except that a call interrupted by a signal is
 /// retried.

@@ -24,7 +24,7 @@ use Rattle.service_index.specs.Reported.{Reported}
 use Rattle.journal_traces.specs.Standing.{spans_named, traces_named}
 use Rattle.trace_ring.specs.Starting.{Starts}
 use Rattle.span_store.specs.Opening.{AreFirst, IsCounted, IsRanged}
-use Rattle.span_store.specs.Kept.{Follows, IsWithin, IsKept, IsNamed, IsPlaced}
+use Rattle.span_store.specs.Kept.{Follows, IsWithin, IsStoreKept, IsNamed, IsPlaced}
 use Rattle.span_store.proofs.RingFollowsEvents.{follows_within, trace_stands}
 
 -- the given number of further spots is in the same room
@@ -34,11 +34,11 @@ pub record Grows (shown shown' : Assembled) (more : ℕ) : Type 0 where
 
 -- one more entry
 pub kept_more : (old held : Held) (e : Entry) (shown shown' : Assembled) (starts starts' : Starts) (index index' : Names) (reported reported' : Reported)
-    → IsKept old shown starts index reported → held ≡ followed_by old e → Grows shown shown' (length (spans_brought e.work))
+    → IsStoreKept old shown starts index reported → held ≡ followed_by old e → Grows shown shown' (length (spans_brought e.work))
     → Follows old.limits.traces (located_events (old.entries ++ e ∷ [])) shown'.newest (spots_of shown')
     → AreFirst old.limits.traces (located_events (old.entries ++ e ∷ [])) starts'.starts → IsCounted shown' starts'
     → IsRanged old.limits.traces (located_events (old.entries ++ e ∷ [])) shown' starts'
-    → IsNamed (followed_by old e) index' → IsPlaced (followed_by old e) reported' → IsKept held shown' starts' index' reported'
+    → IsNamed (followed_by old e) index' → IsPlaced (followed_by old e) reported' → IsStoreKept held shown' starts' index' reported'
 kept_more old held e shown shown' starts starts' index index' reported reported' k h grows f first counted ranged listed placed =
     let now : Held = followed_by old e in
     let back : now ≡ held = sym h in
@@ -65,7 +65,8 @@ pub spans_fit : (held : Held) (e : Entry) → admission_by held e ≡ Ok Added �
 spans_fit held e may = omega (arith, spans_within held e may, held.limits.within)
 
 -- they have room
-pub kept_room : (held : Held) (e : Entry) (shown : Assembled) (starts : Starts) (index : Names) (reported : Reported) → IsKept held shown starts index reported
+pub kept_room : (held : Held) (e : Entry) (shown : Assembled) (starts : Starts) (index : Names) (reported : Reported)
+    → IsStoreKept held shown starts index reported
     → admission_by held e ≡ Ok Added → shown.used + length (spans_brought e.work) ≤ shown.room
 kept_room held e shown starts index reported k may = omega (arith, k.room, k.used, spans_within held e may)
 
@@ -76,27 +77,28 @@ arrivals_fit held now e h room appended legal same is =
     omega (arith, length-arrivals h ∙ ap span_count same, legal.spans, ap (λ (v : Held). v.limits.spans) appended, is)
 
 -- the ring is within the current limit
-pub kept_within : (held : Held) (shown : Assembled) (starts : Starts) (index : Names) (reported : Reported) → IsKept held shown starts index reported
+pub kept_within : (held : Held) (shown : Assembled) (starts : Starts) (index : Names) (reported : Reported) → IsStoreKept held shown starts index reported
     → IsWithin shown.newest
 kept_within held shown starts index reported k = follows_within held.limits.traces (located_events held.entries) shown.newest (spots_of shown) k.follows
 
 -- ---- the indexes obey the limits of the entries
-pub kept_spots : (held : Held) (shown : Assembled) (starts : Starts) (index : Names) (reported : Reported) → IsKept held shown starts index reported
+pub kept_spots : (held : Held) (shown : Assembled) (starts : Starts) (index : Names) (reported : Reported) → IsStoreKept held shown starts index reported
     → (t : TraceId) → spots_of shown t ≡ shown_spots held.limits.traces (located_events held.entries) t
 kept_spots held shown starts index reported k t = k.follows.spots t
 
-pub kept_ring : (held : Held) (shown : Assembled) (starts : Starts) (index : Names) (reported : Reported) → IsKept held shown starts index reported
+pub kept_ring : (held : Held) (shown : Assembled) (starts : Starts) (index : Names) (reported : Reported) → IsStoreKept held shown starts index reported
     → shown.newest.ids ≡ ring held.limits.traces (events held.entries)
 kept_ring held shown starts index reported k = k.follows.ring ∙ ap (ring held.limits.traces) (events-located held.entries)
 
 -- the traces of the ring are those that are shown
-pub kept_traces : (held : Held) (shown : Assembled) (starts : Starts) (index : Names) (reported : Reported) → IsKept held shown starts index reported
+pub kept_traces : (held : Held) (shown : Assembled) (starts : Starts) (index : Names) (reported : Reported) → IsStoreKept held shown starts index reported
     → map (spans_of_trace held.limits.traces (events held.entries)) shown.newest.ids ≡ traces held.limits.traces (events held.entries)
 kept_traces held shown starts index reported k =
     ap (map (spans_of_trace held.limits.traces (events held.entries))) (kept_ring held shown starts index reported k)
 
 -- a search finds among the spots of some traces what it finds among all, if it does so among these traces
-pub found_kept : (q : Find) (held : Held) (shown : Assembled) (starts : Starts) (index : Names) (reported : Reported) → IsKept held shown starts index reported
+pub found_kept : (q : Find) (held : Held) (shown : Assembled) (starts : Starts) (index : Names) (reported : Reported)
+    → IsStoreKept held shown starts index reported
     → (ids : List TraceId) (spots : List (List Spot)) → spots ≡ map (spots_of shown) ids
     → found_in q (map (spans_of_trace held.limits.traces (events held.entries)) ids)
     ≡ found_in q (map (spans_of_trace held.limits.traces (events held.entries)) shown.newest.ids)

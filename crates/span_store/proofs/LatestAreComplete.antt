@@ -22,7 +22,7 @@ use Rattle.trace_ring.specs.Starting.{Starts}
 use Rattle.service_index.specs.NamesKept.{Kept as Names}
 use Rattle.service_index.specs.Reported.{Reported}
 use Rattle.journal_traces.specs.Standing.{spans_named, traces_named}
-use Rattle.span_store.specs.Kept.{IsKept}
+use Rattle.span_store.specs.Kept.{IsStoreKept}
 use Rattle.span_store.proofs.RingFollowsEvents.{trace_stands}
 use Rattle.span_store.proofs.IndexesAreKept.{found_kept, kept_ring, kept_spots}
 
@@ -97,7 +97,7 @@ module _ (q : Find) (time : ℤ) where
 
 -- ---- of a store
 -- the stored starts are those of the traces of the ring
-pub kept_first : (held : Held) (shown : Assembled) (starts : Starts) (index : Names) (reported : Reported) → IsKept held shown starts index reported
+pub kept_first : (held : Held) (shown : Assembled) (starts : Starts) (index : Names) (reported : Reported) → IsStoreKept held shown starts index reported
     → starts.starts ≡ map (λ t. first_start (spans_of_trace held.limits.traces (events held.entries) t)) shown.newest.ids
 kept_first held shown starts index reported k =
     let n = held.limits.traces in
@@ -105,14 +105,14 @@ kept_first held shown starts index reported k =
     ∙ map-map first_start (spans_of_trace n (events held.entries)) (ring n (events held.entries))
     ∙ ap (map (λ t. first_start (spans_of_trace n (events held.entries) t))) (sym (kept_ring held shown starts index reported k))
 
-pub as_many : (held : Held) (shown : Assembled) (starts : Starts) (index : Names) (reported : Reported) → IsKept held shown starts index reported
+pub as_many : (held : Held) (shown : Assembled) (starts : Starts) (index : Names) (reported : Reported) → IsStoreKept held shown starts index reported
     → length starts.starts ≡ length shown.newest.ids
 as_many held shown starts index reported k =
     let f : TraceId → ℤ = λ t. first_start (spans_of_trace held.limits.traces (events held.entries) t) in
     ap (λ (l : List ℤ). length l) (kept_first held shown starts index reported k) ∙ length-map shown.newest.ids f
 
 pub found_latest : (q : Find) (held : Held) (shown : Assembled) (starts : Starts) (index : Names) (reported : Reported)
-    → IsKept held shown starts index reported → (time : ℤ) (spots : List (List Spot))
+    → IsStoreKept held shown starts index reported → (time : ℤ) (spots : List (List Spot))
     → spots ≡ map (spots_of shown) (filter (λ t. int_lt time (first_start (spans_of_trace held.limits.traces (events held.entries) t))) shown.newest.ids)
     → 0 < q.limit → length (found_in q (traces_named held.entries spots)) ≡ q.limit
     → found_in q (traces_named held.entries spots) ≡ found_in q (traces held.limits.traces (events held.entries))

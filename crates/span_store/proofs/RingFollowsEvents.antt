@@ -15,7 +15,7 @@ use Rattle.trace_model.specs.Histories.{events}
 use Rattle.trace_model.specs.declared.answer.Shown.{Shown}
 use Rattle.trace_model.proofs.Shows.{ring_more, ring_fewer, limit_came, limit_limited}
 use Rattle.trace_model.proofs.Traces.{ring_within, arrive_short}
-use Rattle.trace_ring.specs.Windows.{Window, opened_by}
+use Rattle.trace_ring.specs.Windows.{RingValue, opened_by}
 use Rattle.trace_assembly.specs.declared.spot.Spot.{Spot}
 use Rattle.trace_assembly.specs.Rows.{with_spot}
 use Rattle.trace_assembly.specs.Located.{span_at, located_events, located_in, located_by, located_upto, events_in, shown_spots, after_leaving, without_left}
@@ -26,19 +26,20 @@ use Rattle.journal_traces.proofs.Spots.{named_is}
 use Rattle.span_store.specs.Kept.{Follows, IsWithin}
 
 -- the ring of any events is within its limit
-pub follows_within : (n : ℕ) (es : List (Event (Spot × Placed))) (newest : Window) (spots : TraceId → List Spot) → Follows n es newest spots → IsWithin newest
+pub follows_within : (n : ℕ) (es : List (Event (Spot × Placed))) (newest : RingValue) (spots : TraceId → List Spot) → Follows n es newest spots
+    → IsWithin newest
 follows_within n es newest spots f some =
     let least = ring_within n (events_in es) (subst (λ k. 0 < k) f.limit some) in
     subst (λ k. length newest.ids ≤ k) (sym f.limit) (subst (λ (r : List TraceId). length r ≤ limit_after n (events_in es)) (sym f.ring) least)
 
 -- and so is one in which a trace has arrived
-pub arrived_within : (old new : Window) (t : TraceId) → IsWithin old → new.limit ≡ old.limit → new.ids ≡ arrive old.limit old.ids t → IsWithin new
+pub arrived_within : (old new : RingValue) (t : TraceId) → IsWithin old → new.limit ≡ old.limit → new.ids ≡ arrive old.limit old.ids t → IsWithin new
 arrived_within old new t short same is some =
     let most = arrive_short old.limit old.ids t short (subst (λ k. 0 < k) same some) in
     subst (λ k. length new.ids ≤ k) (sym same) (subst (λ (r : List TraceId). length r ≤ old.limit) (sym is) most)
 
 -- one more arrival: its trace enters the ring, the spots of the trace that leaves are removed, the spot is added
-pub follows_more : (n : ℕ) (es : List (Event (Spot × Placed))) (spot : Spot) (p : Placed) (own : TraceId) (left : Option TraceId) (old new : Window)
+pub follows_more : (n : ℕ) (es : List (Event (Spot × Placed))) (spot : Spot) (p : Placed) (own : TraceId) (left : Option TraceId) (old new : RingValue)
     (spots spots' : TraceId → List Spot)
     → Follows n es old spots → trace_of p ≡ own → new.limit ≡ old.limit → new.ids ≡ arrive old.limit old.ids own
     → opened_by old.ids own ≡ option_to_list left ++ new.ids → IfSome left (λ gone. holds new.ids gone ≡ false)
@@ -57,7 +58,7 @@ follows_more n es spot p own left old new spots spots' f same steady is opened g
     }
 
 -- ---- the spans of one batch, one by one
-pub follows_none : (n : ℕ) (h : List Entry) (b : Batch) (newest : Window) (spots : TraceId → List Spot) → Follows n (located_events h) newest spots
+pub follows_none : (n : ℕ) (h : List Entry) (b : Batch) (newest : RingValue) (spots : TraceId → List Spot) → Follows n (located_events h) newest spots
     → Follows n (located_upto h b 0) newest spots
 follows_none n h b newest spots f = subst (λ es. Follows n es newest spots) (sym (upto_none h b)) f
 
@@ -66,12 +67,12 @@ upto_end h b i past =
     ap (λ ss. located_events h ++ map came (located_in (length h + 1) 0 (map (placed b) ss)))
     (take_all i b.spans past ∙ sym (take_all (length b.spans) b.spans (omega arith)))
 
-pub follows_batch : (n : ℕ) (h : List Entry) (e : Entry) (b : Batch) → e.work ≡ brings.Batch b → (newest : Window) (spots : TraceId → List Spot)
+pub follows_batch : (n : ℕ) (h : List Entry) (e : Entry) (b : Batch) → e.work ≡ brings.Batch b → (newest : RingValue) (spots : TraceId → List Spot)
     → Follows n (located_upto h b (length b.spans)) newest spots → Follows n (located_events (h ++ e ∷ [])) newest spots
 follows_batch n h e b is newest spots f = subst (λ es. Follows n es newest spots) (upto_all h e b is) f
 
 -- ---- a limit
-pub follows_limit : (n : ℕ) (h : List Entry) (e : Entry) (m : ℕ) → e.work ≡ brings.TraceLimit m → (old new : Window) (spots spots' : TraceId → List Spot)
+pub follows_limit : (n : ℕ) (h : List Entry) (e : Entry) (m : ℕ) → e.work ≡ brings.TraceLimit m → (old new : RingValue) (spots spots' : TraceId → List Spot)
     → Follows n (located_events h) old spots → new.limit ≡ m → new.ids ≡ newest m old.ids → ((t : TraceId) → spots' t ≡ without_left old.ids new.ids spots t)
     → Follows n (located_events (h ++ e ∷ [])) new spots'
 follows_limit n h e m set old new spots spots' f limit_is is changed =
@@ -85,7 +86,7 @@ follows_limit n h e m set old new spots spots' f limit_is is changed =
     })
 
 -- ---- the spans at the spots of a trace
-pub spots_name : (n : ℕ) (h : List Entry) (newest : Window) (spots : TraceId → List Spot) (t : TraceId) (found : List Spot)
+pub spots_name : (n : ℕ) (h : List Entry) (newest : RingValue) (spots : TraceId → List Spot) (t : TraceId) (found : List Spot)
     → Follows n (located_events h) newest spots → found ≡ spots t → map (span_at h) found ≡ map Some (spans_of_trace n (events h) t)
 spots_name n h newest spots t found f is = ap (map (span_at h)) (is ∙ f.spots t) ∙ spans_at_shown_law n h t
 

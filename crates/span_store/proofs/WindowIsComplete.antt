@@ -20,7 +20,7 @@ use Rattle.service_index.specs.NamesKept.{Kept as Names}
 use Rattle.service_index.specs.Reported.{Reported}
 use Rattle.journal_traces.specs.Ranged.{FailsOutside, StartsIn, search_window}
 use Rattle.journal_traces.specs.Standing.{spans_named, traces_named}
-use Rattle.span_store.specs.Kept.{IsKept}
+use Rattle.span_store.specs.Kept.{IsStoreKept}
 use Rattle.span_store.proofs.IndexesAreKept.{found_kept, kept_spots}
 use Rattle.span_store.proofs.RangesFollowEvents.{named_ranged}
 
@@ -58,7 +58,7 @@ none_match q r (p ∷ ps) none all = ap (λ b. b || list_any (matches q) ps) (no
 
 -- ---- of a store
 module _ (q : Find) (held : Held) (shown : Assembled) (starts : Starts) (index : Names) (reported : Reported)
-    (k : IsKept held shown starts index reported) where
+    (k : IsStoreKept held shown starts index reported) where
   -- a span at the spots matches
   abbrev pub is_hit : List Spot → Bool
   is_hit ss = list_any (matches q) (spans_named held.entries ss)

@@ -6,41 +6,41 @@ use Rattle.trace_model.specs.Histories.{span_count}
 use Rattle.trace_model.specs.Held.{Held}
 use Rattle.trace_model.specs.Events.{Event}
 use Rattle.trace_model.specs.Showing.{ring, limit_after}
-use Rattle.trace_ring.specs.Windows.{Window}
+use Rattle.trace_ring.specs.Windows.{RingValue}
 use Rattle.trace_assembly.specs.declared.spot.Spot.{Spot}
 use Rattle.trace_assembly.specs.Rows.{Assembled, spots_of}
 use Rattle.trace_assembly.specs.Located.{located_events, events_in, shown_spots}
-use Rattle.service_index.specs.Reported.{Reported, IsKept as PlacesKept}
+use Rattle.service_index.specs.Reported.{Reported, ArePlacesKept}
 use Rattle.trace_ring.specs.Starting.{Starts}
 use Rattle.span_store.specs.Opening.{AreFirst, IsCounted, IsRanged}
-use Rattle.service_index.specs.NamesKept.{Kept as Names, IsKept as NamesKept}
+use Rattle.service_index.specs.NamesKept.{Kept as Names, AreNamesKept}
 
 -- the ring and its limit are those of these events, if the limit was n before them, and each trace has the spots of
 -- its shown spans
-pub record Follows (n : ℕ) (es : List (Event (Spot × Placed))) (newest : Window) (spots_at : TraceId → List Spot) : Type 0 where
+pub record Follows (n : ℕ) (es : List (Event (Spot × Placed))) (newest : RingValue) (spots_at : TraceId → List Spot) : Type 0 where
   pub limit : newest.limit ≡ limit_after n (events_in es)
   pub ring : newest.ids ≡ ring n (events_in es)
   pub spots : (t : TraceId) → spots_at t ≡ shown_spots n es t
 
 -- the ring has no more traces than its limit allows
-abbrev pub IsWithin : Window → Type 0
+abbrev pub IsWithin : RingValue → Type 0
 IsWithin newest = 0 < newest.limit → length newest.ids ≤ newest.limit
 
 -- the index of names is that of the entries, with room for all that may arrive
 pub record IsNamed (held : Held) (names : Names) : Type 0 where
-  pub kept : NamesKept held.entries names
+  pub kept : AreNamesKept held.entries names
   pub batches : names.numbers.batches ≡ held.limits.batches
   pub numbers : names.numbers.spans ≡ held.limits.spans
   pub index : names.index.room ≡ held.limits.spans
 
 -- the places of services are those of the entries, with room for all that may arrive
 pub record IsPlaced (held : Held) (reported : Reported) : Type 0 where
-  pub kept : PlacesKept held.entries reported
+  pub kept : ArePlacesKept held.entries reported
   pub batches : reported.batches ≡ held.limits.batches
 
 -- the shown traces with their spots, first starts and ranges, the names and the places of services are those of the
 -- entries, and there is room for all spans that may arrive
-pub record IsKept (held : Held) (shown : Assembled) (starts : Starts) (names : Names) (reported : Reported) : Type 0 where
+pub record IsStoreKept (held : Held) (shown : Assembled) (starts : Starts) (names : Names) (reported : Reported) : Type 0 where
   pub room : shown.room ≡ held.limits.spans
   pub used : shown.used ≡ span_count held.entries
   pub follows : Follows held.limits.traces (located_events held.entries) shown.newest (spots_of shown)

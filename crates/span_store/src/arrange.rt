@@ -171,6 +171,6 @@ pub(crate) fn apply_entry(entry: &Entry, place: u64, shown: &mut Assembly, start
 {
     match &entry.work {
         Work::Batch(batch) => add_batch(batch, place, shown, starts),
-        Work::TraceLimit(limit) => apply_limit(shown, starts, *limit),
+        Work::TraceLimit(limit) => apply_limit(shown, starts, limit.get()),
     }
 }

@@ -22,6 +22,7 @@ fn take(store: &mut SpanStore, entry: &Arc<Entry>) -> Result<(), Refusal>
         }) }
     ensures reason { IfErr result (λ why. why ≡ NoMemory) }
 {
+    // For the prover: each outcome has clauses of its own.
     match store.apply(Arc::try_clone(entry)?) {
         Ok(_) => Ok(()),
         Err(_) => Ok(()),
@@ -47,6 +48,7 @@ pub fn replay(
     let mut store = SpanStore::open(alloc, keys, limits)?;
     for entry in entries {
         if let Err(why) = take(&mut store, entry) {
+            // For the prover: a store is dropped by a call.
             drop(store);
             return Err(why);
         }
@@ -73,6 +75,7 @@ pub fn replayed_answer(
 {
     let store = replay(alloc, keys, limits, entries)?;
     let answer = store.answer(query);
+    // For the prover: a store is dropped by a call.
     drop(store);
     answer
 }

@@ -68,13 +68,13 @@ pub struct SpanStore {
 impl Model for SpanStore {
     ghost use Rattle.trace_model.specs.Held.{Held};
     ghost use Rattle.service_index.specs.Reported.{group_of};
-    ghost use Rattle.span_store.specs.Kept.{IsKept};
+    ghost use Rattle.span_store.specs.Kept.{IsStoreKept};
 
     ghost Value = { Held };
 
     ghost view = { λ s. s.journal.held };
 
-    ghost invariant = { λ s. IsKept s.journal.held s.shown s.starts s.names s.reported };
+    ghost invariant = { λ s. IsStoreKept s.journal.held s.shown s.starts s.names s.reported };
 }
 
 /// Allocates the room for the names, and for the places of services.
@@ -105,6 +105,7 @@ impl SpanStore {
         let shown = Assembly::with_room(alloc, keys, limits.traces, limits.spans)?;
         let starts = FirstStarts::with_room(alloc, limits.spans)?;
         let named = room_for_names(alloc, keys, limits)?;
+        // For the prover: the pair is taken apart here alone, after the last call that may fail.
         Ok(SpanStore {
             alloc,
             journal,
@@ -561,6 +562,7 @@ impl SpanStore {
             spots: &spots,
         };
         let found = finding::take_found(self.alloc, candidates)?;
+        // For the prover: the binding lets the clauses of `new` be used for the result.
         let traces = FoundTraces::new(self.limits(), found);
         Ok(traces)
     }

@@ -8,8 +8,8 @@ use Rattle.trace_model.specs.declared.query.Query.{Query}
 use Rattle.query_http.specs.declared.fault.Parameter.{Parameter}
 use Rattle.query_http.specs.declared.paths.Endpoint.{Endpoint}
 use Rattle.query_http.specs.declared.paths.Endpoint.TheVariants.{Traces, Trace, Services, OperationNames, Operations, Dependencies}
-use Rattle.query_http.specs.Forms.{pairs_of}
-use Rattle.query_http.specs.Queries.{Pairs, query_at, path_of, form_of}
+use Rattle.query_http.specs.QueryStrings.{pairs_of}
+use Rattle.query_http.specs.Queries.{Pairs, query_at, path_of, query_string_of}
 use Rattle.step_lines.specs.declared.fault.StepFault.{StepFault}
 use Rattle.step_lines.specs.declared.fault.StepFault.TheVariants.{NoSuchPath, BadParameter}
 
@@ -64,4 +64,4 @@ query_of (Some place) pairs = of_parameter (query_at place.0 place.1 pairs)
 
 -- the query of the path's endpoint, or the first parameter that can't be read
 unfoldable pub query_in : List ℕ → Result Query StepFault
-query_in target = query_of (place_of (path_of target)) (pairs_of (form_of target))
+query_in target = query_of (place_of (path_of target)) (pairs_of (query_string_of target))

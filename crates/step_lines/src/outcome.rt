@@ -14,6 +14,7 @@ use trace_model::Answer;
 fn json_text(alloc: Global, answer: &Answer) -> Result<String, AllocError>
     ensures { IfOk result (λ s. string_bytes s ≡ compact_text (answer_tree answer.now)) }
 {
+    // For the prover: the law gives what `to_string` requires of the tree.
     trees_have_no_float();
     let tree = answer_json(alloc, answer)?;
     // For the prover: the binding lets the clauses of `to_string` be used for the result.

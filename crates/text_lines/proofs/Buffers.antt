@@ -39,7 +39,7 @@ some_written a b text waits p = (p.0, p.1, (waits, sym p.2))
 -- ---- a buffer that holds a text and is flushed
 
 pub flushed : (a b : Option (List ℕ)) (w0 w1 text : List ℕ) (failed : Bool) (r : Result (Unit {0}) RunError) → w0 ≡ text → Moves a b w0 w1 → OnOk r (w1 ≡ [])
-    → OnOk r (failed ≡ false) → IfErr r (λ h. (h ≡ Device) × (failed ≡ true)) → WritesText a b failed text r
+    → OnOk r (failed ≡ false) → IfErr r (λ h. (h ≡ Device) × (failed ≡ true)) → WritesText (record { before = a; after = b; failed = failed }) text r
 flushed a b w0 w1 text failed (Ok u) is m none works err =
     (subst (Appends a b) (sym (append-nil m.0) ∙ ap (λ l. m.0 ++ l) (sym none) ∙ sym m.2 ∙ is) m.1, works)
 flushed a b w0 w1 text failed (Err h) is m none works err =
@@ -47,6 +47,6 @@ flushed a b w0 w1 text failed (Err h) is m none works err =
 
 -- memory ran out before anything was written
 pub nothing_said : (a : Option (List ℕ)) (failed : Bool) (text : List ℕ) (r : Result (Unit {0}) RunError) → IsErrAnd r (λ h. h ≡ Memory) → failed ≡ false
-    → WritesText a a failed text r
+    → WritesText (record { before = a; after = a; failed = failed }) text r
 nothing_said a failed text (Ok u) e works = absurd e
 nothing_said a failed text (Err h) e works = (([], Appends-nil a, (text, refl)), rw e works)

@@ -6,11 +6,11 @@ use Rattle.std.proofs.KnownBytes.{Consumes-nil, Consumes-trans}
 use Rattle.std.proofs.Math.Bool.{or-false, or_assoc}
 use Rattle.text_lines.specs.declared.run_error.RunError.{RunError}
 use Rattle.text_lines.specs.declared.run_error.RunError.TheVariants.{Device, Memory}
-use Rattle.text_lines.specs.declared.line_buffer.TheConstants.{MAX_READS}
+use Rattle.session_devices.specs.declared.limits.TheConstants.{MAX_READS}
 use Rattle.text_lines.specs.Lines.{lines_of}
 use Rattle.text_lines.specs.Reading.{Feed, StopsReading, TakesLine, TakesNone}
 use Rattle.text_lines.specs.RunErrors.{Holds, IsWhy, Moves}
-use Rattle.text_lines.specs.Taking.{AnswersAll, AnswersSome, LineReply, SoFar, Takes, TakesEach, TookAll, TookSome, joined, nothing_said}
+use Rattle.text_lines.specs.Taking.{AllAnswered, SomeAnswered, LineReply, SoFar, Takes, TakesEach, AllTaken, SomeTaken, joined, nothing_said}
 use Rattle.text_lines.proofs.Buffers.{moves_nothing, moves_more, moves_then, some_written}
 
 abbrev said_of : List ℕ → Bool → LineReply
@@ -102,7 +102,7 @@ none_after [] ys e = e
 none_after (x ∷ xs) ys e = absurd cc
 
 pub ends : {S : Type 0} (takes : Takes S) (in0 in1 in2 out0 out1 out2 : Option (List ℕ)) (s t : S) (feed feed2 : Feed) (w1 w2 : List ℕ) (n : ℕ) (faulty : Bool)
-    → SoFar takes in0 in1 out0 out1 s t feed w1 n faulty → TakesNone in1 in2 feed feed2 → Moves out1 out2 w1 w2 → TookAll takes in0 in2 out0 out2 s t w2 faulty
+    → SoFar takes in0 in1 out0 out1 s t feed w1 n faulty → TakesNone in1 in2 feed feed2 → Moves out1 out2 w1 w2 → AllTaken takes in0 in2 out0 out2 s t w2 faulty
 ends takes in0 in1 in2 out0 out1 out2 s t feed feed2 w1 w2 n faulty f l last =
     let none : l.taken ≡ [] = none_after feed.waiting l.taken l.nothing in
     let all : lines_of (f.taken ++ l.taken) ≡ f.lines = f.split l.taken (λ e. none) ∙ ap (λ x. f.lines ++ lines_of x) l.nothing ∙ append-nil f.lines in
@@ -154,7 +154,7 @@ why_weaker Memory i o A B f e = e
 
 pub stops : {S : Type 0} (takes : Takes S) (in0 in1 in2 out0 out1 out2 : Option (List ℕ)) (s t : S) (feed : Feed) (w1 w2 : List ℕ) (n : ℕ) (faulty i o : Bool)
     (h : RunError)
-    → SoFar takes in0 in1 out0 out1 s t feed w1 n faulty → StopsReading in1 in2 feed i o h → Moves out1 out2 w1 w2 → TookSome takes in0 in2 out0 out2 s w2 i o h
+    → SoFar takes in0 in1 out0 out1 s t feed w1 n faulty → StopsReading in1 in2 feed i o h → Moves out1 out2 w1 w2 → SomeTaken takes in0 in2 out0 out2 s w2 i o h
 stops takes in0 in1 in2 out0 out1 out2 s t feed w1 w2 n faulty i o h f l last =
     let rest = rest_after in0 in2 in
     let read = Consumes-trans in0 in1 in2 f.taken l.taken f.read l.read in
@@ -198,7 +198,7 @@ line_lost in1 in2 feed feed2 line i o l ie oe = record {
 -- ---- the whole
 
 pub all_answered : {S : Type 0} (takes : Takes S) (in0 in1 out0 out1 out2 : Option (List ℕ)) (s t : S) (w : List ℕ) (faulty : Bool)
-    → TookAll takes in0 in1 out0 out1 s t w faulty → Moves out1 out2 w [] → AnswersAll takes in0 in1 out0 out2 s t faulty
+    → AllTaken takes in0 in1 out0 out1 s t w faulty → Moves out1 out2 w [] → AllAnswered takes in0 in1 out0 out2 s t faulty
 all_answered takes in0 in1 out0 out1 out2 s t w faulty a last =
     let whole = moves_then out0 out1 out2 a.all.reply.text w [] a.wrote last in
     record {
@@ -212,7 +212,7 @@ holds_all (Some x) None taken c e = absurd c
 holds_all (Some x) (Some y) taken c e = c ∙ ap (λ z. taken ++ z) e
 
 pub all_lost : {S : Type 0} (takes : Takes S) (in0 in1 out0 out1 out2 : Option (List ℕ)) (s t : S) (w w2 : List ℕ) (faulty i o : Bool) (h : RunError)
-    → TookAll takes in0 in1 out0 out1 s t w faulty → Moves out1 out2 w w2 → h ≡ Device → o ≡ true → AnswersSome takes in0 in1 out0 out2 s i o h
+    → AllTaken takes in0 in1 out0 out1 s t w faulty → Moves out1 out2 w w2 → h ≡ Device → o ≡ true → SomeAnswered takes in0 in1 out0 out2 s i o h
 all_lost takes in0 in1 out0 out1 out2 s t w w2 faulty i o h a last is failed = rw is record {
   first = record {
     taken = a.all.input;
@@ -231,8 +231,8 @@ all_lost takes in0 in1 out0 out1 out2 s t w w2 faulty i o h a last is failed = r
 }
 
 pub some_answered : {S : Type 0} (takes : Takes S) (in0 in1 out0 out1 out2 : Option (List ℕ)) (s : S) (w w2 : List ℕ) (i o o2 : Bool) (h h2 : RunError)
-    → (a : TookSome takes in0 in1 out0 out1 s w i o h) → Moves out1 out2 w w2
-    → (IsWhy h i o (MAX_READS ≤ length a.first.taken) → IsWhy h2 i o2 (MAX_READS ≤ length a.first.taken)) → AnswersSome takes in0 in1 out0 out2 s i o2 h2
+    → (a : SomeTaken takes in0 in1 out0 out1 s w i o h) → Moves out1 out2 w w2
+    → (IsWhy h i o (MAX_READS ≤ length a.first.taken) → IsWhy h2 i o2 (MAX_READS ≤ length a.first.taken)) → SomeAnswered takes in0 in1 out0 out2 s i o2 h2
 some_answered takes in0 in1 out0 out1 out2 s w w2 i o o2 h h2 a last why = record {
   first = record {
     taken = a.first.taken;
@@ -252,7 +252,7 @@ some_answered takes in0 in1 out0 out1 out2 s w w2 i o o2 h h2 a last why = recor
 
 -- what waits to be written is left
 pub some_left : {S : Type 0} (takes : Takes S) (in0 in1 out0 out1 : Option (List ℕ)) (s : S) (w : List ℕ) (i o : Bool) (h h2 : RunError)
-    → h ≡ h2 → TookSome takes in0 in1 out0 out1 s w i o h → AnswersSome takes in0 in1 out0 out1 s i o h2
+    → h ≡ h2 → SomeTaken takes in0 in1 out0 out1 s w i o h → SomeAnswered takes in0 in1 out0 out1 s i o h2
 some_left takes in0 in1 out0 out1 s w i o h h2 is a = rw (sym is) record {
   first = a.first;
   written = some_written out0 out1 a.first.reply.text w a.wrote;

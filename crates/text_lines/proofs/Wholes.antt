@@ -6,7 +6,7 @@ use Rattle.text_lines.specs.declared.exit_status.ExitStatus.TheVariants.{OutOfMe
 use Rattle.text_lines.specs.declared.run_error.RunError.{RunError}
 use Rattle.text_lines.specs.declared.run_error.RunError.TheVariants.{Device, Memory}
 use Rattle.text_lines.specs.RunErrors.{IsWhy, IsWhyOf, StopsShort, WritesSome, status_by}
-use Rattle.text_lines.specs.Taking.{AnswersAll, AnswersSome, Takes}
+use Rattle.text_lines.specs.Taking.{AllAnswered, SomeAnswered, Takes}
 use Rattle.text_lines.proofs.Progress.{holds_all, holds_nothing_read, nothing_read}
 
 -- a prefix of a text is a prefix of each longer text
@@ -26,7 +26,7 @@ why_by Memory i o Met e ie = (ie, e)
 -- all lines were taken, and then something stopped the run
 pub stops_all : {S : Type 0} (takes : Takes S) (in0 in1 out0 out1 out2 : Option (List ℕ)) (s t : S) (faulty i o : Bool) (h : RunError)
     (output_of : List ℕ → List ℕ)
-    → (a : AnswersAll takes in0 in1 out0 out1 s t faulty) → WritesSome out0 out2 (output_of a.all.input) → IsWhyOf h o → i ≡ false
+    → (a : AllAnswered takes in0 in1 out0 out1 s t faulty) → WritesSome out0 out2 (output_of a.all.input) → IsWhyOf h o → i ≡ false
     → StopsShort in0 in1 out0 out2 i o output_of (status_by h)
 stops_all takes in0 in1 out0 out1 out2 s t faulty i o h output_of a some why ie = record {
   error = h;
@@ -41,7 +41,7 @@ stops_all takes in0 in1 out0 out1 out2 s t faulty i o h output_of a some why ie 
 
 -- not all lines were taken
 pub stops_some : {S : Type 0} (takes : Takes S) (in0 in1 out0 out1 : Option (List ℕ)) (s : S) (i o : Bool) (h : RunError) (output_of : List ℕ → List ℕ)
-    → (a : AnswersSome takes in0 in1 out0 out1 s i o h) → WritesSome out0 out1 (output_of (a.first.taken ++ a.first.rest))
+    → (a : SomeAnswered takes in0 in1 out0 out1 s i o h) → WritesSome out0 out1 (output_of (a.first.taken ++ a.first.rest))
     → StopsShort in0 in1 out0 out1 i o output_of (status_by h)
 stops_some takes in0 in1 out0 out1 s i o h output_of a some = record {
   error = h;

@@ -4,7 +4,7 @@ use Rattle.text_lines.specs.declared.exit_status.ExitStatus.{ExitStatus}
 use Rattle.text_lines.specs.declared.exit_status.ExitStatus.TheVariants.{DeviceFailed}
 use Rattle.text_lines.specs.declared.run_error.RunError.{RunError}
 use Rattle.text_lines.specs.declared.run_error.RunError.TheVariants.{Device, Memory}
-use Rattle.text_lines.specs.declared.line_buffer.TheConstants.{MAX_READS}
+use Rattle.session_devices.specs.declared.limits.TheConstants.{MAX_READS}
 
 -- relates the states of an input before and after one read that returns these bytes
 abbrev pub Gives : Type 0 → Type 1

@@ -6,7 +6,8 @@ use Rattle.text_lines.specs.declared.exit_status.ExitStatus.{ExitStatus}
 use Rattle.text_lines.specs.declared.exit_status.ExitStatus.TheVariants.{DeviceFailed, OutOfMemory}
 use Rattle.text_lines.specs.declared.run_error.RunError.{RunError}
 use Rattle.text_lines.specs.declared.run_error.RunError.TheVariants.{Device, Memory}
-use Rattle.text_lines.specs.declared.line_buffer.TheConstants.{MAX_READS}
+use Rattle.session_devices.specs.declared.limits.TheConstants.{MAX_READS}
+use Rattle.session_devices.specs.Traffic.{Traffic}
 
 abbrev pub status_by : RunError → ExitStatus
 status_by Device = DeviceFailed
@@ -35,9 +36,9 @@ abbrev pub WritesSome : Option (List ℕ) → Option (List ℕ) → List ℕ →
 WritesSome out0 out1 text = (written : List ℕ) × Appends out0 out1 written × IsPrefix written text
 
 -- the text was written, or a prefix of it if that failed
-abbrev pub WritesText : {T : Type 0} → Option (List ℕ) → Option (List ℕ) → Bool → List ℕ → Result T RunError → Type 0
-WritesText out0 out1 out_failed text (Ok _) = Appends out0 out1 text × (out_failed ≡ false)
-WritesText out0 out1 out_failed text (Err error) = WritesSome out0 out1 text × IsWhyOf error out_failed
+abbrev pub WritesText : {T : Type 0} → Traffic → List ℕ → Result T RunError → Type 0
+WritesText output text (Ok _) = Appends output.before output.after text × (output.failed ≡ false)
+WritesText output text (Err error) = WritesSome output.before output.after text × IsWhyOf error output.failed
 
 -- the input holds these bytes, if its bytes are known
 abbrev pub Holds : Option (List ℕ) → List ℕ → Type 0
@@ -70,6 +71,28 @@ pub record StopsShort (in0 in1 out0 out1 : Option (List ℕ)) (in_failed out_fai
   pub why : IsWhy error in_failed out_failed (MAX_READS ≤ length taken)
   pub status_is : status ≡ status_by error
 
-abbrev pub RunsAs : (in0 in1 out0 out1 : Option (List ℕ)) → Bool → Bool → (List ℕ → List ℕ) → (List ℕ → ExitStatus) → ExitStatus → Type 0
-RunsAs in0 in1 out0 out1 in_failed out_failed output_of status_of status =
-    Finishes in0 in1 out0 out1 in_failed out_failed output_of status_of status ⊎ StopsShort in0 in1 out0 out1 in_failed out_failed output_of status
+-- what a run writes that reads all of its input, and its exit status, by that input
+pub record Expected : Type 0 where
+  pub output : List ℕ → List ℕ
+  pub status : List ℕ → ExitStatus
+
+abbrev pub expected_of : (List ℕ → List ℕ) → (List ℕ → ExitStatus) → Expected
+expected_of output status = record { output = output; status = status }
+
+-- a run read all of its input
+abbrev pub RunsToTheEnd : Traffic → Traffic → Expected → ExitStatus → Type 0
+RunsToTheEnd input output expected status =
+    Finishes input.before input.after output.before output.after input.failed output.failed expected.output expected.status status
+
+-- a run stopped before the end of its input
+abbrev pub RunsUpTo : Traffic → Traffic → Expected → ExitStatus → Type 0
+RunsUpTo input output expected status =
+    StopsShort input.before input.after output.before output.after input.failed output.failed expected.output status
+
+abbrev pub RunsAs : Traffic → Traffic → Expected → ExitStatus → Type 0
+RunsAs input output expected status = RunsToTheEnd input output expected status ⊎ RunsUpTo input output expected status
+
+-- like RunsAs, by whether an error stopped the run
+abbrev pub RunsOrStops : Traffic → Traffic → Expected → Result ExitStatus RunError → Type 0
+RunsOrStops input output expected (Ok status) = RunsToTheEnd input output expected status
+RunsOrStops input output expected (Err error) = RunsUpTo input output expected (status_by error)

@@ -1,11 +1,12 @@
 -- Lines that are handled one after the other, and the replies to them.
 use Rattle.std.specs.Prelude.{◌≡◌, ℕ, ◌+◌, ◌*◌, ◌≤◌, ◌||◌, Bool, false, List, [], ◌∷◌, ◌++◌, length, Option}
 use Rattle.std.specs.Io.KnownBytes.{Appends, Consumes, IsAtEnd}
+use Rattle.session_devices.specs.Traffic.{Traffic}
 use Rattle.text_lines.specs.Lines.{lines_of}
 use Rattle.text_lines.specs.Reading.{Feed, KnowsEnd, MayCome, most_left}
 use Rattle.text_lines.specs.RunErrors.{Holds, IsWhy, Moves, WritesSome}
 use Rattle.text_lines.specs.declared.run_error.RunError.{RunError}
-use Rattle.text_lines.specs.declared.line_buffer.TheConstants.{MAX_READS}
+use Rattle.session_devices.specs.declared.limits.TheConstants.{MAX_READS}
 
 -- the reply to a line, and whether the line is a fault
 pub record LineReply : Type 0 where
@@ -38,7 +39,7 @@ pub record AllLines {S : Type 0} (takes : Takes S) (in0 in1 : Option (List ℕ))
   pub faulty_is : faulty ≡ reply.faulty
 
 -- all lines of the input were handled, and the replies were written
-pub record AnswersAll {S : Type 0} (takes : Takes S) (in0 in1 out0 out1 : Option (List ℕ)) (s t : S) (faulty : Bool) : Type 0 where
+pub record AllAnswered {S : Type 0} (takes : Takes S) (in0 in1 out0 out1 : Option (List ℕ)) (s t : S) (faulty : Bool) : Type 0 where
   pub all : AllLines takes in0 in1 s t faulty
   pub written : Appends out0 out1 all.reply.text
 
@@ -57,7 +58,7 @@ pub record FirstLines {S : Type 0} (takes : Takes S) (in0 in1 : Option (List ℕ
   pub why : IsWhy error in_failed out_failed (MAX_READS ≤ length taken)
 
 -- the first lines of the input were handled, and a prefix of the replies was written
-pub record AnswersSome {S : Type 0} (takes : Takes S) (in0 in1 out0 out1 : Option (List ℕ)) (s : S) (in_failed out_failed : Bool)
+pub record SomeAnswered {S : Type 0} (takes : Takes S) (in0 in1 out0 out1 : Option (List ℕ)) (s : S) (in_failed out_failed : Bool)
     (error : RunError) : Type 0 where
   pub first : FirstLines takes in0 in1 s in_failed out_failed error
   pub written : WritesSome out0 out1 first.reply.text
@@ -81,12 +82,30 @@ pub record SoFar {S : Type 0} (takes : Takes S) (in0 in1 out0 out1 : Option (Lis
   pub faulty_is : faulty ≡ reply.faulty
 
 -- all lines of the input were handled, and the replies were written or wait
-pub record TookAll {S : Type 0} (takes : Takes S) (in0 in1 out0 out1 : Option (List ℕ)) (s t : S) (waits : List ℕ) (faulty : Bool) : Type 0 where
+pub record AllTaken {S : Type 0} (takes : Takes S) (in0 in1 out0 out1 : Option (List ℕ)) (s t : S) (waits : List ℕ) (faulty : Bool) : Type 0 where
   pub all : AllLines takes in0 in1 s t faulty
   pub wrote : Moves out0 out1 all.reply.text waits
 
 -- the first lines of the input were handled, and a prefix of the replies was written or waits
-pub record TookSome {S : Type 0} (takes : Takes S) (in0 in1 out0 out1 : Option (List ℕ)) (s : S) (waits : List ℕ) (in_failed out_failed : Bool)
+pub record SomeTaken {S : Type 0} (takes : Takes S) (in0 in1 out0 out1 : Option (List ℕ)) (s : S) (waits : List ℕ) (in_failed out_failed : Bool)
     (error : RunError) : Type 0 where
   pub first : FirstLines takes in0 in1 s in_failed out_failed error
   pub wrote : Moves out0 out1 first.reply.text waits
+
+-- ---- the same of calls, by the states of the handler and what was read and written
+
+abbrev pub AnswersAll : {S : Type 0} → Takes S → S × S → Traffic → Traffic → Bool → Type 0
+AnswersAll takes states input output faulty = AllAnswered takes input.before input.after output.before output.after states.0 states.1 faulty
+
+abbrev pub AnswersSome : {S : Type 0} → Takes S → S → Traffic → Traffic → RunError → Type 0
+AnswersSome takes state input output error =
+    SomeAnswered takes input.before input.after output.before output.after state input.failed output.failed error
+
+-- with the text that still waits
+abbrev pub TookAll : {S : Type 0} → Takes S → S × S → Traffic → Traffic → List ℕ → Bool → Type 0
+TookAll takes states input output waits faulty =
+    AllTaken takes input.before input.after output.before output.after states.0 states.1 waits faulty
+
+abbrev pub TookSome : {S : Type 0} → Takes S → S → Traffic → Traffic → List ℕ → RunError → Type 0
+TookSome takes state input output waits error =
+    SomeTaken takes input.before input.after output.before output.after state waits input.failed output.failed error

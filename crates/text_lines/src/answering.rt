@@ -1,4 +1,5 @@
 ghost use Rattle.std.specs.Prelude.{◌≡◌, [], false, IfErr, IfOk, OnOk};
+ghost use Rattle.session_devices.specs.Traffic.{traffic_of};
 ghost use Rattle.text_lines.specs.Reads.{LimitIsReads};
 ghost use Rattle.text_lines.specs.RunErrors.{BothWork};
 ghost use Rattle.text_lines.specs.Taking.{AnswersAll, AnswersSome, TookAll, TookSome};
@@ -21,12 +22,13 @@ fn take_lines<R: Input, W: Output, T: LineHandler>(
     requires input_works { R.has_failed input.old ≡ false }
     requires output_works { W.has_failed output.old ≡ false }
     requires empty { buffer.old ≡ [] }
-    ensures all { IfOk result (TookAll T.takes (R.remaining input.old) (R.remaining input.new)
-        (W.contents output.old) (W.contents output.new) handler.old handler.new buffer.new) }
+    ensures all { IfOk result (TookAll T.takes (handler.old, handler.new)
+        (traffic_of R.remaining R.has_failed input.old input.new)
+        (traffic_of W.contents W.has_failed output.old output.new) buffer.new) }
     ensures works { OnOk result (BothWork (R.has_failed input.new) (W.has_failed output.new)) }
-    ensures some { IfErr result (TookSome T.takes (R.remaining input.old) (R.remaining input.new)
-        (W.contents output.old) (W.contents output.new) handler.old buffer.new
-        (R.has_failed input.new) (W.has_failed output.new)) }
+    ensures some { IfErr result (TookSome T.takes handler.old
+        (traffic_of R.remaining R.has_failed input.old input.new)
+        (traffic_of W.contents W.has_failed output.old output.new) buffer.new) }
     ensures limit { IfErr result (LimitIsReads R.gives input.old input.new
         (R.has_failed input.new) (W.has_failed output.new)) }
 {
@@ -59,12 +61,13 @@ pub fn answer_lines<R: Input, W: Output, T: LineHandler>(
 ) -> Result<bool, RunError>
     requires input_works { R.has_failed input.old ≡ false }
     requires output_works { W.has_failed output.old ≡ false }
-    ensures all { IfOk result (AnswersAll T.takes (R.remaining input.old) (R.remaining input.new)
-        (W.contents output.old) (W.contents output.new) handler.old handler.new) }
+    ensures all { IfOk result (AnswersAll T.takes (handler.old, handler.new)
+        (traffic_of R.remaining R.has_failed input.old input.new)
+        (traffic_of W.contents W.has_failed output.old output.new)) }
     ensures works { OnOk result (BothWork (R.has_failed input.new) (W.has_failed output.new)) }
-    ensures some { IfErr result (AnswersSome T.takes (R.remaining input.old) (R.remaining input.new)
-        (W.contents output.old) (W.contents output.new) handler.old
-        (R.has_failed input.new) (W.has_failed output.new)) }
+    ensures some { IfErr result (AnswersSome T.takes handler.old
+        (traffic_of R.remaining R.has_failed input.old input.new)
+        (traffic_of W.contents W.has_failed output.old output.new)) }
     ensures limit { IfErr result (LimitIsReads R.gives input.old input.new
         (R.has_failed input.new) (W.has_failed output.new)) }
 {

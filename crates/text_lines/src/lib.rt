@@ -23,6 +23,6 @@ mod run_error;
 pub use answering::answer_lines;
 pub use exit_status::ExitStatus;
 pub use handler::LineHandler;
-pub use line_buffer::MAX_READS;
 pub use output_buffer::{OutputBuffer, write_text};
 pub use run_error::RunError;
+pub use session_devices::MAX_READS;

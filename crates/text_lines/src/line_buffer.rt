@@ -10,15 +10,12 @@ ghost use Rattle.text_lines.specs.RunErrors.{BothWork, Moves};
 use crate::output_buffer::OutputBuffer;
 use crate::run_error::RunError;
 use memchr::memchr;
-use session_devices::{Input, Output};
+use session_devices::{Input, MAX_READS, Output};
 use std::alloc::{AllocError, Global};
 use std::marker::Model;
 
 /// The number of bytes that a read asks for.
 const PIECE: usize = 65_536;
-
-/// The number of reads that a run may make. One more counts as a failed read.
-pub const MAX_READS: u64 = 1_099_511_627_776;
 
 /// The bytes that were read and not yet returned as lines.
 #[derive(Drop)]

@@ -1,4 +1,5 @@
 ghost use Rattle.std.specs.Prelude.{◌≡◌, ◌≤◌, ◌++◌, [], false, true, IfErr, IfOk, OnErr, OnOk, drop, length, vec_len};
+ghost use Rattle.session_devices.specs.Traffic.{traffic_of};
 ghost use Rattle.text_lines.specs.RunErrors.{Moves, WritesText};
 
 use crate::run_error::RunError;
@@ -95,8 +96,8 @@ impl OutputBuffer {
 /// The output failed, or memory ran out.
 pub fn write_text<W: Output>(alloc: Global, output: &mut W, text: &[u8]) -> Result<(), RunError>
     requires { W.has_failed output.old ≡ false }
-    ensures { WritesText (W.contents output.old) (W.contents output.new)
-        (W.has_failed output.new) text.now result }
+    ensures { WritesText (traffic_of W.contents W.has_failed output.old output.new)
+        text.now result }
 {
     let mut buffer = OutputBuffer::new(alloc);
     buffer.push(text)?;

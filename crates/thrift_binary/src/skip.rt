@@ -8,7 +8,7 @@ use crate::fault::WireError;
 use crate::types;
 
 /// The greatest number of levels of containers in a skipped value.
-const MAX_LEVELS: u8 = 64;
+pub const MAX_LEVELS: u8 = 64;
 
 impl<'a> Cursor<'a> {
     fn skip_bytes(&mut self, n: usize) -> Result<(), WireError>

@@ -19,7 +19,7 @@ use Rattle.trace_model.specs.Adjusting.{host_of, new_delta, clock_at, clock_belo
 use Rattle.trace_adjust.specs.declared.clock.HostClock.{HostClock}
 use Rattle.trace_adjust.specs.Settling.{near, is_unset, written, clock_delta, delta_at, delta_or_none}
 use Rattle.trace_model.specs.Sharing.{ShareProcesses}
-use Rattle.trace_adjust.specs.Hosts.{hosts_of, number_in, kept_under, IsKept, AreKept, hosted, all_hosted, AreNumbers, IsNumber, IsNumbered, AreNumbered}
+use Rattle.trace_adjust.specs.Hosts.{hosts_of, number_in, kept_under, IsHostKept, AreKept, hosted, all_hosted, AreNumbers, IsNumber, IsNumbered, AreNumbered}
 use Rattle.trace_adjust.specs.Hosts.{clock_by, below_by, near_by, host_delta, delta_by}
 use Rattle.trace_adjust.proofs.Places.{place_push, place_found}
 use Rattle.trace_model.proofs.NameLaws.{same_where, text_is, text_self, text_turned}
@@ -208,60 +208,60 @@ module _ (ps : List Placed) (i : ℕ) (p : Placed) (l : i < length ps) (e : p �
   pub fresh_is : length before ≡ i + 1
   fresh_is = let a = length-map (take i ps) host_of in let c = length-take-le i ps (omega (arith, l)) in omega (arith, a, c)
 
-  -- ---- what is stored for places
+  -- ---- what is stored for keys
   known_more : (t : List ℕ) (n : ℕ) → number_in before t ≡ Some n → number_in (hosts_of (take (i + 1) ps)) t ≡ Some n
   known_more t n is = ap (λ hs. number_in hs t) before_more ∙ number_stays before (host_of p ∷ []) t n is
 
-  pub kept_on : (places : List ℕ) (place n : ℕ) → IsKept ps places i place n → IsKept ps places (i + 1) place n
-  kept_on places place n k = record {
+  pub kept_on : (keys : List ℕ) (key n : ℕ) → IsHostKept ps keys i key n → IsHostKept ps keys (i + 1) key n
+  kept_on keys key n k = record {
     index = k.index;
     before = let b = k.before in omega arith;
     stands = k.stands;
     host = known_more (get_or all (k.index + 1) []) n k.host;
   }
 
-  pub kept_more : (places : List ℕ) (m : ℕ → Option ℕ) → AreKept ps places i m → AreKept ps places (i + 1) m
-  kept_more places m known place n e = kept_on places place n (known place n e)
+  pub kept_more : (keys : List ℕ) (m : ℕ → Option ℕ) → AreKept ps keys i m → AreKept ps keys (i + 1) m
+  kept_more keys m known key n e = kept_on keys key n (known key n e)
 
   -- one more number, that of this span's host
-  pub kept_put : (places : List ℕ) (own : Option ℕ) (n : ℕ) (old new : ℕ → Option ℕ) → own ≡ slice_get places i → ((q : ℕ) → new q ≡ kept_under own n old q)
-      → number_in (before ++ host_of p ∷ []) (host_of p) ≡ Some n → AreKept ps places i old → AreKept ps places (i + 1) new
-  kept_put places None n old new at put number known place k e = kept_more places old known place k (sym (put place) ∙ e)
-  kept_put places (Some own) n old new at put number known place k e = by_test (own == place) refl (sym (put place) ∙ e)
+  pub kept_put : (keys : List ℕ) (own : Option ℕ) (n : ℕ) (old new : ℕ → Option ℕ) → own ≡ slice_get keys i → ((q : ℕ) → new q ≡ kept_under own n old q)
+      → number_in (before ++ host_of p ∷ []) (host_of p) ≡ Some n → AreKept ps keys i old → AreKept ps keys (i + 1) new
+  kept_put keys None n old new at put number known key k e = kept_more keys old known key k (sym (put key) ∙ e)
+  kept_put keys (Some own) n old new at put number known key k e = by_test (own == key) refl (sym (put key) ∙ e)
     where
-      by_test : (b : Bool) → (own == place) ≡ b → (if b then Some n else old place) ≡ Some k → IsKept ps places (i + 1) place k
-      by_test false t q = kept_more places old known place k q
+      by_test : (b : Bool) → (own == key) ≡ b → (if b then Some n else old key) ≡ Some k → IsHostKept ps keys (i + 1) key k
+      by_test false t q = kept_more keys old known key k q
       by_test true t q = record {
         index = i;
         before = omega arith;
-        stands = sym at ∙ ap Some (eqb-true own place t);
+        stands = sym at ∙ ap Some (eqb-true own key t);
         host = (λ j. number_in (before_more j) (host_at j)) ∙ number ∙ q;
       }
 
-  -- a span has the host of each span whose entry is at its place
-  pub same_host : (places : List ℕ) (j place : ℕ) → ShareProcesses ps places → j < i → slice_get places j ≡ Some place → slice_get places i ≡ Some place
+  -- a span has the host of each span with its key
+  pub same_host : (keys : List ℕ) (j key : ℕ) → ShareProcesses ps keys → j < i → slice_get keys j ≡ Some key → slice_get keys i ≡ Some key
       → get_or all (j + 1) [] ≡ host_of p
-  same_host places j place share above there own =
-      let one : get_or places j 0 ≡ get_or places i 0 = get_or_from_slice_get places j place 0 there ∙ sym (get_or_from_slice_get places i place 0 own) in
+  same_host keys j key share above there own =
+      let one : get_or keys j 0 ≡ get_or keys i 0 = get_or_from_slice_get keys j key 0 there ∙ sym (get_or_from_slice_get keys i key 0 own) in
       let next : j + 1 ≡ suc j = omega arith in
       let within : j < length ps = omega (arith, above, l) in
       ap (λ k. get_or all k []) next ∙ get_or-map host_of ps j p [] within
-      ∙ ap (λ q. first_text (codes "ip") q.tags) (share j i p (slice_get_within places j place there, slice_get_within places i place own, one))
+      ∙ ap (λ q. first_text (codes "ip") q.tags) (share j i p (slice_get_within keys j key there, slice_get_within keys i key own, one))
       ∙ ap host_of (sym e)
 
-  -- the number that is stored for a span's place is its host's
-  pub own_number : (places : List ℕ) (own : Option ℕ) (m : ℕ → Option ℕ) (n : ℕ) → ShareProcesses ps places → own ≡ slice_get places i → AreKept ps places i m
+  -- the number that is stored for a span's key is its host's
+  pub own_number : (keys : List ℕ) (own : Option ℕ) (m : ℕ → Option ℕ) (n : ℕ) → ShareProcesses ps keys → own ≡ slice_get keys i → AreKept ps keys i m
       → option_and_then m own ≡ Some n
       → number_in before (host_of p) ≡ Some n
-  own_number places None m n share at known found = absurd (cc found)
-  own_number places (Some place) m n share at known found =
-      let k = known place n found in
-      ap (number_in before) (sym (same_host places k.index place share k.before k.stands (sym at))) ∙ k.host
+  own_number keys None m n share at known found = absurd (cc found)
+  own_number keys (Some key) m n share at known found =
+      let k = known key n found in
+      ap (number_in before) (sym (same_host keys k.index key share k.before k.stands (sym at))) ∙ k.host
 
--- the place of an entry, as a look-up borrows it
-pub place_read : (places : List ℕ) (i : ℕ) (r : Option (Bor ℕ)) → IsItemAt places i r → option_copied r ≡ slice_get places i
-place_read places i None h = sym (slice_get_past places i h.3)
-place_read places i (Some x) h = ap Some (h.3.1 x.now) ∙ sym (slice_get-get_or places i x.now h.3.0)
+-- the key of a span's process, as a look-up borrows it
+pub key_read : (keys : List ℕ) (i : ℕ) (r : Option (Bor ℕ)) → IsItemAt keys i r → option_copied r ≡ slice_get keys i
+key_read keys i None h = sym (slice_get_past keys i h.3)
+key_read keys i (Some x) h = ap Some (h.3.1 x.now) ∙ sym (slice_get-get_or keys i x.now h.3.0)
 
 -- the number that a host gets
 pub number_given : (hosts : List (List ℕ)) (h : List ℕ) (o : Option ℕ) (n fresh : ℕ) → o ≡ number_in hosts h → n ≡ unwrap_or o fresh → length hosts ≡ fresh

@@ -21,21 +21,21 @@ number_in hosts host = place_of (same_text host) hosts
 abbrev pub AreNumbers : List (List ℕ) → List Placed → List ℕ → Type 0
 AreNumbers hosts trace ns = map Some ns ≡ map (λ p. number_in hosts (host_of p)) trace
 
--- the numbers by places, with one more stored for a place, if that is known
+-- the numbers by the keys of processes, with one more stored for a key, if that is known
 abbrev pub kept_under : Option ℕ → ℕ → (ℕ → Option ℕ) → ℕ → Option ℕ
-kept_under None number old place = old place
-kept_under (Some own) number old place = if own == place then Some number else old place
+kept_under None number old key = old key
+kept_under (Some own) number old key = if own == key then Some number else old key
 
--- the number is that of the host of one of the first spans, whose entry is at the place
-pub record IsKept (trace : List Placed) (places : List ℕ) (count place number : ℕ) : Type 0 where
+-- the number is that of the host of one of the first spans, whose process has the key
+pub record IsHostKept (trace : List Placed) (keys : List ℕ) (count key number : ℕ) : Type 0 where
   pub index : ℕ
   pub before : index < count
-  pub stands : slice_get places index ≡ Some place
+  pub stands : slice_get keys index ≡ Some key
   pub host : number_in (hosts_of (take count trace)) (get_or (hosts_of trace) (index + 1) []) ≡ Some number
 
--- each number is that of the place for which it is stored
+-- each number is that of the key for which it is stored
 abbrev pub AreKept : List Placed → List ℕ → ℕ → (ℕ → Option ℕ) → Type 0
-AreKept trace places count kept = (place number : ℕ) → kept place ≡ Some number → IsKept trace places count place number
+AreKept trace keys count kept = (key number : ℕ) → kept key ≡ Some number → IsHostKept trace keys count key number
 
 -- the clock of the host with the number
 abbrev pub hosted : List (List ℕ) → HostClock → Clock

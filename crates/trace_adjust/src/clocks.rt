@@ -12,7 +12,7 @@ use std::alloc::{AllocError, Global};
 /// it: from each span up to one that was reached before, and back. The order only decides how soon all clocks are
 /// known.
 fn downward_order(alloc: Global, parents: &[Option<usize>]) -> Result<Vec<usize>, AllocError> {
-    let mut order = Vec::new(alloc);
+    let mut order = Vec::with_capacity(alloc, parents.len())?;
     let mut path = Vec::new(alloc);
     let mut reached = vec![in alloc; false; parents.len()]?;
     for start in 0..parents.len() {

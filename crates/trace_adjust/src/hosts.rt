@@ -31,51 +31,51 @@ fn number_of(
     Ok(fresh)
 }
 
-/// Returns the number that is stored for the place of a span's entry, if there is one.
-fn kept_number(kept: &BTreeMap<u64, usize>, place: Option<u64>) -> Option<usize>
-    ensures { result ≡ option_and_then (get nat_cmp kept.now) place }
+/// Returns the number that is stored for the key of a span's process, if there is one.
+fn kept_number(kept: &BTreeMap<u64, usize>, key: Option<u64>) -> Option<usize>
+    ensures { result ≡ option_and_then (get nat_cmp kept.now) key }
 {
-    kept.get(&place?).copied()
+    kept.get(&key?).copied()
 }
 
-/// Stores the number of a span's host for the place of its entry, if that is known.
+/// Stores the number of a span's host for the key of its process, if that is known.
 fn keep_number(
     kept: &mut BTreeMap<u64, usize>,
-    place: Option<u64>,
+    key: Option<u64>,
     number: usize,
 ) -> Result<(), AllocError>
     ensures { OnOk result ((p : ℕ) →
-        get nat_cmp kept.new p ≡ kept_under place number (get nat_cmp kept.old) p) }
+        get nat_cmp kept.new p ≡ kept_under key number (get nat_cmp kept.old) p) }
 {
-    if let Some(place) = place {
-        kept.insert(place, number)?;
+    if let Some(key) = key {
+        kept.insert(key, number)?;
     }
     Ok(())
 }
 
 /// Returns the number of the host of each span: one more than the index of the first span that has it, or
-/// [`NO_HOST`] if it is empty. A host's text is read once for the spans of one entry, which have one process, and
+/// [`NO_HOST`] if it is empty. A host's text is read once for the spans with one key, which have one process, and
 /// else for each span.
 pub(crate) fn host_numbers(
     alloc: Global,
     trace: &[LentPlaced],
-    places: &[u64],
+    process_keys: &[u64],
 ) -> Result<Vec<usize>, AllocError>
-    requires { ShareProcesses trace.now places.now }
+    requires { ShareProcesses trace.now process_keys.now }
     ensures { IfOk result (λ v.
         AreNumbers (hosts_of trace.now) trace.now v.items) }
 {
     let mut numbers = BTreeMap::new(alloc);
     numbers.insert(Text::new(alloc), NO_HOST)?;
     let mut kept = BTreeMap::new(alloc);
-    let mut hosts = Vec::new(alloc);
+    let mut hosts = Vec::with_capacity(alloc, trace.len())?;
     for (index, placed) in trace.iter().enumerate() {
-        let place = places.get(index).copied();
-        let number = match kept_number(&kept, place) {
+        let key = process_keys.get(index).copied();
+        let number = match kept_number(&kept, key) {
             Some(number) => number,
             None => {
                 let number = number_of(&mut numbers, placed.host(alloc)?, index + 1)?;
-                keep_number(&mut kept, place, number)?;
+                keep_number(&mut kept, key, number)?;
                 number
             }
         };

@@ -71,7 +71,7 @@ fn deltas_of(alloc: Global, trace: &KeptTrace, lent: &[LentPlaced]) -> Result<Ve
     ensures { IfOk result (λ v. shifted_all trace.now.limits.max_skew v.items lent.now
         ≡ adjusted trace.now.limits.max_skew (spans_there trace.now.spans.items)) }
 {
-    let clocks = clocks_of(alloc, lent, &trace.places, trace.limits.max_skew)?;
+    let clocks = clocks_of(alloc, lent, &trace.process_keys, trace.limits.max_skew)?;
     Ok(needed(alloc, all_deltas(alloc, lent, &clocks)?))
 }
 
@@ -91,7 +91,7 @@ fn shown_deltas(alloc: Global, trace: &KeptTrace) -> Result<Vec<i128>, AllocErro
 fn without_missing(trace: KeptTrace) -> KeptTrace
     ensures there { AreThere result.spans.items }
     ensures spans { spans_there result.spans.items ≡ spans_there trace.spans.items }
-    ensures places { result.places ≡ trace.places }
+    ensures process_keys { result.process_keys ≡ trace.process_keys }
     ensures limits { result.limits ≡ trace.limits }
     ensures raw { result.raw ≡ trace.raw }
 {
@@ -99,14 +99,14 @@ fn without_missing(trace: KeptTrace) -> KeptTrace
     spans.retain(|span| span.is_there());
     KeptTrace {
         spans,
-        places: trace.places,
+        process_keys: trace.process_keys,
         limits: trace.limits,
         raw: trace.raw,
     }
 }
 
-/// Returns the spans of a trace as they are shown, each borrowed from its entry, and the places of the entries that
-/// brought the first spans. Spans with one place have one process.
+/// Returns the spans of a trace as they are shown, each borrowed from its entry, and the keys of their processes. Spans
+/// with one key have one process.
 ///
 /// # Errors
 ///
@@ -124,5 +124,5 @@ pub fn lend(alloc: Global, trace: KeptTrace) -> Result<(LentSpans, Vec<u64>), Al
         max_skew: kept.limits.max_skew,
         deltas,
     };
-    Ok((spans, kept.places))
+    Ok((spans, kept.process_keys))
 }

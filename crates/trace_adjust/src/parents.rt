@@ -47,7 +47,7 @@ pub(crate) fn parent_places(
     ensures { IfOk result (λ v. v.items ≡
         map (place_in trace.now) trace.now) }
 {
-    let mut parents = Vec::new(alloc);
+    let mut parents = Vec::with_capacity(alloc, trace.len())?;
     for placed in trace {
         parents.push(place_of_parent(first, placed))?;
     }

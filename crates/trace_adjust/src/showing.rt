@@ -24,24 +24,24 @@ fn copied(alloc: Global, kept: &[KeptSpan]) -> Result<Vec<Placed>, AllocError>
     Ok(spans)
 }
 
-/// Returns the spans of a trace as they are shown: as reported if `raw` is set, else adjusted. `places` are those
-/// of the entries that brought them.
+/// Returns the spans of a trace as they are shown: as reported if `raw` is set, else adjusted. Spans with one
+/// of the `process_keys` have one process.
 fn shown_as(
     alloc: Global,
     spans: Vec<Placed>,
-    places: Vec<u64>,
+    process_keys: Vec<u64>,
     limits: Limits,
     raw: bool,
 ) -> Result<ShownTrace, AllocError>
-    requires { ShareProcesses spans.items places.items }
+    requires { ShareProcesses spans.items process_keys.items }
     ensures { IfOk result (λ s. s ≡ shown_as limits raw spans.items) }
 {
     if raw {
         let shown = all_unadjusted(alloc, spans)?;
-        return Ok(ShownTrace::new(shown, places));
+        return Ok(ShownTrace::new(shown, process_keys));
     }
-    let shown = adjusted(alloc, spans, &places, limits.max_skew)?;
-    Ok(ShownTrace::new(Seq::from_vec(shown), places))
+    let shown = adjusted(alloc, spans, &process_keys, limits.max_skew)?;
+    Ok(ShownTrace::new(Seq::from_vec(shown), process_keys))
 }
 
 /// Returns a trace as it is shown. Its spans are copied from their entries, and their processes are shared.
@@ -54,8 +54,8 @@ pub fn show(alloc: Global, trace: &KeptTrace) -> Result<ShownTrace, AllocError>
     ensures { IfOk result (λ t. t ≡ kept_value trace.now) }
 {
     let spans = copied(alloc, &trace.spans)?;
-    let places = trace.places.clone()?;
-    shown_as(alloc, spans, places, trace.limits, trace.raw)
+    let process_keys = trace.process_keys.clone()?;
+    shown_as(alloc, spans, process_keys, trace.limits, trace.raw)
 }
 
 /// Returns a trace of an answer as it is shown.

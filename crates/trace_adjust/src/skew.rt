@@ -1,11 +1,12 @@
 //! The spans of a trace, moved by their clocks.
 
-ghost use Rattle.std.specs.Prelude.{◌≡◌, IfOk, OnOk, OnErr, map};
+ghost use Rattle.std.specs.Prelude.{◌≡◌, IfOk, None, OnOk, OnErr, get_or, map};
 ghost use Rattle.std.specs.Ordering.{nat_cmp};
 ghost use Rattle.std.specs.BTreeMap.{get};
 ghost use Rattle.trace_model.specs.Adjusting.{with_parent_first, unadjusted, spans_of, shown_adjusted, adjusted};
 ghost use Rattle.trace_model.specs.Sharing.{ShareProcesses};
-ghost use Rattle.trace_adjust.specs.Hosts.{delta_by};
+ghost use Rattle.trace_adjust.specs.Hosts.{delta_by, host_delta};
+ghost use Rattle.trace_adjust.specs.Settling.{delta_or_none};
 ghost use Rattle.trace_adjust.specs.Skewing.{AreTraceClocks};
 
 use crate::clock::HostClock;
@@ -26,19 +27,19 @@ pub(crate) struct TraceClocks {
     clocks: Vec<Option<HostClock>>,
 }
 
-/// Returns the clocks of a trace's spans, which the entries at these places brought.
+/// Returns the clocks of a trace's spans. Spans with one key have one process.
 pub(crate) fn clocks_of(
     alloc: Global,
     trace: &[LentPlaced],
-    places: &[u64],
+    process_keys: &[u64],
     max_skew: u64,
 ) -> Result<TraceClocks, AllocError>
-    requires { ShareProcesses trace.now places.now }
+    requires { ShareProcesses trace.now process_keys.now }
     ensures { IfOk result (λ s. AreTraceClocks max_skew trace.now s) }
 {
     let first = first_places(alloc, trace)?;
     let parents = parent_places(alloc, trace, &first)?;
-    let hosts = host_numbers(alloc, trace, places)?;
+    let hosts = host_numbers(alloc, trace, process_keys)?;
     let clocks = all_clocks(alloc, trace, &parents, &hosts, max_skew)?;
     Ok(TraceClocks { first, clocks })
 }
@@ -59,17 +60,28 @@ fn all_unchanged<'a>(alloc: Global, trace: &'a [Shown]) -> Result<Vec<LentPlaced
 fn clocks_of_shown(
     alloc: Global,
     trace: &[Shown],
-    places: &[u64],
+    process_keys: &[u64],
     max_skew: u64,
 ) -> Result<TraceClocks, AllocError>
-    requires { ShareProcesses (spans_of trace.now) places.now }
+    requires { ShareProcesses (spans_of trace.now) process_keys.now }
     ensures { IfOk result (λ s. AreTraceClocks max_skew (spans_of trace.now) s) }
 {
     let lent = all_unchanged(alloc, trace)?;
-    clocks_of(alloc, &lent, places, max_skew)
+    clocks_of(alloc, &lent, process_keys, max_skew)
 }
 
-/// Returns the delta of the span at the place: 0 if it has no clock, or if a span before it has its id.
+/// Returns the delta of the clock at the place, or 0 if there is none.
+fn clock_delta(clocks: &[Option<HostClock>], place: usize) -> i128
+    ensures { result ≡ delta_or_none host_delta (get_or clocks.now place None) }
+{
+    match clocks.get(place) {
+        Some(Some(clock)) => clock.delta,
+        _ => 0,
+    }
+}
+
+/// Returns the delta of the span at the place: 0 if it has no clock, or if a span before it has its id. The ids are
+/// looked up only for a clock that moves.
 fn delta_at(
     first: &BTreeMap<u64, usize>,
     clocks: &[Option<HostClock>],
@@ -78,13 +90,11 @@ fn delta_at(
 ) -> i128
     ensures { result ≡ delta_by (λ id. get nat_cmp first.now id) clocks.now place id }
 {
-    if first.get(&id).copied().unwrap_or(place) != place {
-        return 0;
+    let delta = clock_delta(clocks, place);
+    if delta == 0 || first.get(&id).copied().unwrap_or(place) == place {
+        return delta;
     }
-    match clocks.get(place) {
-        Some(Some(clock)) => clock.delta,
-        _ => 0,
-    }
+    0
 }
 
 impl TraceClocks {
@@ -119,13 +129,13 @@ fn shift_all(
 fn all_shifted(
     alloc: Global,
     mut spans: Vec<Shown>,
-    places: &[u64],
+    process_keys: &[u64],
     max_skew: u64,
 ) -> Result<Vec<Shown>, AllocError>
-    requires { ShareProcesses (spans_of spans.items) places.now }
+    requires { ShareProcesses (spans_of spans.items) process_keys.now }
     ensures { IfOk result (λ v. v.items ≡ shown_adjusted max_skew spans.items) }
 {
-    let clocks = clocks_of_shown(alloc, &spans, places, max_skew)?;
+    let clocks = clocks_of_shown(alloc, &spans, process_keys, max_skew)?;
     shift_all(alloc, &mut spans, &clocks, max_skew)?;
     Ok(spans)
 }
@@ -153,8 +163,8 @@ fn copies_of(alloc: Global, trace: &[Shown]) -> Result<Vec<Shown>, AllocError>
 /// appended that says by how much, or why not. A span on a cycle of parents or below one stays unchanged, and so
 /// does each later one of several spans with one id.
 ///
-/// `places` are those of the entries that brought the spans, as far as they are known: the process of spans that
-/// have one place is read once. `max_skew` is the largest difference of clocks, in microseconds, that is adjusted.
+/// `process_keys` has a key for each of the first spans: the process of spans that have one key is read once.
+/// `max_skew` is the largest difference of clocks, in microseconds, that is adjusted.
 ///
 /// # Errors
 ///
@@ -163,14 +173,14 @@ fn copies_of(alloc: Global, trace: &[Shown]) -> Result<Vec<Shown>, AllocError>
 pub fn adjust_skew(
     alloc: Global,
     trace: &mut [Shown],
-    places: &[u64],
+    process_keys: &[u64],
     max_skew: u64,
 ) -> Result<(), AllocError>
-    requires { ShareProcesses (spans_of trace.old) places.now }
+    requires { ShareProcesses (spans_of trace.old) process_keys.now }
     ensures ok { OnOk result (trace.new ≡ shown_adjusted max_skew trace.old) }
     ensures err { OnErr result (trace.new ≡ trace.old) }
 {
-    let mut shifted = all_shifted(alloc, copies_of(alloc, trace)?, places, max_skew)?;
+    let mut shifted = all_shifted(alloc, copies_of(alloc, trace)?, process_keys, max_skew)?;
     trace.swap_with_slice(&mut shifted);
     Ok(())
 }
@@ -190,7 +200,7 @@ fn with_parents_first(alloc: Global, trace: Vec<Placed>) -> Result<Vec<Shown>, A
 /// Returns the trace as it is shown: in each span the reference to its parent is the first one, made of its parent
 /// id if it is missing, and its clock skew is adjusted as by [`adjust_skew`].
 ///
-/// `places` and `max_skew` are those of [`adjust_skew`].
+/// `process_keys` and `max_skew` are those of [`adjust_skew`].
 ///
 /// # Errors
 ///
@@ -198,12 +208,12 @@ fn with_parents_first(alloc: Global, trace: Vec<Placed>) -> Result<Vec<Shown>, A
 pub fn adjusted(
     alloc: Global,
     trace: Vec<Placed>,
-    places: &[u64],
+    process_keys: &[u64],
     max_skew: u64,
 ) -> Result<Vec<Shown>, AllocError>
-    requires { ShareProcesses trace.items places.now }
+    requires { ShareProcesses trace.items process_keys.now }
     ensures { IfOk result (λ v. v.items ≡ adjusted max_skew trace.items) }
 {
     let spans = with_parents_first(alloc, trace)?;
-    all_shifted(alloc, spans, places, max_skew)
+    all_shifted(alloc, spans, process_keys, max_skew)
 }

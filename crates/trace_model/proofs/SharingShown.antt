@@ -20,9 +20,9 @@ still_process f (x ∷ xs) zero d = refl
 still_process f (x ∷ xs) (suc k) d = still_process f xs k d
 
 -- spans that differ only in their times share their processes alike
-shared_alike : {X : Type 0} (f : X → Placed) (ps : List Placed) (xs : List X) (places : List ℕ) → map (λ x. still (f x)) xs ≡ map still ps
-    → ShareProcesses ps places → ShareProcesses (map f xs) places
-shared_alike f ps xs places alike share j k d one = same j ∙ share j k d one ∙ sym (same k)
+shared_alike : {X : Type 0} (f : X → Placed) (ps : List Placed) (xs : List X) (keys : List ℕ) → map (λ x. still (f x)) xs ≡ map still ps
+    → ShareProcesses ps keys → ShareProcesses (map f xs) keys
+shared_alike f ps xs keys alike share j k d one = same j ∙ share j k d one ∙ sym (same k)
   where
     same : (i : ℕ) → process_at (map f xs) i d ≡ process_at ps i d
     same i =
@@ -32,20 +32,20 @@ pub same_spans : (ps : List Placed) → spans_of (map unadjusted ps) ≡ ps
 same_spans [] = refl
 same_spans (p ∷ ps) = ap (λ r. p ∷ r) (same_spans ps)
 
-pub unadjusted_shares : (ps : List Placed) (places : List ℕ) → ShareProcesses ps places → ShareProcesses (spans_of (map unadjusted ps)) places
-unadjusted_shares ps places share = subst (λ qs. ShareProcesses qs places) (sym (same_spans ps)) share
+pub unadjusted_shares : (ps : List Placed) (keys : List ℕ) → ShareProcesses ps keys → ShareProcesses (spans_of (map unadjusted ps)) keys
+unadjusted_shares ps keys share = subst (λ qs. ShareProcesses qs keys) (sym (same_spans ps)) share
 
-pub lent_shares : (ps : List Placed) (places : List ℕ) → ShareProcesses ps places → ShareProcesses (map with_parent_first ps) places
-lent_shares ps places share = shared_alike with_parent_first ps ps places (λ i. map (λ p. still_first p i) ps) share
+pub lent_shares : (ps : List Placed) (keys : List ℕ) → ShareProcesses ps keys → ShareProcesses (map with_parent_first ps) keys
+lent_shares ps keys share = shared_alike with_parent_first ps ps keys (λ i. map (λ p. still_first p i) ps) share
 
-pub first_shares : (ps : List Placed) (places : List ℕ) → ShareProcesses ps places
-    → ShareProcesses (spans_of (map unadjusted (map with_parent_first ps))) places
-first_shares ps places share = unadjusted_shares (map with_parent_first ps) places (lent_shares ps places share)
+pub first_shares : (ps : List Placed) (keys : List ℕ) → ShareProcesses ps keys
+    → ShareProcesses (spans_of (map unadjusted (map with_parent_first ps))) keys
+first_shares ps keys share = unadjusted_shares (map with_parent_first ps) keys (lent_shares ps keys share)
 
-pub adjusted_shares : (m : ℕ) (ps : List Placed) (places : List ℕ) → ShareProcesses ps places → ShareProcesses (spans_of (adjusted m ps)) places
-adjusted_shares m ps places share = shared_alike (λ (s : Shown). s.placed) ps (adjusted m ps) places (same_but_times m ps) share
+pub adjusted_shares : (m : ℕ) (ps : List Placed) (keys : List ℕ) → ShareProcesses ps keys → ShareProcesses (spans_of (adjusted m ps)) keys
+adjusted_shares m ps keys share = shared_alike (λ (s : Shown). s.placed) ps (adjusted m ps) keys (same_but_times m ps) share
 
-pub shown_shares : (limits : Limits) (raw : Bool) (ps : List Placed) (places : List ℕ) → ShareProcesses ps places
-    → ShareProcesses (spans_of (shown_as limits raw ps)) places
-shown_shares limits true ps places share = unadjusted_shares ps places share
-shown_shares limits false ps places share = adjusted_shares limits.max_skew ps places share
+pub shown_shares : (limits : Limits) (raw : Bool) (ps : List Placed) (keys : List ℕ) → ShareProcesses ps keys
+    → ShareProcesses (spans_of (shown_as limits raw ps)) keys
+shown_shares limits true ps keys share = unadjusted_shares ps keys share
+shown_shares limits false ps keys share = adjusted_shares limits.max_skew ps keys share

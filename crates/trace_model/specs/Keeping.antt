@@ -16,9 +16,9 @@ spans_there spans = filter_map (λ s. s) spans
 abbrev pub kept_value : KeptTrace → List Shown
 kept_value t = shown_as t.limits t.raw (spans_there t.spans.items)
 
--- spans with one place have one process
+-- spans with one key have one process
 abbrev pub KeptShares : KeptTrace → Type 0
-KeptShares t = ShareProcesses (spans_there t.spans.items) t.places.items
+KeptShares t = ShareProcesses (spans_there t.spans.items) t.process_keys.items
 
 abbrev pub form_value : TraceForm → List Shown
 form_value (Ready shown) = shown

@@ -2,10 +2,10 @@
 use Rattle.std.specs.Prelude.{◌≡◌, ℕ, ◌<◌, List, length, get_or}
 use Rattle.jaeger_model.specs.declared.placed.Placed.{Placed}
 
--- the entries of two spans have one place; nothing is known of a span without a place
-abbrev pub OfOnePlace : List ℕ → ℕ → ℕ → Type 0
-OfOnePlace places j k = (j < length places) × (k < length places) × (get_or places j 0 ≡ get_or places k 0)
+-- two spans have one key; nothing is known of a span without a key
+abbrev pub HaveOneKey : List ℕ → ℕ → ℕ → Type 0
+HaveOneKey keys j k = (j < length keys) × (k < length keys) × (get_or keys j 0 ≡ get_or keys k 0)
 
--- spans whose entries have one place have one process
+-- spans with one key have one process
 abbrev pub ShareProcesses : List Placed → List ℕ → Type 0
-ShareProcesses trace places = (j k : ℕ) (d : Placed) → OfOnePlace places j k → (get_or trace j d).process ≡ (get_or trace k d).process
+ShareProcesses trace keys = (j k : ℕ) (d : Placed) → HaveOneKey keys j k → (get_or trace j d).process ≡ (get_or trace k d).process

@@ -105,8 +105,8 @@ impl KeptSpan {
 #[derive(Debug, Drop)]
 pub struct KeptTrace {
     pub spans: Vec<KeptSpan>,
-    /// The places of the entries that brought the spans.
-    pub places: Vec<u64>,
+    /// A key for each of the first spans. Spans with one key have one process; nothing else is known of a key.
+    pub process_keys: Vec<u64>,
     /// The limits of the store.
     pub limits: Limits,
     /// Whether the spans are shown as reported, without adjustment.

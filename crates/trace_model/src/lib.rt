@@ -1,6 +1,6 @@
 //! Entries, queries and answers; and, as definitions over the plain list, what a history of entries answers.
 //!
-//! * `limits`, `entry`, `admission`, `refusal`: what is stored, and why an entry is refused.
+//! * `limits`, `trace_limit`, `entry`, `admission`, `refusal`: what is stored, and why an entry is refused.
 //! * `query`, `answer`: queries and their answers; `shown_trace`: the spans of a trace that is shown;
 //!   `answered_trace`: a trace of an answer, copied or in its entries; `service_name`: the name of a service in
 //!   an answer; `taken_span`: a span of a trace that was collected from a store.
@@ -23,6 +23,7 @@ mod refusal;
 mod service_name;
 mod shown_trace;
 mod taken_span;
+mod trace_limit;
 
 pub use admission::Admission;
 pub use answer::{Answer, Link, Operation, Shown, with_kind};
@@ -36,3 +37,4 @@ pub use refusal::Refusal;
 pub use service_name::ServiceName;
 pub use shown_trace::ShownTrace;
 pub use taken_span::TakenSpan;
+pub use trace_limit::TraceLimit;

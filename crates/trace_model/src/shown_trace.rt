@@ -9,12 +9,12 @@ use jaeger_model::Seq;
 use std::alloc::Global;
 use std::marker::Model;
 
-/// The spans of a trace as they are shown, with the places of the entries that brought them, as far as they are
-/// known. Spans with one place have one process, so it need not be compared. Contracts see the list of the spans.
+/// The spans of a trace as they are shown, with a key for each of the first of them. Spans with one key have one
+/// process, so it need not be compared. Nothing else is known of a key. Contracts see the list of the spans.
 #[derive(Debug, Drop)]
 pub struct ShownTrace {
     spans: Seq<Shown>,
-    places: Vec<u64>,
+    process_keys: Vec<u64>,
 }
 
 impl Model for ShownTrace {
@@ -27,21 +27,23 @@ impl Model for ShownTrace {
 
     ghost view = { λ t. t.spans };
 
-    ghost invariant = { λ t. ShareProcesses (spans_of t.spans) t.places.items };
+    ghost invariant = { λ t. ShareProcesses (spans_of t.spans) t.process_keys.items };
 }
 
 impl ShownTrace {
-    /// Makes a trace of its spans, and of the places of the entries that brought the first of them. Allocates
-    /// nothing.
-    pub fn new(spans: Seq<Shown>, places: Vec<u64>) -> ShownTrace
-        requires { ShareProcesses (spans_of spans) places.items }
+    /// Makes a trace of its spans, and of a key for each of the first of them. Allocates nothing.
+    pub fn new(spans: Seq<Shown>, process_keys: Vec<u64>) -> ShownTrace
+        requires { ShareProcesses (spans_of spans) process_keys.items }
         ensures { result ≡ spans }
     {
-        ShownTrace { spans, places }
+        ShownTrace {
+            spans,
+            process_keys,
+        }
     }
 
-    /// Makes a trace of spans whose entries aren't known. Allocates nothing.
-    pub fn without_places(alloc: Global, spans: Seq<Shown>) -> ShownTrace
+    /// Makes a trace of spans without keys. Allocates nothing.
+    pub fn without_keys(alloc: Global, spans: Seq<Shown>) -> ShownTrace
         ensures { result ≡ spans }
     {
         ShownTrace::new(spans, Vec::new(alloc))
@@ -54,11 +56,11 @@ impl ShownTrace {
         self.spans.as_slice()
     }
 
-    /// Returns the places of the entries that brought the first spans. Spans with one place have one process.
-    pub fn places(&self) -> &[u64]
+    /// Returns the keys of the first spans. Spans with one key have one process.
+    pub fn process_keys(&self) -> &[u64]
         ensures { ShareProcesses (spans_of self.now) result.now }
     {
-        &self.places
+        &self.process_keys
     }
 
     /// Returns the number of spans.

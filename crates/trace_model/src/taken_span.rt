@@ -13,14 +13,14 @@ use std::alloc::AllocError;
 use std::marker::Model;
 use std::sync::Arc;
 
-/// A span, read from its shared entry, with a number from its owner. Nothing of the entry is copied, so the span
-/// can be read after its store is left. Contracts see the span with its process and with its parent among its
-/// references, and the number.
+/// A span, read from its shared entry, with a key of its process: spans of a collection with one key have one process.
+/// Nothing of the entry is copied, so the span can be read after its store is left. Contracts see the span with its
+/// process and with its parent among its references, and the key as its number.
 #[derive(Debug, Drop)]
 pub struct TakenSpan {
     entry: Arc<Entry>,
     index: u32,
-    number: u32,
+    process_key: u32,
 }
 
 impl Model for TakenSpan {
@@ -31,39 +31,43 @@ impl Model for TakenSpan {
 
     ghost Value = { Taken };
 
-    ghost view = { λ s. record { span = slice_get (placed_brought (arc_value s.entry).work) s.index; number = s.number } };
+    ghost view = { λ s. record { span = slice_get (placed_brought (arc_value s.entry).work) s.index; number = s.process_key } };
 
     ghost invariant = { λ s. IsSome (slice_get (placed_brought (arc_value s.entry).work) s.index) };
 }
 
 impl TakenSpan {
-    /// Refers to the span of the entry at an index, which counts from 0, with this number. Returns `None` if the
-    /// entry has no such span.
+    /// Refers to the span of the entry at an index, which counts from 0, with this key of its process. Returns `None`
+    /// if the entry has no such span.
     ///
     /// # Errors
     ///
     /// Out of memory, and nothing else.
-    pub fn new(entry: &Arc<Entry>, index: u32, number: u32) -> Result<Option<TakenSpan>, AllocError>
+    pub fn new(
+        entry: &Arc<Entry>,
+        index: u32,
+        process_key: u32,
+    ) -> Result<Option<TakenSpan>, AllocError>
         ensures span { IfOk result (λ t. option_and_then (λ s. s.span) t ≡
             slice_get (placed_brought (arc_value entry.now).work) index) }
-        ensures number { IfOk result (λ t. IfSome t (λ s. s.number ≡ number)) }
+        ensures number { IfOk result (λ t. IfSome t (λ s. s.number ≡ process_key)) }
     {
         if (index as usize) < entry.work.spans().len() {
             let entry = Arc::try_clone(entry)?;
             return Ok(Some(TakenSpan {
                 entry,
                 index,
-                number,
+                process_key,
             }));
         }
         Ok(None)
     }
 
-    /// Returns its number.
-    pub fn number(&self) -> u32
+    /// Returns the key of its process.
+    pub fn process_key(&self) -> u32
         ensures { result ≡ self.now.number }
     {
-        self.number
+        self.process_key
     }
 
     /// Returns the span as it was reported: its parent need not be among its references. Allocates nothing.

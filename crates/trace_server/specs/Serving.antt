@@ -1,11 +1,12 @@
 -- The output of a server, and how it ends.
-use Rattle.std.specs.Prelude.{◌≡◌, ℕ, ◌⊎◌, ◌++◌, Bool, false, if◌then◌else◌, List, [], Option, codes, length, map, All}
+use Rattle.std.specs.Prelude.{◌≡◌, ℕ, ◌⊎◌, ◌++◌, Bool, false, if◌then◌else◌, List, [], codes, length, map, All}
 use Rattle.std.specs.List.{range_with_len, AllZip}
 use Rattle.std.specs.Fmt.{decimal}
 use Rattle.std.specs.Io.KnownBytes.{Appends}
 use Rattle.atomic_table.specs.Seated.{TableId}
 use Rattle.trace_model.specs.declared.entry.Entry.{Entry}
 use Rattle.trace_model.specs.declared.limits.Limits.{Limits}
+use Rattle.session_devices.specs.Traffic.{Traffic}
 use Rattle.read_side.specs.Keepers.{Lists, no_entries}
 use Rattle.intake.specs.declared.account.Account.{Account}
 use Rattle.intake.specs.Seats.{SeatValue}
@@ -60,31 +61,29 @@ abbrev pub status_if : Bool → ExitStatus
 status_if failed = if failed then DeviceFailed else Success
 
 -- a prefix of the text was written: the output failed, or memory or threads ran out
-abbrev pub StopsIn : Option (List ℕ) → Option (List ℕ) → Bool → List ℕ → ExitStatus → Type 0
-StopsIn out0 out1 out_failed text status =
-    (error : RunError) × (status ≡ status_by error) × WritesSome out0 out1 text × IsWhyOf error out_failed
+abbrev pub StopsIn : Traffic → List ℕ → ExitStatus → Type 0
+StopsIn output text status =
+    (error : RunError) × (status ≡ status_by error) × WritesSome output.before output.after text × IsWhyOf error output.failed
 
 -- all of the text was written, or a prefix
-abbrev pub Ends : Option (List ℕ) → Option (List ℕ) → Bool → List ℕ → Bool → ExitStatus → Type 0
-Ends out0 out1 out_failed text failed status =
-    ((status ≡ status_if failed) × Appends out0 out1 text × (out_failed ≡ false))
-    ⊎ StopsIn out0 out1 out_failed text status
+abbrev pub Ends : Traffic → List ℕ → Bool → ExitStatus → Type 0
+Ends output text failed status =
+    ((status ≡ status_if failed) × Appends output.before output.after text × (output.failed ≡ false)) ⊎ StopsIn output text status
 
 -- nothing was written, though the output works: memory or threads ran out, or the system didn't return the socket's
 -- address
-abbrev pub IsSilent : Option (List ℕ) → Option (List ℕ) → Bool → ExitStatus → Type 0
-IsSilent out0 out1 out_failed status = (status ≡ OutOfMemory) × (out1 ≡ out0) × (out_failed ≡ false)
+abbrev pub IsSilent : Traffic → ExitStatus → Type 0
+IsSilent output status = (status ≡ OutOfMemory) × (output.after ≡ output.before) × (output.failed ≡ false)
 
 -- it stopped before its books were closed
-pub record StopsEarly (host : Host) (out0 out1 : Option (List ℕ)) (out_failed : Bool) (status : ExitStatus) : Type 0 where
+pub record StopsEarly (host : Host) (output : Traffic) (status : ExitStatus) : Type 0 where
   pub port : ℕ
   pub served : ℕ
-  pub stops : StopsIn out0 out1 out_failed (listening_line host port ++ served_line served) status
+  pub stops : StopsIn output (listening_line host port ++ served_line served) status
 
 -- it closed the books of the seats that these have become, and wrote the number of connections and the totals of the
 -- batches after this text
-pub record Closes (limits : Limits) (workers : ℕ) (opened : List SeatValue) (front : List ℕ) (out0 out1 : Option (List ℕ)) (out_failed : Bool)
-    (status : ExitStatus) : Type 0 where
+pub record Closes (limits : Limits) (workers : ℕ) (opened : List SeatValue) (front : List ℕ) (output : Traffic) (status : ExitStatus) : Type 0 where
   pub served : ℕ
   pub failed : Bool
   pub acknowledged : ℕ
@@ -95,25 +94,22 @@ pub record Closes (limits : Limits) (workers : ℕ) (opened : List SeatValue) (f
   pub gone_on : AllZip GoesOn opened seats
   pub one_for_each : OneForEach workers seats
   pub books : ClosesBooks limits lists seats acknowledged refused left
-  pub ends : Ends out0 out1 out_failed (front ++ last_lines served acknowledged refused left) failed status
+  pub ends : Ends output (front ++ last_lines served acknowledged refused left) failed status
 
 -- after the first line: it stopped before its books were closed, or it closed those of the seats that these have become
-abbrev pub Reports : Limits → ℕ → List SeatValue → Option (List ℕ) → Option (List ℕ) → Bool → ExitStatus → Type 0
-Reports limits workers opened out0 out1 out_failed status =
-    ((served : ℕ) × StopsIn out0 out1 out_failed (served_line served) status)
-    ⊎ Closes limits workers opened [] out0 out1 out_failed status
+abbrev pub Reports : Limits → ℕ → List SeatValue → Traffic → ExitStatus → Type 0
+Reports limits workers opened output status =
+    ((served : ℕ) × StopsIn output (served_line served) status) ⊎ Closes limits workers opened [] output status
 
 -- it closed its books: its output is the listening line, and at the end the number of connections and the totals of the
 -- batches that were submitted by the seats of one desk, which were new at the start
-pub record Completes (host : Host) (limits : Limits) (workers : ℕ) (out0 out1 : Option (List ℕ)) (out_failed : Bool) (status : ExitStatus) : Type 0 where
+pub record Completes (host : Host) (limits : Limits) (workers : ℕ) (output : Traffic) (status : ExitStatus) : Type 0 where
   pub port : ℕ
   pub desk : TableId
   pub opened : List SeatValue
   pub new : AreNew desk opened
-  pub closes : Closes limits workers opened (listening_line host port) out0 out1 out_failed status
+  pub closes : Closes limits workers opened (listening_line host port) output status
 
-abbrev pub Serves : Host → Limits → ℕ → Option (List ℕ) → Option (List ℕ) → Bool → ExitStatus → Type 0
-Serves host limits workers out0 out1 out_failed status =
-    IsSilent out0 out1 out_failed status
-    ⊎ StopsEarly host out0 out1 out_failed status
-    ⊎ Completes host limits workers out0 out1 out_failed status
+abbrev pub Serves : Host → Limits → ℕ → Traffic → ExitStatus → Type 0
+Serves host limits workers output status =
+    IsSilent output status ⊎ StopsEarly host output status ⊎ Completes host limits workers output status

@@ -1,8 +1,8 @@
 //! The connections that a worker accepts.
 
+use crate::connection_quota::ConnectionQuota;
 use crate::gate::Gate;
 use crate::notices::print_accepts_no_more;
-use crate::sessions::Sessions;
 use crate::worker::{Server, WorkerOutcome};
 use libc::net::listen;
 use read_side::StoreName;
@@ -113,8 +113,8 @@ impl Acceptor {
     }
 
     /// Returns whether one more connection may be accepted.
-    pub(crate) fn may_accept(&self, sessions: &Sessions) -> bool {
-        !self.over && !sessions.are_over()
+    pub(crate) fn may_accept(&self, quota: &ConnectionQuota) -> bool {
+        !self.over && !quota.is_used_up()
     }
 
     /// Returns what was accepted.
@@ -157,7 +157,7 @@ impl Acceptor {
         true
     }
 
-    /// Accepts a waiting connection, if it gets a place and a session can be claimed for it.
+    /// Accepts a waiting connection, for which a permit was taken and a claim made. Otherwise both are given back.
     fn accept_one<N: StoreName, G: Gate, R: Wait + Eprint>(
         &mut self,
         rt: &R,
@@ -170,7 +170,7 @@ impl Acceptor {
                 server.notices.end_shortage();
                 self.deferrals = 0;
                 self.outcome.served = self.outcome.served.saturating_add(1);
-                server.sessions.count_accepted();
+                server.quota.count_accepted();
                 return Some(stream);
             }
             Arrival::Nobody => {
@@ -187,13 +187,13 @@ impl Acceptor {
                 self.outcome.failed = true;
             }
         }
-        server.sessions.give_back();
+        server.quota.give_back();
         server.loads.return_permit();
         None
     }
 
     /// Accepts the next connection for a worker, if one is waiting, may be accepted, and isn't left to another worker.
-    /// The caller must give its place back.
+    /// The caller must return its permit.
     pub(crate) fn next<N: StoreName, G: Gate, R: Wait + Clock + Eprint>(
         &mut self,
         rt: &R,
@@ -211,7 +211,7 @@ impl Acceptor {
             self.pause(now, SHORTAGE_PAUSE);
             return None;
         }
-        if !server.sessions.claim() {
+        if !server.quota.claim() {
             server.loads.return_permit();
             self.pause(now, DEFERRAL);
             return None;

@@ -5,41 +5,91 @@ use std::fmt;
 use std::sync::atomic::{AtomicU64, Ordering};
 use trace_model::Refusal;
 
-/// The number of numbers that a refusal may have.
-const NUMBERS: usize = 256;
+/// Each refusal, in the order of their numbers. What they carry isn't read.
+const REFUSALS: [Refusal; 11] = [
+    Refusal::JournalFull {
+        batches: 0,
+        spans: 0,
+    },
+    Refusal::Stale { last: 0 },
+    Refusal::NoMemory,
+    Refusal::Deferred,
+    Refusal::Busy,
+    Refusal::Closed,
+    Refusal::Stranger,
+    Refusal::NoReply,
+    Refusal::Behind { front: 0 },
+    Refusal::Conflict { place: 0 },
+    Refusal::Gone,
+];
+
+/// The number of batches that were refused, by the refusal.
+#[derive(Drop)]
+struct RefusalCounts {
+    journal_full: AtomicU64,
+    stale: AtomicU64,
+    no_memory: AtomicU64,
+    deferred: AtomicU64,
+    busy: AtomicU64,
+    closed: AtomicU64,
+    stranger: AtomicU64,
+    no_reply: AtomicU64,
+    behind: AtomicU64,
+    conflict: AtomicU64,
+    gone: AtomicU64,
+}
+
+impl RefusalCounts {
+    /// Creates counts of 0.
+    fn new() -> RefusalCounts {
+        RefusalCounts {
+            journal_full: AtomicU64::new(0),
+            stale: AtomicU64::new(0),
+            no_memory: AtomicU64::new(0),
+            deferred: AtomicU64::new(0),
+            busy: AtomicU64::new(0),
+            closed: AtomicU64::new(0),
+            stranger: AtomicU64::new(0),
+            no_reply: AtomicU64::new(0),
+            behind: AtomicU64::new(0),
+            conflict: AtomicU64::new(0),
+            gone: AtomicU64::new(0),
+        }
+    }
+
+    /// Returns the count of a refusal.
+    fn of(&self, refusal: Refusal) -> &AtomicU64 {
+        match refusal {
+            Refusal::JournalFull { .. } => &self.journal_full,
+            Refusal::Stale { .. } => &self.stale,
+            Refusal::NoMemory => &self.no_memory,
+            Refusal::Deferred => &self.deferred,
+            Refusal::Busy => &self.busy,
+            Refusal::Closed => &self.closed,
+            Refusal::Stranger => &self.stranger,
+            Refusal::NoReply => &self.no_reply,
+            Refusal::Behind { .. } => &self.behind,
+            Refusal::Conflict { .. } => &self.conflict,
+            Refusal::Gone => &self.gone,
+        }
+    }
+}
 
 /// The counts of one worker.
 #[derive(Drop)]
 struct WorkerCounts {
     acknowledged: AtomicU64,
     queries: AtomicU64,
-    /// Refused batches by the number of the refusal.
-    refused: Vec<AtomicU64>,
+    refused: RefusalCounts,
 }
 
 impl WorkerCounts {
     /// Creates counts of 0.
-    ///
-    /// # Errors
-    ///
-    /// Out of memory.
-    fn new(alloc: Global) -> Result<WorkerCounts, AllocError> {
-        let mut refused = Vec::with_capacity(alloc, NUMBERS)?;
-        for _ in 0..NUMBERS {
-            refused.push(AtomicU64::new(0))?;
-        }
-        Ok(WorkerCounts {
+    fn new() -> WorkerCounts {
+        WorkerCounts {
             acknowledged: AtomicU64::new(0),
             queries: AtomicU64::new(0),
-            refused,
-        })
-    }
-
-    /// Returns the number of batches that were refused by this number.
-    fn refused(&self, number: usize) -> u64 {
-        match self.refused.get(number) {
-            Some(count) => count.load(Ordering::SeqCst),
-            None => 0,
+            refused: RefusalCounts::new(),
         }
     }
 }
@@ -59,7 +109,7 @@ impl Counts {
     pub(crate) fn new(alloc: Global, workers: u16) -> Result<Counts, AllocError> {
         let mut counts = Vec::with_capacity(alloc, workers as usize)?;
         for _ in 0..workers {
-            counts.push(WorkerCounts::new(alloc)?)?;
+            counts.push(WorkerCounts::new())?;
         }
         Ok(Counts { workers: counts })
     }
@@ -74,9 +124,7 @@ impl Counts {
     /// Counts a batch that was refused.
     pub(crate) fn refuse(&self, worker: u32, refusal: Refusal) {
         if let Some(counts) = self.workers.get(worker as usize) {
-            if let Some(count) = counts.refused.get(usize::from(refusal.number())) {
-                count.fetch_add(1, Ordering::SeqCst);
-            }
+            counts.refused.of(refusal).fetch_add(1, Ordering::SeqCst);
         }
     }
 
@@ -105,11 +153,11 @@ impl Counts {
         all
     }
 
-    /// Returns the number of batches that were refused by this number.
-    fn refused(&self, number: usize) -> u64 {
+    /// Returns the number of batches that were refused by this refusal.
+    fn refused(&self, refusal: Refusal) -> u64 {
         let mut all: u64 = 0;
         for counts in &self.workers {
-            all = all.saturating_add(counts.refused(number));
+            all = all.saturating_add(counts.refused.of(refusal).load(Ordering::SeqCst));
         }
         all
     }
@@ -121,9 +169,10 @@ impl fmt::Display for Counts {
         let acknowledged = self.acknowledged();
         let queries = self.queries();
         write!(f, "{acknowledged} acknowledged, {queries} queries")?;
-        for number in 0..NUMBERS {
-            let refused = self.refused(number);
+        for refusal in &REFUSALS {
+            let refused = self.refused(*refusal);
             if refused > 0 {
+                let number = refusal.number();
                 write!(f, ", {refused} refused {number}")?;
             }
         }

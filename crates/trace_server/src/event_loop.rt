@@ -9,7 +9,7 @@ use crate::acceptor::Acceptor;
 use crate::connection::{idle_limit, prepare};
 use crate::gate::Gate;
 use crate::gated::Gated;
-use crate::leaving::{Leaving, Step};
+use crate::lingering::{Lingering, Step};
 use crate::source::Source;
 use crate::worker::Server;
 use open_connections::{
@@ -35,7 +35,7 @@ const CHECK_SECONDS: u64 = 1;
 /// the part of an answer that isn't written yet takes about a tenth of its bytes in memory.
 const MAX_WAITING_BYTES: usize = 2 << 30;
 
-/// The number of milliseconds after which a worker checks whether others have accepted all sessions.
+/// The number of milliseconds after which a worker checks whether others have accepted all connections.
 const SESSIONS_PAUSE: u64 = 20;
 
 /// Returns the earlier of two optional times.
@@ -52,7 +52,7 @@ fn earlier(one: Option<Duration>, other: Option<Duration>) -> Option<Duration> {
 pub(crate) struct EventLoop {
     readiness: Readiness,
     open: ConnectionSet<Socket>,
-    leaving: Leaving,
+    lingering: Lingering,
     /// The keys of connections that hold unanswered bytes, and whether their clients have closed their side.
     again: VecDeque<(usize, bool)>,
     at: Moment,
@@ -89,7 +89,7 @@ impl EventLoop {
         Ok(EventLoop {
             readiness,
             open,
-            leaving: Leaving::new(alloc),
+            lingering: Lingering::new(alloc),
             again: VecDeque::new(alloc),
             at: Moment {
                 now: rt.monotonic()?,
@@ -104,11 +104,9 @@ impl EventLoop {
 
     /// Returns whether it has no connection.
     pub(crate) fn is_empty(&self) -> bool {
-        self.open.is_empty() && self.leaving.is_empty()
+        self.open.is_empty() && self.lingering.is_empty()
     }
-}
 
-impl EventLoop {
     /// Schedules a connection that stays open: at once if it holds unanswered bytes; when its client takes more if a
     /// response waits; or by registering it again if bytes may have come that aren't reported. Returns whether that
     /// succeeded.
@@ -142,7 +140,7 @@ impl EventLoop {
         let all = self
             .open
             .waiting_bytes()
-            .saturating_add(self.leaving.waiting_bytes());
+            .saturating_add(self.lingering.waiting_bytes());
         all > MAX_WAITING_BYTES && all > own
     }
 
@@ -178,8 +176,8 @@ impl EventLoop {
             self.has_given_up = true;
             return;
         }
-        if let Some(key) = self.leaving.add(outbox) {
-            self.advance_leaving(key);
+        if let Some(key) = self.lingering.add(outbox) {
+            self.advance_lingering(key);
         }
         self.next_check = self.next_check.min(self.after_pause());
     }
@@ -204,14 +202,14 @@ impl EventLoop {
     }
 
     /// Continues a connection whose session has ended, and registers it again if there is more to do.
-    fn advance_leaving(&mut self, key: usize)
+    fn advance_lingering(&mut self, key: usize)
         ensures open { self.new.open ≡ self.old.open }
     {
-        let step = self.leaving.advance(key, self.at.now, self.idle_limit);
-        let Some(socket) = self.leaving.get(key) else {
+        let step = self.lingering.advance(key, self.at.now, self.idle_limit);
+        let Some(socket) = self.lingering.get(key) else {
             return;
         };
-        let token = Source::Leaving(key).token();
+        let token = Source::Lingering(key).token();
         let _unregistered = match step {
             Step::Writes => self.readiness.reregister_for_writes(socket.raw_fd(), token),
             Step::Reads => self.readiness.reregister(socket.raw_fd(), token),
@@ -254,7 +252,7 @@ impl EventLoop {
         match Source::of(event.token) {
             Source::Listener => {}
             Source::Open(key) => self.serve(rt, alloc, key, event.has_ended, store),
-            Source::Leaving(key) => self.advance_leaving(key),
+            Source::Lingering(key) => self.advance_lingering(key),
         }
     }
 
@@ -364,7 +362,7 @@ impl EventLoop {
         if now < self.next_check {
             return;
         }
-        self.leaving.drop_late(now);
+        self.lingering.drop_late(now);
         self.next_check = self.after_pause();
         if let Some(idle_limit) = self.idle_limit {
             self.open.drop_silent(now.saturating_sub(idle_limit));
@@ -376,7 +374,7 @@ impl EventLoop {
     fn put_off_check(&mut self, idle_limit: Duration)
         ensures open { self.new.open ≡ self.old.open }
     {
-        if let (true, Some(oldest)) = (self.leaving.is_empty(), self.open.oldest()) {
+        if let (true, Some(oldest)) = (self.lingering.is_empty(), self.open.oldest()) {
             self.next_check = self.next_check.max(oldest.saturating_add(idle_limit));
         }
     }
@@ -387,10 +385,10 @@ impl EventLoop {
         server: &Server<'_, N, G>,
         acceptor: &Acceptor,
     ) -> Option<Duration> {
-        let checks = !self.leaving.is_empty()
+        let checks = !self.lingering.is_empty()
             || (self.idle_limit.is_some() && !self.open.is_empty());
         let check = if checks { Some(self.next_check) } else { None };
-        let last = if server.sessions.are_limited() {
+        let last = if server.quota.is_limited() {
             Some(
                 self.at
                     .now
@@ -429,7 +427,7 @@ impl EventLoop {
     )
         ensures open { self.new.open ≡ self.old.open }
     {
-        let taken = self.open.len().saturating_add(self.leaving.len());
+        let taken = self.open.len().saturating_add(self.lingering.len());
         for _ in taken..self.permits {
             server.loads.return_permit();
         }
@@ -491,7 +489,7 @@ impl EventLoop {
         ensures goes_on { GoesOn store.old.seat store.new.seat }
     {
         for _ in rt.forever() {
-            let accepts = acceptor.may_accept(server.sessions);
+            let accepts = acceptor.may_accept(server.quota);
             self.publish_load(server, worker, accepts);
             if !accepts && self.is_empty() {
                 break;

@@ -10,8 +10,9 @@
 //! * `gate`: an observer of the calls to the store. `gated`: a store whose calls a gate observes.
 //! * `worker`: a worker. `threads`: work in threads.
 //! * `event_loop`: the loop that waits for a worker's connections and serves them. `source`: what it waits for, by tokens.
-//! * `acceptor`: accepts connections. `loads`: the number of connections of each worker. `sessions`: the number in all.
-//! * `connection`: sockets before and after their sessions. `leaving`: connections after their last response.
+//! * `acceptor`: accepts connections. `loads`: the number of connections of each worker.
+//!   `connection_quota`: the number in all.
+//! * `connection`: sockets before and after their sessions. `lingering`: connections after their last response.
 //! * `shared`: a store with its desk and its clerk, which all workers share.
 //! * `ending`: takes in every seat at the end. `reporting`: the lines of the output.
 //! * `notices`: lines for the operator on standard error. `counts`, `acknowledged`: what workers count for them.
@@ -23,18 +24,18 @@ mod acceptor;
 mod acknowledged;
 mod config;
 mod connection;
+mod connection_quota;
 mod counts;
 mod ending;
 mod event_loop;
 mod gate;
 mod gated;
-mod leaving;
+mod lingering;
 mod loads;
 mod notices;
 mod periodic;
 mod reporting;
 mod serving;
-mod sessions;
 mod shared;
 mod source;
 mod threads;

@@ -204,7 +204,7 @@ impl Notices {
         }
     }
 
-    /// Counts a request that was answered 500, and prints a line for the first, the tenth, the hundredth, and so on.
+    /// Counts a request that was answered 500, and prints a line for the first, the tenth, and so on up to the millionth.
     fn print_failure<R: Eprint>(&self, rt: &R, refusal: Refusal) {
         let failures = self
             .failures
@@ -231,7 +231,7 @@ impl Notices {
     pub(crate) fn print_all_taken<R: Eprint>(&self, rt: &R) {
         if !self.printed_all_taken.swap(true, Ordering::SeqCst) {
             let _lost = eprintln!(rt;
-                "as many connections are open as --connections allows: the next ones wait until one closes"
+                "as many connections are open as --connections allows: the next ones wait until one closes; a larger --connections or a shorter --idle helps"
             );
         }
     }
@@ -240,7 +240,7 @@ impl Notices {
     pub(crate) fn print_given_up<R: Eprint>(&self, rt: &R) {
         if !self.printed_given_up.swap(true, Ordering::SeqCst) {
             let _lost = eprintln!(rt;
-                "too much waits for clients that don't read: further connections of such clients are closed"
+                "too much waits for clients that don't read: further connections of such clients are closed; queries with a limit help"
             );
         }
     }
@@ -248,7 +248,9 @@ impl Notices {
     /// Prints why no connection is accepted for now, once until one is accepted.
     pub(crate) fn print_shortage<R: Eprint>(&self, rt: &R, error: &io::Error) {
         if !self.printed_shortage.swap(true, Ordering::SeqCst) {
-            let _lost = eprintln!(rt; "no connection can be accepted for now: {error}");
+            let _lost = eprintln!(rt;
+                "no connection can be accepted for now: {error}; more memory or open files (ulimit -n) help"
+            );
         }
     }
 
@@ -300,23 +302,29 @@ pub(crate) fn print_limits<R: Eprint>(rt: &R, limits: &Limits) {
     );
 }
 
-/// Prints a warning if the system allows fewer open files than there may be connections.
-pub(crate) fn print_few_files<R: Eprint>(rt: &R, connections: u32) {
+/// The files that are open beside one for each connection and one for each worker.
+const OTHER_FILES: u64 = 4;
+
+/// Prints a warning if the system allows fewer open files than the server may need.
+pub(crate) fn print_few_files<R: Eprint>(rt: &R, connections: u32, workers: u16) {
     let mut limit = rlimit {
         rlim_cur: 0,
         rlim_max: 0,
     };
-    if getrlimit(RLIMIT_NOFILE, &mut limit) == 0 && limit.rlim_cur < u64::from(connections) {
+    let needed = u64::from(connections) + u64::from(workers) + OTHER_FILES;
+    if getrlimit(RLIMIT_NOFILE, &mut limit) == 0 && limit.rlim_cur < needed {
         let files = limit.rlim_cur;
         let _lost = eprintln!(rt;
-            "the system lets {files} files be open (ulimit -n), fewer than --connections {connections}"
+            "the system lets {files} files be open (ulimit -n), and --connections {connections} needs {needed}: raise it, or give fewer"
         );
     }
 }
 
 /// Prints why a worker accepts no more connections.
 pub(crate) fn print_accepts_no_more<R: Eprint>(rt: &R, worker: u32, error: &io::Error) {
-    let _lost = eprintln!(rt; "worker {worker} accepts no more connections: {error}");
+    let _lost = eprintln!(rt;
+        "worker {worker} accepts no more connections: {error}; a restart brings it back"
+    );
 }
 
 /// Prints why the server ends, and returns the exit status.

@@ -2,6 +2,7 @@
 
 ghost use Rattle.std.specs.Prelude.{◌≡◌, false, min, string_bytes, sum_by, IfOk};
 ghost use Rattle.std.specs.List.{list_any};
+ghost use Rattle.session_devices.specs.Traffic.{traffic_of};
 ghost use Rattle.text_lines.specs.RunErrors.{WritesText};
 ghost use Rattle.trace_server.specs.Serving.{listening_line, served_line, books_line, last_lines, Ends, StopsIn};
 
@@ -51,7 +52,7 @@ pub(crate) fn write_listening<W: Output>(
     port: u16,
 ) -> Result<(), RunError>
     requires { W.has_failed output.old ≡ false }
-    ensures { WritesText (W.contents output.old) (W.contents output.new) (W.has_failed output.new)
+    ensures { WritesText (traffic_of W.contents W.has_failed output.old output.new)
         (listening_line host port) result }
 {
     let line = listening_line(alloc, host, port)?;
@@ -61,7 +62,7 @@ pub(crate) fn write_listening<W: Output>(
 /// Writes the number of connections accepted.
 fn write_served<W: Output>(alloc: Global, output: &mut W, served: u64) -> Result<(), RunError>
     requires { W.has_failed output.old ≡ false }
-    ensures { WritesText (W.contents output.old) (W.contents output.new) (W.has_failed output.new)
+    ensures { WritesText (traffic_of W.contents W.has_failed output.old output.new)
         (served_line served) result }
 {
     let line = served_line(alloc, served)?;
@@ -71,7 +72,7 @@ fn write_served<W: Output>(alloc: Global, output: &mut W, served: u64) -> Result
 /// Writes the totals of the batches.
 fn write_books<W: Output>(alloc: Global, output: &mut W, totals: Totals) -> Result<(), RunError>
     requires { W.has_failed output.old ≡ false }
-    ensures { WritesText (W.contents output.old) (W.contents output.new) (W.has_failed output.new)
+    ensures { WritesText (traffic_of W.contents W.has_failed output.old output.new)
         (books_line totals.acknowledged totals.refused totals.left) result }
 {
     let line = books_line(alloc, totals)?;
@@ -103,9 +104,10 @@ fn write_end<W: Output>(
     totals: Totals,
 ) -> Result<(), RunError>
     requires { W.has_failed output.old ≡ false }
-    ensures { WritesText (W.contents output.old) (W.contents output.new) (W.has_failed output.new)
+    ensures { WritesText (traffic_of W.contents W.has_failed output.old output.new)
         (last_lines served totals.acknowledged totals.refused totals.left) result }
 {
+    // For the prover: the match takes the cases of `write_served`'s clause apart.
     match write_served(alloc, output, served) {
         Ok(()) => write_books(alloc, output, totals),
         Err(error) => Err(error),
@@ -122,7 +124,7 @@ pub(crate) fn report<W: Output, R: Eprint>(
     totals: Totals,
 ) -> ExitStatus
     requires { W.has_failed output.old ≡ false }
-    ensures { Ends (W.contents output.old) (W.contents output.new) (W.has_failed output.new)
+    ensures { Ends (traffic_of W.contents W.has_failed output.old output.new)
         (last_lines all.served totals.acknowledged totals.refused totals.left) all.failed result }
 {
     match write_end(alloc, output, all.served, totals) {
@@ -146,7 +148,7 @@ pub(crate) fn report_unclosed<W: Output, R: Eprint>(
     all: WorkerOutcome,
 ) -> ExitStatus
     requires { W.has_failed output.old ≡ false }
-    ensures { StopsIn (W.contents output.old) (W.contents output.new) (W.has_failed output.new)
+    ensures { StopsIn (traffic_of W.contents W.has_failed output.old output.new)
         (served_line all.served) result }
 {
     match write_served(alloc, output, all.served) {

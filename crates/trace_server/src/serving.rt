@@ -5,11 +5,13 @@ ghost use Rattle.std.specs.List.{AllZip};
 ghost use Rattle.std.specs.Prelude.{◌≡◌, [], Some, false, map, IfOk};
 ghost use Rattle.read_side.specs.Keepers.{no_entries};
 ghost use Rattle.intake.specs.Turns.{IsNewClerk};
+ghost use Rattle.session_devices.specs.Traffic.{traffic_of};
 ghost use Rattle.trace_server.specs.Serving.{OneForEach, Reports, Serves};
 ghost use Rattle.trace_server.specs.WorkerSeats.{AreNew, HasJudged};
 
 use crate::acceptor::lengthen_queue;
 use crate::config::ServerConfig;
+use crate::connection_quota::ConnectionQuota;
 use crate::ending::close_books;
 use crate::gate::Gate;
 use crate::loads::Loads;
@@ -18,7 +20,6 @@ use crate::notices::{
 };
 use crate::periodic::PeriodicCounts;
 use crate::reporting::{report, report_unclosed, total_outcome, write_listening};
-use crate::sessions::Sessions;
 use crate::shared::SharedStore;
 use crate::threads::{OwnWork, beside, run_each};
 use crate::worker::{Server, WorkerOutcome};
@@ -173,7 +174,7 @@ fn serve_sessions<
         clerk,
         lives,
     } = shared;
-    let sessions = Sessions::new(setup.config.options.sessions);
+    let quota = ConnectionQuota::new(setup.config.options.sessions);
     let periodic = PeriodicCounts::new(setup.config.options.report);
     let server = Server {
         alloc,
@@ -183,7 +184,7 @@ fn serve_sessions<
         notices: setup.notices,
         periodic: &periodic,
         loads: setup.loads,
-        sessions: &sessions,
+        quota: &quota,
         idle: setup.config.options.idle,
     };
     let mut slot = Some(keeper);
@@ -233,7 +234,7 @@ fn serve_store<
     requires output_works { W.has_failed output.old ≡ false }
     ensures { Reports N.limits setup.now.config.now.options.workers
         (map (λ p. p.1.seat) shared.lives.items)
-        (W.contents output.old) (W.contents output.new) (W.has_failed output.new) result }
+        (traffic_of W.contents W.has_failed output.old output.new) result }
 {
     let (books, workers) = serve_sessions(rt, alloc, shared, setup);
     let Ok(workers) = workers else {
@@ -280,8 +281,8 @@ fn serve_named<
     requires limits { limits ≡ N.limits }
     requires output_works { W.has_failed output.old ≡ false }
     ensures { Serves setup.now.config.now.options.host limits
-        setup.now.config.now.options.workers (W.contents output.old) (W.contents output.new)
-        (W.has_failed output.new) result }
+        setup.now.config.now.options.workers
+        (traffic_of W.contents W.has_failed output.old output.new) result }
 {
     let Ok(address) = setup.listener.local_addr() else {
         return end_with(
@@ -295,7 +296,7 @@ fn serve_named<
         return end_with(
             rt,
             RunError::Memory,
-            "no memory for a store with these limits",
+            "no memory for a store with these limits: give smaller ones",
         );
     };
     let options = &setup.config.options;
@@ -305,7 +306,7 @@ fn serve_named<
     }
     print_reachable(rt, options.host);
     print_limits(rt, &options.limits);
-    print_few_files(rt, options.connections);
+    print_few_files(rt, options.connections, options.workers);
     serve_store(rt, alloc, shared, setup, output)
 }
 
@@ -335,8 +336,8 @@ pub fn serve_with<
 ) -> ExitStatus
     requires output_works { W.has_failed output.old ≡ false }
     ensures { Serves config.now.options.host config.now.options.limits
-        config.now.options.workers (W.contents output.old) (W.contents output.new)
-        (W.has_failed output.new) result }
+        config.now.options.workers
+        (traffic_of W.contents W.has_failed output.old output.new) result }
 {
     if !can_start(rt) {
         return end_with(rt, RunError::Memory, "no thread can be made");

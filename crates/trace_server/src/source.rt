@@ -11,7 +11,7 @@ pub(crate) enum Source {
     /// An open connection, by its key.
     Open(usize),
     /// A connection whose session has ended, by its key.
-    Leaving(usize),
+    Lingering(usize),
 }
 
 impl Source {
@@ -20,7 +20,7 @@ impl Source {
         match self {
             Source::Listener => LISTENER,
             Source::Open(key) => key << 1,
-            Source::Leaving(key) => (key << 1) | 1,
+            Source::Lingering(key) => (key << 1) | 1,
         }
     }
 
@@ -28,7 +28,7 @@ impl Source {
     pub(crate) fn of(token: usize) -> Source {
         match token {
             LISTENER => Source::Listener,
-            _ if token & 1 == 1 => Source::Leaving(token >> 1),
+            _ if token & 1 == 1 => Source::Lingering(token >> 1),
             _ => Source::Open(token >> 1),
         }
     }

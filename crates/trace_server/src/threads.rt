@@ -12,7 +12,8 @@ pub(crate) trait Task<R, P, X> {
     /// Relates an argument and its result.
     ghost gives: { P → X → Type 0 };
 
-    fn done(&self, rt: &R, argument: P) -> X
+    /// Runs the task.
+    fn run(&self, rt: &R, argument: P) -> X
         ensures { gives argument result };
 }
 
@@ -24,7 +25,7 @@ pub(crate) fn run_each<P: Send + Drop, X: Send + Drop, R: Threads + Sync, T: Tas
 ) -> Result<Vec<X>, AllocError>
     ensures { IfOk result (λ v. AllZip T.gives arguments.items v.items) }
 {
-    map_vec(rt, arguments, &|argument| task.done(rt, argument))
+    map_vec(rt, arguments, &|argument| task.run(rt, argument))
 }
 
 /// Work beside another thread. It may block if the handle `R` may.

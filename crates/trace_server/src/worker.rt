@@ -3,13 +3,13 @@
 ghost use Rattle.intake.specs.LiveSharing.{GoesOn};
 
 use crate::acceptor::Acceptor;
+use crate::connection_quota::ConnectionQuota;
 use crate::event_loop::EventLoop;
 use crate::gate::Gate;
 use crate::gated::Gated;
 use crate::loads::Loads;
 use crate::notices::{Notices, print_accepts_no_more};
 use crate::periodic::PeriodicCounts;
-use crate::sessions::Sessions;
 use crate::threads::Task;
 use intake::{Desk, Live};
 use read_side::StoreName;
@@ -28,7 +28,7 @@ pub(crate) struct Server<'a, N: StoreName, G> {
     pub(crate) notices: &'a Notices,
     pub(crate) periodic: &'a PeriodicCounts,
     pub(crate) loads: &'a Loads,
-    pub(crate) sessions: &'a Sessions,
+    pub(crate) quota: &'a ConnectionQuota,
     pub(crate) idle: u32,
 }
 
@@ -42,7 +42,7 @@ pub(crate) struct WorkerOutcome {
 }
 
 impl<'a, N: StoreName, G: Gate> Server<'a, N, G> {
-    /// Runs a worker: serves connections until all sessions were accepted or no more can be, and the open ones have
+    /// Runs a worker: serves connections until all were accepted or no more can be, and the open ones have
     /// ended. Returns its seat and pass.
     fn work<R: Wait + Clock + Eprint + Net<Stream = TcpStream, Listener = TcpListener>>(
         &self,
@@ -80,7 +80,7 @@ impl<
 
     ghost gives = { λ argument end. GoesOn argument.1.seat end.1.seat };
 
-    fn done(&self, rt: &R, argument: (u32, Live<N>)) -> (WorkerOutcome, Live<N>) {
+    fn run(&self, rt: &R, argument: (u32, Live<N>)) -> (WorkerOutcome, Live<N>) {
         self.work(rt, argument)
     }
 }

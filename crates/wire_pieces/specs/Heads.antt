@@ -7,6 +7,8 @@ use Rattle.thrift_binary.specs.Reading.{Read, ◌>>=◌, lift, byte_at, size_at,
 use Rattle.thrift_binary.specs.Fields.{Take, behind_field, fields_at}
 use Rattle.wire_pieces.specs.Pieces.{Reader}
 use Rattle.wire_pieces.specs.Numbers.{i16_from, size_from}
+use Rattle.wire_pieces.specs.declared.heads.Head.{Head}
+use Rattle.wire_pieces.specs.declared.heads.Head.TheVariants.{Field, Stop}
 use Rattle.wire_pieces.specs.declared.heads.HeadStep.{HeadStep}
 use Rattle.wire_pieces.specs.declared.heads.HeadStep.TheVariants as field
 use Rattle.wire_pieces.specs.declared.heads.TypedId.{TypedId}
@@ -35,10 +37,15 @@ field_from (field.Id p) w = id_from p w
 abbrev pub head_from : FieldHead → List ℕ → Read (Option (ℕ × ℤ))
 head_from h w = field_from h.step w
 
+-- a head as it is read: there is none at the stop byte
+abbrev pub head_of : Head → Option (ℕ × ℤ)
+head_of (Field code id) = Some (code, id)
+head_of Stop = None
+
 -- the type of a field is one of the table
-abbrev pub IsTyped : Result (Option (Option (ℕ × ℤ))) PieceError → Type 0
-IsTyped (Ok (Some (Some f))) = is_code f.0 ≡ true
-IsTyped (Ok (Some None)) = Unit {0}
+abbrev pub IsTyped : Result (Option Head) PieceError → Type 0
+IsTyped (Ok (Some (Field code id))) = is_code code ≡ true
+IsTyped (Ok (Some Stop)) = Unit {0}
 IsTyped (Ok None) = Unit {0}
 IsTyped (Err e) = Unit {0}
 

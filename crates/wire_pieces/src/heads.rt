@@ -3,7 +3,7 @@ ghost use Rattle.thrift_binary.specs.declared.fault.WireError.TheVariants.{Trunc
 ghost use Rattle.thrift_binary.specs.Reading.{field_at, list_at};
 ghost use Rattle.wire_pieces.specs.Pieces.{Reaches, Continues, Takes, OkTakes};
 ghost use Rattle.wire_pieces.specs.Numbers.{i16_from};
-ghost use Rattle.wire_pieces.specs.Heads.{IsTyped, id_from, head_from, typed_size_from, list_head};
+ghost use Rattle.wire_pieces.specs.Heads.{IsTyped, head_of, id_from, head_from, typed_size_from, list_head};
 
 use crate::fault::PieceError;
 use crate::numbers::Size;
@@ -11,6 +11,15 @@ use crate::partial_bytes::PartialBytes;
 use byteorder::{BigEndian, ByteOrder};
 use thrift_binary::types::{STOP, is_code};
 use thrift_binary::{Cursor, WireError};
+
+/// What begins a field, or ends the fields of a struct.
+#[derive(Clone, Copy, Debug)]
+pub enum Head {
+    /// A field, by its type and its id.
+    Field(u8, i16),
+    /// The stop byte: no field follows.
+    Stop,
+}
 
 /// Continues a signed number of 16 bits with a piece.
 #[inline]
@@ -32,8 +41,8 @@ pub(crate) struct TypedId {
 
 impl TypedId {
     #[inline]
-    fn more(&mut self, piece: &mut Cursor<'_>) -> Result<Option<Option<(u8, i16)>>, PieceError>
-        ensures reads { Continues (λ x. x) (id_from self.old) (id_from self.new)
+    fn more(&mut self, piece: &mut Cursor<'_>) -> Result<Option<Head>, PieceError>
+        ensures reads { Continues head_of (id_from self.old) (id_from self.new)
             piece.old piece.new result }
         ensures taken { OkTakes piece.old piece.new result }
         ensures typed { IsTyped result }
@@ -44,7 +53,7 @@ impl TypedId {
         if !is_code(self.code) {
             return Err(PieceError::Wire(WireError::BadType));
         }
-        Ok(Some(Some((self.code, id))))
+        Ok(Some(Head::Field(self.code, id)))
     }
 }
 
@@ -54,7 +63,7 @@ pub(crate) enum HeadStep {
     Id(TypedId),
 }
 
-/// The head of a field: its type and its id, or `None` for the stop byte.
+/// A [`Head`] that is read.
 #[derive(Drop)]
 pub struct FieldHead {
     step: HeadStep,
@@ -84,8 +93,8 @@ impl FieldHead {
     /// Continues with a piece. Returns the head once it is complete.
     #[tactic(auto, unfolding(thrift_binary::specs::Reading::field_at))]
     #[inline]
-    pub fn more(&mut self, piece: &mut Cursor<'_>) -> Result<Option<Option<(u8, i16)>>, PieceError>
-        ensures reads { Continues (λ x. x) (head_from self.old) (head_from self.new)
+    pub fn more(&mut self, piece: &mut Cursor<'_>) -> Result<Option<Head>, PieceError>
+        ensures reads { Continues head_of (head_from self.old) (head_from self.new)
             piece.old piece.new result }
         ensures taken { OkTakes piece.old piece.new result }
         ensures typed { IsTyped result }
@@ -96,7 +105,7 @@ impl FieldHead {
                     return Ok(None);
                 };
                 if code == STOP {
-                    return Ok(Some(None));
+                    return Ok(Some(Head::Stop));
                 }
                 let mut part = TypedId {
                     code,

@@ -27,7 +27,7 @@ mod skip;
 mod strings;
 
 pub use fault::PieceError;
-pub use heads::{FieldHead, ListHead};
+pub use heads::{FieldHead, Head, ListHead};
 pub use maps::MapHead;
 pub use numbers::{Bool, Size, size_of};
 pub use partial_bytes::PartialBytes;

@@ -9,7 +9,7 @@ ghost use Rattle.wire_pieces.specs.Pieces.{Continues, Steps};
 ghost use Rattle.wire_pieces.specs.Frames.{frame_at, now_at, skipping, begun, rank, height, weight, Progresses, IsOn, Lightens};
 
 use crate::fault::PieceError;
-use crate::heads::{FieldHead, ListHead};
+use crate::heads::{FieldHead, Head, ListHead};
 use crate::maps::MapHead;
 use crate::numbers::Size;
 use crate::past::SkippedBytes;
@@ -19,7 +19,7 @@ use std::mem;
 use thrift_binary::{Cursor, WireError, types};
 
 /// The greatest number of levels of containers in a skipped value.
-const MAX_LEVELS: usize = 64;
+const MAX_LEVELS: usize = thrift_binary::MAX_LEVELS as usize;
 
 /// The number of containers around the innermost one that are stored without an allocation.
 const INLINE_LEVELS: usize = 2;
@@ -247,11 +247,11 @@ impl Skipping {
         match &mut self.top {
             Frame::Fields(head) => match head.more(piece)? {
                 None => Ok(Progress::Short),
-                Some(None) => {
+                Some(Head::Stop) => {
                     self.top = Frame::Turns(AlternatingValues::none());
                     Ok(Progress::On)
                 }
-                Some(Some((code, _))) => {
+                Some(Head::Field(code, _)) => {
                     self.top = Frame::Fields(FieldHead::new());
                     self.begin(code)?;
                     Ok(Progress::On)

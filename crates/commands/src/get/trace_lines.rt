@@ -1,5 +1,6 @@
 //! The lines of a trace's spans.
 ghost use Rattle.std.specs.Prelude.{◌≡◌, ◌++◌, None, IfOk, OnOk, false, flat_map, is_some, map, option_map};
+ghost use Rattle.session_devices.specs.Traffic.{traffic_of};
 ghost use Rattle.text_lines.specs.RunErrors.{WritesText};
 ghost use Rattle.trace_model.specs.Adjusting.{unadjusted};
 ghost use Rattle.commands.specs.GetRuns.{found_in, shown_line, span_line, trace_lines};
@@ -31,7 +32,7 @@ fn write_span(reply: &mut Vec<u8>, placed: &Placed) -> Result<(), AllocError>
 /// Writes the lines of the spans.
 fn write_spans<W: Output>(alloc: Global, output: &mut W, spans: &[Shown]) -> Result<(), RunError>
     requires { W.has_failed output.old ≡ false }
-    ensures { WritesText (W.contents output.old) (W.contents output.new) (W.has_failed output.new)
+    ensures { WritesText (traffic_of W.contents W.has_failed output.old output.new)
         (flat_map shown_line spans.now) result }
 {
     let mut buffer = OutputBuffer::new(alloc);
@@ -69,7 +70,7 @@ fn find_trace(
 /// Writes that the trace isn't found.
 fn write_not_found<W: Output>(alloc: Global, output: &mut W) -> Result<(), RunError>
     requires { W.has_failed output.old ≡ false }
-    ensures { WritesText (W.contents output.old) (W.contents output.new) (W.has_failed output.new)
+    ensures { WritesText (traffic_of W.contents W.has_failed output.old output.new)
         (trace_lines None) result }
 {
     write_text(alloc, output, b"trace not found\n")
@@ -84,8 +85,8 @@ pub(crate) fn write_trace<W: Output>(
 ) -> Result<bool, RunError>
     requires { W.has_failed output.old ≡ false }
     ensures found { IfOk result (λ found. found ≡ is_some (found_in store.now trace)) }
-    ensures lines { WritesText (W.contents output.old) (W.contents output.new)
-        (W.has_failed output.new) (trace_lines (found_in store.now trace)) result }
+    ensures lines { WritesText (traffic_of W.contents W.has_failed output.old output.new)
+        (trace_lines (found_in store.now trace)) result }
 {
     match find_trace(alloc, store, trace)? {
         Some(spans) => {

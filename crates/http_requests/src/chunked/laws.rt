@@ -2,7 +2,8 @@
 
 ghost use Rattle.std.specs.Prelude.{◌≡◌, ◌≢◌, ℕ, List, ◌++◌};
 ghost use Rattle.http_requests.specs.declared.chunked.line.TheConstants.{MAX_LINE_BYTES};
-ghost use Rattle.http_requests.specs.declared.chunked.trailer.TheConstants.{MAX_TRAILER_BYTES, MAX_FIELDS};
+ghost use Rattle.http_requests.specs.declared.chunked.trailer.TheConstants.{MAX_TRAILER_BYTES};
+ghost use Rattle.http_requests.specs.declared.head.TheConstants.{MAX_FIELDS};
 ghost use Rattle.http_requests.specs.Chunks.{Reading as ReadingValue, Reading.{bad, not_yet}, Reads, IsDecided, IsSized, BeginsWith, HasNone, NeverHas};
 
 /// A size line has at most 256 bytes with its CR LF, and a trailer at most 8,192 bytes with its empty line, and 64

@@ -2,13 +2,11 @@ ghost use Rattle.http_requests.specs.ChunkLooks.{LooksAtTrailer};
 
 use crate::chunked::looks::{Look, look_by};
 use crate::chunked::prefix::prefix_of;
+use crate::head::MAX_FIELDS;
 use httparse::spans::{EMPTY_HEADER_SPAN, parse_headers};
 
 /// The length limit of a trailer, with its empty line: a limit of the session.
 pub const MAX_TRAILER_BYTES: usize = 8192;
-
-/// The number of fields that a trailer may have: a limit of the session.
-const MAX_FIELDS: usize = 64;
 
 /// Looks for a trailer within these limits at the start of the bytes, and finds its length (RFC 9112, section 7.1.2).
 /// Its fields are ignored.

@@ -8,7 +8,7 @@ use read_side::{Keeper, Pass, StoreName};
 use std::alloc::Global;
 use std::mem::drop;
 use std::sync::Wait;
-use trace_model::{Answer, Query, Refusal};
+use trace_model::{Answer, Query, Refusal, TraceLimit};
 
 /// Turns three times. Each turn served a job.
 fn serves_three<N: StoreName, R: Wait>(
@@ -76,32 +76,41 @@ fn is_served_and_in_force<N: StoreName + Send + Sync, R: Wait>(
     alloc: Global,
     fixture: &mut Fixture<N>,
 ) -> bool {
+    let (Some(one), Some(all)) = (TraceLimit::new(1), TraceLimit::new(0)) else {
+        return false;
+    };
     match (fixture.seats.last_mut(), fixture.passes.last_mut()) {
         (Some(seat), Some(pass)) => {
-            let limit = limit_after_two(rt, alloc, seat);
+            let limit = limit_after_two(rt, alloc, seat, one);
             let served = serves_three(rt, &mut fixture.clerk, &mut fixture.keeper);
             let in_force = is_in_force(rt, pass, limit);
             fixture.desk.close(rt);
-            served && in_force && is_turned_away(rt, alloc, seat)
+            served && in_force && is_turned_away(rt, alloc, seat, all)
         }
         _ => false,
     }
 }
 
-/// Submits a span each of traces 1 and 2, and a limit of one trace.
+/// Submits a span each of traces 1 and 2, and the limit.
 fn limit_after_two<N: StoreName, R: Wait>(
     rt: &R,
     alloc: Global,
     seat: &mut Seat<N>,
+    limit: TraceLimit,
 ) -> Result<Ticket<N>, Refusal> {
     drop(hands_in(rt, alloc, seat, 1));
     drop(hands_in(rt, alloc, seat, 2));
-    seat.submit_limit(rt, alloc, 1)
+    seat.submit_limit(rt, alloc, limit)
 }
 
-/// A limit is refused since the desk is closed.
-fn is_turned_away<N: StoreName, R: Wait>(rt: &R, alloc: Global, seat: &mut Seat<N>) -> bool {
-    let answer = seat.submit_limit(rt, alloc, 0);
+/// The limit is refused since the desk is closed.
+fn is_turned_away<N: StoreName, R: Wait>(
+    rt: &R,
+    alloc: Global,
+    seat: &mut Seat<N>,
+    limit: TraceLimit,
+) -> bool {
+    let answer = seat.submit_limit(rt, alloc, limit);
     let said = matches!(&answer, Err(Refusal::Closed));
     drop(answer);
     said

@@ -8,6 +8,24 @@ const MORE: &str = "\n\nFor more information, try '--help'.\n";
 /// The possible hosts, after the fault of another one.
 const HOSTS: &str = "\n  [possible values: 127.0.0.1, 0.0.0.0, ::1, ::]";
 
+/// The options of `serve`, as help lists them.
+const SERVE_OPTIONS: &str = "
+Options:
+      --host <ADDRESS>    Which address to listen on: 127.0.0.1, 0.0.0.0, ::1 or :: [default: 127.0.0.1]
+      --port <N>          Which port to listen on; 0 for any free one [default: 0]
+      --workers <N>       How many threads serve connections, 1 to 64 [default: 4]
+      --queue <N>         How many batches may wait to be accepted, 1 to 4096 [default: 256]
+      --sessions <N>      After how many connections the program ends; 0 for never [default: 0]
+      --connections <N>   How many connections may be open at a time, 1 to 65536 [default: 1024]
+      --idle <SECONDS>    After how many seconds without a byte a connection is closed, up to 86400; 0 for never [default: 300]
+      --report <SECONDS>  Every how many seconds to say on standard error what was counted, up to 86400; 0 for never [default: 0]
+      --batches <N>       How many batches are kept, 1 to 1000000 [default: 1000]
+      --spans <N>         How many spans are kept, 1 to 10000000 [default: 100000]
+      --traces <N>        How many of the newest traces are shown, up to 1000000; 0 for all [default: 0]
+      --max-skew <N>      By how many microseconds a span may be moved to mend clock skew [default: 0]
+  -h, --help              Print help
+";
+
 /// The options of each subcommand, as help lists them.
 const OPTIONS: &str = "
 Options:
@@ -21,7 +39,7 @@ Options:
 /// The words after the program's name, and the pieces of the reply.
 type Row = (&'static [&'static str], &'static [&'static str]);
 
-const ROWS: [Row; 42] = [
+const ROWS: [Row; 43] = [
     (
         &[],
         &[
@@ -215,6 +233,14 @@ const ROWS: [Row; 42] = [
         &[
             "error: invalid value '1000001' for '--traces <N>': 1000001 is not in 0..=1000000",
             MORE,
+        ],
+    ),
+    (
+        &["serve", "--help"],
+        &[
+            "Takes batches and answers queries over HTTP\n\nUsage: jaeger_one serve [OPTIONS]\n",
+            SERVE_OPTIONS,
+            "\nExample:\n  jaeger_one serve --port 14268 --batches 1000000 --spans 2000000\n",
         ],
     ),
     (

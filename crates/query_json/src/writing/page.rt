@@ -140,6 +140,7 @@ impl Page {
     }
 
     /// Writes a text without escapes.
+    #[inline]
     pub(crate) fn push_str(&mut self, text: &str)
         ensures { Puts self.old self.new text.now }
     {

@@ -53,6 +53,8 @@ fn are_plain(text: &[u8]) -> bool
 {
     if text.len() >= 8 {
         are_plain_at::<8>(text, 0) && are_plain_at::<8>(text, text.len() - 8)
+    } else if text.len() >= 4 {
+        are_plain_at::<4>(text, 0) && are_plain_at::<4>(text, text.len() - 4)
     } else {
         are_plain_few(text)
     }

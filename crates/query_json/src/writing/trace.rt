@@ -59,15 +59,15 @@ fn check_count(processes: usize, spans: usize) -> Result<(), AllocError>
 fn named_processes(
     alloc: Global,
     spans: &LentSpans,
-    entries: &[u64],
+    keys: &[u64],
 ) -> Result<(Vec<u32>, Vec<NamedProcess>), AllocError>
-    requires { ShareProcesses (spans_of spans.now) entries.now }
+    requires { ShareProcesses (spans_of spans.now) keys.now }
     ensures places { IfOk result (λ r.
         r.0.items ≡ map (process_place (processes_of spans.now)) spans.now) }
     ensures processes { IfOk result (λ r.
         AreNamed spans.now (processes_of spans.now) r.1.items) }
 {
-    let (places, processes) = lent_places(alloc, spans, entries)?;
+    let (places, processes) = lent_places(alloc, spans, keys)?;
     let named = in_order(alloc, &processes)?;
     Ok((places, named))
 }
@@ -268,8 +268,8 @@ fn lent_item(alloc: Global, kept: KeptTrace) -> Result<TraceItem, AllocError>
     ensures spans { IfOk result (λ t. item_spans t ≡ kept_value kept) }
     ensures writable { IfOk result IsWritable }
 {
-    let (spans, entries) = lend(alloc, kept)?;
-    let (places, processes) = named_processes(alloc, &spans, &entries)?;
+    let (spans, keys) = lend(alloc, kept)?;
+    let (places, processes) = named_processes(alloc, &spans, &keys)?;
     check_count(processes.len(), spans.len())?;
     if is_first_alone(&processes) && are_zero(&places) {
         return Ok(TraceItem::One(spans));

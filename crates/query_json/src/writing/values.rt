@@ -20,23 +20,25 @@ enum AfterTag {
 }
 
 impl AfterTag {
-    /// Returns the end of a tag whose value is a string, and what follows the tag.
-    fn closing_string(self) -> &'static str
-        ensures { result.now ≡ 34 ∷ 125 ∷ after_tag self }
+    /// Writes the end of a tag whose value is a string, and what follows the tag.
+    #[inline]
+    fn close_string(self, out: &mut Page)
+        ensures { Puts out.old out.new (34 ∷ 125 ∷ after_tag self) }
     {
         match self {
-            AfterTag::Next => r#""},{"key":""#,
-            AfterTag::End => r#""}]"#,
+            AfterTag::Next => out.push_str(r#""},{"key":""#),
+            AfterTag::End => out.push_str(r#""}]"#),
         }
     }
 
-    /// Returns the end of any other tag, and what follows the tag.
-    fn closing(self) -> &'static str
-        ensures { result.now ≡ 125 ∷ after_tag self }
+    /// Writes the end of any other tag, and what follows the tag.
+    #[inline]
+    fn close(self, out: &mut Page)
+        ensures { Puts out.old out.new (125 ∷ after_tag self) }
     {
         match self {
-            AfterTag::Next => r#"},{"key":""#,
-            AfterTag::End => "}]",
+            AfterTag::Next => out.push_str(r#"},{"key":""#),
+            AfterTag::End => out.push_str("}]"),
         }
     }
 }
@@ -60,26 +62,26 @@ fn write_typed(out: &mut Page, value: &TagValue, after: AfterTag)
         ValueRef::Text(text) => {
             out.push_str(r#"","type":"string","value":""#);
             out.in_string(text);
-            out.push_str(after.closing_string());
+            after.close_string(out);
         }
         ValueRef::Double(bytes) => {
             out.push_str(r#"","type":"float64","value":""#);
             out.digits_of_eight(bytes);
-            out.push_str(after.closing_string());
+            after.close_string(out);
         }
         ValueRef::Bool(flag) => {
             out.push_str(typed_flag(flag));
-            out.push_str(after.closing());
+            after.close(out);
         }
         ValueRef::Long(number) => {
             out.push_str(r#"","type":"int64","value":"#);
             out.integer(number);
-            out.push_str(after.closing());
+            after.close(out);
         }
         ValueRef::Bytes(bytes) => {
             out.push_str(r#"","type":"binary","value":""#);
             out.digits(bytes);
-            out.push_str(after.closing_string());
+            after.close_string(out);
         }
     }
 }

@@ -2,7 +2,7 @@ use jaeger_model::Batch;
 use std::alloc::Global;
 use std::sync::Arc;
 use std::test::*;
-use trace_model::{Entry, Work};
+use trace_model::{Entry, TraceLimit, Work};
 use trace_samples::{batch, kept, list_of, span, submitted};
 
 /// A batch of service `a` with one span of this trace.
@@ -39,11 +39,11 @@ pub fn sent_entry(alloc: Global, number: u64, sent: u64, trace: u64) -> Result<A
 
 /// The limit that is submitted with the number, if there is one: 2 for each fourth number, but none for each
 /// twelfth.
-pub fn limit_under(number: u64) -> Option<u32> {
+pub fn limit_under(number: u64) -> Option<TraceLimit> {
     if number % 12 == 0 {
-        Some(0)
+        TraceLimit::new(0)
     } else if number % 4 == 0 {
-        Some(2)
+        TraceLimit::new(2)
     } else {
         None
     }

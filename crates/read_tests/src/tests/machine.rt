@@ -48,7 +48,10 @@ fn question(alloc: Global, before: u64) -> Result<Query, AllocError> {
 fn hand_in(alloc: Global, number: u64) -> Result<Step, Fail> {
     let seat = 0;
     match limit_under(number) {
-        Some(limit) => Ok(Step::Limit { seat, limit }),
+        Some(limit) => Ok(Step::Limit {
+            seat,
+            limit: limit.get(),
+        }),
         None => {
             let batch = batch_under(alloc, number)?;
             Ok(Step::Put { seat, batch })

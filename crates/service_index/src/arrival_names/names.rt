@@ -7,9 +7,9 @@ ghost use Rattle.trace_model.specs.Names.{services};
 ghost use Rattle.service_index.specs.Listing.{listed_cmp};
 ghost use Rattle.service_index.specs.Indexes.{listing_by, owners, operations_at, IsIndexed};
 ghost use Rattle.service_index.specs.Probes.{AreNumbers};
-ghost use Rattle.service_index.specs.Reported.{IsKept as PlacesKept};
+ghost use Rattle.service_index.specs.Reported.{ArePlacesKept};
 ghost use Rattle.arrival_journal.specs.Kinds.{kinds_in};
-ghost use Rattle.service_index.specs.NamesKept.{IsKept, names_of, reports, reports_service, reports_operation, AreOperations};
+ghost use Rattle.service_index.specs.NamesKept.{AreNamesKept, names_of, reports, reports_service, reports_operation, AreOperations};
 
 use crate::arrival_names::numbers::{ArrivalNumbers, Arrivals};
 use crate::arrival_names::taken_operation::TakenOperation;
@@ -52,7 +52,7 @@ impl ArrivalNames {
         batches: u32,
         spans: u32,
     ) -> Result<Self, AllocError>
-        ensures kept { IfOk result (λ names. IsKept [] names) }
+        ensures kept { IfOk result (λ names. AreNamesKept [] names) }
         ensures batches { IfOk result (λ names. names.numbers.batches ≡ batches) }
         ensures numbers { IfOk result (λ names. names.numbers.spans ≡ spans) }
         ensures index { IfOk result (λ names. names.index.room ≡ spans) }
@@ -66,8 +66,8 @@ impl ArrivalNames {
     /// Allocates nothing.
     pub fn add(&mut self, entries: &[Arc<Entry>], reported: &ServicePlaces, first: &SpanKinds)
         requires some { 0 < length entries.now }
-        requires kept { IsKept (before_last (map arc_value entries.now)) self.old }
-        requires placed { PlacesKept (map arc_value entries.now) reported.now }
+        requires kept { AreNamesKept (before_last (map arc_value entries.now)) self.old }
+        requires placed { ArePlacesKept (map arc_value entries.now) reported.now }
         requires batches { length entries.now ≤ self.old.numbers.batches }
         requires numbers { length (arrivals (map arc_value entries.now)) ≤ self.old.numbers.spans }
         requires index { length (arrivals (map arc_value entries.now)) ≤ self.old.index.room }
@@ -75,7 +75,7 @@ impl ArrivalNames {
             map arc_value entries.now ≡ before_last (map arc_value entries.now) ++ e ∷ [] →
             first.now ≡ kinds_in e }
 
-        ensures kept { IsKept (map arc_value entries.now) self.new }
+        ensures kept { AreNamesKept (map arc_value entries.now) self.new }
         ensures batches { self.new.numbers.batches ≡ self.old.numbers.batches }
         ensures numbers { self.new.numbers.spans ≡ self.old.numbers.spans }
         ensures index { self.new.index.room ≡ self.old.index.room }
@@ -104,8 +104,8 @@ impl ArrivalNames {
         entries: &[Arc<Entry>],
         reported: &ServicePlaces,
     ) -> Result<Vec<ServiceName>, AllocError>
-        requires kept { IsKept (map arc_value entries.now) self.now }
-        requires placed { PlacesKept (map arc_value entries.now) reported.now }
+        requires kept { AreNamesKept (map arc_value entries.now) self.now }
+        requires placed { ArePlacesKept (map arc_value entries.now) reported.now }
         ensures { IfOk result (λ v. sorted_set text_cmp v.items ≡
             services (arrivals (map arc_value entries.now))) }
     {
@@ -126,8 +126,8 @@ impl ArrivalNames {
         reported: &ServicePlaces,
         service: &Text,
     ) -> Result<Vec<TakenOperation>, AllocError>
-        requires kept { IsKept (map arc_value entries.now) self.now }
-        requires placed { PlacesKept (map arc_value entries.now) reported.now }
+        requires kept { AreNamesKept (map arc_value entries.now) self.now }
+        requires placed { ArePlacesKept (map arc_value entries.now) reported.now }
         ensures { IfOk result (λ v. AreOperations service.now
             (arrivals (map arc_value entries.now)) v.items) }
     {
@@ -143,8 +143,8 @@ impl ArrivalNames {
         reported: &ServicePlaces,
         service: &str,
     ) -> bool
-        requires kept { IsKept (map arc_value entries.now) self.now }
-        requires placed { PlacesKept (map arc_value entries.now) reported.now }
+        requires kept { AreNamesKept (map arc_value entries.now) self.now }
+        requires placed { ArePlacesKept (map arc_value entries.now) reported.now }
         ensures { result ≡ reports_service service.now (arrivals (map arc_value entries.now)) }
     {
         self.index
@@ -159,8 +159,8 @@ impl ArrivalNames {
         service: &str,
         operation: &str,
     ) -> bool
-        requires kept { IsKept (map arc_value entries.now) self.now }
-        requires placed { PlacesKept (map arc_value entries.now) reported.now }
+        requires kept { AreNamesKept (map arc_value entries.now) self.now }
+        requires placed { ArePlacesKept (map arc_value entries.now) reported.now }
         ensures { result ≡ reports_operation service.now operation.now
             (arrivals (map arc_value entries.now)) }
     {

@@ -5,7 +5,7 @@ ghost use Rattle.trace_model.specs.declared.entry.Entry.{Entry as EntryValue};
 ghost use Rattle.trace_model.specs.Histories.{arrivals, before_last};
 ghost use Rattle.trace_model.specs.Seeing.{seen};
 ghost use Rattle.jaeger_model.specs.Tags.{kind_of};
-ghost use Rattle.service_index.specs.Reported.{IsKept as PlacesKept};
+ghost use Rattle.service_index.specs.Reported.{ArePlacesKept};
 ghost use Rattle.service_index.specs.ArrivalNumbers.{AreOf, IsAt};
 ghost use Rattle.arrival_journal.specs.Kinds.{kind_text, first_kinds, kinds_in};
 ghost use Rattle.service_index.specs.NamesKept.{AreKinds, reported_at};
@@ -60,7 +60,7 @@ impl<'a> Model for Arrivals<'a> {
     ghost use Rattle.std.specs.Prelude.{List, map};
     ghost use Rattle.std.specs.Arc.{arc_value};
     ghost use Rattle.trace_model.specs.declared.entry.Entry.{Entry as EntryValue};
-    ghost use Rattle.service_index.specs.Reported.{IsKept as PlacesKept};
+    ghost use Rattle.service_index.specs.Reported.{ArePlacesKept};
     ghost use Rattle.service_index.specs.ArrivalNumbers.{AreOf};
     ghost use Rattle.service_index.specs.NamesKept.{AreKinds};
 
@@ -70,7 +70,7 @@ impl<'a> Model for Arrivals<'a> {
 
     ghost invariant = { λ a. AreOf (map arc_value a.entries.now) a.entry_of.now a.firsts.now
         × AreKinds (map arc_value a.entries.now) a.kinds.now
-        × PlacesKept (map arc_value a.entries.now) a.reported.now };
+        × ArePlacesKept (map arc_value a.entries.now) a.reported.now };
 }
 
 impl<'a> Texts for Arrivals<'a> {
@@ -209,7 +209,7 @@ impl ArrivalNumbers {
     ) -> Arrivals<'a>
         requires numbers { AreOf (map arc_value entries.now) self.now.entry_of self.now.firsts }
         requires kinds { AreKinds (map arc_value entries.now) self.now.kinds }
-        requires placed { PlacesKept (map arc_value entries.now) reported.now }
+        requires placed { ArePlacesKept (map arc_value entries.now) reported.now }
         ensures { result ≡ map arc_value entries.now }
     {
         Arrivals {

@@ -2,7 +2,7 @@ ghost use Rattle.std.specs.Prelude.{◌≡◌, ◌<◌, ◌≤◌, [], map, leng
 ghost use Rattle.std.specs.Arc.{arc_value};
 ghost use Rattle.service_index.specs.Probes.{row_of};
 ghost use Rattle.trace_model.specs.Histories.{before_last};
-ghost use Rattle.service_index.specs.Reported.{IsKept, places_of, group_of};
+ghost use Rattle.service_index.specs.Reported.{ArePlacesKept, places_of, group_of};
 ghost use Rattle.service_index.specs.Reported.{service_label, service_labels};
 
 use crate::links::RowLinks;
@@ -47,7 +47,7 @@ impl ServicePlaces {
     ///
     /// Out of memory, and nothing else.
     pub fn with_room(alloc: Global, keys: RandomState, batches: u32) -> Result<Self, AllocError>
-        ensures kept { IfOk result (λ places. IsKept [] places) }
+        ensures kept { IfOk result (λ places. ArePlacesKept [] places) }
         ensures batches { IfOk result (λ places. places.batches ≡ batches) }
     {
         let services = NameTable::with_room(alloc, keys, batches)?;
@@ -64,9 +64,9 @@ impl ServicePlaces {
     /// Adds the last entry of the list, which is one entry longer. Allocates nothing.
     pub fn add(&mut self, entries: &[Arc<Entry>])
         requires some { 0 < length entries.now }
-        requires kept { IsKept (before_last (map arc_value entries.now)) self.old }
+        requires kept { ArePlacesKept (before_last (map arc_value entries.now)) self.old }
         requires batches { length entries.now ≤ self.old.batches }
-        ensures kept { IsKept (map arc_value entries.now) self.new }
+        ensures kept { ArePlacesKept (map arc_value entries.now) self.new }
         ensures batches { self.new.batches ≡ self.old.batches }
     {
         let before = (entries.len() - 1) as u32;
@@ -77,7 +77,7 @@ impl ServicePlaces {
 
     /// Returns the places of a service's entries, the newest first.
     pub fn places_of(&self, entries: &[Arc<Entry>], service: &str) -> Places<'_>
-        requires { IsKept (map arc_value entries.now) self.now }
+        requires { ArePlacesKept (map arc_value entries.now) self.now }
         ensures { result ≡ places_of (map arc_value entries.now) service.now }
     {
         let row = self.row_of(entries, service);
@@ -97,7 +97,7 @@ impl ServicePlaces {
 
     /// Returns the number of a service, or none if no entry is of it.
     pub fn group_of(&self, entries: &[Arc<Entry>], service: &str) -> Option<u32>
-        requires { IsKept (map arc_value entries.now) self.now }
+        requires { ArePlacesKept (map arc_value entries.now) self.now }
         ensures { result ≡ group_of (map arc_value entries.now) service.now }
     {
         let numbers = self.services.numbers();
@@ -111,7 +111,7 @@ impl ServicePlaces {
 
     /// Returns the row of a service, or the number of services if no entry is of it.
     fn row_of(&self, entries: &[Arc<Entry>], service: &str) -> usize
-        requires { IsKept (map arc_value entries.now) self.now }
+        requires { ArePlacesKept (map arc_value entries.now) self.now }
         ensures { result ≡ row_of (service_labels (map arc_value entries.now))
             self.now.services.numbers (service_label service.now) }
     {

@@ -3,7 +3,7 @@
 use jaeger_model::{Span, TraceId};
 use std::alloc::{AllocError, Global};
 use std::sync::Arc;
-use trace_model::{Entry, Work};
+use trace_model::{Entry, TraceLimit, Work};
 use trace_samples::{batch, submitted};
 
 /// The trace with this low half of an id, and 0 above it.
@@ -36,6 +36,10 @@ pub(crate) fn entry(
 }
 
 /// Makes the entry of a trace limit that seat 0 submitted with the number.
-pub(crate) fn limit(alloc: Global, number: u64, traces: u32) -> Result<Arc<Entry>, AllocError> {
+pub(crate) fn limit(
+    alloc: Global,
+    number: u64,
+    traces: TraceLimit,
+) -> Result<Arc<Entry>, AllocError> {
     submitted(alloc, 0, number, Work::TraceLimit(traces))
 }

@@ -11,7 +11,7 @@ use std::hash::RandomState;
 use std::mem::drop;
 use std::sync::Arc;
 use std::test::*;
-use trace_model::{Entry, Find, Limits, Query, Refusal};
+use trace_model::{Entry, Find, Limits, Query, Refusal, TraceLimit};
 use trace_samples::{beside, first_mismatch, kept, list_of, span, text_tag};
 
 /// A number that looks random and is the same in every run.
@@ -188,14 +188,22 @@ fn next_batch(alloc: Global, number: u64, seed: u64) -> Next {
     Ok((entry_of(alloc, number, &traces)?, seed))
 }
 
+/// For one seed in three a limit of at most three traces.
+fn any_limit(seed: u64) -> Option<TraceLimit> {
+    if (seed >> 32) % 3 == 0 {
+        TraceLimit::new(((seed >> 40) % 4) as u32)
+    } else {
+        None
+    }
+}
+
 /// One in three is a limit of at most three traces, the others hold spans of three.
 fn any_entry(alloc: Global, number: u64, seed: u64) -> Next {
     let seed = after(seed);
-    if (seed >> 32) % 3 == 0 {
-        let traces = ((seed >> 40) % 4) as u32;
-        return Ok((limit(alloc, number, traces)?, seed));
+    match any_limit(seed) {
+        Some(traces) => Ok((limit(alloc, number, traces)?, seed)),
+        None => next_batch(alloc, number, seed),
     }
-    next_batch(alloc, number, seed)
 }
 
 /// What a history is made of.

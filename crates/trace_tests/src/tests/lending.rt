@@ -94,18 +94,18 @@ fn are_lent(
     limits: Limits,
     raw: bool,
 ) -> Result<bool, AllocError> {
-    let places = Vec::new(alloc);
+    let process_keys = Vec::new(alloc);
     let trace = KeptTrace {
         spans,
-        places,
+        process_keys,
         limits,
         raw,
     };
     let shown = show(alloc, &trace)?;
-    let (lent, places) = lend(alloc, trace)?;
+    let (lent, process_keys) = lend(alloc, trace)?;
     let same = are_shown_so(alloc, &lent, shown.as_slice());
     drop(lent);
-    drop(places);
+    drop(process_keys);
     drop(shown);
     same
 }

@@ -20,7 +20,7 @@ fn shown(alloc: Global, service: &str, span: Span) -> Result<Shown, AllocError> 
 
 fn found(alloc: Global, span: Shown) -> Result<Answer, AllocError> {
     let spans = list_of(alloc, span)?;
-    let shown = ShownTrace::without_places(alloc, spans);
+    let shown = ShownTrace::without_keys(alloc, spans);
     Ok(Answer::Trace(Some(AnsweredTrace::made(shown))))
 }
 
@@ -124,7 +124,7 @@ fn many_spans(alloc: Global) -> Result<Answer, AllocError> {
         spans.push(shown(alloc, "a", span(alloc)?)?)?;
     }
     let spans = Seq::from_vec(spans);
-    let shown = ShownTrace::without_places(alloc, spans);
+    let shown = ShownTrace::without_keys(alloc, spans);
     Ok(Answer::Trace(Some(AnsweredTrace::made(shown))))
 }
 

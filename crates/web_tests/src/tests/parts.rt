@@ -117,7 +117,7 @@ fn trace(
     let spans = kept(spans, added)?;
     Ok(AnsweredTrace::kept(KeptTrace {
         spans,
-        places: Vec::new(alloc),
+        process_keys: Vec::new(alloc),
         limits,
         raw: false,
     }))

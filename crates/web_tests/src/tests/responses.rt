@@ -85,10 +85,7 @@ fn refusals(rt: HostRuntime) -> Result<(), Fail> {
 #[test]
 fn memory_for_a_response(rt: HostRuntime) -> Result<(), Fail> {
     let alloc = rt.alloc();
-    let Ok(bytes) = retry(
-        AllocError,
-        || respond(alloc, Status::Success, b"{}", "", true),
-    ) else {
+    let Ok(bytes) = retry(AllocError, || respond(alloc, Status::Ok, b"{}", "", true)) else {
         panic!(rt; "no response");
     };
     let want =

@@ -17,10 +17,10 @@ returns-then-is_first-clause-continues g c =
     (head-is-fresh g.S.PieceSlots.takes g.S.PieceSlots.resumes g.met.S.PieceSlots.safe c.args.step.now _ c.in-Head.is
     (c.is_first.ensures.first c.if-is_first.true))) c.read_on.ensures.continues
 
-pub returns-in-Ok-Some-Some-clause-continues : goal.returns-in-Ok-Some-Some-clause-continues
-returns-in-Ok-Some-Some-clause-continues g c =
-    let f : SFits w16 c.in-Ok-Some-Some.id = search rules in
+pub returns-in-Ok-Some-Field-clause-continues : goal.returns-in-Ok-Some-Field-clause-continues
+returns-in-Ok-Some-Field-clause-continues g c =
+    let f : SFits w16 c.in-Ok-Some-Field.id = search rules in
     let continues = simp to_z-of_z at c.hold_field.ensures.continues in
     continues-to-after _ _ _ _ _ _ _ _
     (head-typed g.S.PieceSlots.takes g.S.PieceSlots.resumes _ _ _ _ _ _ _ c.in-Head.is
-    (rw (c.in-Ok-Some-Some.field-0-is, c.in-Ok-Some-Some.field-0-0-is) at c.in-Ok-Some-Some.ensures.reads) (record { same = λ rest. refl })) continues
+    (rw (c.in-Ok-Some-Field.field-0-is, c.in-Ok-Some-Field.field-0-0-is) at c.in-Ok-Some-Field.ensures.reads) (record { same = λ rest. refl })) continues

@@ -16,8 +16,8 @@ loop-numbers-preserved c =
     let rank : ℕ → ℕ = λ n. unwrap_or (get nat_cmp c.args.ranks.now n) 0 in
     let value : Texts × ℕ = (tally_seen (c.in-Some.numbers, c.in-Some.tally)).1 in
     ap tallies_seen c.in_ok-insert.ensures.entries
-    ∙ tally_put c.loop-numbers.ranked.entries (c.rank.result, c.rank-in-loop-numbers.result) c.in-Some.tally
-    ∙ (λ i. insert_entry number_cmp (c.loop-numbers.invariant i) (c.rank.ensures i, c.rank-in-loop-numbers.ensures i) value)
+    ∙ tally_put c.loop-numbers.ranked.entries (c.in_ok-caller.caller, c.in_ok-callee.callee) c.in-Some.tally
+    ∙ (λ i. insert_entry number_cmp (c.loop-numbers.invariant i) (c.in_ok-caller.ensures i, c.in_ok-callee.ensures i) value)
     ∙ sym (ap (ranked rank) (map_push tally_seen done _) ∙ fold_push (with_ranks rank) [] (tallies_seen done) _)
 
 pub returns : goal.returns

@@ -1,7 +1,8 @@
 use Rattle.std.proofs.Common.{inl, inr, refl, subst, map, List, Option, ℕ}
 use Rattle.commands.specs.GetRuns.{output_of as get_output, status_of as get_status}
 use Rattle.commands.specs.Playing.{output_of as play_output, status_of as play_status}
-use Rattle.text_lines.specs.RunErrors.{RunsAs}
+use Rattle.session_devices.specs.Traffic.{traffic_of}
+use Rattle.text_lines.specs.RunErrors.{RunsAs, expected_of}
 use Rattle.commands.specs.Asked.{Asks}
 use Rattle.commands.specs.declared.words.Command.TheVariants.{Get, Pipe, Play, Serve}
 use Rattle.commands.specs.Piping.{Pipes}
@@ -22,9 +23,9 @@ returns-in-Ok-Get g c =
     let limits = c.in-Ok-Get.limits in
     let id = c.in-Ok-Get.trace in
     let does : Option (List ℕ) → Type 0 =
-    λ w. RunsAs (g.R.Input.remaining c.args.input.now) (g.R.Input.remaining c.run_get.new.input) w (g.W.Output.contents c.run_get.new.output)
-    (g.R.Input.has_failed c.run_get.new.input) (g.W.Output.has_failed c.run_get.new.output) (get_output limits id) (get_status limits id)
-    c.run_get.result in
+    λ w. RunsAs (traffic_of g.R.Input.remaining g.R.Input.has_failed c.args.input.now c.run_get.new.input)
+    (record { before = w; after = g.W.Output.contents c.run_get.new.output; failed = g.W.Output.has_failed c.run_get.new.output })
+    (expected_of (get_output limits id) (get_status limits id)) c.run_get.result in
     inl (
       Get limits id,
       subst (Asks (map g.S.AsStr.text c.args.words.now)) c.in-Ok-Get.field-0-is c.in-Ok-Get.ensures.asked,
@@ -35,8 +36,8 @@ pub returns-in-Ok-Pipe : goal.returns-in-Ok-Pipe
 returns-in-Ok-Pipe g c =
     let limits = c.in-Ok-Pipe.limits in
     let does : Option (List ℕ) → Type 0 =
-    λ w. Pipes (g.R.Input.remaining c.args.input.now) (g.R.Input.remaining c.run_pipe.new.input) w (g.W.Output.contents c.run_pipe.new.output)
-    (g.R.Input.has_failed c.run_pipe.new.input) (g.W.Output.has_failed c.run_pipe.new.output) limits c.run_pipe.result in
+    λ w. Pipes (traffic_of g.R.Input.remaining g.R.Input.has_failed c.args.input.now c.run_pipe.new.input)
+    (record { before = w; after = g.W.Output.contents c.run_pipe.new.output; failed = g.W.Output.has_failed c.run_pipe.new.output }) limits c.run_pipe.result in
     inl (
       Pipe limits,
       subst (Asks (map g.S.AsStr.text c.args.words.now)) c.in-Ok-Pipe.field-0-is c.in-Ok-Pipe.ensures.asked,
@@ -47,8 +48,9 @@ pub returns-in-Ok-Play : goal.returns-in-Ok-Play
 returns-in-Ok-Play g c =
     let limits = c.in-Ok-Play.limits in
     let does : Option (List ℕ) → Type 0 =
-    λ w. RunsAs (g.R.Input.remaining c.args.input.now) (g.R.Input.remaining c.run_play.new.input) w (g.W.Output.contents c.run_play.new.output)
-    (g.R.Input.has_failed c.run_play.new.input) (g.W.Output.has_failed c.run_play.new.output) (play_output limits) (play_status limits) c.run_play.result in
+    λ w. RunsAs (traffic_of g.R.Input.remaining g.R.Input.has_failed c.args.input.now c.run_play.new.input)
+    (record { before = w; after = g.W.Output.contents c.run_play.new.output; failed = g.W.Output.has_failed c.run_play.new.output })
+    (expected_of (play_output limits) (play_status limits)) c.run_play.result in
     inl (
       Play limits,
       subst (Asks (map g.S.AsStr.text c.args.words.now)) c.in-Ok-Play.field-0-is c.in-Ok-Play.ensures.asked,
@@ -59,8 +61,8 @@ pub returns-in-Ok-Serve : goal.returns-in-Ok-Serve
 returns-in-Ok-Serve g c =
     let options = c.in-Ok-Serve.options in
     let does : Option (List ℕ) → Type 0 =
-    λ w. ServesOrNot options.host options.limits options.workers w (g.W.Output.contents c.run_serve.new.output)
-    (g.W.Output.has_failed c.run_serve.new.output) c.run_serve.result in
+    λ w. ServesOrNot options.host options.limits options.workers
+    (record { before = w; after = g.W.Output.contents c.run_serve.new.output; failed = g.W.Output.has_failed c.run_serve.new.output }) c.run_serve.result in
     inl (
       Serve options,
       subst (Asks (map g.S.AsStr.text c.args.words.now)) c.in-Ok-Serve.field-0-is c.in-Ok-Serve.ensures.asked,

@@ -1,5 +1,5 @@
 use Rattle.std.proofs.Common.{◌≡◌, ◌*◌, ◌-◌, false}
-use Rattle.http_requests.specs.declared.read_buffer.TheConstants.{MAX_READS}
+use Rattle.session_devices.specs.declared.limits.TheConstants.{MAX_READS}
 use Rattle.http_requests.specs.declared.room.TheConstants.{PIECE}
 use Rattle.http_session.specs.InOrder.{line_of}
 use Rattle.http_session.specs.Between.{store_of}

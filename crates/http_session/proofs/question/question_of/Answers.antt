@@ -3,6 +3,6 @@ use Rattle.http_session.proofs.question.question_of.Goals as goal
 
 pub returns-in-Ok-clause-asks : goal.returns-in-Ok-clause-asks
 returns-in-Ok-clause-asks c =
-    asks_query _ _ _ c.path_and_form.ensures.path c.target_of.ensures c.in-Some.endpoint c.in-Some.part.now c.in-Some.ensures _ c.in-Ok.verdict
-    c.path_and_form.ensures.form c.in-Get-default.is-0
+    asks_query _ _ _ c.split_target.ensures.path c.target_of.ensures c.in-Some.endpoint c.in-Some.part.now c.in-Some.ensures _ c.in-Ok.verdict
+    c.split_target.ensures.query_string c.in-Get-default.is-0
     c.in-Ok.ensures

@@ -36,7 +36,7 @@ loop-spot-preserved-in-Continue-branch-6 c =
           ∙ ap (λ l. done ++ spans_named h l) (sym c.in-Some.ensures.steps) ∙ c.loop-spot.invariant.spans;
       places =
           more_at h done (spans_there c.push.new.self.items)
-          c.loop-spot.places.items c.push-in-Some-2.new.self.items placed spot.place c.loop-spot.invariant.places put c.in_ok-push-2.ensures.items
+          c.loop-spot.process_keys.items c.push-in-Some-2.new.self.items placed spot.place c.loop-spot.invariant.places put c.in_ok-push-2.ensures.items
           (process_there h spot placed (sym there));
     }
 

@@ -6,5 +6,5 @@ use Rattle.journal_traces.proofs.gathering.gather.Given as goal
 abbrev pub invariant-loop-spot : goal.invariant-loop-spot
 invariant-loop-spot l = record {
   spans : spans_there l.spans.items ++ spans_named l.journal.held.entries l.spot-iterator ≡ spans_named l.journal.held.entries l.fn.spots;
-  places : AreAt l.journal.held.entries (spans_there l.spans.items) l.places.items;
+  places : AreAt l.journal.held.entries (spans_there l.spans.items) l.process_keys.items;
 }

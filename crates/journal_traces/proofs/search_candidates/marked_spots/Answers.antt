@@ -1,5 +1,5 @@
 use Rattle.std.proofs.Common.{◌∙◌, ◌++◌, ◌∷◌, ◌<◌, [], false, sym, ap, length, arith}
-use Rattle.trace_ring.specs.Windows.{Window}
+use Rattle.trace_ring.specs.Windows.{RingValue}
 use Rattle.trace_assembly.specs.Rows.{spots_of}
 use Rattle.journal_traces.proofs.TraceMarks.{mark_read, picked, passed}
 use Rattle.journal_traces.proofs.Spots.{no_id}
@@ -11,7 +11,7 @@ loop-place-preserved c = λ p e.
     let f = spots_of c.args.assembly.now in
     let ids = c.args.assembly.now.newest.ids in
     let i = c.loop-place.place in
-    let le : i < length ids = omega (arith, c.loop-place-test.true, c.len-place-end.ensures.length ∙ ap (λ (w : Window). length w.ids) c.ring.ensures) in
+    let le : i < length ids = omega (arith, c.loop-place-test.true, c.len-place-end.ensures.length ∙ ap (λ (w : RingValue). length w.ids) c.ring.ensures) in
     let read = mark_read p ids c.args.marks.now i no_id false le e in
     elim c.if-marks-place.branch [
       | then-marks-place+in_ok-push w ↦

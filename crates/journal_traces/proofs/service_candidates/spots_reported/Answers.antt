@@ -1,6 +1,6 @@
 use Rattle.std.proofs.Common.{◌≡◌, ◌∙◌, ◌++◌, ◌∷◌, ◌<◌, [], Bool, List, get_or, sym, ap, length, arith}
 use Rattle.jaeger_model.specs.declared.ids.TraceId.{TraceId}
-use Rattle.trace_ring.specs.Windows.{Window}
+use Rattle.trace_ring.specs.Windows.{RingValue}
 use Rattle.trace_assembly.specs.declared.spot.Spot.{Spot}
 use Rattle.trace_assembly.specs.Rows.{spots_of}
 use Rattle.journal_traces.specs.Reporting.{are_reported}
@@ -16,7 +16,7 @@ loop-place-preserved c =
     let p : TraceId → Bool = λ t. own (f t) in
     let ids = c.args.assembly.now.newest.ids in
     let i = c.loop-place.place in
-    let le : i < length ids = omega (arith, c.loop-place-test.true, c.len-place-end.ensures.length ∙ ap (λ (w : Window). length w.ids) c.ring.ensures) in
+    let le : i < length ids = omega (arith, c.loop-place-test.true, c.len-place-end.ensures.length ∙ ap (λ (w : RingValue). length w.ids) c.ring.ensures) in
     let at : c.spots_at-spots.result ≡ f (get_or ids i no_id) = c.spots_at-spots.ensures in
     let read = c.are_reported.ensures ∙ ap own (c.again.ensures ∙ at) in
     elim c.if-are_reported.branch [

@@ -12,11 +12,11 @@ loop-span-preserved c =
     let le = c.loop-span-test.true in
     record {
       judged = λ process_of before all.
-          let there = process_seen process_of x c.seen.result c.number.result c.seen.ensures c.number.ensures
+          let there = process_seen process_of x c.seen.result c.process_key.result c.seen.ensures c.process_key.ensures
           (has_process xs i x le c.span-item.is process_of all) in
           c.in_ok-is_match.ensures.judged process_of (c.loop-span.invariant.judged process_of before all) there;
       none = λ process_of before all.
-          let there = process_seen process_of x c.seen.result c.number.result c.seen.ensures c.number.ensures
+          let there = process_seen process_of x c.seen.result c.process_key.result c.seen.ensures c.process_key.ensures
           (has_process xs i x le c.span-item.is process_of all) in
           let met = c.in_ok-is_match.ensures.found process_of (c.loop-span.invariant.judged process_of before all) there
           ∙ match_seen q x c.seen.result c.seen.ensures in
@@ -30,7 +30,8 @@ returns-then-is_match-clause-found c = λ process_of before all.
     let i = c.loop-span.span-index in
     let x = c.span-item.result in
     let le = c.loop-span-test.true in
-    let there = process_seen process_of x c.seen.result c.number.result c.seen.ensures c.number.ensures (has_process xs i x le c.span-item.is process_of all) in
+    let there = process_seen process_of x c.seen.result c.process_key.result c.seen.ensures c.process_key.ensures
+    (has_process xs i x le c.span-item.is process_of all) in
     let met = c.in_ok-is_match.ensures.found process_of (c.loop-span.invariant.judged process_of before all) there
     ∙ match_seen q x c.seen.result c.seen.ensures in
     sym (one_here xs i x le c.span-item.is (matches q) (sym met ∙ c.if-is_match.true))

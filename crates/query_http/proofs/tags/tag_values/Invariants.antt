@@ -1,6 +1,6 @@
 use Rattle.std.proofs.Common.{◌≡◌, ◌++◌, map, drop}
 use Rattle.std.specs.Prelude.{codes}
-use Rattle.query_http.specs.Forms.{values_of}
+use Rattle.query_http.specs.QueryStrings.{values_of}
 use Rattle.query_http.proofs.tags.tag_values.Given as goal
 
 abbrev pub invariant-loop-pair : goal.invariant-loop-pair

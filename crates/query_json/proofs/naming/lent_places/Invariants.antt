@@ -2,4 +2,4 @@ use Rattle.query_json.specs.Placing.{HasPlaces}
 use Rattle.query_json.proofs.naming.lent_places.Given as goal
 
 abbrev pub invariant-loop-index : goal.invariant-loop-index
-invariant-loop-index l = HasPlaces l.spans l.entries l.index l.placing
+invariant-loop-index l = HasPlaces l.spans l.keys l.index l.placing

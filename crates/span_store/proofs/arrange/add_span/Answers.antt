@@ -1,7 +1,7 @@
 use Rattle.std.proofs.Common.{rules, ◌≡◌, ◌∙◌, ap, sym, subst, arith, length, List, ◌++◌, ◌∷◌, [], w64, to_z, of_z, ℤ}
 use Rattle.std.specs.Prelude.{if◌then◌else◌}
 use Rattle.std.proofs.lemmas.Option.{slice_get_within}
-use Rattle.trace_ring.specs.Windows.{NoneTwice, Window, evicted_trace}
+use Rattle.trace_ring.specs.Windows.{NoneTwice, RingValue, evicted_trace}
 use Rattle.trace_assembly.specs.Rows.{spots_of}
 use Rattle.trace_ring.specs.StartRanges.{IsIn, range_at}
 use Rattle.span_store.proofs.RingFollowsEvents.{follows_more}
@@ -80,7 +80,7 @@ returns-clause-ranged c = λ n es p f ranged same start_is.
           dropped.starts;
       wider_still = c.widen.ensures.none_narrows;
       own = λ k at.
-          let once : NoneTwice after.newest.ids = subst (λ (w : Window). NoneTwice w.ids) c.ring.ensures c.len-once.ensures.once in
+          let once : NoneTwice after.newest.ids = subst (λ (w : RingValue). NoneTwice w.ids) c.ring.ensures c.len-once.ensures.once in
           let place = one_place after.newest.ids arrived.place k c.args.span.now.trace once came.place at in
           let own = subst (IsIn (range_at c.widen.new.self arrived.place)) start c.widen.ensures.own in
           subst (λ n. IsIn (range_at c.widen.new.self n) c.args.span.now.start) place own;

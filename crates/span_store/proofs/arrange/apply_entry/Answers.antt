@@ -1,3 +1,5 @@
+use Rattle.std.proofs.Common.{◌≡◌, ◌∙◌, ap}
+use Rattle.trace_model.specs.Rings.{newest}
 use Rattle.trace_assembly.specs.Rows.{spots_of}
 use Rattle.span_store.proofs.RingFollowsEvents.{follows_batch, follows_limit}
 use Rattle.trace_assembly.specs.Located.{events_in, located_events}
@@ -15,8 +17,10 @@ pub returns-in-TraceLimit-clause-follows : goal.returns-in-TraceLimit-clause-fol
 returns-in-TraceLimit-clause-follows c = λ n h at f.
     let before = c.args.shown.now in
     let after = c.apply_limit.new.shown in
+    let ids : after.newest.ids ≡ newest c.in-TraceLimit.limit before.newest.ids =
+    c.apply_limit.ensures.ids ∙ ap (λ m. newest m before.newest.ids) c.get.ensures.same in
     follows_limit n h c.args.entry.now c.in-TraceLimit.limit c.in-TraceLimit.is before.newest after.newest (spots_of before) (spots_of after)
-    f c.apply_limit.ensures.limit c.apply_limit.ensures.ids c.apply_limit.ensures.spots
+    f (c.apply_limit.ensures.limit ∙ c.get.ensures.same) ids c.apply_limit.ensures.spots
 
 pub returns-in-Batch-clause-first : goal.returns-in-Batch-clause-first
 returns-in-Batch-clause-first c = λ n h at f first.
@@ -24,8 +28,12 @@ returns-in-Batch-clause-first c = λ n h at f first.
 
 pub returns-in-TraceLimit-clause-first : goal.returns-in-TraceLimit-clause-first
 returns-in-TraceLimit-clause-first c = λ n h at f first.
-    starts_limited n h c.args.entry.now c.in-TraceLimit.limit c.in-TraceLimit.is c.args.shown.now.newest.ids c.apply_limit.new.shown.newest.ids
-    c.args.starts.now.starts c.apply_limit.new.starts.starts f.ring c.apply_limit.ensures.ids c.apply_limit.ensures.starts first
+    let before = c.args.shown.now in
+    let after = c.apply_limit.new.shown in
+    let ids : after.newest.ids ≡ newest c.in-TraceLimit.limit before.newest.ids =
+    c.apply_limit.ensures.ids ∙ ap (λ m. newest m before.newest.ids) c.get.ensures.same in
+    starts_limited n h c.args.entry.now c.in-TraceLimit.limit c.in-TraceLimit.is before.newest.ids after.newest.ids
+    c.args.starts.now.starts c.apply_limit.new.starts.starts f.ring ids c.apply_limit.ensures.starts first
 
 pub returns-in-Batch-clause-ranged : goal.returns-in-Batch-clause-ranged
 returns-in-Batch-clause-ranged c = λ n h at f ranged.

@@ -1,7 +1,7 @@
 use Rattle.std.proofs.Common.{◌≡◌, inl, inr, refl, false, [], ap, ◌∙◌, ◌++◌}
 use Rattle.std.proofs.lemmas.Result.{err_from_is_err_and}
 use Rattle.text_lines.specs.declared.run_error.RunError.TheVariants.{Device, Memory}
-use Rattle.text_lines.specs.declared.line_buffer.TheConstants.{MAX_READS}
+use Rattle.session_devices.specs.declared.limits.TheConstants.{MAX_READS}
 use Rattle.text_lines.proofs.Buffers.{moves_nothing}
 use Rattle.text_lines.proofs.Counting.{limit_is_reads, no_read, reads_on}
 use Rattle.text_lines.proofs.Progress.{begins, ends, goes_on, line_lost, stays, stops}

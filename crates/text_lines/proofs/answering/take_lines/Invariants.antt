@@ -1,5 +1,5 @@
 use Rattle.std.proofs.Common.{◌≡◌, false}
-use Rattle.text_lines.specs.declared.line_buffer.TheConstants.{MAX_READS}
+use Rattle.session_devices.specs.declared.limits.TheConstants.{MAX_READS}
 use Rattle.text_lines.specs.Reading.{most_left}
 use Rattle.text_lines.specs.Reads.{CountsReads}
 use Rattle.text_lines.specs.Taking.{SoFar}

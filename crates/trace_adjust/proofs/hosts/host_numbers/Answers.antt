@@ -7,7 +7,7 @@ use Rattle.std.proofs.lemmas.List.{take_all}
 use Rattle.jaeger_model.specs.Texts.{same_text, text_cmp}
 use Rattle.trace_model.specs.Adjusting.{host_of}
 use Rattle.trace_adjust.specs.Hosts.{hosts_of, number_in, AreNumbers, AreKept}
-use Rattle.trace_adjust.proofs.Hosting.{table_more, numbers_more, kept_more, kept_put, own_number, place_read, fresh_is, number_again, number_stays}
+use Rattle.trace_adjust.proofs.Hosting.{table_more, numbers_more, kept_more, kept_put, own_number, key_read, fresh_is, number_again, number_stays}
 use Rattle.trace_adjust.proofs.Hosting.{number_given, table_given}
 use Rattle.trace_adjust.proofs.hosts.host_numbers.Goals as goal
 use Rattle.trace_adjust.proofs.hosts.host_numbers.Goals.{in-Some, in-None+in_ok-host-in-None+in_ok-number-in-None+in_ok-keep_number-in-None}
@@ -21,8 +21,8 @@ loop-index-preserved c =
     let here = c.index-trace-index.is in
     let before = hosts_of (take i ps) in
     let host = host_of p in
-    let places = c.args.places.now in
-    let place : c.copied-place.result ≡ slice_get places i = c.copied-place.ensures ∙ place_read places i c.get.result c.get.ensures.lookup in
+    let keys = c.args.process_keys.now in
+    let key : c.copied-key.result ≡ slice_get keys i = c.copied-key.ensures ∙ key_read keys i c.get.result c.get.ensures.lookup in
     elim c.match-kept_number.branch [
       | in-None+in_ok-host-in-None+in_ok-number-in-None+in_ok-keep_number-in-None w ↦
           let old = get text_cmp c.loop-index.numbers in
@@ -41,14 +41,14 @@ loop-index-preserved c =
             hosts =
                 numbers_more ps i p l here c.loop-index.hosts.items c.push.new.self.items c.match-kept_number.number c.loop-index.invariant.hosts
                 c.in_ok-push.ensures.items known;
-            kept = subst (λ m. AreKept ps places (i + 1) (get nat_cmp m)) (sym w.kept-is)
-                (kept_put ps i p l here places c.copied-place.result w.in_ok-number-in-None.number (get nat_cmp c.loop-index.kept)
-                (get nat_cmp w.keep_number.new.kept) place w.in_ok-keep_number-in-None.ensures given c.loop-index.invariant.kept);
+            kept = subst (λ m. AreKept ps keys (i + 1) (get nat_cmp m)) (sym w.kept-is)
+                (kept_put ps i p l here keys c.copied-key.result w.in_ok-number-in-None.number (get nat_cmp c.loop-index.kept)
+                (get nat_cmp w.keep_number.new.kept) key w.in_ok-keep_number-in-None.ensures given c.loop-index.invariant.kept);
           }
       | in-Some w ↦
           let own : number_in before host ≡ Some c.match-kept_number.number =
-          own_number ps i p l here places c.copied-place.result (get nat_cmp c.loop-index.kept)
-          c.match-kept_number.number c.requires place c.loop-index.invariant.kept (sym w.in-Some.ensures ∙ ap Some (sym w.number-is)) in
+          own_number ps i p l here keys c.copied-key.result (get nat_cmp c.loop-index.kept)
+          c.match-kept_number.number c.requires key c.loop-index.invariant.kept (sym w.in-Some.ensures ∙ ap Some (sym w.number-is)) in
           let known : number_in (before ++ host ∷ []) host ≡ Some c.match-kept_number.number =
           number_stays before (host ∷ []) host c.match-kept_number.number own in
           record {
@@ -60,8 +60,8 @@ loop-index-preserved c =
                 numbers_more ps i p l here c.loop-index.hosts.items c.push.new.self.items c.match-kept_number.number c.loop-index.invariant.hosts
                 c.in_ok-push.ensures.items known;
             kept =
-                subst (λ m. AreKept ps places (i + 1) (get nat_cmp m)) (sym w.kept-is)
-                (kept_more ps i p l here places (get nat_cmp c.loop-index.kept) c.loop-index.invariant.kept);
+                subst (λ m. AreKept ps keys (i + 1) (get nat_cmp m)) (sym w.kept-is)
+                (kept_more ps i p l here keys (get nat_cmp c.loop-index.kept) c.loop-index.invariant.kept);
           }
     ]
 

@@ -10,5 +10,5 @@ abbrev pub invariant-loop-index : goal.invariant-loop-index
 invariant-loop-index l = record {
   table : (t : List ℕ) → get text_cmp l.numbers t ≡ number_in (hosts_of (take l.index l.trace)) t;
   hosts : AreNumbers (hosts_of l.trace) (take l.index l.trace) l.hosts.items;
-  kept : AreKept l.trace l.places l.index (get nat_cmp l.kept);
+  kept : AreKept l.trace l.process_keys l.index (get nat_cmp l.kept);
 }

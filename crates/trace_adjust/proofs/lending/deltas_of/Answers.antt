@@ -10,4 +10,4 @@ clocks_of-requires c =
     let t = c.args.trace.now in
     let spans = spans_there t.spans.items in
     subst (λ ps. ShareProcesses ps c.deref.result.now) (sym c.requires.lent)
-    (subst (ShareProcesses (map with_parent_first spans)) (sym c.deref.ensures.value) (lent_shares spans t.places.items c.requires.shares))
+    (subst (ShareProcesses (map with_parent_first spans)) (sym c.deref.ensures.value) (lent_shares spans t.process_keys.items c.requires.shares))

@@ -11,8 +11,8 @@ pub shown_deltas-requires : goal.shown_deltas-requires
 shown_deltas-requires c =
     let was = c.args.trace in
     let kept = c.without_missing-kept in
-    subst (λ places. ShareProcesses (spans_there kept.result.spans.items) places.items) (sym kept.ensures.places)
-    (subst (λ (ps : List Placed). ShareProcesses ps was.places.items) (sym kept.ensures.spans) c.requires)
+    subst (λ keys. ShareProcesses (spans_there kept.result.spans.items) keys.items) (sym kept.ensures.process_keys)
+    (subst (λ (ps : List Placed). ShareProcesses ps was.process_keys.items) (sym kept.ensures.spans) c.requires)
 
 pub invariant_of-spans : goal.invariant_of-spans
 invariant_of-spans c = c.without_missing-kept.ensures.there
@@ -28,7 +28,7 @@ returns-clause-shares c =
     let kept = c.without_missing-kept in
     let t = kept.result in
     let shares : KeptShares t =
-    subst (λ places. ShareProcesses (spans_there t.spans.items) places.items) (sym kept.ensures.places)
-    (subst (λ (ps : List Placed). ShareProcesses ps was.places.items) (sym kept.ensures.spans) c.requires) in
-    let shown = shown_shares t.limits t.raw (spans_there t.spans.items) t.places.items shares in
-    subst (λ (ss : List Shown). ShareProcesses (spans_of ss) t.places.items) (sym c.in_ok-deltas.ensures) shown
+    subst (λ keys. ShareProcesses (spans_there t.spans.items) keys.items) (sym kept.ensures.process_keys)
+    (subst (λ (ps : List Placed). ShareProcesses ps was.process_keys.items) (sym kept.ensures.spans) c.requires) in
+    let shown = shown_shares t.limits t.raw (spans_there t.spans.items) t.process_keys.items shares in
+    subst (λ (ss : List Shown). ShareProcesses (spans_of ss) t.process_keys.items) (sym c.in_ok-deltas.ensures) shown

@@ -5,7 +5,7 @@ use Rattle.trace_adjust.proofs.Shifting.{as_many_shown}
 use Rattle.trace_adjust.proofs.skew.adjust_skew.Goals as goal
 
 pub all_shifted-requires : goal.all_shifted-requires
-all_shifted-requires c = subst (λ ss. ShareProcesses (spans_of ss) c.args.places.now) (sym c.in_ok-copies_of.ensures) c.requires
+all_shifted-requires c = subst (λ ss. ShareProcesses (spans_of ss) c.args.process_keys.now) (sym c.in_ok-copies_of.ensures) c.requires
 
 pub swap_with_slice-requires : goal.swap_with_slice-requires
 swap_with_slice-requires c =

@@ -9,7 +9,8 @@ use Rattle.trace_adjust.proofs.skew.adjusted.Goals as goal
 
 pub all_shifted-requires : goal.all_shifted-requires
 all_shifted-requires c =
-    subst (λ ss. ShareProcesses (spans_of ss) c.args.places.now) (sym c.in_ok-spans.ensures) (first_shares c.args.trace.items c.args.places.now c.requires)
+    subst (λ ss. ShareProcesses (spans_of ss) c.args.process_keys.now) (sym c.in_ok-spans.ensures)
+    (first_shares c.args.trace.items c.args.process_keys.now c.requires)
 
 pub returns : goal.returns
 returns c =

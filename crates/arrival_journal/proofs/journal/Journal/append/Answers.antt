@@ -10,7 +10,7 @@ use Rattle.std.specs.Arc.{arc_value}
 use Rattle.trace_model.specs.declared.entry.Entry.{Entry}
 use Rattle.trace_model.specs.declared.admission.Admission.TheVariants.{Added}
 use Rattle.trace_model.specs.Refusals.{admission}
-use Rattle.sent_batches.specs.Sent.{IsKept as SentKept}
+use Rattle.sent_batches.specs.Sent.{IsSentKept}
 use Rattle.trace_model.specs.Works.{spans_brought}
 use Rattle.arrival_journal.specs.Journals.{Journaled, admission_by}
 use Rattle.arrival_journal.specs.Outlines.{outline_in, outlines_kept, with_outline}
@@ -33,8 +33,8 @@ invariant_of-self c =
     let may : admission was.limits h (arc_value c.into_entry-entry.result) ≡ Ok Added =
     ap (λ (v : Journaled). admission_by v.held (arc_value c.into_entry-entry.result)) c.self.view_is
     ∙ (ap (λ (x : Entry). admission_by c.args.self.now.held x) c.into_entry-entry.ensures ∙ c.requires) in
-    let sent : SentKept (h ++ arc_value c.into_entry-entry.result ∷ []) c.add.new.self =
-    subst (λ (l : List Entry). SentKept l c.add.new.self) (ap (map (arc_value {X = Entry} {Z = Global})) c.deref-4.ensures.value ∙ pushed)
+    let sent : IsSentKept (h ++ arc_value c.into_entry-entry.result ∷ []) c.add.new.self =
+    subst (λ (l : List Entry). IsSentKept l c.add.new.self) (ap (map (arc_value {X = Entry} {Z = Global})) c.deref-4.ensures.value ∙ pushed)
     c.add.ensures.kept in
     rw (pushed, count)
     (kept_push was.limits h (vec_capacity was.entries) (vec_capacity c.push_reserved.new.self)

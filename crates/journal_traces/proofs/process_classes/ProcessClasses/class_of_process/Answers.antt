@@ -12,9 +12,9 @@ returns-in-Some-clause-class c = λ process_of own leads.
 pub returns-clause-leads : goal.returns-clause-leads
 returns-clause-leads c = λ process_of own leads. record {
   by_process = λ k class e.
-      process_put process_of c.args.process.now c.args.number own k.0.now (class_of_process c.args.self.now k) class (leads.by_process k class)
-      (ap (λ t. cond t (Some c.args.number) (class_of_process c.args.self.now k)) (process_ties c.args.process.now k.0.now)
+      process_put process_of c.args.process.now c.args.key own k.0.now (class_of_process c.args.self.now k) class (leads.by_process k class)
+      (ap (λ t. cond t (Some c.args.key) (class_of_process c.args.self.now k)) (process_ties c.args.process.now k.0.now)
       ∙ sym (c.in_ok-insert.ensures.updates.0 k) ∙ e);
-  by_number = leads.by_number;
+  by_key = leads.by_key;
   last = leads.last;
 }

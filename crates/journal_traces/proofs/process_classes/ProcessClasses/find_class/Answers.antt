@@ -4,17 +4,17 @@ use Rattle.std.specs.BTreeMap.{get}
 use Rattle.jaeger_model.specs.declared.batch.Process.{Process}
 use Rattle.journal_traces.specs.Classes.{Leads}
 use Rattle.journal_traces.specs.Taking.{HasProcess}
-use Rattle.journal_traces.proofs.Classes.{number_put}
+use Rattle.journal_traces.proofs.Classes.{key_put}
 use Rattle.journal_traces.proofs.TakenSpans.{process_seen}
 use Rattle.journal_traces.proofs.process_classes.ProcessClasses.find_class.Goals as goal
 use Rattle.journal_traces.proofs.process_classes.ProcessClasses.find_class.Goals.{In_ok-keep}
 
 pub returns-in-Some-clause-class : goal.returns-in-Some-clause-class
-returns-in-Some-clause-class c = λ process_of has leads. leads.by_number c.args.number c.in-Some.class (sym c.known.ensures ∙ c.in-Some.is)
+returns-in-Some-clause-class c = λ process_of has leads. leads.by_key c.args.key c.in-Some.class (sym c.known.ensures ∙ c.in-Some.is)
 
 -- the number leads to the process of the span
-own : (c : In_ok-keep) (process_of : ℕ → Option Process) → HasProcess process_of c.args.span.now → process_of c.args.number ≡ Some c.seen.result.process.now
-own c process_of has = sym (process_seen process_of c.args.span.now c.seen.result c.args.number c.seen.ensures c.requires has)
+own : (c : In_ok-keep) (process_of : ℕ → Option Process) → HasProcess process_of c.args.span.now → process_of c.args.key ≡ Some c.seen.result.process.now
+own c process_of has = sym (process_seen process_of c.args.span.now c.seen.result c.args.key c.seen.ensures c.requires has)
 
 pub returns-clause-class : goal.returns-clause-class
 returns-clause-class c = λ process_of has leads. c.in_ok-class.ensures.class process_of (own c process_of has) leads
@@ -25,8 +25,8 @@ returns-clause-leads c = λ process_of has leads.
     let same = c.in_ok-class.ensures.class process_of (own c process_of has) leads in
     record {
       by_process = next.by_process;
-      by_number = λ n class e.
-          number_put process_of c.args.number c.in_ok-class.class same n (get nat_cmp c.class_of_process.new.self.by_number n) class
-          (next.by_number n class) (sym (c.in_ok-keep.ensures n) ∙ e);
+      by_key = λ n class e.
+          key_put process_of c.args.key c.in_ok-class.class same n (get nat_cmp c.class_of_process.new.self.by_key n) class
+          (next.by_key n class) (sym (c.in_ok-keep.ensures n) ∙ e);
       last = next.last;
     }

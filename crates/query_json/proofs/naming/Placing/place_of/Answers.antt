@@ -9,18 +9,18 @@ use Rattle.query_json.specs.Naming.{added, place}
 use Rattle.query_json.specs.Numbering.{numbered}
 use Rattle.query_json.specs.Trees.{process_of, processes_of}
 use Rattle.query_json.specs.Writing.{process_place}
-use Rattle.query_json.proofs.PlacesByEntries.{known_put, one_more}
+use Rattle.query_json.proofs.PlacesByKeys.{known_put, one_more}
 use Rattle.query_json.proofs.Distinct.{place_stays, processes_more}
 use Rattle.query_json.proofs.naming.Placing.place_of.Goals as goal
 
 pub returns-clause-placed : goal.returns-clause-placed
-returns-clause-placed c = λ spans entries i s own next before.
+returns-clause-placed c = λ spans keys i s own next before.
     let old = c.args.self.now in
     let new = c.number_of.new.self in
     let says = c.in_ok-number_of.ensures in
     let front = take i spans in
     let rest = drop (i + 1) spans in
-    let more : take (i + 1) spans ≡ front ++ s ∷ [] = one_more spans entries i s c.args.entry next in
+    let more : take (i + 1) spans ≡ front ++ s ∷ [] = one_more spans keys i s c.args.key next in
     let whole : (front ++ s ∷ []) ++ rest ≡ spans = ap (λ (l : List Shown). l ++ rest) (sym more) ∙ take-append-drop (i + 1) spans in
     let known : numbered new ≡ processes_of (front ++ s ∷ []) =
     says.numbered ∙ ap (λ p. added p (numbered old.numbering)) own ∙ sym (processes_more (numbered old.numbering) front s before.processes) in
@@ -44,7 +44,7 @@ returns-clause-placed c = λ spans entries i s own next before.
       processes = known ∙ sym (ap processes_of more);
       firsts = says.firsts spans first before.firsts;
       known =
-          known_put spans entries i s c.args.entry next c.in_ok-place.place (get nat_cmp old.known) (get nat_cmp c.keep_place.new.known)
+          known_put spans keys i s c.args.key next c.in_ok-place.place (get nat_cmp old.known) (get nat_cmp c.keep_place.new.known)
           found c.in_ok-keep_place.ensures before.known;
       place = found;
     }

@@ -8,7 +8,7 @@ use Rattle.trace_model.specs.Histories.{before_last}
 use Rattle.trace_model.specs.Works.{batch_brought}
 use Rattle.hash_tables.specs.Leading.{LeadsTo}
 use Rattle.sent_batches.specs.Hashing.{batch_hash}
-use Rattle.sent_batches.specs.Sent.{Sent, IsKept, AreAfterEntries, has_number, hash_after, numbered_from}
+use Rattle.sent_batches.specs.Sent.{Sent, IsSentKept, AreAfterEntries, has_number, hash_after, numbered_from}
 use Rattle.sent_batches.proofs.Sending.{hash_is, limit_has_none, batch_has, brought_is, one_more, kept_same, kept_more, numbered_within}
 use Rattle.sent_batches.proofs.batches.SentBatches.add.Goals as goal
 
@@ -102,6 +102,6 @@ returns-clause-kept c =
     let leads : LeadsTo (sent.hashes ++ batch_hash sent.keys b ∷ []) more.slots =
     subst (λ n. LeadsTo (sent.hashes ++ n ∷ []) more.slots) hash
     (subst (λ (hs : List ℕ). LeadsTo (hs ++ c.args.hash ∷ []) more.slots) old c.mark.ensures.leads) in
-    subst (λ (l : List Entry). IsKept l more) one.last
+    subst (λ (l : List Entry). IsSentKept l more) one.last
     (kept_more (before_last h) e b sent more c.requires.kept (brought_is e.work b brought) numbered one.within keys
     (c.mark.ensures.room ∙ ap (λ (v : Sent). v.room) c.self.view_is) befores hashes leads)

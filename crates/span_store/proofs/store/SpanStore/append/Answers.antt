@@ -9,8 +9,8 @@ use Rattle.trace_model.specs.Works.{spans_brought}
 use Rattle.arrival_journal.specs.Journals.{admission_by}
 use Rattle.trace_assembly.specs.Rows.{spots_of}
 use Rattle.trace_assembly.specs.Located.{located_events}
-use Rattle.service_index.specs.NamesKept.{IsKept as NamesKept}
-use Rattle.service_index.specs.Reported.{IsKept as PlacesKept}
+use Rattle.service_index.specs.NamesKept.{AreNamesKept}
+use Rattle.service_index.specs.Reported.{ArePlacesKept}
 use Rattle.span_store.specs.Opening.{AreFirst, IsRanged}
 use Rattle.span_store.specs.Kept.{Follows, IsNamed, IsPlaced}
 use Rattle.span_store.proofs.IndexesAreKept.{Grows, arrivals_fit, kept_more, kept_room, kept_within, spans_fit}
@@ -62,13 +62,13 @@ invariant_of-self c =
     c.entries-entries.ensures ∙ ap (λ (v : Held). v.entries) held in
     let named = c.self.invariant.named in
     let names : IsNamed (followed_by was.journal.held e) c.add-2.new.self = record {
-      kept = subst (λ (h : List Entry). NamesKept h c.add-2.new.self) list c.add-2.ensures.kept;
+      kept = subst (λ (h : List Entry). AreNamesKept h c.add-2.new.self) list c.add-2.ensures.kept;
       batches = c.add-2.ensures.batches ∙ named.batches;
       numbers = c.add-2.ensures.numbers ∙ named.numbers;
       index = c.add-2.ensures.index ∙ named.index;
     } in
     let placed : IsPlaced (followed_by was.journal.held e) c.add.new.self = record {
-      kept = subst (λ (h : List Entry). PlacesKept h c.add.new.self) list c.add.ensures.kept;
+      kept = subst (λ (h : List Entry). ArePlacesKept h c.add.new.self) list c.add.ensures.kept;
       batches = c.add.ensures.batches ∙ c.self.invariant.placed.batches;
     } in
     kept_more was.journal.held c.append.new.self.held e was.shown after was.starts c.apply_entry.new.starts was.names c.add-2.new.self was.reported

@@ -42,4 +42,4 @@ returns c =
 pub kept-requires : goal.kept-requires
 kept-requires c =
     let trace = c.in_ok-trace.trace in
-    share_processes c.self.inside.journal.held.entries (spans_there trace.spans.items) trace.places.items c.in_ok-trace.ensures.places
+    share_processes c.self.inside.journal.held.entries (spans_there trace.spans.items) trace.process_keys.items c.in_ok-trace.ensures.places

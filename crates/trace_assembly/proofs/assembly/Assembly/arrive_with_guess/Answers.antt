@@ -4,7 +4,7 @@ use Rattle.std.proofs.Math.ListN.{set}
 use Rattle.std.proofs.lemmas.List.{length-set}
 use Rattle.jaeger_model.specs.declared.ids.TraceId.{TraceId}
 use Rattle.jaeger_model.specs.Parents.{same_trace}
-use Rattle.trace_ring.specs.Windows.{Window}
+use Rattle.trace_ring.specs.Windows.{RingValue}
 use Rattle.trace_assembly.specs.declared.spot.Spot.{Spot}
 use Rattle.trace_assembly.specs.declared.assembly.Assembly.TheInside.{Inside}
 use Rattle.trace_assembly.specs.Rows.{Assembled, spots_in_row, spots_of}
@@ -72,7 +72,7 @@ invariant_of-self c =
     let rows = rows_opened old.ring.seen seen old.chains.chains now.chains.chains c.args.trace c.self.invariant.as_many arrived.ensures.seen opened same in
     let more : length seen ≤ length old.ring.seen + 1 =
     omega (arith, seen_opened old.ring.seen c.args.trace, ap (λ (ids : List TraceId). length ids) arrived.ensures.seen) in
-    let many : length now.ring.seen ≡ length seen = ap (λ (w : Window). length w.seen) ring in
+    let many : length now.ring.seen ≡ length seen = ap (λ (w : RingValue). length w.seen) ring in
     record {
       as_many =
           ap (λ (cs : List (List Spot)). length cs) c.add.ensures.chains
@@ -80,6 +80,6 @@ invariant_of-self c =
           ∙ ap (λ (cs : List (List Spot)). length cs) c.hide_left.ensures.chains ∙ rows_left left now.chains.chains ∙ rows.0 ∙ sym many;
       few = omega (arith, more, many, c.self.invariant.few, c.add.ensures.used, c.hide_left.ensures.used, used);
       same_room =
-          ap (λ (w : Window). w.room) ring ∙ arrived.ensures.room ∙ c.self.invariant.same_room ∙ sym room ∙ sym c.hide_left.ensures.room
+          ap (λ (w : RingValue). w.room) ring ∙ arrived.ensures.room ∙ c.self.invariant.same_room ∙ sym room ∙ sym c.hide_left.ensures.room
           ∙ sym c.add.ensures.room;
     }

@@ -1,4 +1,5 @@
 use Rattle.std.proofs.lemmas.Result.{err_from_is_err_and}
+use Rattle.wire_pieces.specs.Heads.{head_of}
 use Rattle.wire_pieces.proofs.Steps.{comes-reaches, comes-refused}
 use Rattle.wire_pieces.proofs.HeadSteps.{head-typed}
 use Rattle.wire_pieces.proofs.heads.FieldHead.more.Goals as goal
@@ -12,5 +13,5 @@ returns-in_err-head-in-First-clause-reads c =
 
 pub returns-in_ok-head-in-First-clause-reads : goal.returns-in_ok-head-in-First-clause-reads
 returns-in_ok-head-in-First-clause-reads c =
-    comes-reaches (λ x. x) _ _ _ (head-typed c.args.self.now (record { code = c.in-Some.code; id = c.new.result })
+    comes-reaches head_of _ _ _ (head-typed c.args.self.now (record { code = c.in-Some.code; id = c.new.result })
     _ _ c.in-First.is c.in-Some.ensures c.if-code-eq-STOP.false c.new.ensures.nothing) c.in_ok-head-in-First.ensures.reads

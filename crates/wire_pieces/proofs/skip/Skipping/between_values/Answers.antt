@@ -14,24 +14,24 @@ returns-in_err-more-in-Fields-clause-progress c =
 pub returns-in-None-clause-progress : goal.returns-in-None-clause-progress
 returns-in-None-clause-progress c = rw (c.requires.now, c.in-Fields.is) (field-waits _ _ _ _ _ (rw c.in-None.is at c.in_ok-more-in-Fields.ensures.reads))
 
-pub returns-in-Some-None-clause-progress : goal.returns-in-Some-None-clause-progress
-returns-in-Some-None-clause-progress c =
+pub returns-in-Some-Stop-clause-progress : goal.returns-in-Some-Stop-clause-progress
+returns-in-Some-Stop-clause-progress c =
     rw (c.requires.now, c.in-Fields.is)
-    (field-stop _ _ c.none.result _ _ c.none.ensures (rw (c.in-Some-None.is, c.in-Some-None.field-0-is) at c.in_ok-more-in-Fields.ensures.reads))
+    (field-stop _ _ c.none.result _ _ c.none.ensures (rw (c.in-Some-Stop.is, c.in-Some-Stop.field-0-is) at c.in_ok-more-in-Fields.ensures.reads))
 
-pub returns-in_ok-begin-in-Some-Some-clause-progress : goal.returns-in_ok-begin-in-Some-Some-clause-progress
-returns-in_ok-begin-in-Some-Some-clause-progress c =
+pub returns-in_ok-begin-in-Some-Field-clause-progress : goal.returns-in_ok-begin-in-Some-Field-clause-progress
+returns-in_ok-begin-in-Some-Field-clause-progress c =
     rw (c.requires.now, c.in-Fields.is)
-    (comes-trans (field-value _ _ _ _ _ _ _ c.new.ensures.fresh (rw (c.in-Some-Some.is, c.in-Some-Some.field-0-is) at c.in_ok-more-in-Fields.ensures.reads))
-    (comes-at _ c.in_ok-begin-in-Some-Some.ensures.steps))
+    (comes-trans (field-value _ _ _ _ _ _ _ c.new.ensures.fresh (rw (c.in-Some-Field.is, c.in-Some-Field.field-0-is) at c.in_ok-more-in-Fields.ensures.reads))
+    (comes-at _ c.in_ok-begin-in-Some-Field.ensures.steps))
 
-pub returns-in_err-begin-in-Some-Some-clause-progress : goal.returns-in_err-begin-in-Some-Some-clause-progress
-returns-in_err-begin-in-Some-Some-clause-progress c =
-    let p = err_from_is_err_and c.from_residual-in_err-begin-in-Some-Some.result c.from_residual-in_err-begin-in-Some-Some.ensures.1 in
+pub returns-in_err-begin-in-Some-Field-clause-progress : goal.returns-in_err-begin-in-Some-Field-clause-progress
+returns-in_err-begin-in-Some-Field-clause-progress c =
+    let p = err_from_is_err_and c.from_residual-in_err-begin-in-Some-Field.result c.from_residual-in_err-begin-in-Some-Field.ensures.1 in
     rw (p.1, p.2, c.requires.now, c.in-Fields.is)
     (comes-refused _ _ _ _ _ (field-value _ _ _ _ _ _ _ c.new.ensures.fresh
-    (rw (c.in-Some-Some.is, c.in-Some-Some.field-0-is) at c.in_ok-more-in-Fields.ensures.reads))
-    (refused-at _ _ _ c.in_err-begin-in-Some-Some.ensures.steps))
+    (rw (c.in-Some-Field.is, c.in-Some-Field.field-0-is) at c.in_ok-more-in-Fields.ensures.reads))
+    (refused-at _ _ _ c.in_err-begin-in-Some-Field.ensures.steps))
 
 pub pop-requires-clause-done : goal.pop-requires-clause-done
 pop-requires-clause-done c = no_turns _ (ap (λ t. t.left) c.in_default.ensures.1 ∙ c.in_default.ensures.0)

@@ -8,7 +8,7 @@ use Rattle.service_index.specs.Indexes.{listing_by, IsIndexed}
 use Rattle.service_index.proofs.Extending.{indexed_extends}
 use Rattle.jaeger_model.specs.Texts.{sorted_set}
 use Rattle.trace_model.specs.Histories.{before_last}
-use Rattle.service_index.specs.NamesKept.{IsKept, names_of, reports}
+use Rattle.service_index.specs.NamesKept.{AreNamesKept, names_of, reports}
 use Rattle.service_index.proofs.ArrivalNaming.{extends_last, listed_before}
 use Rattle.service_index.proofs.arrival_names.names.ArrivalNames.add.Goals as goal
 
@@ -17,8 +17,8 @@ add_arrivals-requires-clause-indexed c =
     let h : List Entry = map (arc_value {X = Entry} {Z = Global}) c.args.entries.now in
     let l : length h ≡ length c.args.entries.now = length-map c.args.entries.now (arc_value {X = Entry} {Z = Global}) in
     let some : 0 < length h = omega arith in
-    let kept : IsKept (before_last h) (record { numbers = c.self.inside.numbers; index = c.self.inside.index }) =
-    subst (IsKept (before_last h)) (sym c.self.view_is) c.requires.kept in
+    let kept : AreNamesKept (before_last h) (record { numbers = c.self.inside.numbers; index = c.self.inside.index }) =
+    subst (AreNamesKept (before_last h)) (sym c.self.view_is) c.requires.kept in
     subst (λ (x : List Entry). IsIndexed (names_of x) c.self.inside.index) (sym c.arrivals-arrivals.ensures)
     (indexed_extends (names_of (before_last h)) (names_of h) c.self.inside.index (extends_last h some) kept.indexed)
 
@@ -27,8 +27,8 @@ add_arrivals-requires-clause-listed c =
     let h : List Entry = map (arc_value {X = Entry} {Z = Global}) c.args.entries.now in
     let l : length h ≡ length c.args.entries.now = length-map c.args.entries.now (arc_value {X = Entry} {Z = Global}) in
     let some : 0 < length h = omega arith in
-    let kept : IsKept (before_last h) (record { numbers = c.self.inside.numbers; index = c.self.inside.index }) =
-    subst (IsKept (before_last h)) (sym c.self.view_is) c.requires.kept in
+    let kept : AreNamesKept (before_last h) (record { numbers = c.self.inside.numbers; index = c.self.inside.index }) =
+    subst (AreNamesKept (before_last h)) (sym c.self.view_is) c.requires.kept in
     subst (λ (x : List Entry). listing_by (names_of x) c.self.inside.index ≡ sorted_set listed_cmp (take c.used-begin.result (reports x)))
     (sym c.arrivals-arrivals.ensures)
     (listed_before h c.self.inside.index c.used-begin.result some kept.indexed kept.listed (c.used-begin.ensures.used ∙ kept.used))
@@ -38,8 +38,8 @@ add_arrivals-requires-clause-rises c =
     let h : List Entry = map (arc_value {X = Entry} {Z = Global}) c.args.entries.now in
     let l : length h ≡ length c.args.entries.now = length-map c.args.entries.now (arc_value {X = Entry} {Z = Global}) in
     let some : 0 < length h = omega arith in
-    let kept : IsKept (before_last h) (record { numbers = c.self.inside.numbers; index = c.self.inside.index }) =
-    subst (IsKept (before_last h)) (sym c.self.view_is) c.requires.kept in
+    let kept : AreNamesKept (before_last h) (record { numbers = c.self.inside.numbers; index = c.self.inside.index }) =
+    subst (AreNamesKept (before_last h)) (sym c.self.view_is) c.requires.kept in
     let fewer = (extends_last h some).count in
     let used = kept.used in
     let now = c.add.ensures.numbers.as_many in

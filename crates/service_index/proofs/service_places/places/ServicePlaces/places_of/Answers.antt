@@ -8,7 +8,7 @@ use Rattle.service_index.specs.Probes.{row_of}
 use Rattle.service_index.specs.Indexes.{IsNewest}
 use Rattle.service_index.specs.PlacesAlong.{along}
 use Rattle.trace_model.specs.Works.{service_brought}
-use Rattle.service_index.specs.Reported.{Reported, IsKept, reporters, service_label, service_labels, places_upto}
+use Rattle.service_index.specs.Reported.{Reported, ArePlacesKept, reporters, service_label, service_labels, places_upto}
 use Rattle.service_index.proofs.Walking.{walked}
 use Rattle.service_index.proofs.Following.{newest_own, newest_none, newest_rows}
 use Rattle.service_index.proofs.service_places.places.ServicePlaces.places_of.Goals as goal
@@ -26,7 +26,7 @@ returns c =
       batches =
           was.batches;
     } in
-    let kept : IsKept h old = subst (IsKept h) (sym c.self.view_is) c.requires in
+    let kept : ArePlacesKept h old = subst (ArePlacesKept h) (sym c.self.view_is) c.requires in
     let rows = newest_rows h old kept in
     let r = c.row_of-row.result in
     let row : r ≡ row_of (service_labels h) old.services.numbers (service_label s) =

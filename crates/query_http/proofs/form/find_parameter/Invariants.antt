@@ -1,6 +1,0 @@
-use Rattle.std.proofs.Common.{◌≡◌, drop}
-use Rattle.query_http.specs.Forms.{first_of}
-use Rattle.query_http.proofs.form.find_parameter.Given as goal
-
-abbrev pub invariant-loop-pair : goal.invariant-loop-pair
-invariant-loop-pair l = first_of l.name (drop l.pair-index l.pairs) ≡ first_of l.name l.pairs

@@ -1,0 +1,175 @@
+//! Connections whose sessions have ended while their clients may still read or send.
+
+use crate::connection::{DISCARD_SECONDS, Discarded, close_sending, discard_some};
+use open_connections::{Outbox, Socket};
+use slab::Slab;
+use std::alloc::Global;
+use std::time::Duration;
+
+/// A connection whose session has ended.
+#[derive(Drop)]
+struct LingeringConnection {
+    outbox: Outbox<Socket>,
+    /// The sending side is closed.
+    has_closed_sending: bool,
+    /// When it is dropped; never if `None`.
+    until: Option<Duration>,
+}
+
+/// What such a connection waits for.
+#[derive(Clone, Copy, Debug, PartialEq, Eq)]
+pub(crate) enum Step {
+    /// Its client to take more of the last response.
+    Writes,
+    /// More input to discard.
+    Reads,
+    /// Nothing that has to be watched.
+    Nothing,
+}
+
+/// Connections whose sessions have ended. The waiting part of the last response is written. Then input is discarded for
+/// a while, so that the client can read that response before the connection is closed.
+#[derive(Drop)]
+pub(crate) struct Lingering {
+    connections: Slab<LingeringConnection>,
+    /// The number of response bytes that wait to be written.
+    waiting: usize,
+}
+
+impl LingeringConnection {
+    /// Writes the waiting bytes, as far as the client takes them. Returns whether the connection is still useful.
+    fn write(&mut self, now: Duration, idle_limit: Option<Duration>) -> bool {
+        if self.outbox.flush().is_err() {
+            return false;
+        }
+        if self.outbox.has_waiting() {
+            self.until = idle_limit.map(|idle_limit| now.saturating_add(idle_limit));
+            return true;
+        }
+        self.has_closed_sending = true;
+        self.until = Some(now.saturating_add(Duration::from_secs(DISCARD_SECONDS)));
+        close_sending(self.outbox.connection().stream()).is_ok()
+    }
+}
+
+impl Lingering {
+    /// Creates an empty set.
+    pub(crate) fn new(alloc: Global) -> Lingering {
+        Lingering {
+            connections: Slab::new(alloc),
+            waiting: 0,
+        }
+    }
+
+    pub(crate) fn is_empty(&self) -> bool {
+        self.connections.is_empty()
+    }
+
+    pub(crate) fn len(&self) -> usize {
+        self.connections.len()
+    }
+
+    /// Returns the number of response bytes that wait for clients to take them.
+    pub(crate) fn waiting_bytes(&self) -> usize {
+        self.waiting
+    }
+
+    /// Adds a connection, and returns its key, or `None` if memory runs out.
+    pub(crate) fn add(&mut self, outbox: Outbox<Socket>) -> Option<usize> {
+        let waiting = outbox.waiting_bytes();
+        let lingering = LingeringConnection {
+            outbox,
+            has_closed_sending: false,
+            until: None,
+        };
+        let Ok(key) = self.connections.insert(lingering) else {
+            return None;
+        };
+        self.waiting = self.waiting.saturating_add(waiting);
+        Some(key)
+    }
+
+    /// Returns the socket under a key.
+    pub(crate) fn get(&self, key: usize) -> Option<&Socket> {
+        match self.connections.get(key) {
+            Some(lingering) => Some(lingering.outbox.connection()),
+            None => None,
+        }
+    }
+
+    /// Removes a connection.
+    pub(crate) fn remove(&mut self, key: usize) {
+        if let Some(lingering) = self.connections.try_remove(key) {
+            self.waiting = self
+                .waiting
+                .saturating_sub(lingering.outbox.waiting_bytes());
+        }
+    }
+
+    /// Writes the waiting part of a connection's last response, as far as its client takes it.
+    fn write(&mut self, key: usize, now: Duration, idle_limit: Option<Duration>) -> Step {
+        let Some(lingering) = self.connections.get_mut(key) else {
+            return Step::Nothing;
+        };
+        let before = lingering.outbox.waiting_bytes();
+        let is_of_use = lingering.write(now, idle_limit);
+        let has_closed_sending = lingering.has_closed_sending;
+        let written = before.saturating_sub(lingering.outbox.waiting_bytes());
+        self.waiting = self.waiting.saturating_sub(written);
+        match (is_of_use, has_closed_sending) {
+            (false, _) => {
+                self.remove(key);
+                Step::Nothing
+            }
+            (true, true) => Step::Reads,
+            (true, false) => Step::Writes,
+        }
+    }
+
+    /// Discards the input of a connection whose response was written.
+    fn discard_input(&mut self, key: usize) -> Step {
+        let Some(socket) = self.get(key) else {
+            return Step::Nothing;
+        };
+        match discard_some(socket.stream()) {
+            Discarded::All => Step::Nothing,
+            Discarded::Much => Step::Reads,
+            Discarded::Last => {
+                self.remove(key);
+                Step::Nothing
+            }
+        }
+    }
+
+    /// Writes the waiting part of a connection's last response, or discards its input. Removes a connection that has
+    /// failed, or whose client has closed its side after the response.
+    pub(crate) fn advance(
+        &mut self,
+        key: usize,
+        now: Duration,
+        idle_limit: Option<Duration>,
+    ) -> Step {
+        match self.connections.get(key) {
+            Some(lingering) if lingering.has_closed_sending => self.discard_input(key),
+            Some(_) => self.write(key, now, idle_limit),
+            None => Step::Nothing,
+        }
+    }
+
+    /// Returns whether the key is of a connection whose time is up.
+    fn is_late(&self, key: usize, now: Duration) -> bool {
+        match self.connections.get(key) {
+            Some(lingering) => lingering.until.is_some_and(|until| until <= now),
+            None => false,
+        }
+    }
+
+    /// Drops the connections whose time is up.
+    pub(crate) fn drop_late(&mut self, now: Duration) {
+        for key in 0..self.connections.capacity() {
+            if self.is_late(key, now) {
+                self.remove(key);
+            }
+        }
+    }
+}
