@@ -2,20 +2,30 @@
 """What bodies cost in which two parts could multiply: process tags and spans, a long text and the spans that share
 it, tags and asked pairs, and more.
 
-Each shape is a session of the built program, `jaeger_one pipe`, once with half of each part and once with the whole.
-Where a shape costs what its bytes cost, the whole takes twice the seconds and twice the memory of the half; where two
-parts multiply it takes four times. Seconds are processor time of the program, the least of some runs, less those of a
-session in which nothing is sent; with `--count` its instructions stand in their place, in millions, which callgrind
-counts and which are the same on a busy machine (Debian: `valgrind`). Memory is the program's greatest resident size,
-less that of the same.
+Each shape is a session of the built program, `jaeger_one pipe`, with a quarter of each part, with half and with the
+whole; each size is compared with the one before. Where a shape costs what its bytes cost, twice the parts take twice
+the seconds and twice the memory; where two parts multiply it takes four times. Seconds are processor time of the
+program, the least of some runs, less those of a session in which nothing is sent; with `--count` its instructions
+stand in their place, in millions, which callgrind counts and which are the same on a busy machine (Debian:
+`valgrind`). Memory is the program's greatest resident size, less that of the same.
 
     bench/heavy.py [--bin PATH] [--runs 3] [--parts 1000] [--count] [--save KIND] [SHAPE..]
+
+A row is dear if twice the parts take more than 2.2 times the memory or, with `--count`, the instructions, or if the
+whole takes more than 10 bytes of memory for each byte sent. Seconds aren't judged: they vary too much. If the bytes in
+and out together more than double, the bar is 1.1 times their growth, and the line says so. The last line is `0 dear`,
+or the number of dear rows after a line for each; the exit status is 1 then. Fixed costs count too, so with a few parts
+the memory for each byte is above its bar.
 """
+import contextlib
 import json
 import os
+import re
 import subprocess
+import sys
 import tempfile
 import time
+from typing import NamedTuple
 
 from decode import counted
 from results import Record, asked_of
@@ -25,6 +35,11 @@ from wire import get, integer, long, post, structs, text_tag
 WORDS = ["pipe", "--max-skew", "1000", "--batches", "100000", "--spans", "1000000"]
 TRACE = 7
 START = 1_600_000_000_000_000
+
+# The bars: of twice the parts, of twice the parts for each time that the bytes grow, and of the memory for each byte sent.
+GROWTH_BAR, BAR_OF_BYTES, SENT_BAR = 2.2, 1.1, 10
+COLUMNS = ["body, then what is asked", "MB in", "MB out", "million instructions, quarter", "half", "whole", "ratio, half", "ratio, whole",
+           "MB of memory, quarter", "half", "whole", "ratio, half", "ratio, whole", "of bytes sent", "bar, half", "bar, whole"]
 
 
 def tags(count, key="k"):
@@ -71,8 +86,15 @@ def binary_tag(key, data):
     return wire.field(wire.TEXT, 1) + wire.text(key) + integer(2, 4) + wire.field(wire.TEXT, 7) + wire.binary(data) + b"\0"
 
 
-def a_trace_each(count):
-    return [span(k, trace=k + 1) for k in range(count)]
+def a_trace_each(count, first=0):
+    return [span(k, trace=first + k + 1) for k in range(count)]
+
+
+def hidden_matches(count):
+    """Traces that matched, were hidden, and were opened again by a batch without the tag."""
+    matching = batch("a", [text_tag("k", "v")], a_trace_each(count))
+    others = batch("z", [], a_trace_each(count, 10_000_000))
+    return [post(matching), post(others), post(batch("a", tags(count), a_trace_each(count)))]
 
 
 def pairs_of_services(count, size):
@@ -147,7 +169,78 @@ SHAPES = {
         lambda n: [post(batch("a", [], a_trace_each(40 * n))), DEPENDENCIES],
     "pairs of long services; dependencies":
         lambda n: pairs_of_services(max(2, n // 10), 10 * n) + [DEPENDENCIES],
+    "process tags, a trace each; a search for all by one":
+        lambda n: [post(batch("a", tags(n // 4) + [text_tag("k", "v")], a_trace_each(4 * n))), finds("&tag=k:v&limit=0")],
+    "process tags, a trace each; a search for 100 by one":
+        lambda n: [post(batch("a", tags(4 * n) + [text_tag("k", "v")], a_trace_each(4 * n))), finds("&tag=k:v&limit=100")],
+    "matches that have left the ring; a search":
+        lambda n: hidden_matches(4 * n) + [finds("&tag=k:v&limit=1")],
 }
+# The words of a session beside WORDS.
+MORE_WORDS = {"matches that have left the ring; a search": lambda n: ["--traces", str(4 * n)]}
+
+
+class Refused(Exception):
+    """The program refused a request: its body or its head is too large."""
+
+
+class Seen(NamedTuple):
+    """What a session took: seconds or million instructions, and megabytes of memory, sent and answered."""
+    took: float
+    memory: float
+    sent: float
+    answered: float
+
+
+class Step(NamedTuple):
+    """How many times as much a session took as one with half of its parts."""
+    took: float
+    memory: float
+    bar: float
+
+    @classmethod
+    def of(cls, half, whole):
+        in_and_out = (whole.sent + whole.answered) / (half.sent + half.answered)
+        ratios = (max(new, 1e-3) / max(old, 1e-3) for old, new in zip(half[:2], whole[:2]))
+        return cls(*ratios, max(GROWTH_BAR, BAR_OF_BYTES * in_and_out))
+
+
+class Row:
+    """A shape with a quarter of its parts, with half and with the whole."""
+
+    def __init__(self, name, seen):
+        self.name = name
+        self.seen = seen
+        self.steps = [Step.of(half, whole) for half, whole in zip(seen, seen[1:])]
+        self.of_bytes = seen[-1].memory / seen[-1].sent
+
+    def __str__(self):
+        def numbers(values, form):
+            return ", ".join(format(value, form) for value in values)
+
+        whole, steps = self.seen[-1], self.steps
+        took, memory = numbers([it.took for it in self.seen], ".2f"), numbers([it.memory for it in self.seen], ".1f")
+        bars = numbers([it.bar for it in steps], ".1f")
+        told = "" if bars == numbers([GROWTH_BAR] * len(steps), ".1f") else f"  by the growth of its bytes: bars {bars}"
+        return (f"{self.name:55} {whole.sent:6.2f} {whole.answered:7.2f} {took:>24} {numbers([it.took for it in steps], '.1f'):>9} {memory:>16}"
+                f" {numbers([it.memory for it in steps], '.1f'):>9} {self.of_bytes:6.1f}{told}")
+
+    def columns(self):
+        whole, steps = self.seen[-1], self.steps
+        took = [*(round(it.took) for it in self.seen), *(round(it.took, 1) for it in steps)]
+        memory = [*(round(it.memory, 1) for it in self.seen), *(round(it.memory, 1) for it in steps)]
+        bars = [round(it.bar, 1) for it in steps]
+        return [self.name, round(whole.sent, 2), round(whole.answered, 2), *took, *memory, round(self.of_bytes, 1), *bars]
+
+    def faults(self, counted):
+        """What is above its bar; seconds never are."""
+        for parts, step in zip(("half", "the whole"), self.steps):
+            judged = [("instructions", step.took), ("memory", step.memory)][0 if counted else 1:]
+            for what, ratio in judged:
+                if ratio > step.bar:
+                    yield f"{ratio:.2f} times the {what} for {parts}, and {step.bar:.2f} is the bar"
+        if self.of_bytes > SENT_BAR:
+            yield f"{self.of_bytes:.1f} bytes of memory for each byte sent, and {SENT_BAR} is the bar"
 
 
 class Runner:
@@ -175,10 +268,12 @@ def serve(to_read, to_write):
         words, stdin, stdout = json.loads(line)
         with open(stdin, "rb") as given, open(stdout, "wb") as got:
             program = subprocess.Popen(words, stdin=subprocess.PIPE, stdout=got)
-            program.stdin.write(given.read())
-            program.stdin.flush()
+            with contextlib.suppress(BrokenPipeError):  # of a program that refused a request and ended
+                program.stdin.write(given.read())
+                program.stdin.flush()
             peak = peak_at_rest(program.pid, got.fileno())
-            program.stdin.close()
+            with contextlib.suppress(BrokenPipeError):
+                program.stdin.close()
         _, status, used = os.wait4(program.pid, 0)
         program.returncode = os.waitstatus_to_exitcode(status)
         os.write(to_write, json.dumps([program.returncode, used.ru_utime + used.ru_stime, peak]).encode())
@@ -186,45 +281,66 @@ def serve(to_read, to_write):
 
 
 def peak_at_rest(pid, output):
-    """The greatest resident size once the program waits for more input. (What the system keeps of an ended one counts this script's own memory too.)"""
+    """The greatest resident size once the program waits for more input. (What the system keeps of an ended one counts this script's own memory too.)
+    It is 0 for a program that has ended."""
     seen, still = None, 0
     while still < 4:
         time.sleep(0.01)
         with open(f"/proc/{pid}/stat") as file:
             state = file.read().rpartition(")")[2].split()
         now = state[0], state[11], state[12], os.fstat(output).st_size
-        still = still + 1 if now == seen and state[0] == "S" else 0
+        still = still + 1 if now == seen and state[0] in "SZ" else 0
         seen = now
     with open(f"/proc/{pid}/status") as file:
-        return next(int(line.split()[1]) for line in file if line.startswith("VmHWM"))
+        return next((int(line.split()[1]) for line in file if line.startswith("VmHWM")), 0)
 
 
-def run(runner, binary, requests):
+def run(runner, command, requests):
     """Processor seconds, the greatest resident size in megabytes, and the bytes of all answers."""
     with tempfile.TemporaryDirectory() as room:
         stdin, stdout = f"{room}/stdin", f"{room}/stdout"
         with open(stdin, "wb") as file:
             file.writelines(requests)
-        status, seconds, kilobytes = runner.run([binary] + WORDS, stdin, stdout)
-        assert status == 0, status
+        status, seconds, kilobytes = runner.run(command, stdin, stdout)
         with open(stdout, "rb") as file:
             answers = file.read()
-    assert b"HTTP/1.1 4" not in answers and b"HTTP/1.1 5" not in answers, answers[:400]
+    if refused := re.search(rb"HTTP/1.1 (4\d\d) ", answers):
+        raise Refused(refused[1].decode())
+    assert status == 0 and b"HTTP/1.1 5" not in answers, (status, answers[:400])
     return seconds, kilobytes / 1024, len(answers)
 
 
-def least(runner, binary, requests, options):
-    taken = [run(runner, binary, requests) for _ in range(options.runs)]
-    took = instructions(binary, requests) / 1e6 if options.count else min(t[0] for t in taken)
-    return took, min(t[1] for t in taken), taken[0][2]
+def least(runner, command, requests, options):
+    taken = [run(runner, command, requests) for _ in range(options.runs)]
+    took = instructions(command, requests) / 1e6 if options.count else min(t[0] for t in taken)
+    return Seen(took, min(t[1] for t in taken), sum(map(len, requests)) / 1e6, taken[0][2] / 1e6)
 
 
-def instructions(binary, requests):
+def instructions(command, requests):
     """The instructions of a session."""
     with tempfile.TemporaryFile() as stdin:
         stdin.writelines(requests)
         stdin.seek(0)
-        return counted([binary, *WORDS], stdin)
+        return counted(command, stdin)
+
+
+def rows(options, left_out):
+    """A row for each shape that is wanted, less a session in which nothing is sent. A shape that the program refuses is added to `left_out`."""
+    runner, command = Runner(), [options.bin, *WORDS]
+    rest = least(runner, command, [], options)
+    for name, shape in SHAPES.items():
+        if options.shapes and not any(word in name for word in options.shapes):
+            continue
+        more, seen = MORE_WORDS.get(name, lambda n: []), []
+        try:
+            for n in (options.parts // 4, options.parts // 2, options.parts):
+                found = least(runner, command + more(n), shape(n), options)
+                seen.append(found._replace(took=found.took - rest.took, memory=found.memory - rest.memory))
+        except Refused as refused:
+            print(f"{name:55} left out: a body or a head of that many parts is too large ({refused})", flush=True)
+            left_out.append(name)
+            continue
+        yield Row(name, seen)
 
 
 def main():
@@ -234,36 +350,19 @@ def main():
     words.add_argument("--count", action="store_true", help="count instructions in place of seconds, in millions")
     words.add_argument("shapes", nargs="*", help="words of the shapes to run; all where none is given")
     options = words.parse_args()
-    record = Record(options, "heavy", ["body, then what is asked", "MB in", "MB out", "million instructions, half", "whole", "ratio", "MB of memory, half",
-                                       "whole", "ratio", "of bytes in and out"])
-    runner = Runner()
-    rest = least(runner, options.bin, [], options)
+    record, dear, left_out = Record(options, "heavy", COLUMNS), [], []
     unit = "instructions" if options.count else "seconds"
-    print(f"{'':45} {'MB in':>6} {'MB out':>7} {unit:>16} {'ratio':>6} {'MB of memory':>15} {'ratio':>6} {'of bytes':>8}")
-    for name, shape in SHAPES.items():
-        if options.shapes and not any(word in name for word in options.shapes):
-            continue
-        seen = []
-        for n in (options.parts // 2, options.parts):
-            requests = shape(n)
-            try:
-                seconds, peak, out = least(runner, options.bin, requests, options)
-            except AssertionError:
-                print(f"{name:45} left out: a body or a head of so many parts is too large")
-                break
-            seen.append((seconds - rest[0], peak - rest[1], sum(map(len, requests)) / 1e6, out / 1e6))
-        if len(seen) < 2:
-            continue
-        half, whole = seen
-        ratios = [whole[at] / max(half[at], 1e-3) for at in (0, 1)]
-        of_bytes = whole[1] / (whole[2] + whole[3])
-        print(f"{name:45} {whole[2]:6.2f} {whole[3]:7.2f} {half[0]:7.2f}, {whole[0]:7.2f} {ratios[0]:6.1f}"
-              f" {half[1]:6.1f}, {whole[1]:7.1f} {ratios[1]:6.1f} {of_bytes:8.1f}", flush=True)
-        record.row(name, round(whole[2], 2), round(whole[3], 2), round(half[0]), round(whole[0]), round(ratios[0], 1), round(half[1], 1), round(whole[1], 1),
-                   round(ratios[1], 1), round(of_bytes, 1))
+    print(f"{'':55} {'MB in':>6} {'MB out':>7} {unit:>24} {'ratios':>9} {'MB of memory':>16} {'ratios':>9} {'of sent':>6}")
+    for row in rows(options, left_out):
+        print(row, flush=True)
+        record.row(*row.columns())
+        if faults := [*row.faults(options.count)]:
+            dear.append(f"{row.name}: {'; '.join(faults)}")
     if options.count and not options.shapes:
         record.save()
+    print("\n".join([*dear, f"{len(dear)} dear" + (f", {len(left_out)} left out" if left_out else "")]))
+    return 1 if dear else 0
 
 
 if __name__ == "__main__":
-    main()
+    sys.exit(main())

@@ -2,22 +2,42 @@
 """How long a POST waits beside a query: a query is asked inside a copy of the store, and a publish waits until it has left.
 
 For each shape a server is filled, and one connection posts a span every few milliseconds while another asks the query, one after the
-other. Printed are the longest and the middle time of a POST while nobody asks and beside the query, and the longest time of the query.
+other. Printed are the longest and the middle time of a POST while nobody asks and beside the query, and of the query itself.
 The first shapes are bodies that a sender may pick so that two parts of them multiply; of these the whole and half of the parts are
-posted, and sizes are the megabytes posted. The last ones are plain stores of so many spans.
+posted, and sizes are the megabytes posted. The last ones are plain stores of each size of `--spans`, filled once for all their queries.
 
-    bench/held.py [--bin PATH] [--parts 1000] [--spans 100000] [--asks 5] [--save KIND] [SHAPE..]
+    bench/held.py [--bin PATH] [--parts 1000] [--spans 100000,1000000,10000000] [--asks 5] [--save KIND] [SHAPE..]
+
+A row is dear if its longest POST beside the query takes more than 20 ms, and 100 ms more for each million spans above 100,000, and also
+more than twice the longest POST while nobody asks: if POSTs are about as slow without the query, the machine is slow and not the query.
+Such a row is measured a second time and is dear only if it is above its bar again: a query that delays POSTs delays them every time.
+The latest traces of a service are dear if their middle time at 10,000,000 spans is more than 3 times that at 100,000. The last line is
+`0 dear`, or the number of dear rows after a line for each; the exit status is 1 then.
 """
+import contextlib
+import itertools
 import statistics
+import sys
 import threading
 import time
+from typing import NamedTuple
 
 from results import Record, asked_of
-from servers import Client, Server, check, get, post, post_body
+from servers import Client, Failed, Server, check, get, post, post_body
 import wire
 
-ROOM = ["--batches", "1000000", "--spans", "10000000", "--workers", "4"]
+# The largest store there is. Of 10,000,000 spans a hundredth isn't filled in: a full store refuses the POSTs.
+MOST_SPANS, FREE = 10_000_000, 100_000
+ROOM = ["--batches", "1000000", "--spans", str(MOST_SPANS), "--workers", "4"]
+IN_BATCH, AT_ONCE = 1000, 20
 END = 1 << 60
+
+# The bars: milliseconds for a POST beside a query, and how many times as long a query may take in the larger of two stores.
+POST_BAR, POST_BAR_FOR_A_MILLION = 20, 100
+LATEST_BAR, LATEST_SIZES = 3, (100_000, 10_000_000)
+# A short query is asked more often than told, so that some POSTs fall beside it.
+ASKED_FOR = 0.5
+COLUMNS = ["shape", "size", "unit", "POST alone, ms, longest", "middle", "beside, ms, longest", "middle", "query, ms, longest", "query, ms, middle"]
 
 
 def tag(key, value=""):
@@ -92,23 +112,66 @@ SHAPES = {
 
 def plain_bodies(spans):
     """Traces of ten spans of ten services that call one another, in batches of a service; each tenth trace has an error."""
-    for first in range(0, spans // 10, 10):
+    bad = wire.structs(10, [tag("error", "true")])
+    traces = min(spans, MOST_SPANS - FREE) // 10
+    for first in range(0, traces, IN_BATCH):
+        numbers = range(first, min(first + IN_BATCH, traces))
         for service in range(10):
-            numbers = range(first, first + 10)
-            bad = wire.structs(10, [tag("error", "true")])
             yield wire.batch(f"s{service}", [
                 wire.span(1 + k, 1 + service, service, start=1_600_000_000_000_000 + 1000 * k, more=bad if k % 10 == 0 else b"")
                 for k in numbers], [tag("ip", f"10.0.0.{service}"), tag("host", "a")])
 
 
+LATEST = {
+    "the 20 latest of a service": search("&limit=20", "s3"),
+    "the latest of a service": search("&limit=1", "s3"),
+}
 PLAIN = {
     "all dependencies": DEPENDENCIES,
-    "the 20 latest of a service": search("&limit=20", "s3"),
+    **LATEST,
     "the 20 latest of a service with a tag": search("&tag=error:true&limit=20", "s3"),
     "all of a service with no such tag": search("&tag=error:maybe&limit=20", "s3"),
     "a trace": get("/api/traces/7"),
     "services": get("/api/services"),
 }
+
+
+class Times(NamedTuple):
+    """The longest and the middle of some times, in milliseconds."""
+    longest: float
+    middle: float
+
+    @classmethod
+    def of(cls, times):
+        return cls(max(times), statistics.median(times))
+
+    def __str__(self):
+        return f"{self.longest:.1f} ({self.middle:.2f})"
+
+
+class Row(NamedTuple):
+    """What was measured of a shape: POSTs alone and beside the query, and the query."""
+    name: str
+    size: float
+    unit: str
+    alone: Times
+    beside: Times
+    query: Times
+
+    def bar(self):
+        """How long a POST beside the query may take. What a sender picked is smaller than the smallest plain store."""
+        more = max(0, self.size - 100_000) if self.unit == "spans" else 0
+        return POST_BAR + POST_BAR_FOR_A_MILLION * more / 1e6
+
+    def is_dear(self):
+        return self.beside.longest > max(self.bar(), 2 * self.alone.longest)
+
+    def columns(self):
+        times = [round(value, 1 + at) for pair in (self.alone, self.beside, self.query) for at, value in enumerate(pair)]
+        return [self.name, self.size, self.unit, *times]
+
+    def __str__(self):
+        return f"{self.name}\t{self.size:,} {self.unit}\t{self.alone}\t{self.beside}\t{self.query}"
 
 
 class Poster(threading.Thread):
@@ -119,13 +182,17 @@ class Poster(threading.Thread):
         self.client = Client(port, patience=600)
         self.going = True
         self.times = []
+        self.fault = None
         self.start()
 
     def run(self):
         number = 1 << 70
-        while self.going:
+        while self.going and not self.fault:
             begin = time.perf_counter()
-            self.client.ask(post(number, service="poster"), 202)
+            try:
+                self.client.ask(post(number, service="poster"), 202)
+            except (Failed, OSError) as fault:
+                self.fault = fault
             self.times.append(1000 * (time.perf_counter() - begin))
             number += 1
             time.sleep(0.002)
@@ -133,7 +200,10 @@ class Poster(threading.Thread):
     def ends(self):
         self.going = False
         self.join()
-        return max(self.times), statistics.median(self.times)
+        self.client.socket.close()
+        if self.fault:
+            raise Failed(f"a POST failed: {self.fault}")
+        return Times.of(self.times)
 
 
 def taken(client, query):
@@ -153,58 +223,103 @@ def taken(client, query):
 
 
 def beside(server, query, asks):
-    """The longest and the middle time of a POST alone and beside the query, and the longest time of the query, in milliseconds."""
+    """The times of a POST alone and beside the query, and of the query."""
     alone = Poster(server.port)
     time.sleep(1)
     alone = alone.ends()
-    poster, longest = Poster(server.port), 0
+    poster, times = Poster(server.port), []
+    end = time.monotonic() + ASKED_FOR
     with Client(server.port, patience=600) as client:
-        for _ in range(asks):
-            longest = max(longest, taken(client, query))
-    return alone, poster.ends(), longest
+        while len(times) < asks or time.monotonic() < end:
+            times.append(taken(client, query))
+    return alone, poster.ends(), Times.of(times)
 
 
+@contextlib.contextmanager
 def filled(program, words, bodies):
-    server, sent = Server(*ROOM, *words, binary=program), 0
-    with Client(server.port, patience=600) as client:
-        for body in bodies:
-            client.ask(post_body(body), 202)
-            sent += len(body)
-    return server, sent
+    """A server that was sent these bodies, and their bytes. Only the bodies of one turn are in memory."""
+    sent = 0
+    with Server(*ROOM, *words, binary=program) as server:
+        bodies = iter(bodies)
+        with Client(server.port, patience=600) as client:
+            while some := [*itertools.islice(bodies, AT_ONCE)]:
+                client.send(b"".join(map(post_body, some)))
+                for body in some:
+                    check(client.response().status == 202, f"the body {body[:40]!r} was refused")
+                    sent += len(body)
+        yield server, sent
 
 
-def said(record, name, size, server, query, asks):
-    alone, longest, took = beside(server, query, asks)
-    record.row(name, *size, round(alone[0], 1), round(alone[1], 2), round(longest[0], 1), round(longest[1], 2), round(took, 1))
-    print(f"{name}\t{size[0]} {size[1]}\t{alone[0]:.1f} ({alone[1]:.2f})\t{longest[0]:.1f} ({longest[1]:.2f})\t{took:.1f}", flush=True)
+def measured(name, size, unit, server, query, asks):
+    """The row of a shape. One above its bar is measured again, and the better one counts."""
+    row = Row(name, size, unit, *beside(server, query, asks))
+    if row.is_dear():
+        print(f"{row}\tabove its bar, measured again", flush=True)
+        again = Row(name, size, unit, *beside(server, query, asks))
+        row = again if not again.is_dear() else min(row, again, key=lambda it: it.beside.longest)
+    return row
+
+
+def rows_of_senders(options, chosen):
+    """The shapes that a sender may pick, each with half of its parts and with the whole."""
+    for name, shape in SHAPES.items():
+        for n in (options.parts // 2, options.parts):
+            if chosen(name):
+                more, bodies, query = shape(n)
+                with filled(options.bin, more, bodies) as (server, sent):
+                    yield measured(name, round(sent / 1e6, 2), "MB", server, query, options.asks)
+
+
+def rows_of_plain_stores(options, chosen):
+    """The queries of plain stores. A store of millions takes minutes to fill, so it is filled once for all of them."""
+    names = [name for name in PLAIN if chosen(name)]
+    for spans in options.spans if names else []:
+        begin = time.monotonic()
+        with filled(options.bin, [], plain_bodies(spans)) as (server, _):
+            print(f"filled with {spans:,} spans in {time.monotonic() - begin:.0f} s, {server.memory() / 1000:.0f} MB", flush=True)
+            for name in names:
+                yield measured(name, spans, "spans", server, PLAIN[name], options.asks)
+
+
+def dear(rows):
+    """A line for each row above its bar."""
+    for row in rows:
+        if row.is_dear():
+            yield f"{row.name}, {row.size:,} {row.unit}: a POST beside it took {row.beside.longest:.1f} ms, and {row.bar():.0f} ms is the bar"
+    middles = {(row.name, row.size): row.query.middle for row in rows if row.unit == "spans"}
+    for name in LATEST:
+        small, large = (middles.get((name, size)) for size in LATEST_SIZES)
+        if small and large:
+            print(f"{name}, {LATEST_SIZES[1]:,} spans: {large / small:.1f} times the middle time at {LATEST_SIZES[0]:,}")
+            if large > LATEST_BAR * small:
+                yield f"{name}, {LATEST_SIZES[1]:,} spans: more than {LATEST_BAR} times the middle time at {LATEST_SIZES[0]:,}"
+
+
+def sizes(text):
+    return [int(size) for size in text.split(",")]
 
 
 def main():
     words = asked_of(__doc__)
     words.add_argument("--parts", type=int, default=1000, help="how many parts the whole has")
-    words.add_argument("--spans", type=int, default=100_000, help="how many spans the plain stores hold")
-    words.add_argument("--asks", type=int, default=5, help="how often each query is asked")
+    words.add_argument("--spans", type=sizes, default=[100_000], help=f"how many spans the plain stores hold, {MOST_SPANS:,} at most")
+    words.add_argument("--asks", type=int, default=5, help="how often each query is asked at least")
     words.add_argument("shapes", nargs="*", help="words of the shapes to run; all where none is given")
     options = words.parse_args()
-    record = Record(options, "held", ["shape", "size", "unit", "POST alone, ms, longest", "middle", "beside, ms, longest", "middle", "query, ms, longest"])
+    record, rows = Record(options, "held", COLUMNS), []
     chosen = lambda name: not options.shapes or any(word in name for word in options.shapes)
-    print("shape\tsent or held\tPOST alone, ms: longest (middle)\tbeside the query\tthe query, ms: longest")
-    for name, shape in SHAPES.items():
-        for n in (options.parts // 2, options.parts):
-            if chosen(name):
-                more, bodies, query = shape(n)
-                server, sent = filled(options.bin, more, bodies)
-                with server:
-                    said(record, name, (round(sent / 1e6, 2), "MB"), server, query, options.asks)
-    if any(chosen(name) for name in PLAIN):
-        server, _ = filled(options.bin, [], plain_bodies(options.spans))
-        with server:
-            for name, query in PLAIN.items():
-                if chosen(name):
-                    said(record, name, (options.spans, "spans"), server, query, options.asks)
+    print("shape\tsent or held\tPOST alone, ms: longest (middle)\tbeside the query\tthe query, ms: longest (middle)")
+    for made in (rows_of_senders, rows_of_plain_stores):
+        for row in made(options, chosen):
+            record.row(*row.columns())
+            rows.append(row)
+            print(row, flush=True)
+    found = [*dear(rows)]
     if not options.shapes:
         record.save()
+    print("\n".join([*found, f"{len(found)} dear"]))
+    return 1 if found else 0
 
 
 if __name__ == "__main__":
-    main()
+    sys.exit(main())

@@ -33,7 +33,9 @@ SHAPES = {"traces": "ordinary traces", "services": "a new service with each body
           "one trace": "all spans in one trace", "processes": "a process for each span", "chain": "a chain", "one span id": "all spans of one id",
           "colliding": "ids that collide without a key"}
 KINDS = {"one half": "unlike in one half alone", "colliding": "all collide under a hash without a key"}
-# The shapes of heavy.py of which twice of each part isn't twice the bytes.
+# The bar of heavy.py for twice the parts, unless they are more than twice the bytes.
+GROWTH_BAR = 2.2
+# The shapes of heavy.py of which twice of each part isn't twice the bytes, for rows of earlier versions of it, which have no bars.
 NOT_DOUBLED = ["equal processes of batches; the trace", "pairs of long services; dependencies"]
 MACHINES = "../bench/README.md#machines"
 NOISE = "within the noise"
@@ -213,7 +215,22 @@ def shapes(found):
     return table(["Shape", "Posts, twice of once; then answers"], rows) + found.caption("shapes")
 
 
+def has_quarters(found):
+    """Whether the rows of heavy.py have a quarter of the parts and bars. Those of earlier versions begin with half of the parts."""
+    return "bar, whole" in found.series["heavy"]["columns"]
+
+
 def heavy(found):
+    if not has_quarters(found):
+        return heavy_of_halves(found)
+    heads = ["Body, then what is asked", "MB in", "MB out", "Million instructions: a quarter, half, the whole", "Ratios", "MB of memory", "Ratios",
+             "Memory of bytes sent", "Bars of the ratios"]
+    rows = ([it[0], f"{it[1]:.2f}", f"{it[2]:.2f}", *(", ".join(map(cell, it[first:end])) for first, end in ((3, 6), (6, 8), (8, 11), (11, 13))),
+             cell(it[13]), ", ".join(map(cell, it[14:16]))] for it in found.rows("heavy"))
+    return table(heads, rows) + found.caption("heavy")
+
+
+def heavy_of_halves(found):
     heads = ["Body, then what is asked", "MB in", "MB out", "Million instructions, half and whole", "Ratio", "MB of memory, half and whole", "Ratio",
              "Memory of bytes in and out"]
     rows = ([it[0], f"{it[1]:.2f}", f"{it[2]:.2f}", f"{it[3]}, {it[4]}", cell(it[5]), f"{it[6]}, {it[7]}", cell(it[8]), cell(it[9])]
@@ -221,10 +238,34 @@ def heavy(found):
     return table(heads, rows) + found.caption("heavy")
 
 
+def growth(found):
+    """What twice the bytes cost, for the shapes of heavy.py of which twice the parts are twice the bytes."""
+    if has_quarters(found):
+        doubled = [it for it in found.rows("heavy") if max(it[14:16]) <= GROWTH_BAR + 0.1]
+        instructions, memory = ([ratio for it in doubled for ratio in it[first : first + 2]] for first in (6, 11))
+    else:
+        doubled = [it for it in found.rows("heavy") if it[0] not in NOT_DOUBLED]
+        instructions, memory = ([it[at] for it in doubled] for at in (5, 8))
+    return f"{span(instructions, cell)} times the instructions, at most {max(memory)} times the memory"
+
+
 def held(found):
-    heads = ["Shape", "Sent or held", "POST alone, ms: longest (middle)", "Beside the query, ms", "The query, ms: longest"]
-    rows = ([it[0], f"{cell(it[1])} {it[2]}", f"{it[3]} ({it[4]:.2f})", f"{it[5]} ({it[6]:.2f})", cell(it[7])] for it in found.rows("held"))
+    """The middle time of the query is missing in rows of earlier versions of the script."""
+    middle = "query, ms, middle" in found.series["held"]["columns"]
+    heads = ["Shape", "Sent or held", "POST alone, ms: longest (middle)", "Beside the query, ms", f"The query, ms: longest{' (middle)' if middle else ''}"]
+    rows = ([it[0], f"{cell(it[1])} {it[2]}", f"{it[3]} ({it[4]:.2f})", f"{it[5]} ({it[6]:.2f})", f"{it[7]} ({it[8]:.2f})" if middle else cell(it[7])]
+            for it in found.rows("held"))
     return table(heads, rows) + found.caption("held")
+
+
+def waits(found):
+    """The longest POST beside a query and the longest alone, then the longest beside a query of each store of more than 100,000 spans."""
+    by_size = {}
+    for _, size, unit, alone, _, beside, *_ in found.rows("held"):
+        by_size.setdefault(size if unit == "spans" and size > 100_000 else 0, []).append((beside, alone))
+    longest, alone = (max(times) for times in zip(*by_size.pop(0)))
+    larger = (f"; {max(times)[0]} ms at {size:,} spans held" for size, times in sorted(by_size.items()))
+    return f"{longest} ms; {alone} ms while nobody asks{''.join(larger)}"
 
 
 def serve(found):
@@ -353,15 +394,12 @@ def glance_connections(found):
 def glance_rest(found):
     megabytes_a_second = ", ".join(cell(it[4]) for it in found.rows("decode"))
     loads = ", ".join(cell(it[1]) for it in found.rows("searches --load"))
-    longest, alone = (max(it[at] for it in found.rows("held")) for at in (5, 3))
-    doubled = [it for it in found.rows("heavy") if it[0] not in NOT_DOUBLED]
     more = [it[2] for it in found.rows("resent") if it[0] != "again"]
-    of_bytes = f"{span([it[5] for it in doubled], cell)} times the instructions, at most {max(it[8] for it in doubled)} times the memory"
     yield "`get`, MB of decoded batches a second", f"{megabytes_a_second} at 1, 10 and 100 MB", "`decode.py`"
     yield "the JSON of 20 traces, instructions a byte", cell(found.of("searches --count", "the JSON of 20 traces")), "`searches.py --count`"
     yield "applying a batch of 10 spans to a store, microseconds", f"{loads} at 1,000, 10,000 and 100,000 spans held", "`searches.py --load`"
-    yield "a POST at another worker than a query's, the longest beside all shapes", f"{longest} ms; {alone} ms while nobody asks", "`held.py`"
-    yield "twice the bytes, for bodies in which two parts could multiply", of_bytes, "`heavy.py --count`"
+    yield "a POST at another worker than a query's, the longest beside all shapes", waits(found), "`held.py`"
+    yield "twice the bytes, for bodies in which two parts could multiply", growth(found), "`heavy.py --count`"
     yield "a trace limit, microseconds", f"{span([it[1] for it in found.rows('limits')], cell)} at 1,000 to 100,000 traces held", "`limits.py`"
     yield "a batch with a `seqNo`, beside one without, in `play`, microseconds", f"{span(more, cell)} more", "`resent.py`"
 
@@ -446,7 +484,13 @@ TABLES = {name: it for name, it in globals().items() if name in (
 def quotes(found):
     """The sentences that quote figures, with their pages."""
     noise = ("bench/README.md", f"the ratios of the rounds of `serve.py` differ by up to {found.series['serve']['noise']} of themselves")
-    return [noise, *memory_quotes(found), *connection_quotes(found), *gate_quotes(found)]
+    return [noise, unplaced(found), *memory_quotes(found), *connection_quotes(found), *gate_quotes(found)]
+
+
+def unplaced(found):
+    """What the page says of the series that have a date and no commit."""
+    names = [f"`{name}`" for name, it in found.series.items() if it.get("date") and not it.get("commit")]
+    return "bench/README.md", f"The commit wasn't written down for {len(names)} series: {', '.join(names[:-1])} and {names[-1]}."
 
 
 def memory_quotes(found):
@@ -463,6 +507,7 @@ def memory_quotes(found):
            f"{one[2]} and {five[2]} bytes a span")
     yield "docs/operating.md", f"An empty server takes {empty:.0f} MB"
     of_bytes = [it[-2] for it in found.rows("memory --process-tags")]
+    yield "docs/operating.md", f"times {found.rows('memory, most')[0][-1]:.1f}, the most bytes of memory that were measured for each byte of a body"
     yield "docs/operating.md", f"reckon with {min(of_bytes):.1f} to {max(of_bytes):.1f} times the bytes that come"
     yield "docs/operating.md", f"a batch takes {batch[0]} bytes of its own, and {batch[1]} with its process"
     yield "docs/operating.md", f"reckoned at {start[0]} and {start[1]} bytes a span"
@@ -502,7 +547,7 @@ def gate_quotes(found):
            "virtual machine of four cores")
     yield "docs/MAINTAINING.md", f"took about {before} minutes of a processor, added up over several runs"
     yield "docs/MAINTAINING.md", f"took about {now} minutes of a processor and {by_clock} by the clock"
-    yield "README.md", f"An earlier version took {clock} minutes on four cores"
+    yield "README.md", f"The proofs and tests took {by_clock} minutes beside other jobs"
     least, most = found.of("proofs", "a test crate before its first test")
     once, often = found.of("proofs", "a public function whose contract names much, once a crate")
     yield "docs/MAINTAINING.md", f"{least} to {most} seconds of a processor to read what it stands on, and {once} to {often} once for each public function"

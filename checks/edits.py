@@ -1,21 +1,39 @@
 #!/usr/bin/env python3
 """Says which wrong bodies (crates/NAME/must-fail, wrong-bodies/NAME) no longer apply to their crate. No prover is asked.
 
-    checks/edits.py
+    checks/edits.py [--kit FOLDER]
 
-An edit applies if each of its `old:` lines stands once in the file that it names, after the edits of the lines before it. A line
-is printed for each one that doesn't, then the count; the exit status is 0 only if all apply. docs/MAINTAINING.md says how an edit is written.
+An edit applies if each of its `old:` lines stands once in the file that it names, after the edits of the lines before it. Nor does one
+apply whose new text calls a function or method that neither its crate nor one below it nor the toolchain defines (a method has to take
+`self`), or returns a record that the type of its function doesn't name. Only names are looked up, so an edit that passes may still not
+compile. Without the toolchain's sources (`--kit`) no call is looked up, and it says so. A line is printed for each edit that doesn't
+apply, then the count; the exit status is 0 only if all apply. docs/MAINTAINING.md says how an edit is written.
 """
 
+import functools
 import pathlib
 import re
 import sys
 
-from crates import asked_of
+from crates import asked_of, below, lists
 
 TOP = pathlib.Path(__file__).resolve().parent.parent
+KIT = pathlib.Path("/opt/rattle/rattle")
 NAME = re.compile(r"[A-Za-z0-9_-][A-Za-z0-9_.-]*\.edit")
 PARTS = ("src/", "specs/", "proofs/")
+# The crates of which `std` is made.
+STD = ("core", "std", "std_alloc", "std_collections", "std_heap", "std_io")
+
+TEXTS = re.compile(r'b?"(?:[^"\\]|\\.)*"|//[^\n]*|#\[[^\]]*\]')
+DEFINED = re.compile(r"\bfn\s+(\w+)([^{;]*)")
+TAKES_SELF = re.compile(r"[(,]\s*(?:mut\s+)?(?:&\s*(?:'\w+\s+)?(?:mut\s+)?)?self\s*[,):]")
+CALLED = re.compile(r"(\.|::)?\b([a-z_]\w*)(?:::<[^()]*>)?\(")
+BOUND = re.compile(r"\b(?:let|Some\(|Ok\()\s*(?:mut\s+)?([a-z_]\w*)|\b([a-z_]\w*)\s*:(?!:)")
+RETURNED = re.compile(r"\breturn Ok\(([A-Z]\w*) \{")
+# Methods of numbers that no source defines.
+BUILT_IN = {"wrapping_add", "wrapping_sub", "wrapping_mul"}
+# What stands before a parenthesis and calls nothing.
+WORDS = {"if", "in", "match", "while", "return", "for", "fn", "pub", "let", "else", "move", "mut", "ref"}
 
 
 class Fault(Exception):
@@ -70,6 +88,61 @@ def apply(edit, crate):
     return texts
 
 
+def defined(text):
+    """Returns the names of a text's methods, and of its other functions."""
+    methods, functions = set(), set()
+    for found in DEFINED.finditer(text):
+        (methods if TAKES_SELF.search(found[2]) else functions).add(found[1])
+    return methods, functions
+
+
+@functools.cache
+def names_of(folder):
+    """Returns the names of the methods and of the other functions that a crate's sources define."""
+    methods, functions = set(), set()
+    for file in sorted((folder / "src").rglob("*.rt")):
+        found = defined(file.read_text(encoding="utf-8"))
+        methods |= found[0]
+        functions |= found[1]
+    return methods, functions
+
+
+@functools.cache
+def known_to(crate, kit):
+    """Returns the names of the methods and of the other functions of a crate and of those that it stands on."""
+    used = lists()
+    own = below([crate.name], used)
+    others = {name for mine in own for name in used[mine]} - own
+    folders_of = [TOP / "crates" / name for name in own] + [kit / name for name in [*others, *STD]]
+    found = [names_of(folder) for folder in folders_of]
+    return set().union(*(names[0] for names in found)), set().union(*(names[1] for names in found))
+
+
+def look_up(edit, texts, methods, functions):
+    """Raises Fault if an edit's new text calls what none of these names is of; `texts` are the edited files."""
+    here = defined("\n".join(texts.values()))
+    for path, _, new in pairs_of(edit):
+        bound = {name for pair in BOUND.findall(texts[path]) for name in pair}
+        for before, name in CALLED.findall(TEXTS.sub(" ", new)):
+            if name in WORDS or name in methods or name in here[0]:
+                continue
+            if before == "." and name not in BUILT_IN:
+                raise Fault(f"it calls the method {name}, and there is none")
+            if before != "." and name not in functions and name not in here[1] and name not in bound:
+                raise Fault(f"it calls {name}, and there is no such function")
+
+
+def look_at_returns(edit, texts):
+    """Raises Fault if an edit's new text returns a record that the type of its function doesn't name."""
+    for path, _, new in pairs_of(edit):
+        start = texts[path].find(new) if new.strip() else -1
+        for found in RETURNED.finditer(new) if start >= 0 else ():
+            heads = list(DEFINED.finditer(texts[path], 0, start + found.start()))
+            result = heads[-1][2].partition("->")[2] if heads else ""
+            if found[1] not in result and "Self" not in result:
+                raise Fault(f"it returns Ok({found[1]}) from {heads[-1][1] if heads else 'no function'}, whose type has no {found[1]}")
+
+
 def folders():
     """Yields each folder of edits with the crate that they are of."""
     for crate in sorted((TOP / "crates").iterdir()):
@@ -80,9 +153,14 @@ def folders():
 
 def main():
     """Prints each edit that does not apply, and the count."""
-    asked_of(__doc__, None).parse_args()
+    asked = asked_of(__doc__, None)
+    asked.add_argument("--kit", type=pathlib.Path, default=KIT, help=f"the sources of the toolchain's crates; {KIT} where none is named")
+    kit = asked.parse_args().kit
+    if not kit.is_dir():
+        print(f"there are no sources of the toolchain in {kit}, so no call was looked up")
     edits = faults = 0
     for folder, crate in folders():
+        known = known_to(crate, kit) if folder.is_dir() and kit.is_dir() else None
         for edit in sorted(folder.iterdir()) if folder.is_dir() else []:
             if edit.suffix == ".md":
                 continue
@@ -90,7 +168,10 @@ def main():
             try:
                 if not NAME.fullmatch(edit.name):
                     raise Fault("its name is not of letters, digits, _, - and . with .edit at the end")
-                apply(edit, crate)
+                texts = apply(edit, crate)
+                if known:
+                    look_up(edit, texts, *known)
+                look_at_returns(edit, texts)
             except (Fault, OSError, UnicodeError) as why:
                 faults += 1
                 print(f"{edit.relative_to(TOP)}: {why}")

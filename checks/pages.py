@@ -26,10 +26,10 @@ PAGES = ["README.md", "CONTRIBUTING.md", "CHANGELOG.md", "bench/README.md", "che
 # What the pages name and the repository doesn't have: of Rust and the toolchain, of Jaeger, of nginx, systemd and clap, of containers.
 WORDS = set("""
 Arc::ptr_eq ArrayString TcpStream::peek json::Writer mem::forget std::thread::scope
-jaeger_thrift JAEGER_ENDPOINT JAEGER_PASSWORD JAEGER_SAMPLER_PARAM JAEGER_SAMPLER_TYPE JAEGER_USER p10 prettyPrint
-ExecStart LimitNOFILE MemoryMax add_header client_max_body_size keepalive_timeout large_client_header_buffers non_idempotent
+jaeger_thrift OTEL_EXPORTER_JAEGER_ENDPOINT JAEGER_ENDPOINT JAEGER_PASSWORD JAEGER_SAMPLER_PARAM JAEGER_SAMPLER_TYPE JAEGER_USER p10 prettyPrint
+ExecStart LimitNOFILE MemoryMax add_header client_body_in_file_only client_max_body_size keepalive_timeout large_client_header_buffers non_idempotent
 proxy_next_upstream proxy_pass
-proxy_request_buffering SPAN_STORAGE_TYPE busybox chroot jq ldd ports shareProcessNamespace tini wget listening.txt
+proxy_request_buffering SPAN_STORAGE_TYPE busybox chroot jq ldd ports shareProcessNamespace systemctl tini wget listening.txt urls.txt
 --admin --cap-drop --collector --disable-dns --init --log-level --memory --metrics-backend --network --query --read-only --sampling --security-opt
 --anew --exclude-dir --fail-alloc --fail-early --help --retry --test --version
 PORT Type::function minLogs path/file.rt probe

@@ -10,6 +10,7 @@ case; the last line is `N passed, M failed`.
 """
 import contextlib
 import json
+import select
 import signal
 import socket
 import subprocess
@@ -202,6 +203,39 @@ def one_session():
         with server.client() as client:
             client.ask(post(1), 202)
         server.served(1, 1)
+
+
+def is_sent_bytes(client):
+    """Whether bytes come; not if the connection is closed or reset instead."""
+    with contextlib.suppress(ConnectionResetError):
+        return client.more()
+    return False
+
+
+def more_clients_than_sessions():
+    """Of six clients that are there at once three are served. Nothing comes to the others, which are closed when the program ends."""
+    with Server("--port", 0, "--workers", 2, "--sessions", 3) as server, contextlib.ExitStack() as stack:
+        clients = [stack.enter_context(server.client()) for _ in range(6)]
+        for trace, client in enumerate(clients, 1):
+            client.send(post(trace))
+        others, served = {client.socket: client for client in clients}, []
+        while len(served) < 3:
+            ready, _, _ = select.select(list(others), [], [], PATIENCE)
+            check(ready, f"{len(served)} of 6 clients were answered, and not 3")
+            served += [client for client in map(others.pop, ready) if is_sent_bytes(client)]
+        for client in served:
+            status = client.response().status
+            check(status == 202, f"a batch was answered {status}")
+            found(client, clients.index(client) + 1)
+        time.sleep(0.5)
+        ready, _, _ = select.select(list(others), [], [], 0)
+        more = len(served) + sum(is_sent_bytes(others[each]) for each in ready)
+        check(more == 3, f"{more} of 6 clients were answered, and not 3")
+        for client in served:
+            client.socket.close()
+        server.served(3, 3)
+        for client in others.values():
+            check(not is_sent_bytes(client), f"a client beyond the three was sent {client.input!r}")
 
 
 def full_store():
@@ -749,6 +783,7 @@ CASES = {
     "--sessions, at once": sessions_end_at_once,
     "--sessions, the first ends last": last_session_is_whole,
     "--sessions 1": one_session,
+    "--sessions 3, six clients": more_clients_than_sessions,
     "books of a full store": full_store,
     "--host 127.0.0.1": lambda: listens_on("127.0.0.1", False),
     "--host 0.0.0.0": lambda: listens_on("0.0.0.0", True),
