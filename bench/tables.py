@@ -404,6 +404,19 @@ def glance_rest(found):
     yield "a batch with a `seqNo`, beside one without, in `play`, microseconds", f"{span(more, cell)} more", "`resent.py`"
 
 
+def by_number(found):
+    """The spans that both servers take in a second beside no reader, by the number of writers, and the ratios."""
+    both = [found.of("serve", ALONE, writers, SIZES[-1])[:2] for writers in WRITERS]
+    ours, plain = zip(*both)
+    ratios = (two(mine / other) for mine, other in both)
+    return [", ".join(map(cell, ours)), ", ".join(map(cell, plain)), ", ".join(ratios)]
+
+
+def longest_of(found, size):
+    """The longest POST beside a query of a store of so many spans."""
+    return cell(max(row[5] for row in found.rows("held") if row[1:3] == [size, "spans"]))
+
+
 def speed(found):
     """The README's table."""
     def of_both(what, writers):
@@ -415,13 +428,13 @@ def speed(found):
     mine, plain = (cell(found.of("compare --count", name)) for name in ("rattle", "rust"))
     rows = [
         ["decoding, instructions a byte", mine, plain, decoders(found)[0]],
-        ["spans that a server takes in a second, four writers", *of_both(ALONE, 4)],
+        [f"spans taken in a second, {SIZES[-1]:,} held, by 1, 2, 4 and 8 writers", *by_number(found)],
         ["a POST beside four writers and two readers at full speed, p99, ms", *of_both(POST, 4)],
-        ["a trace by its id beside four writers at full speed, p50, ms", *of_both(LOOK + ": p50, ms", 4)],
         ["20 traces with their JSON among 100,000 spans, ms", f"{store_ms:.2f}", f"{scan_ms:.0f}", two(scan_ms / store_ms)],
+        ["the longest POST beside any query, 10,000,000 spans held, ms", longest_of(found, 10_000_000), "not compared", ""],
         ["memory at 100,000 spans, bytes a span, by its tags", per_span, "not compared", ""],
     ]
-    return table(["What", "Kiwibismuth", "Plain Rust", "Times as good"], rows) + found.captions("compare --count", "serve", "searches", "memory")
+    return table(["What", "Kiwibismuth", "Plain Rust", "Times as good"], rows) + found.captions("compare --count", "serve", "searches", "held", "memory")
 
 
 def memory_most(found):
@@ -484,13 +497,21 @@ TABLES = {name: it for name, it in globals().items() if name in (
 def quotes(found):
     """The sentences that quote figures, with their pages."""
     noise = ("bench/README.md", f"the ratios of the rounds of `serve.py` differ by up to {found.series['serve']['noise']} of themselves")
-    return [noise, unplaced(found), *memory_quotes(found), *connection_quotes(found), *gate_quotes(found)]
+    return [noise, unplaced(found), held_quote(found), *memory_quotes(found), *connection_quotes(found), *gate_quotes(found)]
 
 
 def unplaced(found):
     """What the page says of the series that have a date and no commit."""
     names = [f"`{name}`" for name, it in found.series.items() if it.get("date") and not it.get("commit")]
     return "bench/README.md", f"The commit wasn't written down for {len(names)} series: {', '.join(names[:-1])} and {names[-1]}."
+
+
+def held_quote(found):
+    """The longest POST beside a query, by what is held."""
+    plain = {size: max(row[5] for row in found.rows("held") if row[1:3] == [size, "spans"]) for size in (100_000, 1_000_000, 10_000_000)}
+    small = max(row[5] for row in found.rows("held") if row[2] != "spans" or row[1] == 100_000)
+    return ("docs/serve.md", f"the longest POST took {small:.0f} ms over 100,000 spans or bodies made to be costly, {plain[1_000_000]:.0f} ms over "
+            f"1,000,000 spans and {plain[10_000_000]:.0f} ms over 10,000,000")
 
 
 def memory_quotes(found):
