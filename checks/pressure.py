@@ -106,7 +106,9 @@ def told():
         status, output = server.ends()
         more = server.told()[len(begin) + len(full):]
         check(status == 4 and output.splitlines()[1:] == ["served 1", "books 1 3 0"], f"it ended with {status}: {output!r}")
-        check(len(more) == 3 and all("accepts no more connections: " in line for line in more[:2]), f"two workers ended and said {more}")
+        wanted = [f"worker {worker} accepts no more connections: " for worker in (0, 1)]
+        is_told = all(line.startswith(start) and line.endswith("; a restart brings it back") for line, start in zip(sorted(more[:2]), wanted))
+        check(len(more) == 3 and is_told, f"two workers ended and said {more}")
         check(more[2] == "ends with status 4: a worker could accept no more connections", f"it ended and said {more[2]!r}")
     return "; ".join([*begin, *full, *more])
 
@@ -137,7 +139,8 @@ def files():
         server.served(6, 0)
         told = server.told()[len(begin):]
         check(max(shares) < 0.1, f"at the limit it takes {max(shares):.2f} of a core")
-        check(len(told) == 2 and all(line.startswith("no connection can be accepted for now: ") for line in told), f"it said {told}")
+        start, end = "no connection can be accepted for now: ", "; more memory or open files (ulimit -n) help"
+        check(len(told) == 2 and all(line.startswith(start) and line.endswith(end) for line in told), f"it said {told}")
     return f"{told[0]}; {max(shares):.3f} of a core"
 
 

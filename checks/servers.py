@@ -169,28 +169,38 @@ class Client:
         self.socket.close()
 
 
+def limited_by(limits):
+    """What sets these limits of resources in the process that calls it, those that are None left out; None if that is all of them."""
+    limits = {kind: limit for kind, limit in limits.items() if limit is not None}
+
+    def limited():
+        for kind, limit in limits.items():
+            resource.setrlimit(kind, (limit, resource.getrlimit(kind)[1]))
+
+    return limited if limits else None
+
+
 class Server:
     """A program that serves on a port, killed at the end unless it has ended by itself; or with `port` one that listens there already. It
-    may have a limit of address space, as `ulimit -v` sets it. With `host` that is its `--host`."""
+    may have a limit of address space, as `ulimit -v` sets it, and one of open files, as `ulimit -n` does. With `host` that is its
+    `--host`."""
 
     binary = None  # the program where no other one is named
 
-    def __init__(self, *words, binary=None, port=None, address_space=None, host=None):
+    def __init__(self, *words, binary=None, port=None, address_space=None, files=None, host=None):
         self.run = None
         self.output = b""
         self.port = port
         if port is None:
             more = ("--host", host) if host else ()
-            self.start([binary or self.binary, "serve", *map(str, words + more)], address_space, host or "127.0.0.1")
+            limits = {resource.RLIMIT_AS: address_space, resource.RLIMIT_NOFILE: files}
+            self.start([binary or self.binary, "serve", *map(str, words + more)], limited_by(limits), host or "127.0.0.1")
 
-    def start(self, command, address_space, host):
-        def limited():
-            resource.setrlimit(resource.RLIMIT_AS, (address_space, resource.RLIM_INFINITY))
-
+    def start(self, command, limited, host):
         self.errors = tempfile.TemporaryFile("a+b")  # what is read here moves no place to write
         try:
             self.run = subprocess.Popen(command, stdin=subprocess.DEVNULL, stdout=subprocess.PIPE, stderr=self.errors,
-                                        preexec_fn=limited if address_space else None)
+                                        preexec_fn=limited)
         except OSError as fault:
             self.errors.close()
             raise Failed(f"{command[0]} can't be started: {fault}") from None

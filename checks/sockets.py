@@ -10,6 +10,7 @@ case; the last line is `N passed, M failed`.
 """
 import contextlib
 import json
+import resource
 import select
 import signal
 import socket
@@ -18,8 +19,11 @@ import threading
 import time
 
 from crates import asked_of
-from servers import PATIENCE, THRIFT, Client, Failed, Server, batch, check, get, head, in_url, post, post_body, run_cases
+from servers import PATIENCE, THRIFT, Client, Failed, Server, batch, check, get, head, in_url, limited_by, post, post_body, run_cases
 import wire
+
+# How the line begins that is told when no more connections may be open.
+ALL_TAKEN = "as many connections are open as --connections allows"
 
 # A start that no query of long answers asks for, in microseconds.
 LATE = 1_000_000_000
@@ -667,6 +671,43 @@ def spans_of(trace, count):
     return post_body(wire.batch("shop", [wire.span(trace, number) for number in range(1, count + 1)]))
 
 
+def told_at_the_start():
+    """The lines that docs/operating.md has, to the letter; with a host that others reach, the one about it comes first."""
+    exposed = "takes connections from other machines: anyone who reaches it may read all traces and send spans, with no password and no TLS"
+    size = "that may take 42 MB with one tag a span, 71 MB with five; more if tags are long, up to 3 times as much with one span a batch"
+    held = "holds at most 1000 batches and 100000 spans, and shows"
+    for words, host, wanted in (((), None, [f"{held} every trace", size]),
+                                (("--traces", 7), "0.0.0.0", [f"0.0.0.0 {exposed}", f"{held} the newest 7 traces", size])):
+        with Server("--port", 0, *words, host=host) as server, server.client() as client:
+            client.ask(get("/api/services"), 200)
+            check(server.told() == wanted, f"at the start it told {server.told()}")
+
+
+def told_of_few_files():
+    """It warns below one file for each connection, one for each worker and 4 more; with these it has enough."""
+    with Server("--port", 0, files=256) as server, server.client() as client:
+        client.ask(get("/api/services"), 200)
+        wanted = "the system lets 256 files be open (ulimit -n), and --connections 1024 needs 1032: raise it, or give fewer"
+        check(server.told()[2:] == [wanted], f"with 256 files it told {server.told()}")
+    with Server("--port", 0, "--workers", 3, "--connections", 20, files=27) as server, contextlib.ExitStack() as stack:
+        for _ in range(20):
+            stack.enter_context(server.client()).ask(get("/api/services"), 200)
+        more = [line for line in server.told()[2:] if not line.startswith(ALL_TAKEN)]
+        check(not more, f"with a file for all that it may open it told {more}")
+
+
+def told_why_it_cannot_start():
+    """Less address space than the store needs, and less than a thread needs."""
+    largest = ("--batches", 1_000_000, "--spans", 10_000_000)
+    for words, space, wanted in ((largest, 1 << 30, "no memory for a store with these limits: give smaller ones"),
+                                 ((), 6 << 20, "no thread can be made")):
+        done = subprocess.run([Server.binary, "serve", "--port", "0", *map(str, words)], stdin=subprocess.DEVNULL, capture_output=True,
+                              timeout=PATIENCE, preexec_fn=limited_by({resource.RLIMIT_AS: space}))
+        check(done.returncode == 5 and not done.stdout, f"with {space} bytes the status is {done.returncode}, and it printed {done.stdout!r}")
+        told = done.stderr.decode().splitlines()
+        check(told == [f"ends with status 5: {wanted}"], f"with {space} bytes it told {told}")
+
+
 def told_how_full():
     with Server("--port", 0, "--workers", 2, "--batches", 10, "--spans", 1000) as server, server.client() as client:
         client.ask(get("/api/services"), 200)
@@ -729,7 +770,8 @@ def told_that_all_are_taken():
             first.socket.close()
             check(second.response().status == 200, "the one that waited isn't served")
         told = told_since(server, begin)
-        check(len(told) == 1 and told[0].startswith("as many connections are open as --connections allows"), f"it told {told}")
+        wanted = f"{ALL_TAKEN}: the next ones wait until one closes; a larger --connections or a shorter --idle helps"
+        check(told == [wanted], f"it told {told}")
 
 
 def told_what_is_counted():
@@ -789,6 +831,9 @@ CASES = {
     "--host 0.0.0.0": lambda: listens_on("0.0.0.0", True),
     "--host ::1": lambda: listens_on("::1", False),
     "--host ::": lambda: listens_on("::", True),
+    "told at the start": told_at_the_start,
+    "told of few files": told_of_few_files,
+    "told why it can't start": told_why_it_cannot_start,
     "told how full it is": told_how_full,
     "told how full it is of spans": told_of_spans,
     "told of a repeat": told_a_repeat_once,
