@@ -497,7 +497,7 @@ TABLES = {name: it for name, it in globals().items() if name in (
 def quotes(found):
     """The sentences that quote figures, with their pages."""
     noise = ("bench/README.md", f"the ratios of the rounds of `serve.py` differ by up to {found.series['serve']['noise']} of themselves")
-    return [noise, unplaced(found), held_quote(found), *memory_quotes(found), *connection_quotes(found), *gate_quotes(found)]
+    return [noise, unplaced(found), held_quote(found), itself_quote(found), *memory_quotes(found), *connection_quotes(found), *gate_quotes(found)]
 
 
 def unplaced(found):
@@ -512,6 +512,15 @@ def held_quote(found):
     small = max(row[5] for row in found.rows("held") if row[2] != "spans" or row[1] == 100_000)
     return ("docs/serve.md", f"the longest POST took {small:.0f} ms over 100,000 spans or bodies made to be costly, {plain[1_000_000]:.0f} ms over "
             f"1,000,000 spans and {plain[10_000_000]:.0f} ms over 10,000,000")
+
+
+def itself_quote(found):
+    """How much the plain server's medians differ from its own, of rates beside no reader and of processor time."""
+    def of(what):
+        ratios = [row[3] / row[4] for row in found.rows("serve, itself") if row[0] == what]
+        return f"{min(ratios):.2f} to {max(ratios):.2f}"
+
+    return ("bench/README.md", f"On machine {found.series['serve, itself']['machine']} its rates were {of(ALONE)} of its own, and its processor time {of(COST)}")
 
 
 def memory_quotes(found):
