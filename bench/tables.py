@@ -431,7 +431,7 @@ def speed(found):
         [f"spans taken in a second, {SIZES[-1]:,} held, by 1, 2, 4 and 8 writers", *by_number(found)],
         ["a POST beside four writers and two readers at full speed, p99, ms", *of_both(POST, 4)],
         ["20 traces with their JSON among 100,000 spans, ms", f"{store_ms:.2f}", f"{scan_ms:.0f}", two(scan_ms / store_ms)],
-        ["the longest POST beside any query, 10,000,000 spans held, ms", longest_of(found, 10_000_000), "not compared", ""],
+        ["the longest POST beside a query of `held.py`, 10,000,000 spans held, ms", longest_of(found, 10_000_000), "not compared", ""],
         ["memory at 100,000 spans, bytes a span, by its tags", per_span, "not compared", ""],
     ]
     return table(["What", "Kiwibismuth", "Plain Rust", "Times as good"], rows) + found.captions("compare --count", "serve", "searches", "held", "memory")
