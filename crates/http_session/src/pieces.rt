@@ -218,6 +218,7 @@ impl Session {
                 cause: cause_of(why),
             });
         }
+        // For the prover: the match takes the two cases of the clause apart.
         match self.answer_held(rt, alloc, router, connection, backend) {
             Ok(progress) => Ok(progress),
             Err(error) => Err(error),

@@ -4,8 +4,9 @@
 //! sockets. It waits until some connections are ready and reads once from each, so a client that sends slowly occupies
 //! no thread. A complete request is answered. What the client doesn't take of the response at once waits in the
 //! connection's [`Outbox`], so a client that reads slowly occupies no thread either. It is proved that each session
-//! stays underway from the start of its connection, whatever other sessions do ([`ConnectionSet::answer_next`]). So the
-//! pieces of each session add up to what [`http_session::serve_connection`] promises.
+//! stays underway from the start of its connection while the connection is open, whatever other sessions do
+//! ([`ConnectionSet::answer_next`]). So its pieces add up to what [`http_session::serve_connection`] promises. That the
+//! last piece does so too is the clause `comes` of `OpenConnection::answer_next`, which is not public.
 //!
 //! * `nonblocking`: connections whose writes never block.
 //! * `waiting`: a response that waits to be written. `outbox`: a connection and its waiting response.

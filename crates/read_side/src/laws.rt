@@ -26,7 +26,8 @@ pub fn a_receipts_list_is_a_prefix_of_later_ones()
 /// threads, each call named a list: a pass the one that it had entered, a receipt and a refusal their own. The
 /// [`HistoryPrefix`](crate::HistoryPrefix)es of these lists have a longest one, [`longest`](crate::longest), which
 /// is legal and of which each is a prefix. Each answer is the plain store's for a prefix of that list, each
-/// acknowledged entry is in it at the named place and nowhere else, and each refusal is true of a prefix.
+/// acknowledged entry is in it at the named place and nowhere else, and each refusal by `JournalFull`, `Stale` or
+/// `Conflict` is true of a prefix.
 pub fn all_calls_have_one_history()
     ensures answers { (limits : Limits) (list whole : List Entry) (q : Query) (a : Answer) →
         IsPrefix list whole → a ≡ answer limits list q → IsAnswered limits whole q a }
