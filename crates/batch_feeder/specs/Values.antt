@@ -5,7 +5,7 @@ use Rattle.thrift_binary.specs.declared.fault.WireError.TheVariants.{BadText}
 use Rattle.thrift_binary.specs.Reading.{◌>>=◌, lift}
 use Rattle.thrift_binary.specs.Reading as wires
 use Rattle.wire_pieces.specs.Strings.{string_from}
-use Rattle.wire_pieces.specs.Frames.{skipping}
+use Rattle.wire_pieces.specs.Skipped.{skipping}
 use Rattle.batch_codec.specs.declared.fault.DecodeError.{DecodeError}
 use Rattle.batch_codec.specs.declared.fault.DecodeError.TheVariants.{Wire}
 use Rattle.batch_codec.specs.Decoding.{Reading, wire}

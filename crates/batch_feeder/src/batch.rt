@@ -76,7 +76,8 @@ impl PieceSlots for BatchSlots {
     fn put(&mut self, code: u8, id: i16, _alloc: Global, cursor: &mut Cursor<'_>) -> Decoded<bool> {
         match (code, id) {
             (I64, 3) => self.seq_no = Some(read_i64(cursor)?),
-            _ => return Ok(false),
+            (STRUCT, 1) | (LIST, 2) => return Ok(false),
+            _ => cursor.skip(code)?,
         }
         Ok(true)
     }
@@ -89,7 +90,7 @@ impl PieceSlots for BatchSlots {
             }),
             (LIST, 2) => BatchFieldPart::Spans(ListPart::new(alloc)),
             (I64, 3) => BatchFieldPart::SeqNo(I64Part::new()),
-            _ => BatchFieldPart::Skip(SkipPart::new(alloc, code)),
+            _ => BatchFieldPart::Skip(SkipPart::new(code)),
         }
     }
 

@@ -381,7 +381,7 @@ impl Feeder {
     }
 }
 
-/// Decodes the joined pieces, however they are cut.
+/// Decodes the joined pieces, however they are cut. Only tests call it: a session feeds its pieces as they come.
 ///
 /// # Errors
 ///

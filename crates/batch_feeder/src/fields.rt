@@ -46,7 +46,8 @@ pub(crate) trait PieceSlots: Drop + Sized {
     fn start(alloc: Global) -> Self
         ensures { result ≡ none };
 
-    /// Reads the value of a field if it is complete, and returns whether it did. It leaves lists and values to skip.
+    /// Reads or skips the value of a field if it is complete, and returns whether it did. It leaves lists of structs, and
+    /// the process of a batch.
     fn put(&mut self, code: u8, id: i16, alloc: Global, cursor: &mut Cursor<'_>) -> Decoded<bool>
         ensures tries { Tries (takes self.old code id) self.old self.new
             cursor.old cursor.new result }

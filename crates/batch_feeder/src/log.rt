@@ -51,7 +51,8 @@ impl PieceSlots for LogSlots {
     fn put(&mut self, code: u8, id: i16, _alloc: Global, cursor: &mut Cursor<'_>) -> Decoded<bool> {
         match (code, id) {
             (I64, 1) => self.at = Some(read_i64(cursor)?),
-            _ => return Ok(false),
+            (LIST, 2) => return Ok(false),
+            _ => cursor.skip(code)?,
         }
         Ok(true)
     }
@@ -61,7 +62,7 @@ impl PieceSlots for LogSlots {
         match (code, id) {
             (I64, 1) => LogFieldPart::At(I64Part::new()),
             (LIST, 2) => LogFieldPart::Fields(ListPart::new(alloc)),
-            _ => LogFieldPart::Skip(SkipPart::new(alloc, code)),
+            _ => LogFieldPart::Skip(SkipPart::new(code)),
         }
     }
 

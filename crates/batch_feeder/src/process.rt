@@ -73,7 +73,8 @@ impl PieceSlots for ProcessParts {
     fn put(&mut self, code: u8, id: i16, alloc: Global, cursor: &mut Cursor<'_>) -> Decoded<bool> {
         match (code, id) {
             (STRING, 1) => self.service = Some(read_owned_text(alloc, cursor)?),
-            _ => return Ok(false),
+            (LIST, 2) => return Ok(false),
+            _ => cursor.skip(code)?,
         }
         Ok(true)
     }
@@ -83,7 +84,7 @@ impl PieceSlots for ProcessParts {
         match (code, id) {
             (STRING, 1) => ProcessFieldPart::Service(TextPart::new()),
             (LIST, 2) => ProcessFieldPart::Tags(ListPart::new(alloc)),
-            _ => ProcessFieldPart::Skip(SkipPart::new(alloc, code)),
+            _ => ProcessFieldPart::Skip(SkipPart::new(code)),
         }
     }
 

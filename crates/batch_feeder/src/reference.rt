@@ -54,19 +54,19 @@ impl PieceSlots for ReferenceSlots {
             (I64, 2) => self.trace_low = Some(read_id(cursor)?),
             (I64, 3) => self.trace_high = Some(read_id(cursor)?),
             (I64, 4) => self.id = Some(read_id(cursor)?),
-            _ => return Ok(false),
+            _ => cursor.skip(code)?,
         }
         Ok(true)
     }
 
     #[tactic(auto, unfolding(batch_codec::specs::ReferenceReading::take_reference))]
-    fn begin(&self, code: u8, id: i16, alloc: Global) -> ReferenceFieldPart {
+    fn begin(&self, code: u8, id: i16, _alloc: Global) -> ReferenceFieldPart {
         match (code, id) {
             (I32, 1) => ReferenceFieldPart::Kind(KindPart::new()),
             (I64, 2) => ReferenceFieldPart::TraceLow(IdPart::new()),
             (I64, 3) => ReferenceFieldPart::TraceHigh(IdPart::new()),
             (I64, 4) => ReferenceFieldPart::Id(IdPart::new()),
-            _ => ReferenceFieldPart::Skip(SkipPart::new(alloc, code)),
+            _ => ReferenceFieldPart::Skip(SkipPart::new(code)),
         }
     }
 

@@ -10,7 +10,7 @@ use std::alloc::Global;
 use thrift_binary::Cursor;
 use wire_pieces::Skipping;
 
-/// A value that is skipped.
+/// A value that is skipped, of which some bytes have arrived. It takes no memory.
 #[derive(Drop)]
 pub(crate) struct SkipPart {
     part: Skipping,
@@ -18,12 +18,12 @@ pub(crate) struct SkipPart {
 
 impl SkipPart {
     /// Returns the state before the first byte of a value of the type.
-    pub(crate) fn new(alloc: Global, code: u8) -> Self
+    pub(crate) fn new(code: u8) -> Self
         requires { is_code code ≡ true }
         ensures { (w : List ℕ) → skip_from result w ≡ lift wire (skip_at code w) }
     {
         SkipPart {
-            part: Skipping::new(alloc, code),
+            part: Skipping::new(code),
         }
     }
 }

@@ -1,6 +1,3 @@
-ghost use Rattle.std.specs.Prelude.{◌≡◌, ◌==◌, false};
-ghost use Rattle.std.specs.Bool.{OnTrue};
-
 use crate::fields::{Fields, PieceSlots, Step, enter_in_pieces};
 use crate::items::{ListPart, enter_list};
 use crate::partial::place;
@@ -32,17 +29,6 @@ pub(crate) enum SpanFieldPart {
     Skip(SkipPart),
 }
 
-/// Whether a field of this type and id is a number or a text of a span. Any other is a list, or is skipped.
-#[inline(always)]
-fn is_single(code: u8, id: i16) -> bool
-    ensures no_list { OnTrue result ((code == LIST) ≡ false) }
-{
-    match (code, id) {
-        (I64, 1 | 2 | 3 | 4 | 8 | 9) | (I32, 7) | (STRING, 5) => true,
-        _ => false,
-    }
-}
-
 impl PieceSlots for SpanSlots {
     ghost use Rattle.batch_codec.specs.EmptySlots.{no_span};
     ghost use Rattle.batch_codec.specs.SpanReading.{take_span, span_from};
@@ -70,12 +56,14 @@ impl PieceSlots for SpanSlots {
         SpanSlots::new(alloc)
     }
 
+    #[tactic(auto, unfolding(batch_codec::specs::SpanReading::take_span))]
     #[inline(always)]
     fn put(&mut self, code: u8, id: i16, alloc: Global, cursor: &mut Cursor<'_>) -> Decoded<bool> {
-        if !is_single(code, id) {
-            return Ok(false);
+        match (code, id) {
+            (LIST, 6 | 10 | 11) => return Ok(false),
+            (LIST, _) => cursor.skip(code)?,
+            _ => self.put_value(alloc, code, id, cursor)?,
         }
-        self.put_value(alloc, code, id, cursor)?;
         Ok(true)
     }
 
@@ -93,7 +81,7 @@ impl PieceSlots for SpanSlots {
             (I64, 9) => SpanFieldPart::Duration(I64Part::new()),
             (LIST, 10) => SpanFieldPart::Tags(ListPart::new(alloc)),
             (LIST, 11) => SpanFieldPart::Logs(ListPart::new(alloc)),
-            _ => SpanFieldPart::Skip(SkipPart::new(alloc, code)),
+            _ => SpanFieldPart::Skip(SkipPart::new(code)),
         }
     }
 

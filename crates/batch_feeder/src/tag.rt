@@ -103,13 +103,13 @@ impl PieceSlots for TagParts {
             (BOOL, 5) => self.boolean = read_bool(cursor)?,
             (I64, 6) => self.long = read_i64(cursor)?,
             (STRING, 7) => self.binary = read_owned_binary(alloc, cursor)?,
-            _ => return Ok(false),
+            _ => cursor.skip(code)?,
         }
         Ok(true)
     }
 
     #[tactic(auto, unfolding(batch_codec::specs::TagReading::take_tag))]
-    fn begin(&self, code: u8, id: i16, alloc: Global) -> TagFieldPart {
+    fn begin(&self, code: u8, id: i16, _alloc: Global) -> TagFieldPart {
         match (code, id) {
             (STRING, 1) => TagFieldPart::Key(TextPart::new()),
             (I32, 2) => TagFieldPart::Kind(TypePart::new()),
@@ -118,7 +118,7 @@ impl PieceSlots for TagParts {
             (BOOL, 5) => TagFieldPart::Boolean(BoolPart::new()),
             (I64, 6) => TagFieldPart::Long(I64Part::new()),
             (STRING, 7) => TagFieldPart::Binary(BinaryPart::new()),
-            _ => TagFieldPart::Skip(SkipPart::new(alloc, code)),
+            _ => TagFieldPart::Skip(SkipPart::new(code)),
         }
     }
 

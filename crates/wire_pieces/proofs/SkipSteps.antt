@@ -1,19 +1,19 @@
 -- The steps of a value that is skipped in pieces.
-use Rattle.std.proofs.Common.{◌≡◌, ℕ, ℤ, zero, suc, ◌≤◌, ◌<◌, ◌+◌, ◌-◌, ◌*◌, Bool, true, false, eqb, ltb, ◌||◌, List, [], ◌∷◌, ◌++◌, length, Some, None, Result}
+use Rattle.std.proofs.Common.{◌≡◌, ℕ, ℤ, suc, ◌≤◌, ◌<◌, ◌+◌, ◌-◌, Bool, true, false, eqb, ltb, ◌||◌, List, [], ◌∷◌, ◌++◌, length, Some, None, Result}
 use Rattle.std.proofs.Common.{Ok, Err, refl, ap, sym, ◌∙◌, arith, length-append, ◌&&◌}
 use Rattle.std.proofs.lemmas.Bool.{ne_eqb}
 use Rattle.thrift_binary.specs.declared.fault.WireError.{WireError}
 use Rattle.thrift_binary.specs.declared.fault.WireError.TheVariants.{Truncated, BadType, TooDeep}
 use Rattle.thrift_binary.specs.Reading.{◌>>=◌, Read, field_at, string_at, size_at, list_at, map_at, is_code}
 use Rattle.thrift_binary.specs.Fields.{fields_in, fields_at}
-use Rattle.thrift_binary.specs.Skipping.{Skip, past, both, times, text, width, struct, items, pairs, container, leaf, is_container, value_at, skip_at}
+use Rattle.thrift_binary.specs.Skipping.{Skip, past, times, text, width, struct, items, pairs, container, leaf, is_container, value_at, skip_at}
 use Rattle.thrift_binary.proofs.SkippedByLevel.{value_at-leaf, value_at-deep, value_at-inside}
 use Rattle.thrift_binary.proofs.CutSkip.{value_cut}
 use Rattle.wire_pieces.specs.declared.heads.FieldHead.{FieldHead}
-use Rattle.wire_pieces.specs.declared.skip.AlternatingValues.{AlternatingValues}
 use Rattle.wire_pieces.specs.declared.skip.Frame.{Frame}
-use Rattle.wire_pieces.specs.declared.skip.Frame.TheVariants.{Fields, Turns}
+use Rattle.wire_pieces.specs.declared.skip.Frame.TheVariants.{Fields, Elements, Pairs, PairValue}
 use Rattle.wire_pieces.specs.declared.skip.Progress.{Progress}
+use Rattle.wire_pieces.specs.declared.skip.Progress.TheVariants as progress
 use Rattle.wire_pieces.specs.declared.skip.Current.{Current}
 use Rattle.wire_pieces.specs.declared.skip.Current.TheVariants as now
 use Rattle.wire_pieces.specs.declared.fault.PieceError.{PieceError}
@@ -24,8 +24,8 @@ use Rattle.wire_pieces.specs.declared.maps.MapHead.{MapHead}
 use Rattle.wire_pieces.specs.declared.numbers.Size.{Size}
 use Rattle.wire_pieces.specs.Numbers.{size_from}
 use Rattle.wire_pieces.specs.Heads.{list_head, map_head, head_from}
-use Rattle.wire_pieces.specs.Frames.{turns, passes, items_of, pairs_of, frame_at, frames_at, now_at, stack_at, state_at, begun, Progresses}
-use Rattle.wire_pieces.proofs.Steps.{comes-is, comes-trans, comes-inside, waits-inside, refuses-inside, refused-inside}
+use Rattle.wire_pieces.specs.Frames.{passes, pair_at, frame_at, frames_at, now_at, state_at, begun, Progresses}
+use Rattle.wire_pieces.proofs.Steps.{comes-is, comes-trans, comes-waits, comes-refused, comes-inside, waits-inside, refused-inside, refused-at}
 use Rattle.wire_pieces.proofs.FieldSteps.{head-waits, head-refuses, head-stop, head-value, head-fresh}
 
 assoc : {A B C : Type 0} (r : Result A WireError) (f : A → Result B WireError) (g : B → Result C WireError) → ((r >>= f) >>= g) ≡ (r >>= λ x. f x >>= g)
@@ -35,35 +35,6 @@ assoc (Err e) f g = refl
 same_end : (r : Read (Unit {0})) → (r >>= λ x. Ok (tt, x.1)) ≡ r
 same_end (Ok x) = refl
 same_end (Err f) = refl
-
--- ---- values in turn
-
-pub times-turns : (value : ℕ → Skip) (c n : ℕ) (w : List ℕ) → times n (value c) w ≡ turns value c c n w
-unfolding times turns
-times-turns value c zero w = refl
-times-turns value c (suc n) w = by (λ v. times-turns value c n v) (value c w)
-  where
-    by : ((v : List ℕ) → times n (value c) v ≡ turns value c c n v) → (r : Read (Unit {0}))
-        → (r >>= λ x. times n (value c) x.1) ≡ (r >>= λ x. turns value c c n x.1)
-    by more (Ok x) = more x.1
-    by more (Err e) = refl
-
-turns-two : (value : ℕ → Skip) (k v n : ℕ) (w : List ℕ) → turns value k v (suc (suc n)) w ≡ (both (value k) (value v) w >>= λ x. turns value k v n x.1)
-unfolding turns
-turns-two value k v n w = sym (assoc (value k w) (λ x. value v x.1) (λ x. turns value k v n x.1))
-
-pub pairs-turns : (value : ℕ → Skip) (k v n m : ℕ) (w : List ℕ) → m ≡ 2 * n → times n (both (value k) (value v)) w ≡ turns value k v m w
-unfolding times turns
-pairs-turns value k v zero m w e = let none : m ≡ 0 = omega arith in rw none refl
-pairs-turns value k v (suc n) m w e =
-    let two : m ≡ suc (suc (2 * n)) = omega arith in
-    by (λ u. pairs-turns value k v n (2 * n) u refl) (both (value k) (value v) w) ∙ sym (turns-two value k v (2 * n) w)
-    ∙ ap (λ j. turns value k v j w) (sym two)
-  where
-    by : ((u : List ℕ) → times n (both (value k) (value v)) u ≡ turns value k v (2 * n) u) → (r : Read (Unit {0}))
-        → (r >>= λ x. times n (both (value k) (value v)) x.1) ≡ (r >>= λ x. turns value k v (2 * n) x.1)
-    by more (Ok x) = more x.1
-    by more (Err d) = refl
 
 -- ---- containers around
 
@@ -79,199 +50,210 @@ frames_at-push levels (g ∷ fs) f w =
     ∙ assoc (frame_at ((levels - 1) - length fs) f w) (λ x. frames_at (levels - 1) fs x.1) (λ x. frame_at levels g x.1)
     ∙ ap (λ m. frame_at m f w >>= λ x. frames_at (levels - 1) fs x.1 >>= λ y. frame_at levels g y.1) (sym k)
 
--- what follows a value inside the innermost container
-abbrev after : Frame → List Frame → Unit {0} × List ℕ → Read (Unit {0})
-after top below x = stack_at top below x.1
+-- what follows the part that is being read
+abbrev outside : List Frame → Unit {0} × List ℕ → Read (Unit {0})
+outside around x = frames_at 64 around x.1
 
-stack-push : (top inner : Frame) (below : List Frame) (w : List ℕ)
-    → stack_at inner (below ++ top ∷ []) w ≡ (frame_at (64 - length below - 1) inner w >>= after top below)
-unfolding stack_at
-stack-push top inner below w =
-    let k : 64 - length (below ++ top ∷ []) ≡ 64 - length below - 1 = omega (arith, length-append below (top ∷ [])) in
-    ap (λ m. frame_at m inner w >>= λ x. frames_at 64 (below ++ top ∷ []) x.1) k ∙ by (frame_at (64 - length below - 1) inner w)
-  where
-    by : (r : Read (Unit {0})) → (r >>= λ x. frames_at 64 (below ++ top ∷ []) x.1)
-        ≡ (r >>= λ x. frame_at (64 - length below) top x.1 >>= λ y. frames_at 64 below y.1)
-    by (Ok x) = frames_at-push 64 below top x.1
-    by (Err e) = refl
+-- no container is left
+pub all-skipped : (piece : List ℕ) → Comes (state_at now.Nothing []) (λ w. Ok (tt, w)) piece piece
+unfolding state_at
+all-skipped piece = comes-is _ _ piece (λ w. refl)
 
--- a value inside the innermost container
-module _ (top : Frame) (below : List Frame) where
-  pub now-waits : (n next : Current) (w v : List ℕ) → NeedsMore Truncated (now_at (64 - length below) n) (now_at (64 - length below) next) w v
-      → NeedsMore Truncated (state_at n top below) (state_at next top below) w v
+module _ (around : List Frame) where
+  pub now-waits : (n next : Current) (w v : List ℕ) → NeedsMore Truncated (now_at (64 - length around) n) (now_at (64 - length around) next) w v
+      → NeedsMore Truncated (state_at n around) (state_at next around) w v
   unfolding state_at
-  now-waits n next w v g = waits-inside (after top below) g
+  now-waits n next w v g = waits-inside (outside around) g
 
-  pub now-refused : (n : Current) (w : List ℕ) (e : PieceError) → Refused (now_at (64 - length below) n) w e → Refused (state_at n top below) w e
+  pub now-refused : (n : Current) (w : List ℕ) (e : PieceError) → Refused (now_at (64 - length around) n) w e → Refused (state_at n around) w e
   unfolding state_at
-  now-refused n w e g = refused-inside (after top below) (now_at (64 - length below) n) w e g
+  now-refused n w e g = refused-inside (outside around) (now_at (64 - length around) n) w e g
 
-  pub now-next : (n next : Current) (w v : List ℕ) → Comes (now_at (64 - length below) n) (now_at (64 - length below) next) w v
-      → Comes (state_at n top below) (state_at next top below) w v
+  pub now-next : (n next : Current) (w v : List ℕ) → Comes (now_at (64 - length around) n) (now_at (64 - length around) next) w v
+      → Comes (state_at n around) (state_at next around) w v
   unfolding state_at
-  now-next n next w v g = comes-inside (after top below) g
+  now-next n next w v g = comes-inside (outside around) g
+
+  pub now-done : (n : Current) (w v : List ℕ) → Comes (now_at (64 - length around) n) (λ u. Ok (tt, u)) w v
+      → Comes (state_at n around) (state_at now.Nothing around) w v
+  now-done n w v g = now-next n now.Nothing w v g
 
   -- a container after its head
-  pub now-inside : (n : Current) (inner : Frame) (w v : List ℕ) → Comes (now_at (64 - length below) n) (frame_at (64 - length below - 1) inner) w v
-      → Comes (state_at n top below) (state_at now.Nothing inner (below ++ top ∷ [])) w v
+  frame-next : (n : Current) (f : Frame) (w v : List ℕ) → Comes (now_at (64 - length around) n) (frame_at (64 - length around) f) w v
+      → Comes (state_at n around) (state_at now.Nothing (around ++ f ∷ [])) w v
   unfolding state_at
-  now-inside n inner w v g =
-      comes-trans (comes-inside (after top below) g) (comes-is _ (stack_at inner (below ++ top ∷ [])) v (λ u. sym (stack-push top inner below u)))
+  frame-next n f w v g =
+      comes-trans (comes-inside (outside around) g)
+      (comes-is _ (state_at now.Nothing (around ++ f ∷ [])) v (λ u. sym (frames_at-push 64 around f u)))
+
+  -- what is left of the innermost container
+  frame-now : (f : Frame) (n : Current) (piece : List ℕ) → ((w : List ℕ) → frame_at (64 - length around) f w ≡ now_at (64 - length around) n w)
+      → Comes (state_at now.Nothing (around ++ f ∷ [])) (state_at n around) piece piece
+  unfolding state_at
+  frame-now f n piece same =
+      comes-is _ (state_at n around) piece (λ w. frames_at-push 64 around f w ∙ ap (λ r. r >>= outside around) (same w))
+
+  -- a value, and what is left of its container after it
+  value-inside : (c : ℕ) (f : Frame) (w : List ℕ)
+      → ((value_at (64 - length around) c w >>= λ x. frame_at (64 - length around) f x.1) >>= outside around) ≡ begun c (around ++ f ∷ []) w
+  unfolding begun
+  value-inside c f w =
+      let k : 65 - length (around ++ f ∷ []) ≡ 64 - length around = omega (arith, length-append around (f ∷ [])) in
+      by (value_at (64 - length around) c w) ∙ ap (λ m. value_at m c w >>= outside (around ++ f ∷ [])) (sym k)
+    where
+      by : (r : Read (Unit {0})) → ((r >>= λ x. frame_at (64 - length around) f x.1) >>= outside around) ≡ (r >>= outside (around ++ f ∷ []))
+      by (Ok x) = sym (frames_at-push 64 around f x.1)
+      by (Err e) = refl
+
+  value-next : (f rest : Frame) (c : ℕ) (piece : List ℕ)
+      → ((w : List ℕ) → frame_at (64 - length around) f w ≡ (value_at (64 - length around) c w >>= λ x. frame_at (64 - length around) rest x.1))
+      → Comes (state_at now.Nothing (around ++ f ∷ [])) (begun c (around ++ rest ∷ [])) piece piece
+  unfolding state_at
+  value-next f rest c piece same =
+      comes-is _ (begun c (around ++ rest ∷ [])) piece
+      (λ w. frames_at-push 64 around f w ∙ ap (λ r. r >>= outside around) (same w) ∙ value-inside c rest w)
+
+  -- ---- between values
+
+  pub element-next : (c n : ℕ) (piece : List ℕ)
+      → Comes (state_at now.Nothing (around ++ Elements c (suc n) ∷ [])) (begun c (around ++ Elements c n ∷ [])) piece piece
+  unfolding times
+  element-next c n piece = value-next (Elements c (suc n)) (Elements c n) c piece (λ w. refl)
+
+  pub key-next : (k v n : ℕ) (piece : List ℕ)
+      → Comes (state_at now.Nothing (around ++ Pairs k v (suc n) ∷ [])) (begun k (around ++ PairValue k v n ∷ [])) piece piece
+  unfolding times
+  key-next k v n piece =
+      value-next (Pairs k v (suc n)) (PairValue k v n) k piece
+      (λ w. assoc (value_at (64 - length around) k w) (λ x. value_at (64 - length around) v x.1) (λ x. times n (pair_at (64 - length around) k v) x.1))
+
+  pub pair_value-next : (k v n : ℕ) (piece : List ℕ)
+      → Comes (state_at now.Nothing (around ++ PairValue k v n ∷ [])) (begun v (around ++ Pairs k v n ∷ [])) piece piece
+  pair_value-next k v n piece = value-next (PairValue k v n) (Pairs k v n) v piece (λ w. refl)
+
+  pub elements-end : (c : ℕ) (piece : List ℕ) → Comes (state_at now.Nothing (around ++ Elements c 0 ∷ [])) (state_at now.Nothing around) piece piece
+  unfolding times
+  elements-end c piece = frame-now (Elements c 0) now.Nothing piece (λ w. refl)
+
+  pub pairs-end : (k v : ℕ) (piece : List ℕ) → Comes (state_at now.Nothing (around ++ Pairs k v 0 ∷ [])) (state_at now.Nothing around) piece piece
+  unfolding times
+  pairs-end k v piece = frame-now (Pairs k v 0) now.Nothing piece (λ w. refl)
+
+  pub field-begins : (h : FieldHead) (piece : List ℕ) → ((w : List ℕ) → head_from h w ≡ field_at w)
+      → Comes (state_at now.Nothing (around ++ Fields ∷ [])) (state_at (now.Field h) around) piece piece
+  field-begins h piece fresh =
+      frame-now Fields (now.Field h) piece
+      (λ w. sym (head-fresh (λ e. e) (passes (64 - length around)) (λ s c i. value_cut (64 - length around) c) tt h fresh w))
+
+  -- ---- the head of a field, a string, a list or a map
+
+  pub field-waits : (h k : FieldHead) (w v : List ℕ) → NeedsMore Truncated (head_from h) (head_from k) w v
+      → NeedsMore Truncated (state_at (now.Field h) around) (state_at (now.Field k) around) w v
+  field-waits h k w v g = now-waits (now.Field h) (now.Field k) w v (head-waits (λ e. e) (passes (64 - length around)) tt h k w v g)
+
+  pub field-refused : (h : FieldHead) (w : List ℕ) (e : PieceError) → Refused (head_from h) w e → Refused (state_at (now.Field h) around) w e
+  field-refused h w (Wire e) g = now-refused (now.Field h) w (Wire e) (head-refuses (λ e. e) (passes (64 - length around)) tt h w e (λ same. same) g)
+  field-refused h w Memory g = tt
+
+  pub field-stop : (h : FieldHead) (w v : List ℕ) → Comes (head_from h) (λ u. Ok (None, u)) w v
+      → Comes (state_at (now.Field h) around) (state_at now.Nothing around) w v
+  field-stop h w v g = now-done (now.Field h) w v (head-stop (λ e. e) (passes (64 - length around)) tt h w v g)
+
+  pub field-value : (h : FieldHead) (c : ℕ) (i : ℤ) (w v : List ℕ) → Comes (head_from h) (λ u. Ok (Some (c, i), u)) w v
+      → Comes (state_at (now.Field h) around) (begun c (around ++ Fields ∷ [])) w v
+  unfolding state_at
+  field-value h c i w v g =
+      comes-trans
+      (comes-inside (outside around) (head-value (λ e. e) (passes (64 - length around)) tt h w v c i (value_at (64 - length around) c) g (λ u. refl)))
+      (comes-is _ (begun c (around ++ Fields ∷ [])) v (λ u. value-inside c Fields u))
+
+  pub size-next : (p : Size) (next : Current) (n : ℕ) (w v : List ℕ) → ((levels : ℕ) (u : List ℕ) → now_at levels next u ≡ past n u)
+      → Comes (size_from p) (λ u. Ok (n, u)) w v → Comes (state_at (now.Size p) around) (state_at next around) w v
+  size-next p next n w v same g =
+      now-next (now.Size p) next w v
+      (comes-trans (comes-inside (λ m. past m.0 m.1) g) (comes-is _ (now_at (64 - length around) next) v (λ u. sym (same (64 - length around) u))))
+
+  pub list-next : (p : ListHead) (c k : ℕ) (w v : List ℕ) → Comes (list_head p) (λ u. Ok ((c, k), u)) w v
+      → Comes (state_at (now.List p) around) (state_at now.Nothing (around ++ Elements c k ∷ [])) w v
+  list-next p c k w v g = frame-next (now.List p) (Elements c k) w v (comes-inside (λ h. times h.0.1 (value_at (64 - length around) h.0.0) h.1) g)
+
+  pub map-next : (p : MapHead) (a b k : ℕ) (w v : List ℕ) → Comes (map_head p) (λ u. Ok (((a, b), k), u)) w v
+      → Comes (state_at (now.Map p) around) (state_at now.Nothing (around ++ Pairs a b k ∷ [])) w v
+  map-next p a b k w v g =
+      frame-next (now.Map p) (Pairs a b k) w v (comes-inside (λ h. times h.0.1 (pair_at (64 - length around) h.0.0.0 h.0.0.1) h.1) g)
 
   -- ---- what is begun
 
-  leaf-same : (c : ℕ) (n : Current) → is_container c ≡ false → ((levels : ℕ) (w : List ℕ) → now_at levels n w ≡ leaf c w) → (w : List ℕ)
-      → begun c top below w ≡ state_at n top below w
-  unfolding state_at
-  leaf-same c n isnt same w = ap (λ r. r >>= after top below) (value_at-leaf (64 - length below) c w isnt ∙ sym (same (64 - length below) w))
+  pub begun-leaf : (c : ℕ) (n : Current) (piece : List ℕ) → is_container c ≡ false → ((levels : ℕ) (w : List ℕ) → now_at levels n w ≡ leaf c w)
+      → Comes (begun c around) (state_at n around) piece piece
+  unfolding state_at begun
+  begun-leaf c n piece isnt same =
+      comes-is _ _ piece (λ w. ap (λ r. r >>= outside around) (value_at-leaf (65 - length around) c w isnt ∙ sym (same (64 - length around) w)))
 
-  pub begun-leaf : (c : ℕ) (n : Current) → is_container c ≡ false → ((levels : ℕ) (w : List ℕ) → now_at levels n w ≡ leaf c w)
-      → Comes (begun c top below) (state_at n top below) [] []
-  begun-leaf c n isnt same = comes-is _ _ [] (leaf-same c n isnt same)
-
-  pub begun-bad : (c : ℕ) → is_container c ≡ false → ((w : List ℕ) → leaf c w ≡ Err BadType) → Refuses Truncated (begun c top below) [] BadType
-  begun-bad c isnt bad =
+  pub begun-bad : (c : ℕ) (piece : List ℕ) → is_container c ≡ false → ((w : List ℕ) → leaf c w ≡ Err BadType) → Refuses Truncated (begun c around) piece BadType
+  unfolding begun
+  begun-bad c piece isnt bad =
       record {
-        same = λ rest. ap (λ r. r >>= after top below) (value_at-leaf (64 - length below) c rest isnt ∙ bad rest);
+        same = λ rest. ap (λ r. r >>= outside around) (value_at-leaf (65 - length around) c (piece ++ rest) isnt ∙ bad (piece ++ rest));
         no_want = λ h. absurd (let k : BadType ≡ Truncated = h in cc);
       }
 
-  pub begun-deep : (c : ℕ) → is_container c ≡ true → 64 ≤ length below → Refuses Truncated (begun c top below) [] TooDeep
-  begun-deep c holds deep =
+  pub begun-deep : (c : ℕ) (piece : List ℕ) → is_container c ≡ true → 65 ≤ length around → Refuses Truncated (begun c around) piece TooDeep
+  unfolding begun
+  begun-deep c piece holds deep =
       record {
-        same = λ rest. ap (λ r. r >>= after top below) (value_at-deep (64 - length below) c rest holds (omega arith));
+        same = λ rest. ap (λ r. r >>= outside around) (value_at-deep (65 - length around) c (piece ++ rest) holds (omega arith));
         no_want = λ h. absurd (let k : TooDeep ≡ Truncated = h in cc);
       }
 
-  inside-is : (c : ℕ) (w : List ℕ) → is_container c ≡ true → length below < 64
-      → value_at (64 - length below) c w ≡ container (value_at (64 - length below - 1)) c w
-  inside-is c w holds room = value_at-inside (64 - length below) (64 - length below - 1) c w holds (omega arith)
-
-  module _ (c : ℕ) (holds : is_container c ≡ true) (room : length below < 64) where
-    begun-is : (w : List ℕ) (r : Read (Unit {0})) → container (value_at (64 - length below - 1)) c w ≡ r → begun c top below w ≡ (r >>= after top below)
-    begun-is w r e = ap (λ s. s >>= after top below) (inside-is c w holds room ∙ e)
+  module _ (c : ℕ) (piece : List ℕ) (holds : is_container c ≡ true) (room : length around < 65) where
+    begun-is : (n : Current) → ((w : List ℕ) → container (value_at (64 - length around)) c w ≡ now_at (64 - length around) n w)
+        → Comes (begun c around) (state_at n around) piece piece
+    unfolding state_at begun
+    begun-is n same =
+        comes-is _ _ piece (λ w. ap (λ r. r >>= outside around)
+        (value_at-inside (65 - length around) (64 - length around) c w holds (omega arith) ∙ same w))
 
     pub begun-struct : (h : FieldHead) → c ≡ 12 → ((w : List ℕ) → head_from h w ≡ field_at w)
-        → Comes (begun c top below) (state_at now.Nothing (Fields h) (below ++ top ∷ [])) [] []
-    unfolding state_at struct
+        → Comes (begun c around) (state_at (now.Field h) around) piece piece
+    unfolding struct
     begun-struct h is fresh =
-        comes-is _ _ [] (λ w. begun-is w (frame_at (64 - length below - 1) (Fields h) w)
-        (rw is (sym (head-fresh (λ e. e) (passes (64 - length below - 1)) (λ s d i. value_cut (64 - length below - 1) d) tt h fresh w)))
-        ∙ sym (stack-push top (Fields h) below w))
+        begun-is (now.Field h)
+        (λ w. rw is (sym (head-fresh (λ e. e) (passes (64 - length around)) (λ s d i. value_cut (64 - length around) d) tt h fresh w)))
 
-    pub begun-map : (p : MapHead) → c ≡ 13 → ((w : List ℕ) → map_head p w ≡ map_at w) → Comes (begun c top below) (state_at (now.Map p) top below) [] []
-    unfolding state_at pairs
+    pub begun-map : (p : MapHead) → c ≡ 13 → ((w : List ℕ) → map_head p w ≡ map_at w) → Comes (begun c around) (state_at (now.Map p) around) piece piece
+    unfolding pairs
     begun-map p is fresh =
-        comes-is _ _ [] (λ w. begun-is w (map_at w >>= λ h. pairs_of (64 - length below) h.0 h.1) (rw is refl)
-        ∙ ap (λ r. (r >>= λ h. pairs_of (64 - length below) h.0 h.1) >>= after top below) (sym (fresh w)))
+        begun-is (now.Map p) (λ w. rw is (ap (λ r. r >>= λ h. times h.0.1 (pair_at (64 - length around) h.0.0.0 h.0.0.1) h.1) (sym (fresh w))))
 
     pub begun-list : (p : ListHead) → (c ≡ 12 → ⊥) → (c ≡ 13 → ⊥) → ((w : List ℕ) → list_head p w ≡ list_at w)
-        → Comes (begun c top below) (state_at (now.List p) top below) [] []
-    unfolding state_at items
+        → Comes (begun c around) (state_at (now.List p) around) piece piece
+    unfolding items
     begun-list p other another fresh =
         let no12 : eqb c 12 ≡ false = ne_eqb c 12 other in
         let no13 : eqb c 13 ≡ false = ne_eqb c 13 another in
-        comes-is _ _ [] (λ w. begun-is w (list_at w >>= λ h. items_of (64 - length below) h.0 h.1) (rw (no12, no13) refl)
-        ∙ ap (λ r. (r >>= λ h. items_of (64 - length below) h.0 h.1) >>= after top below) (sym (fresh w)))
+        begun-is (now.List p) (λ w. rw (no12, no13) (ap (λ r. r >>= λ h. times h.0.1 (value_at (64 - length around) h.0.0) h.1) (sym (fresh w))))
 
--- the same state by other names
-pub comes-state : {a : Skip} {p q : List ℕ} (n m : Current) (f g : Frame) (fs gs : List Frame) → n ≡ m → f ≡ g → fs ≡ gs → Comes a (state_at m g gs) p q
-    → Comes a (state_at n f fs) p q
-comes-state n m f g fs gs is same all h = rw (is, same, all) h
+-- ---- the same state by other names
 
-pub progresses-state : (n m : Current) (f g : Frame) (fs gs : List Frame) (new : Skip) (p q : List ℕ) (r : Result Progress PieceError) → n ≡ m → f ≡ g → fs ≡ gs
-    → Progresses (state_at m g gs) new p q r → Progresses (state_at n f fs) new p q r
-progresses-state n m f g fs gs new p q r is same all h = rw (is, same, all) h
+module _ (n m : Current) (fs gs : List Frame) (same : n ≡ m) (all : fs ≡ gs) where
+  pub progresses-state : (new : Skip) (p q : List ℕ) (r : Result Progress PieceError)
+      → Progresses (state_at m gs) new p q r → Progresses (state_at n fs) new p q r
+  progresses-state new p q r g = rw (same, all) g
 
--- ---- the head of a string, a list or a map
+  pub refused-state : (p : List ℕ) (e : PieceError) → Refused (state_at m gs) p e → Refused (state_at n fs) p e
+  refused-state p e g = rw (same, all) g
 
-module _ (top : Frame) (below : List Frame) where
-  pub now-done : (n : Current) (w v : List ℕ) → Comes (now_at (64 - length below) n) (λ u. Ok (tt, u)) w v
-      → Comes (state_at n top below) (state_at now.Nothing top below) w v
-  now-done n w v g = now-next top below n now.Nothing w v g
+  pub comes-to-state : (old : Skip) (p q : List ℕ) → Comes old (state_at m gs) p q → Comes old (state_at n fs) p q
+  comes-to-state old p q g = rw (same, all) g
 
-  pub size-next : (p : Size) (next : Current) (n : ℕ) (w v : List ℕ) → ((levels : ℕ) (u : List ℕ) → now_at levels next u ≡ past n u)
-      → Comes (size_from p) (λ u. Ok (n, u)) w v → Comes (state_at (now.Size p) top below) (state_at next top below) w v
-  size-next p next n w v same g =
-      now-next top below (now.Size p) next w v
-      (comes-trans (comes-inside (λ m. past m.0 m.1) g) (comes-is _ (now_at (64 - length below) next) v (λ u. sym (same (64 - length below) u))))
-
-  pub list-next : (p : ListHead) (t : AlternatingValues) (n m : Current) (f : Frame) (fs : List Frame) (c k : ℕ) (w v : List ℕ) → n ≡ now.List p → t.this ≡ c
-      → t.next ≡ c → t.left ≡ k → m ≡ now.Nothing → f ≡ Turns t → fs ≡ below ++ top ∷ [] → Comes (list_head p) (λ u. Ok ((c, k), u)) w v
-      → Comes (state_at n top below) (state_at m f fs) w v
-  list-next p t n m f fs c k w v is this next left nothing inner outer g =
-      rw (is, nothing, inner, outer) (now-inside top below (now.List p) (Turns t) w v
-      (comes-trans (comes-inside (λ h. items_of (64 - length below) h.0 h.1) g)
-      (comes-is _ (frame_at (64 - length below - 1) (Turns t)) v (λ u. times-turns (value_at (64 - length below - 1)) c k u ∙ rw (this, next, left) refl))))
-
-  pub map-next : (p : MapHead) (t : AlternatingValues) (n m : Current) (f : Frame) (fs : List Frame) (a b k : ℕ) (w v : List ℕ) → n ≡ now.Map p → t.this ≡ a
-      → t.next ≡ b → t.left ≡ 2 * k → m ≡ now.Nothing → f ≡ Turns t → fs ≡ below ++ top ∷ [] → Comes (map_head p) (λ u. Ok (((a, b), k), u)) w v
-      → Comes (state_at n top below) (state_at m f fs) w v
-  map-next p t n m f fs a b k w v is this next left nothing inner outer g =
-      rw (is, nothing, inner, outer) (now-inside top below (now.Map p) (Turns t) w v
-      (comes-trans (comes-inside (λ h. pairs_of (64 - length below) h.0 h.1) g)
-      (comes-is _ (frame_at (64 - length below - 1) (Turns t)) v
-      (λ u. pairs-turns (value_at (64 - length below - 1)) a b k (t.left) u left ∙ rw (this, next) refl))))
-
--- ---- between values
-
--- the next of the values of a list or a map
-pub next-turn : (t u : AlternatingValues) (below : List Frame) (piece : List ℕ) (c : ℕ) → t.left ≡ u.left + 1 → c ≡ t.this → u.this ≡ t.next → u.next ≡ t.this
-    → Comes (state_at now.Nothing (Turns t) below) (begun c (Turns u) below) piece piece
-unfolding state_at stack_at turns
-next-turn t u below piece c more is this next =
-    let k : t.left ≡ suc u.left = omega arith in
-    comes-is _ _ piece (λ w. ap (λ n. turns (value_at (64 - length below)) t.this t.next n w >>= λ x. frames_at 64 below x.1) k
-    ∙ assoc (value_at (64 - length below) t.this w) (λ x. turns (value_at (64 - length below)) t.next t.this u.left x.1) (λ x. frames_at 64 below x.1)
-    ∙ rw (is, this, next) refl)
-
-pub pop-last : (top : Frame) (below : List Frame) (piece : List ℕ) → below ≡ [] → ((levels : ℕ) (w : List ℕ) → frame_at levels top w ≡ Ok (tt, w))
-    → Comes (state_at now.Nothing top below) (λ w. Ok (tt, w)) piece piece
-unfolding state_at stack_at
-pop-last top below piece none done = comes-is _ _ piece (λ w. ap (λ r. r >>= λ x. frames_at 64 below x.1) (done (64 - length below) w) ∙ rw none refl)
-
-pub pop-next : (top outer : Frame) (below rest : List Frame) (piece : List ℕ) → below ≡ rest ++ outer ∷ []
-    → ((levels : ℕ) (w : List ℕ) → frame_at levels top w ≡ Ok (tt, w)) → Comes (state_at now.Nothing top below) (state_at now.Nothing outer rest) piece piece
-unfolding state_at stack_at
-pop-next top outer below rest piece is done =
-    comes-is _ _ piece (λ w. ap (λ r. r >>= λ x. frames_at 64 below x.1) (done (64 - length below) w) ∙ rw is (frames_at-push 64 rest outer w))
-
--- ---- the head of a field
-
-module _ (below : List Frame) where
-  abbrev outside : Unit {0} × List ℕ → Read (Unit {0})
-  outside x = frames_at 64 below x.1
-
-  pub field-waits : (h k : FieldHead) (w v : List ℕ) → NeedsMore Truncated (head_from h) (head_from k) w v
-      → NeedsMore Truncated (state_at now.Nothing (Fields h) below) (state_at now.Nothing (Fields k) below) w v
-  unfolding state_at stack_at
-  field-waits h k w v g = waits-inside outside (head-waits (λ e. e) (passes (64 - length below)) tt h k w v g)
-
-  pub field-refused : (h : FieldHead) (w : List ℕ) (e : PieceError) → Refused (head_from h) w e → Refused (state_at now.Nothing (Fields h) below) w e
-  unfolding state_at stack_at
-  field-refused h w (Wire e) g = refuses-inside outside (head-refuses (λ e. e) (passes (64 - length below)) tt h w e (λ same. same) g)
-  field-refused h w Memory g = tt
-
-  pub field-stop : (h : FieldHead) (t : AlternatingValues) (w v : List ℕ) → t.left ≡ 0 → Comes (head_from h) (λ u. Ok (None, u)) w v
-      → Comes (state_at now.Nothing (Fields h) below) (state_at now.Nothing (Turns t) below) w v
-  unfolding state_at stack_at turns
-  field-stop h t w v none g =
-      comes-trans (comes-inside outside (head-stop (λ e. e) (passes (64 - length below)) tt h w v g)) (record { same = λ rest. rw none refl })
-
-  pub field-value : (h k : FieldHead) (c : ℕ) (i : ℤ) (w v : List ℕ) → ((u : List ℕ) → head_from k u ≡ field_at u)
-      → Comes (head_from h) (λ u. Ok (Some (c, i), u)) w v → Comes (state_at now.Nothing (Fields h) below) (begun c (Fields k) below) w v
-  unfolding state_at stack_at
-  field-value h k c i w v fresh g =
-      comes-trans (comes-inside outside (head-value (λ e. e) (passes (64 - length below)) tt h w v c i (value_at (64 - length below) c) g (λ u. refl)))
-      (comes-is _ _ v (λ u. by (value_at (64 - length below) c u)))
-    where
-      inner : (u : List ℕ) → (fields_at (λ e. e) (passes (64 - length below)) tt u >>= outside) ≡ (frame_at (64 - length below) (Fields k) u >>= outside)
-      inner u = ap (λ r. r >>= outside) (sym (head-fresh (λ e. e) (passes (64 - length below)) (λ s d j. value_cut (64 - length below) d) tt k fresh u))
-
-      by : (r : Read (Unit {0})) → ((r >>= λ x. fields_at (λ e. e) (passes (64 - length below)) x.0 x.1) >>= outside)
-          ≡ (r >>= λ x. frame_at (64 - length below) (Fields k) x.1 >>= outside)
-      by (Ok x) = inner x.1
-      by (Err e) = refl
+-- a step after what a step without bytes came to
+pub comes-progress : (old mid new : Skip) (w v left : List ℕ) (r : Result Progress PieceError) → Comes old mid w v → Progresses mid new v left r
+    → Progresses old new w left r
+comes-progress old mid new w v left (Ok progress.On) f g = comes-trans f g
+comes-progress old mid new w v left (Ok progress.Short) f g = comes-waits f g
+comes-progress old mid new w v left (Ok progress.Whole) f g = comes-trans f g
+comes-progress old mid new w v left (Err e) f g = comes-refused old mid w v e f g
 
 -- ---- the first byte
 
@@ -348,12 +330,6 @@ unfolding skip_at
 skip-fresh c [] code = sym (begins-short c code)
 skip-fresh c (b ∷ w) code = let some : eqb (length (b ∷ w)) 0 ≡ false = ne_eqb (length (b ∷ w)) 0 (λ e. absurd (omega arith)) in rw some refl
 
-pub skipping-fresh : (t : AlternatingValues) (below : List Frame) (c : ℕ) (w : List ℕ) → is_code c ≡ true → t.this ≡ c → t.left ≡ 1 → below ≡ []
-    → state_at now.Nothing (Turns t) below w ≡ skip_at c w
-unfolding state_at stack_at turns
-skipping-fresh t below c w code this one none =
-    rw (none, this, one) (ap (λ r. r >>= λ x. Ok (tt, x.1)) (same_end (value_at 64 c w)) ∙ same_end (value_at 64 c w)) ∙ sym (skip-fresh c w code)
-
-pub no_turns : (t : AlternatingValues) → t.left ≡ 0 → (levels : ℕ) (w : List ℕ) → frame_at levels (Turns t) w ≡ Ok (tt, w)
-unfolding turns
-no_turns t none levels w = rw none refl
+pub skipping-fresh : (c : ℕ) (w : List ℕ) → is_code c ≡ true → state_at now.Nothing (Elements c 1 ∷ []) w ≡ skip_at c w
+unfolding state_at times
+skipping-fresh c w code = same_end (value_at 64 c w) ∙ sym (skip-fresh c w code)

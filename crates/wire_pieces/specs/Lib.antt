@@ -4,3 +4,4 @@ pub mod Heads
 pub mod Strings
 pub mod Lists
 pub mod Frames
+pub mod Skipped

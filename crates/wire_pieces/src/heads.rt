@@ -1,6 +1,7 @@
-ghost use Rattle.std.specs.Prelude.{◌≡◌, true, false, List, ℕ, None, Ok};
+ghost use Rattle.std.specs.Prelude.{◌≡◌, true, false, List, ℕ, None, Ok, Err};
 ghost use Rattle.thrift_binary.specs.declared.fault.WireError.TheVariants.{Truncated};
 ghost use Rattle.thrift_binary.specs.Reading.{field_at, list_at};
+ghost use Rattle.wire_pieces.specs.declared.fault.PieceError.TheVariants.{Memory};
 ghost use Rattle.wire_pieces.specs.Pieces.{Reaches, Continues, Takes, OkTakes};
 ghost use Rattle.wire_pieces.specs.Numbers.{i16_from};
 ghost use Rattle.wire_pieces.specs.Heads.{IsTyped, head_of, id_from, head_from, typed_size_from, list_head};
@@ -45,6 +46,7 @@ impl TypedId {
         ensures reads { Continues head_of (id_from self.old) (id_from self.new)
             piece.old piece.new result }
         ensures taken { OkTakes piece.old piece.new result }
+        ensures no_memory { result ≡ Err Memory → ⊥ }
         ensures typed { IsTyped result }
     {
         let Some(id) = more_i16(&mut self.id, piece) else {
@@ -97,6 +99,7 @@ impl FieldHead {
         ensures reads { Continues head_of (head_from self.old) (head_from self.new)
             piece.old piece.new result }
         ensures taken { OkTakes piece.old piece.new result }
+        ensures no_memory { result ≡ Err Memory → ⊥ }
         ensures typed { IsTyped result }
     {
         match &mut self.step {
@@ -133,6 +136,7 @@ impl TypedSize {
         ensures reads { Continues (λ x. x) (typed_size_from self.old) (typed_size_from self.new)
             piece.old piece.new result }
         ensures taken { OkTakes piece.old piece.new result }
+        ensures no_memory { result ≡ Err Memory → ⊥ }
     {
         let Some(size) = self.size.more(piece)? else {
             return Ok(None);
@@ -174,6 +178,7 @@ impl ListHead {
         ensures reads { Continues (λ x. x) (list_head self.old) (list_head self.new)
             piece.old piece.new result }
         ensures taken { OkTakes piece.old piece.new result }
+        ensures no_memory { result ≡ Err Memory → ⊥ }
     {
         match &mut self.step {
             ListStep::First => {

@@ -1,5 +1,6 @@
-ghost use Rattle.std.specs.Prelude.{◌≡◌, List, ℕ};
+ghost use Rattle.std.specs.Prelude.{◌≡◌, List, ℕ, Err};
 ghost use Rattle.thrift_binary.specs.Reading.{map_at};
+ghost use Rattle.wire_pieces.specs.declared.fault.PieceError.TheVariants.{Memory};
 ghost use Rattle.wire_pieces.specs.Pieces.{Continues, OkTakes};
 ghost use Rattle.wire_pieces.specs.Heads.{pair_size_from, pair_head, map_head};
 
@@ -22,6 +23,7 @@ impl PairSize {
             (pair_size_from self.new)
             piece.old piece.new result }
         ensures taken { OkTakes piece.old piece.new result }
+        ensures no_memory { result ≡ Err Memory → ⊥ }
     {
         let Some(size) = self.size.more(piece)? else {
             return Ok(None);
@@ -51,6 +53,7 @@ impl PairHead {
         ensures reads { Continues (λ x. ((x.0, x.1), x.2)) (pair_head self.old) (pair_head self.new)
             piece.old piece.new result }
         ensures taken { OkTakes piece.old piece.new result }
+        ensures no_memory { result ≡ Err Memory → ⊥ }
     {
         match &mut self.step {
             PairStep::First => {
@@ -99,6 +102,7 @@ impl MapHead {
         ensures reads { Continues (λ x. ((x.0, x.1), x.2)) (map_head self.old) (map_head self.new)
             piece.old piece.new result }
         ensures taken { OkTakes piece.old piece.new result }
+        ensures no_memory { result ≡ Err Memory → ⊥ }
     {
         match &mut self.step {
             MapStep::First => {

@@ -1,5 +1,6 @@
-ghost use Rattle.std.specs.Prelude.{◌≡◌, List, ℕ, [], ◌++◌, Some, Ok};
+ghost use Rattle.std.specs.Prelude.{◌≡◌, List, ℕ, [], ◌++◌, Some, Ok, Err};
 ghost use Rattle.thrift_binary.specs.Reading.{bool_at, size_at};
+ghost use Rattle.wire_pieces.specs.declared.fault.PieceError.TheVariants.{Memory};
 ghost use Rattle.wire_pieces.specs.Pieces.{Continues, OkTakes};
 
 use crate::fault::PieceError;
@@ -24,6 +25,7 @@ impl Bool {
     pub fn more(&mut self, piece: &mut Cursor<'_>) -> Result<Option<bool>, PieceError>
         ensures reads { Continues (λ x. x) bool_at bool_at piece.old piece.new result }
         ensures taken { OkTakes piece.old piece.new result }
+        ensures no_memory { result ≡ Err Memory → ⊥ }
     {
         match piece.next() {
             None => Ok(None),
@@ -59,6 +61,7 @@ impl Size {
         ensures reads { Continues (λ x. x) (size_from self.old) (size_from self.new)
             piece.old piece.new result }
         ensures taken { OkTakes piece.old piece.new result }
+        ensures no_memory { result ≡ Err Memory → ⊥ }
     {
         let Some(whole) = self.bytes.more(piece) else {
             return Ok(None);

@@ -1,56 +1,48 @@
-use Rattle.std.proofs.Common.{refl, Ok, ◌∙◌, sym, ap}
-use Rattle.std.proofs.lemmas.Result.{err_from_is_err_and}
-use Rattle.wire_pieces.specs.Frames.{skipping}
-use Rattle.wire_pieces.specs.declared.skip.Frame.TheVariants.{Turns}
-use Rattle.wire_pieces.proofs.Steps.{comes-trans, comes-at, comes-refused, refused-at}
-use Rattle.wire_pieces.proofs.SkipSteps.{progresses-state, field-waits, field-refused, field-stop, field-value, next-turn, no_turns}
+use Rattle.std.proofs.Common.{◌≡◌, ◌<◌, suc, Ok, List, [], ◌∷◌, length, false, true, refl, arith}
+use Rattle.wire_pieces.proofs.SkipSteps.{all-skipped, field-begins, element-next, elements-end, key-next, pairs-end, pair_value-next}
+use Rattle.wire_pieces.proofs.SkipSteps.{comes-progress, progresses-state, comes-to-state}
+use Rattle.wire_pieces.specs.declared.skip.Progress.TheVariants as progress
 use Rattle.wire_pieces.proofs.skip.Skipping.between_values.Goals as goal
 
-pub returns-in_err-more-in-Fields-clause-progress : goal.returns-in_err-more-in-Fields-clause-progress
-returns-in_err-more-in-Fields-clause-progress c =
-    let p = err_from_is_err_and c.from_residual.result c.from_residual.ensures.1 in
-    rw (p.1, p.2, c.requires.now, c.in-Fields.is) (field-refused _ _ _ _ c.in_err-more-in-Fields.ensures.reads)
+nothing : {A : Type 0} (w : List A) → (0 < length w → ⊥) → w ≡ []
+nothing [] h = refl
+nothing (b ∷ w) h = absurd (h (omega arith))
 
 pub returns-in-None-clause-progress : goal.returns-in-None-clause-progress
-returns-in-None-clause-progress c = rw (c.requires.now, c.in-Fields.is) (field-waits _ _ _ _ _ (rw c.in-None.is at c.in_ok-more-in-Fields.ensures.reads))
+returns-in-None-clause-progress c =
+    let none : c.args.self.now.around.items ≡ [] = nothing _ (λ h. let some : false ≡ true = c.in-None.ensures.variant.1 h in absurd cc) in
+    λ piece. progresses-state _ _ _ _ c.requires.now none (λ w. Ok (tt, w)) piece piece (Ok progress.Whole) (all-skipped piece)
 
-pub returns-in-Some-Stop-clause-progress : goal.returns-in-Some-Stop-clause-progress
-returns-in-Some-Stop-clause-progress c =
-    rw (c.requires.now, c.in-Fields.is)
-    (field-stop _ _ c.none.result _ _ c.none.ensures (rw (c.in-Some-Stop.is, c.in-Some-Stop.field-0-is) at c.in_ok-more-in-Fields.ensures.reads))
+pub returns-in-Some-Fields-clause-progress : goal.returns-in-Some-Fields-clause-progress
+returns-in-Some-Fields-clause-progress c =
+    λ piece. progresses-state _ _ _ _ c.requires.now c.in-Some-Fields.ensures.items _ piece piece (Ok progress.On)
+    (rw c.in-Some-Fields.field-0-is (field-begins _ c.new.result piece c.new.ensures.fresh))
 
-pub returns-in_ok-begin-in-Some-Field-clause-progress : goal.returns-in_ok-begin-in-Some-Field-clause-progress
-returns-in_ok-begin-in-Some-Field-clause-progress c =
-    rw (c.requires.now, c.in-Fields.is)
-    (comes-trans (field-value _ _ _ _ _ _ _ c.new.ensures.fresh (rw (c.in-Some-Field.is, c.in-Some-Field.field-0-is) at c.in_ok-more-in-Fields.ensures.reads))
-    (comes-at _ c.in_ok-begin-in-Some-Field.ensures.steps))
+pub returns-in-None-checked_sub-clause-progress : goal.returns-in-None-checked_sub-clause-progress
+returns-in-None-checked_sub-clause-progress c =
+    let none : c.in-Some-Elements.left ≡ 0 = omega (arith, c.in-None-checked_sub.ensures) in
+    λ piece. progresses-state _ _ _ _ c.requires.now c.in-Some-Elements.ensures.items _ piece piece (Ok progress.On)
+    (rw (c.in-Some-Elements.field-0-is, none) (comes-to-state _ _ _ _ c.requires.now refl _ piece piece (elements-end _ _ piece)))
 
-pub returns-in_err-begin-in-Some-Field-clause-progress : goal.returns-in_err-begin-in-Some-Field-clause-progress
-returns-in_err-begin-in-Some-Field-clause-progress c =
-    let p = err_from_is_err_and c.from_residual-in_err-begin-in-Some-Field.result c.from_residual-in_err-begin-in-Some-Field.ensures.1 in
-    rw (p.1, p.2, c.requires.now, c.in-Fields.is)
-    (comes-refused _ _ _ _ _ (field-value _ _ _ _ _ _ _ c.new.ensures.fresh
-    (rw (c.in-Some-Field.is, c.in-Some-Field.field-0-is) at c.in_ok-more-in-Fields.ensures.reads))
-    (refused-at _ _ _ c.in_err-begin-in-Some-Field.ensures.steps))
+pub returns-in-Some-clause-progress : goal.returns-in-Some-clause-progress
+returns-in-Some-clause-progress c =
+    let more : c.in-Some-Elements.left ≡ suc c.in-Some.left = omega (arith, c.in-Some.ensures) in
+    λ piece. progresses-state _ _ _ _ c.requires.now c.in-Some-Elements.ensures.items _ piece piece _
+    (rw (c.in-Some-Elements.field-0-is, more) (comes-progress _ _ _ _ _ _ _ (element-next _ _ _ piece) (c.begin.ensures.progress piece)))
 
-pub pop-requires-clause-done : goal.pop-requires-clause-done
-pop-requires-clause-done c = no_turns _ (ap (λ t. t.left) c.in_default.ensures.1 ∙ c.in_default.ensures.0)
+pub returns-in-None-checked_sub-2-clause-progress : goal.returns-in-None-checked_sub-2-clause-progress
+returns-in-None-checked_sub-2-clause-progress c =
+    let none : c.in-Some-Pairs.left ≡ 0 = omega (arith, c.in-None-checked_sub-2.ensures) in
+    λ piece. progresses-state _ _ _ _ c.requires.now c.in-Some-Pairs.ensures.items _ piece piece (Ok progress.On)
+    (rw (c.in-Some-Pairs.field-0-is, none) (comes-to-state _ _ _ _ c.requires.now refl _ piece piece (pairs-end _ _ _ piece)))
 
-pub returns-in_default-clause-progress : goal.returns-in_default-clause-progress
-returns-in_default-clause-progress c =
-    progresses-state c.args.self.now.now c.args.self.now.now c.args.self.now.top (Turns c.take.new.self) c.args.self.now.below.items c.args.self.now.below.items
-    (skipping c.pop.new.self) c.args.piece.now c.args.piece.now (Ok c.pop.result) refl (c.in-Turns.is ∙ ap (λ t. Turns t) (sym c.in_default.ensures.1)) refl
-    (c.pop.ensures.progress c.args.piece.now)
+pub returns-in-Some-checked_sub-clause-progress : goal.returns-in-Some-checked_sub-clause-progress
+returns-in-Some-checked_sub-clause-progress c =
+    let more : c.in-Some-Pairs.left ≡ suc c.in-Some-checked_sub.left = omega (arith, c.in-Some-checked_sub.ensures) in
+    λ piece. progresses-state _ _ _ _ c.requires.now c.in-Some-Pairs.ensures.items _ piece piece _
+    (rw (c.in-Some-Pairs.field-0-is, more) (comes-progress _ _ _ _ _ _ _ (key-next _ _ _ _ piece) (c.begin-in-Some-checked_sub.ensures.progress piece)))
 
-pub returns-in_ok-begin-in-Turns-clause-progress : goal.returns-in_ok-begin-in-Turns-clause-progress
-returns-in_ok-begin-in-Turns-clause-progress c =
-    rw (c.requires.now, c.in-Turns.is)
-    (comes-trans (next-turn _ _ _ _ _ c.in-Some.ensures.0 c.in-Some.ensures.1 c.in-Some.ensures.2 c.in-Some.ensures.3)
-    (comes-at _ c.in_ok-begin-in-Turns.ensures.steps))
-
-pub returns-in_err-begin-in-Turns-clause-progress : goal.returns-in_err-begin-in-Turns-clause-progress
-returns-in_err-begin-in-Turns-clause-progress c =
-    let p = err_from_is_err_and c.from_residual-in_err-begin-in-Turns.result c.from_residual-in_err-begin-in-Turns.ensures.1 in
-    rw (p.1, p.2, c.requires.now, c.in-Turns.is)
-    (comes-refused _ _ _ _ _ (next-turn _ _ _ c.args.piece.now _ c.in-Some.ensures.0 c.in-Some.ensures.1 c.in-Some.ensures.2 c.in-Some.ensures.3)
-    (refused-at _ _ _ c.in_err-begin-in-Turns.ensures.steps))
+pub returns-in-Some-PairValue-clause-progress : goal.returns-in-Some-PairValue-clause-progress
+returns-in-Some-PairValue-clause-progress c =
+    λ piece. progresses-state _ _ _ _ c.requires.now c.in-Some-PairValue.ensures.items _ piece piece _
+    (rw c.in-Some-PairValue.field-0-is (comes-progress _ _ _ _ _ _ _ (pair_value-next _ _ _ _ piece) (c.begin-in-Some-PairValue.ensures.progress piece)))

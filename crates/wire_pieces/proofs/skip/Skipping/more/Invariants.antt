@@ -1,6 +1,6 @@
 use Rattle.std.proofs.Common.{◌≤◌, length}
 use Rattle.wire_pieces.specs.Pieces.{Comes}
-use Rattle.wire_pieces.specs.Frames.{skipping, weight}
+use Rattle.wire_pieces.specs.Skipped.{skipping, weight}
 use Rattle.wire_pieces.proofs.skip.Skipping.more.Given as goal
 
 abbrev pub invariant-loop : goal.invariant-loop
