@@ -46,7 +46,7 @@ splits_after before (e ∷ h) f =
 pub splits_rise : (h : List Entry) → RisesBySplits h → RisesAfter [] h
 splits_rise h f = splits_after [] h f
 
-each_at : (f : Entry) (before : List Entry) (e : Entry) (after : List Entry) → AboveEach f (before ++ e ∷ after) → e.seat ≡ f.seat → e.number < f.number
+pub each_at : (f : Entry) (before : List Entry) (e : Entry) (after : List Entry) → AboveEach f (before ++ e ∷ after) → e.seat ≡ f.seat → e.number < f.number
 each_at f [] e after a = a.0
 each_at f (d ∷ before) e after a = each_at f before e after a.1
 

@@ -34,7 +34,7 @@ use Rattle.store_laws.proofs.LegalLists.{legal_snoc}
 use mathlib.Core.List.{IsPrefix}
 
 -- ---- batches of one process and number
-back_true : (v w : Work) → resends v w ≡ true → resends w v ≡ true
+pub back_true : (v w : Work) → resends v w ≡ true → resends w v ≡ true
 back_true (brings.Batch a) (brings.Batch b) e =
     let o = sent_as a b e in
     as_sent b a (record { numbered = ap is_some (sym o.number) ∙ o.numbered; number = sym o.number; process = sym o.process })
