@@ -20,8 +20,8 @@ use std::time::Clock;
 use text_lines::ExitStatus;
 
 /// Runs the command of the words, and returns the exit status: `DeviceFailed` if a device failed or the limit of reads
-/// was reached, and for `serve` also if a socket failed. That no other cause gives it is said only of `get`, `play` and
-/// `pipe`, by the clause `limit` of [`run_get`], [`run_play`] and [`run_pipe`]. Words that name no command, and a
+/// was reached, and for `serve` also if a socket failed. The clauses exclude other causes for `get`, `play` and `pipe`
+/// alone (`limit` of [`run_get`], [`run_play`] and [`run_pipe`]). Words that name no command, and a
 /// trace's id that can't be read, are answered on the output, and nothing is read then. `serve` doesn't read the input
 /// either.
 ///

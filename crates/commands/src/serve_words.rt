@@ -164,7 +164,7 @@ fn host_of<W: Write>(matches: &ArgMatches<'_>, writer: &mut W) -> Result<Host, E
 {
     match asked_host(matches) {
         Some(host) => Ok(host),
-        // The text is there, since clap gives the option its default.
+        // Impossible: no text, since clap gives the option its default.
         None => match write_bad_host(writer, matches.get_str("host").unwrap_or("")) {
             Ok(()) => Err(ExitStatus::Usage),
             Err(_) => Err(ExitStatus::DeviceFailed),

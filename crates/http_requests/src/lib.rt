@@ -2,13 +2,15 @@
 //!
 //! A request is a head by `httparse`'s grammar, of at most 8,192 bytes and 64 fields, and a body: of the length that
 //! the head announces, or in chunks. The bytes received are proved to start with a request, or to be malformed for a
-//! reason that is returned: no continuation can start with one, or the input ended inside. A request is read in two
-//! steps: its head, which the caller gets ([`next_head`]), and its body, which is pushed into a [`Sink`] piece by piece
-//! ([`read_body`]). No body is held as a whole. The input is read only while the bytes received don't decide: they are
-//! not malformed, and don't start with a complete request.
+//! reason that is returned: no continuation can start with one, or the input ended inside.
 //!
-//! Both functions are loops of a step and a read. The steps read nothing and keep their state between two reads
-//! ([`HeadWait`], [`BodyReader`]), so a caller that must not block can pause before each read.
+//! A session takes a request in two steps. [`HeadWait::look`] looks for the head in the bytes received;
+//! [`BodyReader::take_from`] then takes the body from them and pushes it into a [`Sink`] piece by piece, so no body is
+//! held as a whole. Both read nothing and keep their state between two reads. Each read is one call of
+//! [`ReadBuffer::read_more`], made only while the bytes received don't decide: they are not malformed, and don't start
+//! with a complete request.
+//!
+//! [`next_head`] and [`read_body`] are loops of such a step and a read. Only tests call them.
 //!
 //! * `head`: finds a head at the start of bytes.
 //! * `fields`: the fields of a head, by name.

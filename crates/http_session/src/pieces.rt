@@ -109,7 +109,8 @@ impl Session {
         ensures works { OnOk result ((C.Input.has_failed connection.new ≡ false)
             × (C.Output.has_failed connection.new ≡ false)) }
 
-        ensures open { IfOpen (piece_of result) (CanContinue (C.remaining connection.new) self.new) }
+        ensures open { IfOpen (piece_of result)
+            (CanContinue (C.remaining connection.new) self.new) }
 
         ensures one_more { IfAnswered result (self.new.answered ≡ self.old.answered + 1) }
 
@@ -196,7 +197,8 @@ impl Session {
         ensures works { OnOk result ((C.Input.has_failed connection.new ≡ false)
             × (C.Output.has_failed connection.new ≡ false)) }
 
-        ensures open { IfOpen (piece_of result) (CanContinue (C.remaining connection.new) self.new) }
+        ensures open { IfOpen (piece_of result)
+            (CanContinue (C.remaining connection.new) self.new) }
 
         ensures one_more { IfAnswered result (self.new.answered ≡ self.old.answered + 1) }
 
@@ -226,7 +228,8 @@ impl Session {
     }
 
     /// Reads one request, asks the store if necessary, and writes one response. Returns how the session ended, or
-    /// `None` while it stays open. Blocks until the client has sent the request.
+    /// `None` while it stays open. Blocks until the client has sent the request. A server of many connections calls
+    /// [`advance`](Self::advance) and [`answer_held`](Self::answer_held) in its place.
     ///
     /// The pieces of a session add up to what [`serve_connection`](crate::serve_connection) promises: from the state in
     /// which the session began it is underway after `None`, and has ended or failed otherwise. This holds even if other

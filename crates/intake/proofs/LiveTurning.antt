@@ -9,7 +9,8 @@ use Rattle.trace_model.specs.Histories.{IsLegal}
 use Rattle.intake.specs.Denials.{IsLeftOut}
 use Rattle.intake.specs.LiveSharing.{IsTurnedDown}
 
-pub turned_down : (limits : Limits) (e : Entry) (why : Refusal) (list known : List Entry) (b : Bool) → IsLegal limits list
-    → MatchBool b (IsPrefix list known) (IsPrefix known list × (length known < length list)) → IsLeftOut limits list e why → IsTurnedDown limits e why known
-turned_down limits e why list known true legal begins left = inl (list, legal, inl begins, left)
-turned_down limits e why list known false legal begins left = inl (list, legal, inr begins.0, left)
+pub turned_down : (limits : Limits) (e : Entry) (why : Refusal) (list known refused_by : List Entry) (b : Bool) → IsLegal limits list
+    → MatchBool b (IsPrefix list known) (IsPrefix known list × (length known < length list)) → IsPrefix list refused_by → IsLeftOut limits list e why
+    → IsTurnedDown limits e why known refused_by
+turned_down limits e why list known refused_by true legal begins by left = inl (list, legal, inl begins, by, left)
+turned_down limits e why list known refused_by false legal begins by left = inl (list, legal, inr begins.0, by, left)

@@ -24,3 +24,7 @@ IsLeftOut limits list e _ = ⊥
 abbrev pub IsDenied : Limits → Entry → Refusal → Option (List Entry) → Type 0
 IsDenied limits e why (Some list) = IsLeftOut limits list e why
 IsDenied limits e why None = (why ≡ Closed) ⊎ (why ≡ NoReply)
+
+-- by some list, or without one
+abbrev pub IsDeniedSomehow : Limits → Entry → Refusal → Type 0
+IsDeniedSomehow limits e why = (list : Option (List Entry)) × IsDenied limits e why list

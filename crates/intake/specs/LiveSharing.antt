@@ -16,10 +16,12 @@ use Rattle.intake.specs.Seats.{SeatValue, IsNotTaken, next_job, with_job}
 use Rattle.intake.specs.Denials.{IsLeftOut}
 use Rattle.trace_model.specs.Knowing.{History}
 
--- the seat, and the longest list that the pass knows
+-- the seat, the longest list that the pass knows, and the longest list by which one of its batches was refused, or what
+-- the pass knew at first
 pub record LiveValue : Type 0 where
   pub seat : SeatValue
   pub known : List Entry
+  pub refused_by : List Entry
 
 -- desk, number and the right to submit don't change, and the list of the seat's jobs grows
 pub record GoesOn (s t : SeatValue) : Type 0 where
@@ -45,21 +47,26 @@ KnowsPlace limits e place known =
 abbrev pub OneBegins : List Entry → List Entry → Type 0
 OneBegins xs ys = IsPrefix xs ys ⊎ IsPrefix ys xs
 
--- for this reason the entry isn't in a legal list of the same history as the known one; or the clerk has ended
-abbrev pub IsTurnedDown : Limits → Entry → Refusal → List Entry → Type 0
-IsTurnedDown limits e why known =
-    ((list : List Entry) × IsLegal limits list × OneBegins list known × IsLeftOut limits list e why)
+-- a legal prefix of the second list, comparable with the known one, leaves the entry out for this reason; or the clerk
+-- has ended
+abbrev pub IsTurnedDown : Limits → Entry → Refusal → List Entry → List Entry → Type 0
+IsTurnedDown limits e why known refused_by =
+    ((list : List Entry) × IsLegal limits list × OneBegins list known × IsPrefix list refused_by × IsLeftOut limits list e why)
     ⊎ ((why ≡ Closed) ⊎ (why ≡ NoReply))
 
 -- The seat submitted the batch, and a list that is known then answers for its entry at the place. Or it was refused:
--- the seat didn't submit it for the seat's own reason, or it did, and its entry isn't in the history for this reason.
+-- the seat didn't submit it for the seat's own reason, or it did, and a list of the history leaves its entry out for this
+-- reason.
 abbrev pub LiveSubmits : Limits → LiveValue → Batch → Result ℕ Refusal → LiveValue → Type 0
 LiveSubmits limits s b (Ok place) t =
     IsPrefix s.known t.known × HandsIn s.seat b t.seat
     × KnowsPlace limits (next_job s.seat (brings.Batch b)) place t.known
+    × (t.refused_by ≡ s.refused_by)
 LiveSubmits limits s b (Err why) t =
     (t.known ≡ s.known)
-    × (((t.seat ≡ s.seat) × IsNotTaken s.seat why) ⊎ (HandsIn s.seat b t.seat × IsTurnedDown limits (next_job s.seat (brings.Batch b)) why t.known))
+    × (((t.seat ≡ s.seat) × IsNotTaken s.seat why)
+    ⊎ (HandsIn s.seat b t.seat × IsTurnedDown limits (next_job s.seat (brings.Batch b)) why t.known t.refused_by))
+    × IsPrefix s.refused_by t.refused_by
 
 -- The answer is the plain store's for the list that is known then, which is legal and starts with what was known. If
 -- memory ran out, that list is legal too. If the store is gone, nothing changed.
@@ -67,7 +74,8 @@ abbrev pub LiveReads : Limits → LiveValue → Query → Result Answer Refusal 
 LiveReads limits s q (Ok a) t =
     IsPrefix s.known t.known × (t.seat ≡ s.seat)
     × IsLegal limits t.known × (a ≡ answer limits t.known q)
+    × (t.refused_by ≡ s.refused_by)
 LiveReads limits s q (Err why) t =
     IsPrefix s.known t.known × (t.seat ≡ s.seat)
     × ((why ≡ NoMemory) ⊎ (why ≡ Gone)) × (why ≡ Gone → t.known ≡ s.known)
-    × (why ≡ NoMemory → IsLegal limits t.known)
+    × (why ≡ NoMemory → IsLegal limits t.known) × (t.refused_by ≡ s.refused_by)

@@ -38,6 +38,7 @@ impl<N: StoreName> JobOutcome<N> {
     /// Returns the receipt of an acknowledgement.
     pub(crate) fn receipt(&self) -> Option<Arc<Receipt<N>>> {
         match &self.answer {
+            // Impossible: an error. Only the count of shares changes, and it doesn't come near its limit.
             Ok(ack) => Arc::try_clone(&ack.receipt).ok(),
             Err(_) => None,
         }
@@ -98,6 +99,7 @@ impl<N: StoreName> Cell<N> {
             claim.done();
             return None;
         }
+        // Impossible: `None`. A slot that is present holds an outcome.
         let JobOutcome { answer } = claim.put(None, FREE)?;
         Some(answer)
     }

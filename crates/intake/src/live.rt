@@ -1,8 +1,9 @@
 //! A shared store as the backend of a session: a seat submits its batches, and a pass reads.
 //!
-//! Contracts see a [`Live`] as its seat and the longest list that its pass knows. The pass learns an accepted batch
-//! before the call returns, so a session reads its own writes. The relations of its calls speak of the seat and the
-//! list, so the seat's list of jobs is known at the end of a session.
+//! Contracts see a [`Live`] as its seat, the longest list that its pass knows, and the longest list by which one of
+//! its batches was refused. The pass learns an accepted batch before the call returns, so a session reads its own
+//! writes. The relations of its calls speak of all three, so the seat's list of jobs is known at the end of a session,
+//! and each refusal is by a prefix of the list that [`Live::refused_by`] returns.
 //!
 //! * `processes`: shares the process of consecutive batches.
 
@@ -23,7 +24,7 @@ use crate::seat::Seat;
 use crate::ticket::{Ack, Ticket};
 use jaeger_model::{Batch, SharedProcess};
 use processes::share_process;
-use read_side::{Pass, Receipt, StoreName};
+use read_side::{HistoryPrefix, Pass, Receipt, StoreName};
 use std::alloc::Global;
 use std::marker::Model;
 use std::sync::Wait;
@@ -36,6 +37,8 @@ pub struct Live<N: StoreName> {
     pass: Pass<N>,
     /// The process of the last batch submitted.
     process: Option<SharedProcess>,
+    /// The longest list by which a batch was refused, or what the pass knew at first.
+    refused_by: HistoryPrefix<N>,
 }
 
 impl<N: StoreName> Model for Live<N> {
@@ -43,7 +46,7 @@ impl<N: StoreName> Model for Live<N> {
 
     ghost Value = { LiveValue };
 
-    ghost view = { λ l. record { seat = l.seat; known = l.pass.known } };
+    ghost view = { λ l. record { seat = l.seat; known = l.pass.known; refused_by = l.refused_by } };
 }
 
 impl<N: StoreName> Live<N> {
@@ -51,12 +54,23 @@ impl<N: StoreName> Live<N> {
     pub fn new(seat: Seat<N>, pass: Pass<N>) -> Live<N>
         ensures seat { result.seat ≡ seat }
         ensures known { result.known ≡ pass.known }
+        ensures refused_by { result.refused_by ≡ pass.known }
     {
+        let refused_by = pass.history();
         Live {
             seat,
             pass,
             process: None,
+            refused_by,
         }
+    }
+
+    /// Returns the longest list by which one of its batches was refused, as a prefix of the store's history; what the
+    /// pass knew at first, if none was refused by a longer one.
+    pub fn refused_by(&self) -> HistoryPrefix<N>
+        ensures { result ≡ self.now.refused_by }
+    {
+        self.refused_by.again()
     }
 
     /// Learns the list of a receipt, which it knows from then on.
@@ -66,6 +80,7 @@ impl<N: StoreName> Live<N> {
         ensures learnt { IsPrefix receipt.now.entries self.new.known }
         ensures no_more { (self.new.known ≡ self.old.known) ⊎
             (self.new.known ≡ receipt.now.entries) }
+        ensures refused_by { self.new.refused_by ≡ self.old.refused_by }
     {
         self.pass.learn(receipt);
     }
@@ -79,6 +94,7 @@ impl<N: StoreName> Live<N> {
         batch: Batch,
     ) -> Result<Ticket<N>, Refusal>
         ensures known { self.new.known ≡ self.old.known }
+        ensures refused_by { self.new.refused_by ≡ self.old.refused_by }
         ensures job { IfOk result (λ ticket.
             ticket ≡ next_job self.old.seat (brings.Batch batch)) }
         ensures handed_in { OnOk result (HandsIn self.old.seat batch self.new.seat) }
@@ -99,6 +115,7 @@ impl<N: StoreName> Live<N> {
         ensures old { IsPrefix self.old.known self.new.known }
         ensures learnt { IsPrefix (arc_value ack.receipt).entries self.new.known }
         ensures legal { IsLegal N.limits (arc_value ack.receipt).entries }
+        ensures refused_by { self.new.refused_by ≡ self.old.refused_by }
     {
         // For the prover: the clause `legal` here is that of `front`.
         let _front = ack.receipt.front();
@@ -106,17 +123,22 @@ impl<N: StoreName> Live<N> {
         ack.place
     }
 
-    /// Returns why the entry was refused. The list by which it was refused belongs to the history that the pass knows.
-    fn refusal_of(&self, denial: Denial<N>) -> Refusal
+    /// Returns why the entry was refused. The list by which it was refused is a prefix of the store's history, and of
+    /// `refused_by` from then on.
+    fn take_denial(&mut self, denial: Denial<N>) -> Refusal
         ensures refusal { result ≡ denial.refusal }
+        ensures seat { self.new.seat ≡ self.old.seat }
+        ensures known { self.new.known ≡ self.old.known }
+        ensures longer { IsPrefix self.old.refused_by self.new.refused_by }
         ensures history { (e : Entry) → IsDenied N.limits e denial.refusal denial.list →
-            IsTurnedDown N.limits e result self.now.known }
+            IsTurnedDown N.limits e result self.new.known self.new.refused_by }
     {
         let Denial { refusal, list } = denial;
         if let Some(list) = list {
             // For the prover: the clause `legal` of `len`, and that of `is_prefix_of`, give the clause `history`.
             let _legal = list.len();
             let _one_begins = list.is_prefix_of(&self.pass.history());
+            self.refused_by = self.refused_by.longer(&list);
         }
         refusal
     }
@@ -151,7 +173,7 @@ impl<N: StoreName, R: Wait> Backend<R> for Live<N> {
         let ticket = self.submit_batch(rt, alloc, batch)?;
         match ticket.answer(rt) {
             Ok(ack) => Ok(self.learn_ack(ack)),
-            Err(denial) => Err(self.refusal_of(denial)),
+            Err(denial) => Err(self.take_denial(denial)),
         }
     }
 

@@ -142,7 +142,8 @@ impl<N: StoreName> Seat<N> {
     /// Submits a trace limit, as the entry with the seat's next number: from that entry on this number of newest
     /// traces is shown, or all if it is 0.
     ///
-    /// A refused limit uses no number. The call may wait as [`submit`](Self::submit) may.
+    /// A refused limit uses no number. The call may wait as [`submit`](Self::submit) may. `serve` never calls it: its
+    /// limit is an option.
     ///
     /// # Errors
     ///

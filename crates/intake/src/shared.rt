@@ -82,6 +82,7 @@ impl<N: StoreName> Shared<N> {
             *self.last.lock(rt) = receipt;
         }
         cell.store_outcome(outcome);
+        // Impossible: a seat without a bell. Its ticket would sleep until the clerk ends.
         if let Some(bell) = self.bell(seat) {
             let _woken = bell.ring();
         }

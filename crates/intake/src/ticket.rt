@@ -4,7 +4,7 @@ ghost use Rattle.std.specs.Prelude.{◌≡◌, IfOk, IfErr};
 ghost use Rattle.std.specs.Arc.{arc_value};
 ghost use Rattle.read_side.specs.Receipts.{AnsweredAt};
 ghost use Rattle.intake.specs.Seats.{IsUnacknowledged};
-ghost use Rattle.intake.specs.Denials.{IsDenied};
+ghost use Rattle.intake.specs.Denials.{IsDenied, IsDeniedSomehow};
 
 use crate::cell::Cell;
 use crate::denial::Denial;
@@ -73,7 +73,8 @@ impl<N: StoreName> Ticket<N> {
     }
 
     /// Waits for the answer. An acknowledgement's list has at the place an entry that answers for the job's: its
-    /// own, or the one that had its batch before.
+    /// own, or the one that had its batch before. Of a refusal by the keeper only the number is returned;
+    /// [`answer`](Self::answer) returns the list too.
     ///
     /// # Errors
     ///
@@ -84,6 +85,7 @@ impl<N: StoreName> Ticket<N> {
         ensures answered { IfOk result (λ a.
             AnsweredAt (arc_value a.receipt).entries a.place self) }
         ensures reason { IfErr result IsUnacknowledged }
+        ensures denied { IfErr result (IsDeniedSomehow N.limits self) }
     {
         match self.answer(rt) {
             Ok(ack) => Ok(ack),

@@ -1,6 +1,7 @@
 -- Open connections, each with a session that is underway over a store that the others use too.
 use Rattle.std.specs.Prelude.{◌≡◌, ◌⊎◌, ℕ, List, [], Bool, Option, Some, None, true, false}
 use Rattle.std.specs.Io.KnownBytes.{Keeps as KeepsBytes}
+use Rattle.std.specs.Option.{option_map}
 use Rattle.slab.specs.Slab.{Slab, get}
 use Rattle.trace_model.specs.Knowing.{Keeps}
 use Rattle.http_session.specs.InOrder.{Line}
@@ -12,6 +13,8 @@ use Rattle.open_connections.specs.Boxes.{box_line, box_takes, handed_over}
 use Rattle.open_connections.specs.declared.open.OpenConnection.{OpenConnection}
 use Rattle.open_connections.specs.declared.outbox.Outbox.{Outbox}
 use Rattle.open_connections.specs.declared.open.ConnectionProgress.{ConnectionProgress}
+use Rattle.open_connections.specs.declared.set.ConnectionTurn.{ConnectionTurn}
+use Rattle.open_connections.specs.declared.set.ConnectionTurn.TheVariants.{Absent, Open, Left}
 use Rattle.open_connections.specs.declared.socket.Socket.{Socket}
 use Rattle.open_connections.specs.declared.open.ConnectionProgress.TheVariants.{Answered, HoldsMore, Paused, Writing, Ended, Closing, Failed, Undelivered}
 
@@ -70,6 +73,22 @@ stays_open Undelivered = false
 -- each connection of the set
 abbrev pub AllOpen : {S C : Type 0} → Store S → Line (Outbox C) → S → Slab (OpenConnection C) → Type 0
 AllOpen {C = C} store line now set = (key : ℕ) (it : OpenConnection C) → get set key ≡ Some it → IsOpen store line now it
+
+-- The connection left the set with its outbox: the session that began with the connection under the key ended or failed,
+-- or the client didn't take its last response.
+pub record HasLeft {S C : Type 0} (store : Store S) (line : Line (Outbox C)) (now : S) (before : Option (OpenConnection C)) (progress : ConnectionProgress)
+    (box : Outbox C) : Type 0 where
+  pub it : OpenConnection C
+  pub box_is : it.connection ≡ box
+  pub began : option_map (λ (o : OpenConnection C). o.began.value) before ≡ Some it.began.value
+  pub closed : stays_open progress ≡ false
+  pub comes : HasCome store line now it progress
+
+-- what became of the connection under a key in a turn
+abbrev pub TurnsTo : {S C : Type 0} → Store S → Line (Outbox C) → S → Slab (OpenConnection C) → ℕ → ConnectionTurn C → Type 0
+TurnsTo store line now set key Absent = get set key ≡ None
+TurnsTo store line now set key (Open progress) = stays_open progress ≡ true
+TurnsTo store line now set key (Left progress box) = HasLeft store line now (get set key) progress box
 
 -- the set is empty
 abbrev pub IsEmpty : {C : Type 0} → Slab (OpenConnection C) → Type 0

@@ -5,8 +5,8 @@
 //! no thread. A complete request is answered. What the client doesn't take of the response at once waits in the
 //! connection's [`Outbox`], so a client that reads slowly occupies no thread either. It is proved that each session
 //! stays underway from the start of its connection while the connection is open, whatever other sessions do
-//! ([`ConnectionSet::answer_next`]). So its pieces add up to what [`http_session::serve_connection`] promises. That the
-//! last piece does so too is the clause `comes` of `OpenConnection::answer_next`, which is not public.
+//! ([`ConnectionSet::answer_next`]: `underway`). So its pieces add up to what [`http_session::serve_connection`]
+//! promises. That the last piece does so too is its clause `turn`.
 //!
 //! * `nonblocking`: connections whose writes never block.
 //! * `waiting`: a response that waits to be written. `outbox`: a connection and its waiting response.

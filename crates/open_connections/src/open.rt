@@ -127,7 +127,7 @@ impl<C: TryConnection> OpenConnection<C> {
         ensures began { self.new.began.value ≡ self.old.began.value }
     {
         let connection = &mut self.connection;
-        // For the prover: each match takes the cases of the clause `goes_on` apart.
+        // For the prover: each match takes the cases of the clause `goes_on` apart, and returns them as they are.
         if self.holds_more {
             match self
                 .session
@@ -200,6 +200,8 @@ impl<C: TryConnection> OpenConnection<C> {
 
         ensures asks { AsksOnce (store_of B.submits B.reads B.knows B.limits)
             backend.old backend.new }
+
+        ensures began { self.new.began.value ≡ self.old.began.value }
     {
         self.session.borrow_room(spare);
         let taken = self.next_piece(rt, alloc, router, backend);
@@ -239,6 +241,8 @@ impl<C: TryConnection> OpenConnection<C> {
 
         ensures asks { AsksOnce (store_of B.submits B.reads B.knows B.limits)
             backend.old backend.new }
+
+        ensures began { self.new.began.value ≡ self.old.began.value }
     {
         if self.connection.has_waiting() {
             return self.deliver();

@@ -4,7 +4,7 @@ ghost use Rattle.std.specs.Prelude.{◌≡◌, false, IfOk};
 ghost use Rattle.http_session.specs.Between.{store_of};
 ghost use Rattle.http_session.specs.Pieces.{AsksOnce};
 ghost use Rattle.open_connections.specs.Boxes.{box_line};
-ghost use Rattle.open_connections.specs.Open.{AllOpen, IsEmpty, IsRest};
+ghost use Rattle.open_connections.specs.Open.{AllOpen, IsEmpty, IsRest, TurnsTo};
 
 use crate::nonblocking::TryConnection;
 use crate::open::{ConnectionProgress, Moment, OpenConnection};
@@ -148,6 +148,10 @@ impl<C: TryConnection + Drop> ConnectionSet<C> {
 
         ensures asks { AsksOnce (store_of B.submits B.reads B.knows B.limits)
             backend.old backend.new }
+
+        ensures turn { TurnsTo (store_of B.submits B.reads B.knows B.limits)
+            (box_line C.remaining C.gives C.has_failed C.contents)
+            backend.new self.old key result }
     {
         let Some(open) = self.connections.try_remove(key) else {
             return ConnectionTurn::Absent;

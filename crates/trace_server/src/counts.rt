@@ -5,7 +5,8 @@ use std::fmt;
 use std::sync::atomic::{AtomicU64, Ordering};
 use trace_model::Refusal;
 
-/// Each refusal, in the order of their numbers. What they carry isn't read.
+/// Each refusal, in the order of their numbers. What they carry isn't read. The compiler doesn't find out if one is
+/// missing here: it would be counted, and not written.
 const REFUSALS: [Refusal; 11] = [
     Refusal::JournalFull {
         batches: 0,

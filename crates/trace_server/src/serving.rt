@@ -203,7 +203,7 @@ fn serve_sessions<
         { work_all(rt, &server, lives) },
         work,
     );
-    // The slot is empty: the clerk has taken the keeper. But no clause of `beside` says so, and a keeper can't be dropped.
+    // Impossible: the clerk has taken the keeper. But no clause of `beside` says so, and a keeper can't be dropped.
     if let Some(untaken) = slot {
         untaken.close(rt);
     }

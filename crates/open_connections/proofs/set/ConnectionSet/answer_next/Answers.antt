@@ -1,6 +1,9 @@
-use Rattle.std.proofs.Common.{sym, ◌∙◌, subst}
+use Rattle.std.proofs.Common.{◌≡◌, sym, ◌∙◌, ap, refl, subst, Some}
+use Rattle.std.specs.Option.{option_map}
+use Rattle.slab.specs.Slab.{get}
 use Rattle.http_session.proofs.Piecewise.{promises_of}
 use Rattle.open_connections.specs.Open.{AllOpen}
+use Rattle.open_connections.specs.declared.open.OpenConnection.{OpenConnection}
 use Rattle.open_connections.proofs.Keeping.{all_open_still, rest_of_removed, rest_is_open, all_with_one, open_if_it_stays}
 use Rattle.open_connections.proofs.set.ConnectionSet.answer_next.Goals as goal
 
@@ -11,6 +14,18 @@ returns-then-not-is_open-clause-underway g c =
     let before = rest_is_open _ _ _ c.self.inside.connections c.try_remove.new.self all
     (rest_of_removed c.self.inside.connections c.try_remove.new.self _ c.try_remove.ensures.updates) in
     all_open_still _ kept _ _ _ c.try_remove.new.self c.answer_next-progress.ensures.asks before
+
+pub returns-then-not-is_open-clause-turn : goal.returns-then-not-is_open-clause-turn
+returns-then-not-is_open-clause-turn g c =
+    let found : get c.args.self.now c.args.key ≡ Some c.in-Some.open =
+    ap (λ set. get set c.args.key) (sym c.self.view_is) ∙ sym c.in-Some.ensures.value in
+    record {
+      it = c.answer_next-progress.new.self;
+      box_is = refl;
+      began = ap (option_map (λ (o : OpenConnection _). o.began.value)) found ∙ ap Some (sym c.answer_next-progress.ensures.began);
+      closed = sym c.is_open.ensures ∙ c.if-not-is_open.true;
+      comes = c.answer_next-progress.ensures.comes;
+    }
 
 pub returns-clause-underway : goal.returns-clause-underway
 returns-clause-underway g c =
