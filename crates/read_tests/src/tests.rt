@@ -1,6 +1,7 @@
 //! The tests, by their subject, and what they share.
 
 mod along;
+mod answers;
 mod entries;
 mod fixture;
 mod holding;

@@ -58,8 +58,7 @@ fn is_learnt<N: StoreName, R: Wait>(
     Ok(place)
 }
 
-/// A seat submits a span each of traces 1 and 2, and a limit of one trace. After the desk is closed, a limit is
-/// refused.
+/// A seat submits a span each of traces 1 and 2, and a limit of one trace.
 pub(crate) fn a_limit_is_in_force<N: StoreName + Send + Sync, R: Wait>(
     rt: &R,
     alloc: Global,
@@ -70,13 +69,13 @@ pub(crate) fn a_limit_is_in_force<N: StoreName + Send + Sync, R: Wait>(
     said
 }
 
-/// The limit is served after two batches and is in force, and one that comes after the desk is closed is refused.
+/// The limit is served after two batches and is in force.
 fn is_served_and_in_force<N: StoreName + Send + Sync, R: Wait>(
     rt: &R,
     alloc: Global,
     fixture: &mut Fixture<N>,
 ) -> bool {
-    let (Some(one), Some(all)) = (TraceLimit::new(1), TraceLimit::new(0)) else {
+    let Some(one) = TraceLimit::new(1) else {
         return false;
     };
     match (fixture.seats.last_mut(), fixture.passes.last_mut()) {
@@ -84,8 +83,7 @@ fn is_served_and_in_force<N: StoreName + Send + Sync, R: Wait>(
             let limit = limit_after_two(rt, alloc, seat, one);
             let served = serves_three(rt, &mut fixture.clerk, &mut fixture.keeper);
             let in_force = is_in_force(rt, pass, limit);
-            fixture.desk.close(rt);
-            served && in_force && is_turned_away(rt, alloc, seat, all)
+            served && in_force
         }
         _ => false,
     }
@@ -101,17 +99,4 @@ fn limit_after_two<N: StoreName, R: Wait>(
     drop(hands_in(rt, alloc, seat, 1));
     drop(hands_in(rt, alloc, seat, 2));
     seat.submit_limit(rt, alloc, limit)
-}
-
-/// The limit is refused since the desk is closed.
-fn is_turned_away<N: StoreName, R: Wait>(
-    rt: &R,
-    alloc: Global,
-    seat: &mut Seat<N>,
-    limit: TraceLimit,
-) -> bool {
-    let answer = seat.submit_limit(rt, alloc, limit);
-    let said = matches!(&answer, Err(Refusal::Closed));
-    drop(answer);
-    said
 }

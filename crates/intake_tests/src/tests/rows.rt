@@ -2,13 +2,14 @@
 
 ghost use Rattle.std.specs.Prelude.{◌≡◌, ◌≤◌};
 
+use crate::tests::closed::closed_for_both;
 use crate::tests::fixture::{Fixture, batch, played};
 use crate::tests::limits::a_limit_is_in_force;
 use crate::tests::resent::a_resent_job_is_acknowledged;
 use intake::{Books, Clerk, Desk, Seat, Ticket, Turn};
 use jaeger_model::Batch;
 use read_side::{EmptyHistory, Keeper, Pass, Receipt, StoreName};
-use std::alloc::Global;
+use std::alloc::{AllocError, Global};
 use std::marker::Brand;
 use std::mem::drop;
 use std::random::RandomSource;
@@ -16,12 +17,14 @@ use std::sync::Wait;
 use std::test::*;
 use std::thread::{Threads, join, yield_now};
 use trace_model::{Limits, Refusal};
+use trace_samples::retry;
 
 /// What is played.
 #[derive(Clone, Copy)]
 pub enum Row {
     SeatAndClerk,
     FullThenClosed,
+    ClosedForBoth,
     ClerkGone,
     ClosedAndClerkGone,
     FourSeats,
@@ -40,6 +43,7 @@ impl Row {
         match self {
             Row::SeatAndClerk => seat_and_clerk(rt, alloc, fixture),
             Row::FullThenClosed => full_then_closed(rt, alloc, fixture),
+            Row::ClosedForBoth => closed_for_both(rt, alloc, fixture),
             Row::ClerkGone => clerk_gone(rt, alloc, fixture, false),
             Row::ClosedAndClerkGone => clerk_gone(rt, alloc, fixture, true),
             Row::FourSeats => four_seats(rt, alloc, fixture),
@@ -86,6 +90,12 @@ fn a_full_queue_and_a_closed_desk(rt: HostRuntime) -> Result<(), Fail> {
 }
 
 #[test]
+fn closed_before_no_memory(rt: HostRuntime) -> Result<(), Fail> {
+    assert!(rt; plays_small(&rt, rt.alloc(), Row::ClosedForBoth)?);
+    Ok(())
+}
+
+#[test]
 fn no_reply_from_a_clerk_that_went(rt: HostRuntime) -> Result<(), Fail> {
     assert!(rt; plays_small(&rt, rt.alloc(), Row::ClerkGone)?);
     assert!(rt; plays_small(&rt, rt.alloc(), Row::ClosedAndClerkGone)?);
@@ -126,9 +136,9 @@ pub(crate) fn hands_in<N: StoreName, R: Wait>(
     }
 }
 
-/// Whether this is the batch with the id.
+/// Whether this is the batch with the id, which is made again if memory ran out.
 fn is_batch(alloc: Global, back: &Batch, id: u64) -> bool {
-    match batch(alloc, id) {
+    match retry(AllocError, || batch(alloc, id)) {
         Ok(sent) => {
             let same = back.is_same(&sent);
             drop(sent);
@@ -139,7 +149,12 @@ fn is_batch(alloc: Global, back: &Batch, id: u64) -> bool {
 }
 
 /// Whether the batch with the id came back, with this refusal.
-fn came_back<N: StoreName>(alloc: Global, answer: Answer<N>, why: Refusal, id: u64) -> bool {
+pub(crate) fn came_back<N: StoreName>(
+    alloc: Global,
+    answer: Answer<N>,
+    why: Refusal,
+    id: u64,
+) -> bool {
     let said = match &answer {
         Some(Err((refusal, back))) => *refusal == why && is_batch(alloc, back, id),
         _ => false,

@@ -63,29 +63,6 @@ pub fn batch_under(alloc: Global, number: u64) -> Result<Batch, Fail> {
     }
 }
 
-/// The work that is submitted with the number.
-fn work_under(alloc: Global, number: u64) -> Result<Work, Fail> {
-    match limit_under(number) {
-        Some(limit) => Ok(Work::TraceLimit(limit)),
-        None => Ok(Work::Batch(batch_under(alloc, number)?)),
-    }
-}
-
-fn add_works(alloc: Global, entries: &mut Vec<Arc<Entry>>, last: u64) -> Result<(), Fail> {
-    for before in 0..last {
-        let number = before + 1;
-        entries.push(entry(alloc, number, work_under(alloc, number)?)?)?;
-    }
-    Ok(())
-}
-
-/// The entries of seat 0 with the numbers from 1 to this one, with limits and resent batches among them.
-pub fn works_to(alloc: Global, last: u64) -> Result<Vec<Arc<Entry>>, Fail> {
-    let mut entries = Vec::new(alloc);
-    let added = add_works(alloc, &mut entries, last);
-    kept(entries, added)
-}
-
 fn add_entries(alloc: Global, entries: &mut Vec<Arc<Entry>>, last: u64) -> Result<(), Fail> {
     for before in 0..last {
         entries.push(entry_of(alloc, before + 1)?)?;

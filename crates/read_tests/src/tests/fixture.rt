@@ -120,7 +120,8 @@ fn played<N: StoreName + Send + Sync, R: Threads + Wait + RandomSource + Sync>(
     Ok(Outcome { as_wanted, gone })
 }
 
-/// Plays the row with a store for this number of batches and of readers.
+/// Plays the row with a store for this number of batches and of readers. Clock skews of up to 500 microseconds are
+/// adjusted.
 pub fn plays<R: Threads + Wait + RandomSource + Sync>(
     rt: &R,
     alloc: Global,
@@ -130,6 +131,6 @@ pub fn plays<R: Threads + Wait + RandomSource + Sync>(
 ) -> Result<Outcome, Fail>
     requires { (1 ≤ readers) × (readers ≤ 64) }
 {
-    let limits = Limits::new(batches, 1000, 0, 0).ok_or("limits")?;
+    let limits = Limits::new(batches, 1000, 0, 500).ok_or("limits")?;
     played::<Brand, _>(rt, alloc, EmptyHistory::new(), limits, readers, row)
 }

@@ -1,16 +1,19 @@
-use crate::tests::entries::{batch_under, limit_under, works_to};
+ghost use Rattle.read_side.specs.Holding.{IsInside};
+
+use crate::tests::answers::shown;
+use crate::tests::entries::{batch_under, limit_under};
 use crate::tests::fixture::{Row, plays};
 use crate::tests::rows::answer_to;
 use jaeger_model::{Text, TraceId};
-use read_side::{Keeper, Pass, Reading, StoreName};
+use read_side::{Held, Keeper, Pass, Reading, Receipt, StoreName};
 use schedule_core::{Outcome, Step, play};
 use std::alloc::{AllocError, Global};
 use std::hash::RandomState;
 use std::mem::drop;
 use std::sync::{Arc, Wait};
 use std::test::*;
-use trace_model::{Answer, Entry, Limits, Query, Refusal};
-use trace_samples::{kept, service_find};
+use trace_model::{Answer, Entry, Limits, Query, Refusal, TraceLimit, Work};
+use trace_samples::{beside, kept, service_find, submitted};
 
 /// What is seen of a store, one line of text after another.
 type Lines = Vec<String>;
@@ -93,29 +96,24 @@ fn add_steps(alloc: Global, steps: &mut Vec<Step>, before: u64) -> Result<(), Fa
     visit(alloc, steps, 7, before)
 }
 
-/// Adds the steps of entries up to `last`.
-fn add_all_steps(alloc: Global, steps: &mut Vec<Step>, last: u64) -> Result<(), Fail> {
-    for before in 0..last {
+fn add_all_steps(alloc: Global, steps: &mut Vec<Step>) -> Result<(), Fail> {
+    for before in 0..LAST {
         add_steps(alloc, steps, before)?;
     }
     Ok(())
 }
 
-/// What is seen of a machine that gets entries up to `last`.
-fn machine_lines(
-    alloc: Global,
-    keys: RandomState,
-    limits: Limits,
-    last: u64,
-) -> Result<Lines, Fail> {
+/// The steps of all entries.
+fn all_steps(alloc: Global) -> Result<Vec<Step>, Fail> {
     let mut steps = Vec::new(alloc);
-    let added = add_all_steps(alloc, &mut steps, last);
-    lines_of(alloc, play(alloc, keys, kept(steps, added)?, limits)?)
+    let added = add_all_steps(alloc, &mut steps);
+    kept(steps, added)
 }
 
 /// What an answer shows.
-fn answered(alloc: Global, front: u64, answer: &Answer) -> Result<String, Fail> {
-    Ok(format!(in alloc; "{front}: {answer:?}")?)
+fn answered(alloc: Global, front: u64, answer: Answer) -> Result<String, Fail> {
+    let text = shown(alloc, answer)?;
+    Ok(format!(in alloc; "{front}: {text}")?)
 }
 
 /// The judgement of what was submitted: its place, or why it was refused.
@@ -134,17 +132,17 @@ fn add_line(
     alloc: Global,
     lines: &mut Lines,
     judged: &mut Option<Result<u64, Refusal>>,
-    outcome: &Outcome,
+    outcome: Outcome,
 ) -> Result<(), Fail> {
     match outcome {
-        Outcome::Again { place, .. } => *judged = Some(Ok(*place)),
-        Outcome::Refused(why) => *judged = Some(Err(*why)),
+        Outcome::Again { place, .. } => *judged = Some(Ok(place)),
+        Outcome::Refused(why) => *judged = Some(Err(why)),
         Outcome::Published { front } => {
-            let said = judged.take().unwrap_or(Ok(*front));
+            let said = judged.take().unwrap_or(Ok(front));
             lines.push(judged_line(alloc, said)?)?
         }
-        Outcome::Answered { front, answer } => lines.push(answered(alloc, *front, answer)?)?,
-        Outcome::Learnt { front } => lines.push(learnt(alloc, *front)?)?,
+        Outcome::Answered { front, answer } => lines.push(answered(alloc, front, answer)?)?,
+        Outcome::Learnt { front } => lines.push(learnt(alloc, front)?)?,
         Outcome::Held { .. } | Outcome::Inside | Outcome::Outside | Outcome::Unknown => {
             return Err("a step that was not made".into());
         }
@@ -154,7 +152,7 @@ fn add_line(
 }
 
 /// Adds the lines of all of these outcomes.
-fn add_lines(alloc: Global, lines: &mut Lines, outcomes: &[Outcome]) -> Result<(), Fail> {
+fn add_lines(alloc: Global, lines: &mut Lines, outcomes: Vec<Outcome>) -> Result<(), Fail> {
     let mut judged = None;
     for outcome in outcomes {
         add_line(alloc, lines, &mut judged, outcome)?;
@@ -162,140 +160,185 @@ fn add_lines(alloc: Global, lines: &mut Lines, outcomes: &[Outcome]) -> Result<(
     Ok(())
 }
 
-/// What is judged, answered and learnt by these outcomes.
-fn lines_of(alloc: Global, outcomes: Vec<Outcome>) -> Result<Lines, Fail> {
+/// What is seen of a machine that makes these steps.
+fn machine_lines(
+    alloc: Global,
+    keys: RandomState,
+    limits: Limits,
+    steps: Vec<Step>,
+) -> Result<Lines, Fail> {
+    let outcomes = play(alloc, keys, steps, limits)?;
     let mut lines = Vec::new(alloc);
-    let added = add_lines(alloc, &mut lines, &outcomes);
-    drop(outcomes);
+    let added = add_lines(alloc, &mut lines, outcomes);
     kept(lines, added)
 }
 
-/// What is seen around one more entry: two readings before it, how it was judged, and two after it.
+/// The reader that is inside while others read and while entries are published.
+const STAYING: u32 = 6;
+
+/// Two copies that make the steps of a machine.
 #[derive(Drop)]
-struct Around {
-    first: Result<Reading, Refusal>,
-    second: Result<Reading, Refusal>,
-    judged: Result<u64, Refusal>,
-    third: Result<Reading, Refusal>,
-    fourth: Result<Reading, Refusal>,
+struct Copies<'a, N: StoreName> {
+    keeper: &'a mut Keeper<N>,
+    five: &'a mut Pass<N>,
+    seven: &'a mut Pass<N>,
+    /// The number of entries that were submitted.
+    submitted: u64,
+    /// The entry that was submitted last, until it is published.
+    waiting: Option<Arc<Entry>>,
+    /// A receipt of each publish.
+    receipts: Vec<Receipt<N>>,
+    /// What was judged, answered and learnt.
+    lines: Lines,
 }
 
-/// Adds one more entry to two copies while the second pass stays inside. What is pending on the machine is not
-/// admitted here yet.
-fn round<N: StoreName, R: Wait>(
-    rt: &R,
-    alloc: Global,
-    keeper: &mut Keeper<N>,
-    five: &mut Pass<N>,
-    six: &mut Pass<N>,
-    entry: Arc<Entry>,
-    before: u64,
-) -> Result<Around, Refusal> {
-    let Ok(query) = question(alloc, before) else {
-        drop(entry);
-        return Err(Refusal::NoMemory);
-    };
-    let around = round_asked(rt, keeper, five, six, entry, &query);
-    drop(query);
-    around
-}
+impl<N: StoreName> Copies<'_, N> {
+    fn submit(&mut self, alloc: Global, work: Work) -> Result<(), Fail> {
+        self.submitted = self.submitted.saturating_add(1);
+        self.waiting = Some(submitted(alloc, 0, self.submitted, work)?);
+        Ok(())
+    }
 
-/// Like [`round`], with this query.
-fn round_asked<N: StoreName, R: Wait>(
-    rt: &R,
-    keeper: &mut Keeper<N>,
-    five: &mut Pass<N>,
-    six: &mut Pass<N>,
-    entry: Arc<Entry>,
-    query: &Query,
-) -> Result<Around, Refusal> {
-    let held = six.hold()?;
-    let first = held.read(query);
-    let second = five.read(query);
-    let judged = answer_to(rt, keeper, entry).map(|said| said.1);
-    let third = five.read(query);
-    let fourth = held.read(query);
-    held.leave();
-    Ok(Around {
-        first,
-        second,
-        judged,
-        third,
-        fourth,
-    })
-}
+    /// Admits the entry that waits.
+    fn publish<R: Wait>(&mut self, rt: &R, alloc: Global) -> Result<(), Fail> {
+        let entry = self.waiting.take().ok_or("nothing waits")?;
+        let judged = answer_to(rt, self.keeper, entry).map(|said| said.1);
+        self.lines.push(judged_line(alloc, judged)?)?;
+        self.receipts.push(self.keeper.receipt())?;
+        Ok(())
+    }
 
-/// Writes what a reading shows.
-fn say(alloc: Global, lines: &mut Lines, reading: &Result<Reading, Refusal>) -> Result<(), Fail> {
-    match reading {
-        Ok(reading) => {
-            lines.push(answered(alloc, reading.front, &reading.answer)?)?;
-            Ok(())
+    /// Reader 7 learns of a publish.
+    fn learn(&mut self, alloc: Global, publish: u32) -> Result<(), Fail> {
+        let number = (publish as usize).saturating_sub(1);
+        let receipt = self.receipts.get(number).ok_or("no such publish")?;
+        self.seven.learn(receipt);
+        self.lines.push(learnt(alloc, self.seven.front())?)?;
+        Ok(())
+    }
+
+    /// A reader enters, reads and leaves.
+    fn read(&mut self, alloc: Global, reader: u32, query: &Query) -> Result<(), Fail> {
+        let reading = match reader {
+            5 => self.five.read(query),
+            7 => self.seven.read(query),
+            _ => return Err("no such reader".into()),
+        };
+        self.say(alloc, reading)
+    }
+
+    /// Writes what a reading shows.
+    fn say(&mut self, alloc: Global, reading: Result<Reading, Refusal>) -> Result<(), Fail> {
+        let Reading { front, answer } = reading?;
+        self.lines.push(answered(alloc, front, answer)?)?;
+        Ok(())
+    }
+
+    /// Makes a step. A job that is taken on the machine is judged here when it is published. A reader that doesn't stay
+    /// inside enters and leaves by its read.
+    fn make<R: Wait>(&mut self, rt: &R, alloc: Global, step: &Step) -> Result<(), Fail> {
+        match step {
+            Step::Put { batch, .. } => self.submit(alloc, Work::Batch(batch.clone()?)),
+            Step::Limit { limit, .. } => {
+                let limit = TraceLimit::new(*limit).ok_or("limit")?;
+                self.submit(alloc, Work::TraceLimit(limit))
+            }
+            Step::Publish => self.publish(rt, alloc),
+            Step::Learn { publish, .. } => self.learn(alloc, *publish),
+            Step::Read { reader, query } => self.read(alloc, *reader, query),
+            Step::Take | Step::Enter { .. } | Step::Leave { .. } => Ok(()),
         }
-        Err(why) => Err((*why).into()),
+    }
+
+    /// Makes the steps between which no reader stays inside.
+    fn make_all<R: Wait>(&mut self, rt: &R, alloc: Global, steps: &[Step]) -> Result<(), Fail> {
+        for step in steps {
+            self.make(rt, alloc, step)?;
+        }
+        Ok(())
+    }
+
+    /// Makes the steps while the reader that stays is inside.
+    fn make_beside<R: Wait>(
+        &mut self,
+        rt: &R,
+        alloc: Global,
+        held: &Held<'_, N>,
+        steps: &[Step],
+    ) -> Result<(), Fail>
+        requires { IsInside held.now }
+    {
+        for step in steps {
+            match step {
+                Step::Read { reader, query } if *reader == STAYING => {
+                    self.say(alloc, held.read(query))?
+                }
+                _ => self.make(rt, alloc, step)?,
+            }
+        }
+        Ok(())
+    }
+
+    /// Makes the steps of a visit of the reader that stays.
+    fn make_held<R: Wait>(
+        &mut self,
+        rt: &R,
+        alloc: Global,
+        six: &mut Pass<N>,
+        steps: &[Step],
+    ) -> Result<(), Fail> {
+        let held = six.hold()?;
+        let made = self.make_beside(rt, alloc, &held, steps);
+        held.leave();
+        made
     }
 }
 
-/// Writes what was seen around an entry.
-fn say_round(alloc: Global, lines: &mut Lines, around: &Around) -> Result<(), Fail> {
-    say(alloc, lines, &around.first)?;
-    say(alloc, lines, &around.second)?;
-    lines.push(judged_line(alloc, around.judged)?)?;
-    say(alloc, lines, &around.third)?;
-    say(alloc, lines, &around.fourth)
-}
-
-/// Adds one more entry to two copies. The three passes read as the machine's readers do.
-fn hand_on<N: StoreName, R: Wait>(
+/// Makes the steps, of which a visit of the reader that stays ends each part but the last.
+fn walk<N: StoreName, R: Wait>(
     rt: &R,
     alloc: Global,
-    keeper: &mut Keeper<N>,
-    passes: &mut Vec<Pass<N>>,
-    entry: Arc<Entry>,
-    before: u64,
-    lines: &mut Lines,
+    copies: &mut Copies<'_, N>,
+    six: &mut Pass<N>,
+    steps: &[Step],
 ) -> Result<(), Fail> {
-    let [five, six, seven] = passes.as_mut_slice() else {
-        drop(entry);
-        return Err("three passes were asked for".into());
-    };
-    let around = round(rt, alloc, keeper, five, six, entry, before)?;
-    let said = say_round(alloc, lines, &around);
-    drop(around);
-    said?;
-    let published = keeper.receipt();
-    seven.learn(&published);
-    drop(published);
-    lines.push(learnt(alloc, seven.front())?)?;
-    let reading = asked(alloc, seven, before);
-    let said = say(alloc, lines, &reading);
-    drop(reading);
-    said
+    for part in steps.split(|step| matches!(step, Step::Leave { reader: STAYING })) {
+        let entering = |step: &Step| matches!(step, Step::Enter { reader: STAYING });
+        match part.iter().position(entering) {
+            Some(place) => {
+                let (outside, inside) = part.split_at(place);
+                copies.make_all(rt, alloc, outside)?;
+                copies.make_held(rt, alloc, six, inside)?;
+            }
+            None => copies.make_all(rt, alloc, part)?,
+        }
+    }
+    Ok(())
 }
 
-/// What a pass reads for the query of the machine's readers.
-fn asked<N: StoreName>(alloc: Global, pass: &mut Pass<N>, before: u64) -> Result<Reading, Refusal> {
-    let query = question(alloc, before)?;
-    let reading = pass.read(&query);
-    drop(query);
-    reading
-}
-
-/// What is seen of two copies that get these entries.
+/// What is seen of two copies that make these steps.
 fn copies_lines<N: StoreName, R: Wait>(
     rt: &R,
     alloc: Global,
     keeper: &mut Keeper<N>,
     passes: &mut Vec<Pass<N>>,
-    entries: Vec<Arc<Entry>>,
+    steps: &[Step],
 ) -> Result<Lines, Fail> {
-    let mut lines = Vec::new(alloc);
-    let mut before = 0;
-    for entry in entries {
-        hand_on(rt, alloc, keeper, passes, entry, before, &mut lines)?;
-        before = before.saturating_add(1);
-    }
-    Ok(lines)
+    let [five, six, seven] = passes.as_mut_slice() else {
+        return Err("three passes were asked for".into());
+    };
+    let mut copies = Copies {
+        keeper,
+        five,
+        seven,
+        submitted: 0,
+        waiting: None,
+        receipts: Vec::new(alloc),
+        lines: Vec::new(alloc),
+    };
+    let walked = walk(rt, alloc, &mut copies, six, steps);
+    let Copies { lines, .. } = copies;
+    kept(lines, walked)
 }
 
 /// The number of lines that are seen of each entry, and the place of the one that says how it was judged.
@@ -339,7 +382,7 @@ fn are_judging(alloc: Global, lines: &[String]) -> Result<bool, Fail> {
     )
 }
 
-/// Whether two copies show the same as the machine, line by line.
+/// Whether two copies that make the same steps show the same as the machine, line by line.
 pub fn followed<N: StoreName, R: Wait>(
     rt: &R,
     alloc: Global,
@@ -347,7 +390,9 @@ pub fn followed<N: StoreName, R: Wait>(
     passes: &mut Vec<Pass<N>>,
     (keys, limits): (RandomState, Limits),
 ) -> Result<bool, Fail> {
-    let wanted = machine_lines(alloc, keys, limits, LAST)?;
-    let seen = copies_lines(rt, alloc, keeper, passes, works_to(alloc, LAST)?)?;
+    let steps = all_steps(alloc)?;
+    let seen = copies_lines(rt, alloc, keeper, passes, &steps);
+    let (steps, seen) = beside(steps, seen)?;
+    let wanted = machine_lines(alloc, keys, limits, steps)?;
     Ok(are_judging(alloc, &wanted)? && seen.as_slice() == wanted.as_slice())
 }

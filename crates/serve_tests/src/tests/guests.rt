@@ -1,7 +1,10 @@
 //! The clients of a server.
 
 use crate::tests::clients::{ask, parts, reads};
-use crate::tests::requests::{FULL, HUGE, joined};
+use crate::tests::requests::{
+    CUT, DELETE, FULL, HUGE, NO_SUCH_PATH, NOT_ALLOWED, NOWHERE, TRUNCATED, UNSUPPORTED, UNTYPED,
+    joined,
+};
 use std::alloc::Global;
 use std::io;
 use std::io::{Read, Write};
@@ -28,6 +31,8 @@ pub enum Guests {
     RepeatAtOnce,
     /// One client submits a numbered batch, another batch with its number, and the first one again.
     Conflicts,
+    /// One client sends requests that are refused, the last of which closes the connection.
+    Refused,
     /// A connection that found nothing before finds what another one submits.
     TwoConnections,
     /// Two clients query at the same time.
@@ -77,6 +82,15 @@ const CONFLICTS: [Exchange; 5] = [
     (TRACE, NOTHING, ONE_SPAN),
 ];
 
+/// Three requests that are refused, after which the store is empty, and one that closes the connection.
+const REFUSED: [Exchange; 5] = [
+    (UNTYPED, BATCH, UNSUPPORTED),
+    (NOWHERE, NOTHING, NO_SUCH_PATH),
+    (CUT, NOTHING, TRUNCATED),
+    (SERVICES, NOTHING, NO_SERVICES),
+    (DELETE, NOTHING, NOT_ALLOWED),
+];
+
 /// The store is empty.
 const QUERIES_NOTHING: [Exchange; 1] = [(SERVICES, NOTHING, NO_SERVICES)];
 
@@ -103,6 +117,7 @@ impl Guests {
             Guests::Repeats => asks(rt, alloc, address, &REPEATS),
             Guests::RepeatAtOnce => two_at_once(rt, alloc, address, &NUMBERED_IS_FOUND),
             Guests::Conflicts => asks(rt, alloc, address, &CONFLICTS),
+            Guests::Refused => is_refused(rt, alloc, address),
             Guests::TwoConnections => two_connections(rt, alloc, address),
             Guests::TwoAtOnce => two_at_once(rt, alloc, address, &QUERIES_NOTHING),
             Guests::Eight => eight(rt, alloc, address),
@@ -146,6 +161,22 @@ fn one<R: Net<Stream = TcpStream, Listener = TcpListener>>(
 ) -> io::Result<bool> {
     let mut stream = TcpStream::connect(rt, address)?;
     Ok(ask_all(alloc, &mut stream, &SUBMITS_AND_QUERIES)? && parts(alloc, &mut stream, b"")?)
+}
+
+/// Returns whether the server closes the connection without sending more.
+fn ends<S: Read>(alloc: Global, stream: &mut S) -> io::Result<bool> {
+    let mut rest = Vec::new(alloc);
+    stream.read_to_end(&mut rest)?;
+    Ok(rest.is_empty())
+}
+
+fn is_refused<R: Net<Stream = TcpStream, Listener = TcpListener>>(
+    rt: &R,
+    alloc: Global,
+    address: SocketAddr,
+) -> io::Result<bool> {
+    let mut stream = TcpStream::connect(rt, address)?;
+    Ok(ask_all(alloc, &mut stream, &REFUSED)? && ends(alloc, &mut stream)?)
 }
 
 /// Two clients send each of these at the same time, each over a connection of its own.
@@ -255,8 +286,5 @@ fn sends_on<R: Net<Stream = TcpStream, Listener = TcpListener>>(
     for _ in 0..200 {
         stream.write_all(&piece)?;
     }
-    let reported = reads(alloc, &mut stream, TOO_LARGE)?;
-    let mut rest = Vec::new(alloc);
-    stream.read_to_end(&mut rest)?;
-    Ok(reported && rest.is_empty())
+    Ok(reads(alloc, &mut stream, TOO_LARGE)? && ends(alloc, &mut stream)?)
 }

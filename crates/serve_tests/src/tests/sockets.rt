@@ -111,3 +111,11 @@ fn a_number_used_for_another_batch(rt: HostRuntime) -> Result<(), Fail> {
     assert!(rt; outcome.is_well(b"\nserved 1\nbooks 2 1 0\n"));
     Ok(())
 }
+
+#[test]
+fn refused_requests(rt: HostRuntime) -> Result<(), Fail> {
+    let config = config(&rt, 1, 1, 10, 100);
+    let outcome = visited(&rt, rt.alloc(), &config, &NoGate, Guests::Refused)?;
+    assert!(rt; outcome.is_well(b"\nserved 1\nbooks 0 0 0\n"));
+    Ok(())
+}

@@ -1,0 +1,42 @@
+use jaeger_model::Seq;
+use std::alloc::{AllocError, Global};
+use std::mem::drop;
+use trace_model::{Answer, AnsweredTrace, Link};
+
+/// The spans of a trace of an answer, copied or not.
+fn trace_text(alloc: Global, trace: AnsweredTrace) -> Result<String, AllocError> {
+    let made = trace_adjust::shown(alloc, trace)?;
+    let text = format!(in alloc; "{:?}", made.as_slice());
+    drop(made);
+    Ok(text?)
+}
+
+/// The spans of each of the traces, in their order.
+fn traces_text(alloc: Global, traces: Seq<AnsweredTrace>) -> Result<String, AllocError> {
+    let mut text = String::new(alloc);
+    for trace in traces.into_vec() {
+        text.push_str(trace_text(alloc, trace)?.as_str())?;
+    }
+    Ok(text)
+}
+
+/// The links, whose names may be texts of their own or in entries.
+fn links_text(alloc: Global, links: &[Link]) -> Result<String, AllocError> {
+    let mut text = String::new(alloc);
+    for link in links {
+        let (parent, child) = (link.parent.as_str(), link.child.as_str());
+        let calls = link.calls;
+        text.push_str(format!(in alloc; "{parent:?} {child:?} {calls};")?.as_str())?;
+    }
+    Ok(text)
+}
+
+/// What an answer shows, as text: two stores with the same entries show the same.
+pub fn shown(alloc: Global, answer: Answer) -> Result<String, AllocError> {
+    match answer {
+        Answer::Trace(Some(trace)) => trace_text(alloc, trace),
+        Answer::Traces(traces) => traces_text(alloc, traces),
+        Answer::Links(links) => links_text(alloc, links.as_slice()),
+        other => Ok(format!(in alloc; "{other:?}")?),
+    }
+}
