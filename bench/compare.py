@@ -1,12 +1,13 @@
 #!/usr/bin/env python3
 """How fast batches are decoded, and by whom, in one run on one machine.
 
-    bench/compare.py [--rounds 20] [--only WORD] [--count] [--save KIND]
+    bench/compare.py [--bin PATH | --folder PATH] [--rounds 20] [--only WORD] [--count] [--save KIND]
 
 The same realistic batches (those of bench/decode.py) are decoded and let go by three programs, which are built in a
 temporary folder; what is not installed is left out.
 
-  rattle   batch_codec::decode, proved and built by `rt run` in a copy of its crates (the first time takes minutes)
+  rattle   batch_codec::decode, proved and built by `rt run` in a copy of its crates (the first time takes minutes; `--folder PATH`
+           keeps the copy, and `--bin PATH` names a program that was built so)
   pieces   batch_feeder's Feeder over each body in one piece, and `bytes` the same a byte at a time: the same program,
            so that the crates below are proved once
   rust     bench/compare/plain.rs, a decoder of the same rules in plain Rust, by `rustc`
@@ -27,7 +28,7 @@ import tempfile
 import copies
 import decode as batches
 from crates import ROOT
-from results import Record, asked_of
+from results import Record, asked_of, compiler
 from servers import rust_program
 
 HERE = os.path.dirname(os.path.abspath(__file__))
@@ -90,15 +91,15 @@ fn main(rt: HostRuntime) -> Result<()> {
 """
 
 
-def build_rattle(folder):
-    return copies.build(os.path.join(folder, "repository"), "decode_rounds", DEPS, {"src/main.rt": MAIN})
+def build_rattle(folder, options):
+    return copies.built(options, folder, "decode_rounds", DEPS, {"src/main.rt": MAIN})
 
 
-def build_rust(folder):
+def build_rust(folder, _):
     return rust_program(folder, "bench/compare/plain.rs", FASTEST)
 
 
-def build_apache(folder):
+def build_apache(folder, _):
     made = os.path.join(folder, "made")
     os.makedirs(made)
     subprocess.run(["thrift", "--gen", "cpp:moveable_types,no_skeleton,templates", "-out", made,
@@ -135,6 +136,8 @@ def instructions(program, rounds, path, way):
 
 def main():
     asked = asked_of(__doc__, None)
+    asked.add_argument("--bin", help="a program over decode that was built by this script")
+    asked.add_argument("--folder", help="where that program is built, and stays")
     asked.add_argument("--rounds", type=int, default=20, help="how often all bodies are decoded")
     asked.add_argument("--count", action="store_true", help="count instructions")
     asked.add_argument("--only", default="", help="the programs whose name has this word")
@@ -143,7 +146,7 @@ def main():
     pool = [batches.batch(rng) for _ in range(400)]
     spans = None
     columns = ["decoder", "instructions a byte" if options.count else "megabytes a second"]
-    record = Record(options, "compare --count" if options.count else "compare", columns, peers=f"rustc {FASTEST}; g++ -O2")
+    record = Record(options, "compare --count" if options.count else "compare", columns, peers=f"{compiler('rustc')} {FASTEST}; {compiler('g++')} -O2")
     print(f"{'':8} {'instructions a byte':>20}" if options.count else f"{'':8} {'seconds':>8} {'MB/s':>8}")
     with tempfile.TemporaryDirectory() as folder:
         path = os.path.join(folder, "bodies")
@@ -155,7 +158,7 @@ def main():
             if options.only not in name:
                 continue
             try:
-                program = built.get(build) or build(folder)
+                program = built.get(build) or build(folder, options)
             except (FileNotFoundError, subprocess.CalledProcessError) as fault:
                 print(f"{name:8} left out: {fault}")
                 continue

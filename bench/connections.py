@@ -1,17 +1,19 @@
 #!/usr/bin/env python3
 """What open connections cost `jaeger_one serve`: senders that stay connected, silent clients, slow clients.
 
-    bench/connections.py [--bin PATH] [--senders 1000] [--silent 10000] [--slow 1000] [--seconds 10] [--only WORD]
+    bench/connections.py [--bin PATH] [--senders 1000] [--silent 10000] [--slow 1000] [--seconds 10] [--only WORD] [--save KIND]
 
   senders       so many clients that stay connected and post a batch of 10 spans once a second each, with 4 workers: how many POSTs
                 were answered 202, and how long one took (p50, p99)
   silent        so many clients that connect and send nothing: what memory they take, and processor time in ten seconds
-  parked        so many clients that each post one batch and stay: the same
+  parked        so many clients that each ask once and stay, and then five times as many: the same
   slow senders  a trace by its id beside so many clients that send a body a byte a second, and alone (p50, p99)
   slow readers  a trace by its id beside so many clients that have asked for an answer of 30,000 spans each and don't read it, and alone
                 (p50, p99); what memory these answers take
+  full          a server that has as many connections open as it may, while others wait: processor time in ten seconds
 
-Times are those of a client in Python on the same machine, so they include its own work. A figure of one run.
+Times are those of a client in Python on the same machine, so they include its own work. A figure of one run. Rows are kept only of a run
+of all parts.
 """
 import collections
 import resource
@@ -20,11 +22,36 @@ import statistics
 import sys
 import time
 
-from decode import asked_of
+from results import Record, asked_of
 from servers import Client, Failed, Server, batch, check, get, head, post, post_body
 import wire
 
 ROOM = ["--batches", "1000000", "--spans", "10000000"]
+IDLE = "s of a processor in ten"
+ALL = "/api/traces?service=shop&limit=0"
+
+
+class Rows:
+    """What is kept: times, and what is held."""
+
+    def __init__(self, options):
+        self.times = Record(options, "connections", ["part", "what", "least", "most"])
+        self.held = Record(options, "connections, memory", ["part", "connections", "what", "least", "most"])
+
+    def time(self, part, what, value):
+        value = round(value, 2)
+        self.times.row(part, what, value, value)
+
+    def looks(self, part, what, times):
+        for name, value in zip(("p50", "p99"), percentiles(times)):
+            self.time(part, f"{what} {name}, ms", value)
+
+    def hold(self, part, count, what, value):
+        self.held.row(part, count, what, value, value)
+
+    def save(self):
+        self.times.save()
+        self.held.save()
 
 
 def started(program, connections, *more):
@@ -100,7 +127,7 @@ class Senders:
             client.socket.close()
 
 
-def senders(options):
+def senders(options, rows):
     with started(options.bin, options.senders) as server:
         work = Senders(server.port, options.senders)
         begin = server.processor()
@@ -109,35 +136,56 @@ def senders(options):
         work.close()
         unanswered = work.unanswered()
         check(not unanswered and not work.refused, f"{unanswered} POSTs were not answered, {work.refused} not by 202")
+        rows.looks("senders", "POST", work.times)
         return f"{len(work.times)} POSTs answered 202; {said(work.times)}; {1e6 * took / len(work.times):.0f} us of a processor each"
 
 
-def resting(server, clients, before):
+def resting(rows, part, server, clients, before):
     """What connections cost that do nothing, once all of them are open."""
     time.sleep(1)
-    held = server.memory() - before
-    share = server.share(10)
-    return f"{held / 1000:.1f} MB for {len(clients)} connections, {1000 * held / len(clients):.0f} bytes each; {share * 10:.2f} s of a processor in ten"
+    count, held = len(clients), server.memory() - before
+    took = server.share(10) * 10
+    rows.hold(part, count, "MB", round(held / 1000, 1))
+    rows.hold(part, count, "bytes a connection", round(1000 * held / count))
+    rows.hold(part, count, IDLE, round(took, 2))
+    return f"{held / 1000:.1f} MB for {count} connections, {1000 * held / count:.0f} bytes each; {took:.2f} s of a processor in ten"
 
 
-def silent(options):
+def silent(options, rows):
     with started(options.bin, options.silent + 10) as server:
         before = server.memory()
         clients = [Client(server.port) for _ in range(options.silent)]
         clients[-1].ask(get("/api/services"), 200)
-        return resting(server, clients, before)
+        return resting(rows, "silent", server, clients, before)
 
 
-def parked(options):
-    with started(options.bin, options.senders) as server:
+def parked_clients(options, rows, count):
+    with started(options.bin, count) as server:
         with server.client() as client:
-            for trace in range(1, 2 * options.senders):
+            for trace in range(1, 2 * count):
                 client.ask(post(trace), 202)
         before = server.memory()
-        clients = [Client(server.port) for _ in range(options.senders)]
-        for number, client in enumerate(clients):
+        clients = [Client(server.port) for _ in range(count)]
+        for client in clients:
             client.ask(get("/api/services"), 200)
-        return resting(server, clients, before)
+        return resting(rows, "parked", server, clients, before)
+
+
+def parked(options, rows):
+    return "; ".join(parked_clients(options, rows, count) for count in (options.senders, 5 * options.senders))
+
+
+def full(options, rows):
+    """Ten connections are open, and five more wait."""
+    with started(options.bin, 10) as server:
+        clients = [Client(server.port) for _ in range(15)]
+        for client in clients[:10]:
+            client.ask(get("/api/services"), 200)
+        took = server.share(10) * 10
+        for client in clients:
+            client.socket.close()
+        rows.time("full", IDLE, took)
+        return f"{took:.2f} s of a processor in ten"
 
 
 def looks(server, count=2000):
@@ -151,11 +199,14 @@ def looks(server, count=2000):
     return times
 
 
-def beside(server, alone, slow, kind):
-    return f"beside {len(slow)} {kind} {said(looks(server))}; alone {said(alone)}"
+def beside(rows, part, server, alone, slow):
+    times = looks(server)
+    rows.looks(part, "a trace", times)
+    rows.looks(part, "alone", alone)
+    return f"beside {len(slow)} {part} {said(times)}; alone {said(alone)}"
 
 
-def slow_senders(options):
+def slow_senders(options, rows):
     with started(options.bin, options.slow + 10, "--idle", 0) as server:
         with server.client() as client:
             client.ask(ten_spans(1), 202)
@@ -166,23 +217,37 @@ def slow_senders(options):
             client.send(head("POST /api/traces HTTP/1.1", "Content-Type: application/x-thrift", f"Content-Length: {len(body)}") + body[:number % 50])
         for client in slow:
             client.send(body[50:51])
-        return beside(server, alone, slow, "slow senders")
+        return beside(rows, "slow senders", server, alone, slow)
 
 
-def slow_readers(options):
+def slow_readers(options, rows):
     with started(options.bin, options.slow + 10, "--idle", 0) as server:
         with server.client() as client:
             for trace in range(1, 3001):
                 client.ask(ten_spans(trace), 202)
+            text = len(client.ask(get(ALL), 200).body) / 30_000
         alone = looks(server)
         before = server.memory()
         slow = [Client(server.port, patience=60, room=4096) for _ in range(options.slow)]
         for client in slow:
-            client.send(get("/api/traces?service=shop&limit=0"))
+            client.send(get(ALL))
         for client in slow:
             check(client.socket.recv(1), "no response began")
         held = server.memory() - before
-        return f"{beside(server, alone, slow, 'slow readers')}; {held / 1000:.1f} MB, {1000 * held / options.slow / 30_000:.0f} bytes a span of an answer"
+        a_span = 1000 * held / options.slow / 30_000
+        for what, value in (("MB", held / 1000), ("bytes a span of an answer", a_span), ("bytes of text a span", text)):
+            rows.hold("slow readers", options.slow, what, round(value))
+        return f"{beside(rows, 'slow readers', server, alone, slow)}; {held / 1000:.1f} MB, {a_span:.0f} bytes a span of an answer, of {text:.0f} of its text"
+
+
+PARTS = {
+    "senders": senders,
+    "silent": silent,
+    "parked": parked,
+    "slow senders": slow_senders,
+    "slow readers": slow_readers,
+    "full": full,
+}
 
 
 def main():
@@ -195,14 +260,16 @@ def main():
     options = asked.parse_args()
     most = resource.getrlimit(resource.RLIMIT_NOFILE)[1]
     resource.setrlimit(resource.RLIMIT_NOFILE, (most, most))
-    failed = False
-    for name, part in {"senders": senders, "silent": silent, "parked": parked, "slow senders": slow_senders, "slow readers": slow_readers}.items():
+    rows, failed = Rows(options), False
+    for name, part in PARTS.items():
         if options.only in name:
             try:
-                print(f"{name}: {part(options)}", flush=True)
+                print(f"{name}: {part(options, rows)}", flush=True)
             except (Failed, OSError) as fault:
                 failed = True
                 print(f"FAILED {name}: {fault}", flush=True)
+    if not (options.only or failed):
+        rows.save()
     sys.exit(failed)
 
 

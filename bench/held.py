@@ -6,13 +6,18 @@ other. Printed are the longest and the middle time of a POST while nobody asks a
 The first shapes are bodies that a sender may pick so that two parts of them multiply; of these the whole and half of the parts are
 posted, and sizes are the megabytes posted. The last ones are plain stores of each size of `--spans`, filled once for all their queries.
 
-    bench/held.py [--bin PATH] [--parts 1000] [--spans 100000,1000000,10000000] [--asks 5] [--save KIND] [SHAPE..]
+With `--at-once` nothing is posted. Eight connections ask a query at once, as often as `--asks` says, and printed is by how much the
+server's memory rises above what it held before: the most of all rounds, and what that is for each byte sent. Of a hundred clients that
+don't read, it is also what is held for each of them once all answers have begun.
+
+    bench/held.py [--bin PATH] [--parts 1000] [--spans 100000,1000000,10000000] [--asks 5] [--at-once] [--save KIND] [SHAPE..]
 
 A row is dear if its longest POST beside the query takes more than 20 ms, and 100 ms more for each million spans above 100,000, and also
 more than twice the longest POST while nobody asks: if POSTs are about as slow without the query, the machine is slow and not the query.
 Such a row is measured a second time and is dear only if it is above its bar again: a query that delays POSTs delays them every time.
-The latest traces of a service are dear if their middle time at 10,000,000 spans is more than 3 times that at 100,000. The last line is
-`0 dear`, or the number of dear rows after a line for each; the exit status is 1 then.
+The latest traces of a service are dear if their middle time at 10,000,000 spans is more than 3 times that at 100,000. With `--at-once` a
+row is dear if the eight connections together take more than 10 bytes for each byte sent; with a few parts fixed costs pass that. The last
+line is `0 dear`, or the number of dear rows after a line for each; the exit status is 1 then.
 """
 import contextlib
 import itertools
@@ -20,7 +25,7 @@ import statistics
 import sys
 import threading
 import time
-from typing import NamedTuple
+from typing import Callable, NamedTuple
 
 from results import Record, asked_of
 from servers import Client, Failed, Server, check, get, post, post_body
@@ -28,16 +33,22 @@ import wire
 
 # The largest store there is. Of 10,000,000 spans a hundredth isn't filled in: a full store refuses the POSTs.
 MOST_SPANS, FREE = 10_000_000, 100_000
-ROOM = ["--batches", "1000000", "--spans", str(MOST_SPANS), "--workers", "4"]
+ROOM = ["--batches", "1000000", "--spans", str(MOST_SPANS)]
+WORKERS = 4
 IN_BATCH, AT_ONCE = 1000, 20
 END = 1 << 60
 
 # The bars: milliseconds for a POST beside a query, and how many times as long a query may take in the larger of two stores.
 POST_BAR, POST_BAR_FOR_A_MILLION = 20, 100
 LATEST_BAR, LATEST_SIZES = 3, (100_000, 10_000_000)
+# The connections that ask at once, each of which may have a worker, and the bytes of memory that all may take for each byte sent; and the
+# clients that don't read.
+ASKING, SENT_BAR = 8, 10
+SLOW = 100
 # A short query is asked more often than told, so that some POSTs fall beside it.
 ASKED_FOR = 0.5
 COLUMNS = ["shape", "size", "unit", "POST alone, ms, longest", "middle", "beside, ms, longest", "middle", "query, ms, longest", "query, ms, middle"]
+COLUMNS_AT_ONCE = ["shape", "connections", "MB in", "MB before", "MB more at most", "of bytes sent", "MB held for a slow reader"]
 
 
 def tag(key, value=""):
@@ -110,6 +121,30 @@ SHAPES = {
 }
 
 
+def many_traces(n):
+    return [wire.batch("a", a_trace_each(40 * n))]
+
+
+def a_large_trace(n):
+    return [wire.batch("a", [wire.span(7, 1 + k, k, start=1_600_000_000_000_000 + k) for k in range(40 * n)])]
+
+
+class AskedAtOnce(NamedTuple):
+    """The bodies that fill a server, for n thousandths of the whole, and the query that some connections ask at once."""
+    bodies: Callable
+    query: bytes
+    connections: int = ASKING
+    is_read: bool = True
+
+
+ASKED_AT_ONCE = {
+    "dependencies of traces without calls": AskedAtOnce(many_traces, DEPENDENCIES),
+    "limit=1 among many traces": AskedAtOnce(many_traces, search("&limit=1")),
+    "one large trace": AskedAtOnce(a_large_trace, get("/api/traces/7")),
+    "one large trace to slow readers": AskedAtOnce(a_large_trace, get("/api/traces/7"), SLOW, is_read=False),
+}
+
+
 def plain_bodies(spans):
     """Traces of ten spans of ten services that call one another, in batches of a service; each tenth trace has an error."""
     bad = wire.structs(10, [tag("error", "true")])
@@ -174,6 +209,36 @@ class Row(NamedTuple):
         return f"{self.name}\t{self.size:,} {self.unit}\t{self.alone}\t{self.beside}\t{self.query}"
 
 
+class Rise(NamedTuple):
+    """By how many bytes the memory of a server rose while connections asked at once: the most, and while they all waited without reading."""
+    name: str
+    asked: AskedAtOnce
+    sent: int
+    before: int
+    most: int
+    waiting: int
+
+    def of_sent(self):
+        return self.most / self.sent
+
+    def is_dear(self):
+        """What slow readers take isn't judged: each holds an answer of its own."""
+        return self.asked.is_read and self.of_sent() > SENT_BAR
+
+    def for_each(self):
+        """The megabytes that are held for a slow reader."""
+        return None if self.asked.is_read else round(self.waiting / self.asked.connections / 1e6, 2)
+
+    def columns(self):
+        megabytes = [round(self.sent / 1e6, 2), round(self.before / 1e6, 1), round(self.most / 1e6, 1)]
+        return [self.name, self.asked.connections, *megabytes, round(self.of_sent(), 1), self.for_each()]
+
+    def __str__(self):
+        name, connections, sent, before, most, of_sent, each = self.columns()
+        held = "" if each is None else f"\t{each} MB for each"
+        return f"{name}\t{connections} connections\t{sent} MB\t{before} MB\t{most} MB\t{of_sent}{held}"
+
+
 class Poster(threading.Thread):
     """Posts a span every few milliseconds until it is told to end."""
 
@@ -236,10 +301,10 @@ def beside(server, query, asks):
 
 
 @contextlib.contextmanager
-def filled(program, words, bodies):
+def filled(program, words, bodies, workers=WORKERS):
     """A server that was sent these bodies, and their bytes. Only the bodies of one turn are in memory."""
     sent = 0
-    with Server(*ROOM, *words, binary=program) as server:
+    with Server(*ROOM, "--workers", workers, *words, binary=program) as server:
         bodies = iter(bodies)
         with Client(server.port, patience=600) as client:
             while some := [*itertools.islice(bodies, AT_ONCE)]:
@@ -281,6 +346,47 @@ def rows_of_plain_stores(options, chosen):
                 yield measured(name, spans, "spans", server, PLAIN[name], options.asks)
 
 
+def asked_at_once(server, asked):
+    """What a server holds after connections asked at once. A client that reads has its whole answer then, a slow one its first byte."""
+    with contextlib.ExitStack() as all_open:
+        room = None if asked.is_read else 4096
+        clients = [all_open.enter_context(Client(server.port, patience=600, room=room)) for _ in range(asked.connections)]
+        for client in clients:
+            client.send(asked.query)
+        for client in clients:
+            if asked.is_read:
+                check(client.response().status == 200, f"{asked.query[:60]!r} was not answered 200")
+            else:
+                check(client.socket.recv(1), "no response began")
+        return 1000 * server.memory()
+
+
+def rises(options, chosen):
+    """By how much memory rises for each query that is asked at once."""
+    for name, asked in ASKED_AT_ONCE.items():
+        if not chosen(name):
+            continue
+        with filled(options.bin, [], asked.bodies(options.parts), ASKING) as (server, sent):
+            before = 1000 * server.memory()
+            server.forget_peak()
+            held = max(asked_at_once(server, asked) for _ in range(options.asks))
+            yield Rise(name, asked, sent, before, 1000 * server.peak() - before, held - before)
+
+
+def all_at_once(options, chosen):
+    """The rows of connections that ask at once; a line for each dear one."""
+    record, found = Record(options, "held --at-once", COLUMNS_AT_ONCE), []
+    print("shape\tasking\tsent\theld before\tmore at most\tof bytes sent\theld for a slow reader")
+    for row in rises(options, chosen):
+        record.row(*row.columns())
+        print(row, flush=True)
+        if row.is_dear():
+            found.append(f"{row.name}: {row.of_sent():.1f} bytes of memory for each byte sent, and {SENT_BAR} is the bar")
+    if not options.shapes:
+        record.save()
+    return found
+
+
 def dear(rows):
     """A line for each row above its bar."""
     for row in rows:
@@ -295,6 +401,20 @@ def dear(rows):
                 yield f"{name}, {LATEST_SIZES[1]:,} spans: more than {LATEST_BAR} times the middle time at {LATEST_SIZES[0]:,}"
 
 
+def beside_posts(options, chosen):
+    """The rows of queries beside POSTs; a line for each dear one."""
+    record, rows = Record(options, "held", COLUMNS), []
+    print("shape\tsent or held\tPOST alone, ms: longest (middle)\tbeside the query\tthe query, ms: longest (middle)")
+    for made in (rows_of_senders, rows_of_plain_stores):
+        for row in made(options, chosen):
+            record.row(*row.columns())
+            rows.append(row)
+            print(row, flush=True)
+    if not options.shapes:
+        record.save()
+    return [*dear(rows)]
+
+
 def sizes(text):
     return [int(size) for size in text.split(",")]
 
@@ -304,19 +424,11 @@ def main():
     words.add_argument("--parts", type=int, default=1000, help="how many parts the whole has")
     words.add_argument("--spans", type=sizes, default=[100_000], help=f"how many spans the plain stores hold, {MOST_SPANS:,} at most")
     words.add_argument("--asks", type=int, default=5, help="how often each query is asked at least")
+    words.add_argument("--at-once", action="store_true", help="what connections take that ask at once, and nothing else")
     words.add_argument("shapes", nargs="*", help="words of the shapes to run; all where none is given")
     options = words.parse_args()
-    record, rows = Record(options, "held", COLUMNS), []
     chosen = lambda name: not options.shapes or any(word in name for word in options.shapes)
-    print("shape\tsent or held\tPOST alone, ms: longest (middle)\tbeside the query\tthe query, ms: longest (middle)")
-    for made in (rows_of_senders, rows_of_plain_stores):
-        for row in made(options, chosen):
-            record.row(*row.columns())
-            rows.append(row)
-            print(row, flush=True)
-    found = [*dear(rows)]
-    if not options.shapes:
-        record.save()
+    found = all_at_once(options, chosen) if options.at_once else beside_posts(options, chosen)
     print("\n".join([*found, f"{len(found)} dear"]))
     return 1 if found else 0
 

@@ -242,21 +242,26 @@ fn read(asked: &Asked, sent: &AtomicU64, seed: u64, end: Instant) -> (Vec<u64>, 
     (times, length)
 }
 
-fn fill(asked: &Asked) -> f64 {
+/// The seconds of the filling, and the nanoseconds of its longest POST.
+fn fill(asked: &Asked) -> (f64, u64) {
     let begin = Instant::now();
     let batches = asked.fill / IN_BATCH;
+    let longest = AtomicU64::new(0);
     thread::scope(|scope| {
         for filler in 0..FILLERS {
+            let longest = &longest;
             scope.spawn(move || {
                 let mut client = Client::new(asked.port);
                 let mut request = Request::new("orders");
                 for n in (filler..batches).step_by(FILLERS as usize) {
+                    let begin = Instant::now();
                     client.ask(request.of(trace(n)), "202");
+                    longest.fetch_max(begin.elapsed().as_nanos() as u64, Ordering::Relaxed);
                 }
             });
         }
     });
-    begin.elapsed().as_secs_f64()
+    (begin.elapsed().as_secs_f64(), longest.into_inner())
 }
 
 fn main() {
@@ -282,7 +287,7 @@ fn main() {
         pace: option("--pace", 0.0),
         most: option("--most", 50_000.0) as u64,
     };
-    let filled = fill(&asked);
+    let (filled, longest_fill) = fill(&asked);
     let start = Barrier::new((asked.writers + asked.readers) as usize);
     let sent = AtomicU64::new(0);
     let begin = Instant::now();
@@ -324,7 +329,8 @@ fn main() {
     let seconds = (last - begin).as_secs_f64().max(1e-9);
     let spans = posts.len() as u64 * IN_BATCH;
     println!(
-        "fill_seconds {filled:.4} spans {spans} seconds {seconds:.4} rate {:.0} reads {} p50 {:.4} p99 {:.4} worst {:.4} bytes {length} posts_p50 {:.4} posts_p99 {:.4}",
+        "fill_seconds {filled:.4} fill_longest {:.4} spans {spans} seconds {seconds:.4} rate {:.0} reads {} p50 {:.4} p99 {:.4} worst {:.4} bytes {length} posts_p50 {:.4} posts_p99 {:.4}",
+        longest_fill as f64 / 1e6,
         spans as f64 / seconds,
         times.len(),
         within(&times, 0.5),

@@ -9,6 +9,7 @@ import datetime
 import json
 import os
 import platform
+import re
 import shlex
 import subprocess
 import sys
@@ -84,6 +85,12 @@ def machine_of(results):
 def kit():
     """What `rt version` calls the toolchain, without its logic."""
     return (printed("rt", "version") or "not known").split(" ")[0]
+
+
+def compiler(name):
+    """A compiler of another program with its version, as `rustc 1.95.0`."""
+    version = re.search(r"\d+(\.\d+)+", printed(name, "--version") or "")
+    return f"{name} {version[0]}" if version else name
 
 
 def commit():

@@ -27,7 +27,7 @@ import tempfile
 from compare import FASTEST, instructions
 from copies import BODIES, ENTRY_OF, NOW, SPLIT_BODY, built, load
 from decode import span
-from results import Record, asked_of
+from results import Record, asked_of, compiler
 import wire
 from servers import rust_program
 
@@ -317,7 +317,7 @@ def main():
         print(f"{options.spans:,} spans; milliseconds, the least of {options.rounds}")
         print("| Question | found | store | scan | times as fast |")
         print("|---|---|---|---|---|")
-        record = Record(options, "searches", ["question", "found", "store, ms", "scan, ms"], peers=f"rustc {FASTEST}")
+        record = Record(options, "searches", ["question", "found", "store, ms", "scan, ms"], peers=f"{compiler('rustc')} {FASTEST}")
         for number, name in enumerate(QUESTIONS):
             assert in_store[number] == in_scan[number], (name, in_store[number], in_scan[number])
             one, other = store[number] / 1e6, scan[number] / 1e6

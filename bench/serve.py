@@ -25,7 +25,7 @@ import tempfile
 import time
 import urllib.request
 
-from results import Record, asked_of
+from results import Record, asked_of, compiler
 from servers import Failed, Server, rust_program
 
 LIMITS = ["--queue", "256", "--batches", "1000000", "--spans", "10000000"]
@@ -197,7 +197,7 @@ def main():
     asked.add_argument("--only", choices=SERVERS, help="one of the two servers")
     asked.add_argument("--itself", action="store_true", help="measure the plain server against itself, which shows the noise")
     options = asked.parse_args()
-    record = Record(options, "serve, itself" if options.itself else "serve", COLUMNS, peers="rustc -O")
+    record = Record(options, "serve, itself" if options.itself else "serve", COLUMNS, peers=f"{compiler('rustc')} -O")
     with tempfile.TemporaryDirectory() as folder:
         programs = {"ours": options.bin, "plain": rust_program(folder, "bench/plain_server.rs")}
         if options.itself:

@@ -136,7 +136,8 @@ class Results:
         if it.get("program"):
             parts.append(f"program: {it['program']}, by {it['compiler']}")
         if it.get("peers"):
-            parts.append(f"the others by {it['peers']}, version not written down")
+            versions = "" if re.search(r"\d\.\d", it["peers"]) else ", version not written down"
+            parts.append(f"the others by {it['peers']}{versions}")
         if it.get("load"):
             parts.append("nothing else ran" if it["load"] == "none" else f"load {it['load']}")
         return note(parts)
@@ -256,6 +257,24 @@ def held(found):
     rows = ([it[0], f"{cell(it[1])} {it[2]}", f"{it[3]} ({it[4]:.2f})", f"{it[5]} ({it[6]:.2f})", f"{it[7]} ({it[8]:.2f})" if middle else cell(it[7])]
             for it in found.rows("held"))
     return table(heads, rows) + found.caption("held")
+
+
+def held_at_once(found):
+    """What connections take that ask at once. The page says so if no rows were kept yet."""
+    if "held --at-once" not in found.series:
+        return ["*Not measured yet.*"]
+    heads = ["Asked at once", "Connections", "MB in", "MB held before", "MB more at most", "Of bytes sent", "MB held for a slow reader"]
+    return printed("held --at-once", heads)(found)
+
+
+def grown(found):
+    """The longest POST while a server grows. The page says so if no rows were kept yet."""
+    if "growth" not in found.series:
+        return ["*Not measured yet.*"]
+    whats = ("the longest POST, ms", "seconds")
+    rows = ([cell(size), *(cell(it) for what in whats for it in found.of("growth", what, size))]
+            for size in sorted({it[1] for it in found.rows("growth")}))
+    return table(["Spans stored", "The longest POST, ms", "Of the plain server", "Seconds", "Of the plain server"], rows) + found.caption("growth")
 
 
 def waits(found):
@@ -490,28 +509,31 @@ def at_start():
 
 
 TABLES = {name: it for name, it in globals().items() if name in (
-    "machines decode compare store session searches searches_load shapes heavy held ids limits resent memory memory_processes memory_most copies serve "
+    "machines decode compare store session searches searches_load shapes heavy held held_at_once ids limits resent memory memory_processes memory_most copies serve grown "
     "connections connections_memory builds forms glance_beside glance_alone speed operating_memory operating_spans operating_most").split()}
 
 
 def quotes(found):
     """The sentences that quote figures, with their pages."""
     noise = ("bench/README.md", f"the ratios of the rounds of `serve.py` differ by up to {found.series['serve']['noise']} of themselves")
-    return [noise, unplaced(found), held_quote(found), itself_quote(found), *memory_quotes(found), *connection_quotes(found), *gate_quotes(found)]
+    return [noise, *unplaced(found), held_quote(found), itself_quote(found), *memory_quotes(found), *connection_quotes(found), *gate_quotes(found)]
 
 
 def unplaced(found):
     """What the page says of the series that have a date and no commit."""
     names = [f"`{name}`" for name, it in found.series.items() if it.get("date") and not it.get("commit")]
-    return "bench/README.md", f"The commit wasn't written down for {len(names)} series: {', '.join(names[:-1])} and {names[-1]}."
+    if names:
+        listed = " and ".join([", ".join(names[:-1]), names[-1]] if names[1:] else names)
+        yield "bench/README.md", f"The commit wasn't written down for {len(names)} series: {listed}."
 
 
 def held_quote(found):
     """The longest POST beside a query, by what is held."""
     plain = {size: max(row[5] for row in found.rows("held") if row[1:3] == [size, "spans"]) for size in (100_000, 1_000_000, 10_000_000)}
     small = max(row[5] for row in found.rows("held") if row[2] != "spans" or row[1] == 100_000)
+    alone = max(row[3] for row in found.rows("held"))
     return ("docs/serve.md", f"the longest POST took {small:.0f} ms over 100,000 spans or bodies made to be costly, {plain[1_000_000]:.0f} ms over "
-            f"1,000,000 spans and {plain[10_000_000]:.0f} ms over 10,000,000")
+            f"1,000,000 spans and {plain[10_000_000]:.0f} ms over 10,000,000. While nobody asked, a POST took up to {alone:.0f} ms")
 
 
 def itself_quote(found):
@@ -563,6 +585,7 @@ def connection_quotes(found):
     waits = [f"{two(2e9 / text * float(read) / 1e6)} MB" for text in texts]
     yield "docs/serve.md", f"| connected, and silent so far | {at('silent', 10_000, 'bytes a connection')} bytes |"
     yield "docs/serve.md", f"| silent after a request | {at('parked', 5000, 'bytes a connection')} bytes |"
+    yield "docs/serve.md", f"| the same, with 1,000 clients instead of 5,000 | {at('parked', 1000, 'bytes a connection')} bytes |"
     yield "docs/serve.md", f"and {read} bytes for each span of a larger one"
     yield "docs/serve.md", f"which takes {waits[0]} (spans with five tags) to {waits[1]} (spans without tags)"
     yield "docs/operating.md", f"{read} while it is read"

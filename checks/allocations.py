@@ -57,6 +57,7 @@ TESTS = [
     ("session_tests", "tests::pipes::memory_for_a_session", None),
     ("read_tests", "tests::rows::admit_all_or_nothing", None),
     ("read_tests", "tests::sent_again::the_one_batch_sent_again", None),
+    ("intake_tests", "tests::rows::closed_before_no_memory", None),
 ]
 
 # What a test prints that could not go on itself since an allocation was refused: the error that its call gave, by `Debug`.

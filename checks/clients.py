@@ -1,13 +1,17 @@
 #!/usr/bin/env python3
-"""`jaeger_one serve` driven by clients that are not ours: Apache Thrift's Python library, curl, and the Jaeger client for Ruby.
+"""`jaeger_one serve` driven by clients that are not ours: Apache Thrift's Python library, curl, the Jaeger client for Ruby, and
+OpenTelemetry's exporter for Go.
 
     checks/clients.py [--bin PATH] [--port N]
 
 Starts the program on a free port of 127.0.0.1, or drives the empty one that listens on `--port`. What each client sends is read
-back through the query interface and compared field by field. One line for each check; the last line is `N passed, M failed`.
+back through the query interface and compared field by field. Then each client hands two batches to a server of this script that
+refuses them as `serve` does, or closes the connection: how often each batch comes, and what the client says. One line for each check;
+the last line is `N passed, M failed`.
 
 Needs Debian's packages python3-thrift, thrift-compiler (for samples/jaeger.thrift) and curl, and says so with status 2 where one
-is missing; nothing is installed. With ruby-jaeger-client there are more checks; without it they are left out, and a line says so.
+is missing; nothing is installed. With ruby-jaeger-client, and with golang-go and golang-opentelemetry-otel-dev of Debian 12, there are
+more checks; without them they are left out, and a line says so. Go builds exporter.go in a few seconds of a processor.
 """
 import json
 import os
@@ -20,6 +24,7 @@ import urllib.error
 import urllib.request
 
 from crates import ROOT, asked_of
+from refusing import ACCEPTED, REFUSALS, Answering, bodies_of, when_refused
 from servers import Failed, Server
 
 TRACE = 0x0102030405060708_F1F2F3F4F5F6F7F8
@@ -224,6 +229,34 @@ def by_thrift(checks, server, j):
     transport.close()
 
 
+def thrift_said(j, url):
+    """What Apache Thrift's library says of two batches: the statuses other than 202, or the name of what it raised."""
+    from thrift.protocol.TBinaryProtocol import TBinaryProtocol
+    from thrift.transport.THttpClient import THttpClient
+
+    transport = THttpClient(url)
+    said = []
+    for number in (1, 2):
+        j.Batch(process=j.Process(serviceName="refused"), spans=[], seqNo=number).write(TBinaryProtocol(transport))
+        try:
+            transport.flush()
+            said += [str(transport.code)] if transport.code != 202 else []
+        except OSError as fault:
+            said.append(type(fault).__name__)
+    return said
+
+
+def numbers_of(j, bodies):
+    """The `seqNo` of each batch."""
+    from thrift.protocol.TBinaryProtocol import TBinaryProtocol
+    from thrift.transport.TTransport import TMemoryBuffer
+
+    batches = [j.Batch() for _ in bodies]
+    for batch, body in zip(batches, bodies):
+        batch.read(TBinaryProtocol(TMemoryBuffer(body)))
+    return [batch.seqNo for batch in batches]
+
+
 # curl.
 
 def curl(*words, stdin=None):
@@ -292,7 +325,25 @@ def by_curl(checks, server, folder, searches):
     checks.same("curl: 5 MB at once", post(large, kinds[0], "-H", "Expect:"), (0, "413"))
 
 
-# Jaeger's client for Ruby.
+def curl_said(files, url, *more):
+    """What curl says of these files on one connection: the statuses other than 202, 000 for a closed connection."""
+    words = []
+    for file in files:
+        words += ["--next", *more, "--silent", "--noproxy", "*", "--max-time", "20", "--write-out", "%{stderr}%{http_code}\n",
+                  "-H", "Content-Type: application/x-thrift", "--data-binary", "@" + file, url]
+    done = subprocess.run(["curl", *words[1:]], stdout=subprocess.DEVNULL, stderr=subprocess.PIPE)
+    return [line for line in done.stderr.decode().split() if line != "202"]
+
+
+def by_refused_curl(checks, folder):
+    files = [os.path.join(folder, f"batch{number}.bin") for number in (0, 1)]
+    when_refused(checks, "curl", lambda url: curl_said(files, url), "000", again=1)
+    for answer, text in REFUSALS.items():
+        bodies, _ = bodies_of(lambda url: curl_said(files[:1], url, "--retry", "1", "--retry-delay", "1"), text, ACCEPTED)
+        checks.same(f"curl --retry: {answer}", len(bodies), 2 if answer == "503" else 1)
+
+
+# Jaeger's client for Ruby, and OpenTelemetry's exporter for Go: two batches of one trace.
 
 RUBY = """
 require 'jaeger/client'
@@ -307,32 +358,95 @@ parent.log_kv(timestamp: at + 1, event: 'asked', size: 7)
 child = tracer.start_span('charge', child_of: parent, start_time: at + 2)
 child.finish(end_time: at + 3)
 parent.finish(end_time: at + 4)
-sender.send_spans(reporter.spans)
-puts [parent.context.trace_id, parent.context.span_id, child.context.span_id].map { |id| id.to_s(16).rjust(16, '0') }
+late = tracer.start_span('late', child_of: parent, start_time: at + 5, tags: {'text' => 'x' * ARGV[1].to_i})
+late.finish(end_time: at + 6)
+sender.send_spans([child, parent])
+sender.send_spans([late])
+puts [parent.context.trace_id, parent.context.span_id, child.context.span_id, late.context.span_id].map { |id| id.to_s(16).rjust(16, '0') }
 """
 
 
-def by_ruby(checks, server):
-    done = subprocess.run(["ruby", "-e", RUBY, server.url("/api/traces")], capture_output=True, timeout=60)
-    checks.same("ruby: the client's own log", (done.returncode, done.stderr.decode()), (0, ""))
-    own, first, second = done.stdout.decode().split()
+def ran(command, **more):
+    """The ids that a client printed, and the lines of its log."""
+    done = subprocess.run(command, capture_output=True, timeout=60, **more)
+    if done.returncode:
+        raise ValueError(f"status {done.returncode}: {done.stderr.decode()}")
+    return done.stdout.decode().split(), done.stderr.decode().splitlines()
+
+
+def with_ruby(url, size=1):
+    return ran(["ruby", "-e", RUBY, url, str(size)])
+
+
+def go_client(folder):
+    """A call of OpenTelemetry's exporter for Go, like `with_ruby`; None without Debian's packages."""
+    program, sources = os.path.join(folder, "exporter"), "/usr/share/gocode"
+    if not shutil.which("go") or not os.path.isdir(os.path.join(sources, "src/go.opentelemetry.io/otel/exporters/jaeger")):
+        return None
+    subprocess.run(["go", "build", "-o", program, os.path.join(ROOT, "checks", "exporter.go")], check=True,
+                   env={**os.environ, "GO111MODULE": "off", "GOPATH": sources})
+    return lambda url, size=1, **more: ran([program, str(size)], env={**os.environ, "OTEL_EXPORTER_JAEGER_ENDPOINT": url, **more})
+
+
+def sent_spans(checks, server, name, run):
+    """The first span that a client sent, the one below it, and the process; the trace has one more, of the second batch."""
+    (own, *ids), log = run(server.url("/api/traces"))
+    checks.same(f"{name}: the client's own log", log, [])
     trace = server.trace(int(own, 16))
     spans = {span["spanID"]: span for span in trace["spans"]}
-    checks.same("ruby: the spans", sorted(spans), sorted([first, second]))
-    parent, child = spans[first], spans[second]
-    checks.same("ruby: names", (parent["operationName"], child["operationName"]), ("checkout", "charge"))
-    checks.same("ruby: times", [(span["startTime"], span["duration"]) for span in (parent, child)],
-                [(1_700_000_000_000_000, 4_000_000), (1_700_000_002_000_000, 1_000_000)])
-    checks.same("ruby: references", (parent["references"], child["references"]),
-                ([], [{"refType": "CHILD_OF", "spanID": first, "traceID": own}]))
+    checks.same(f"{name}: the spans of both batches", sorted(spans), sorted(ids))
+    parent, child, late = [spans[each] for each in ids]
+    checks.same(f"{name}: names", [span["operationName"] for span in (parent, child, late)], ["checkout", "charge", "late"])
+    checks.same(f"{name}: times", [(span["startTime"], span["duration"]) for span in (parent, child, late)],
+                [(1_700_000_000_000_000, 4_000_000), (1_700_000_002_000_000, 1_000_000), (1_700_000_005_000_000, 1_000_000)])
+    above = {"refType": "CHILD_OF", "spanID": ids[0], "traceID": own}
+    checks.same(f"{name}: the parents", [span["references"][:1] for span in (parent, child, late)], [[], [above], [above]])
+    return parent, child, trace["processes"][parent["processID"]]
+
+
+def when_not_taken(checks, server, binary, j, name, run, word):
+    """What a client does with batches that `serve`, or a server like it, doesn't take, and whether it numbers them."""
+    when_refused(checks, name, lambda url: run(url)[1], word)
+    bodies, _ = bodies_of(run, ACCEPTED)
+    checks.same(f"{name}: the batches have no seqNo", numbers_of(j, bodies), [None, None])
+    _, log = run(server.url("/api/traces"), 5_000_000)
+    checks.same(f"{name}: 413 of a large batch by the server", ["413" in line for line in log], [True])
+    if binary:
+        with Queried("--batches", 1, binary=binary) as full:
+            (own, *_), log = run(full.url("/api/traces"))
+            checks.same(f"{name}: 503 of a full server", ["503" in line for line in log], [True])
+            checks.same(f"{name}: the spans of the batch that fitted", len(full.trace(int(own, 16))["spans"]), 2)
+
+
+def by_ruby(checks, server):
+    parent, child, process = sent_spans(checks, server, "ruby", with_ruby)
     wanted = [shown("span.kind", "string", "server"), shown("count", "int64", 3), shown("share", "float64", double(0.5)),
               shown("paid", "bool", True)]
     checks.same("ruby: tags", [tag for tag in parent["tags"] if not tag["key"].startswith("sampler.")], wanted)
     checks.same("ruby: the log", parent["logs"], [
         {"fields": [shown("event", "string", "asked"), shown("size", "int64", 7)], "timestamp": 1_700_000_001_000_000}])
-    process = trace["processes"][parent["processID"]]
+    checks.same("ruby: references", (parent["references"], len(child["references"])), ([], 1))
     found = {tag["key"]: tag["value"] for tag in process["tags"]}
     checks.same("ruby: the process", (process["serviceName"], found.get("hostname"), found.get("ip")), ("ruby shop", "h1", "10.0.0.1"))
+
+
+def by_go(checks, server, run):
+    parent, child, process = sent_spans(checks, server, "go", run)
+    link = {"refType": "FOLLOWS_FROM", "spanID": f"{7:016x}", "traceID": f"{8 << 64:032x}"}
+    checks.same("go: the link", child["references"][1:], [link])
+    library = shown("otel.library.name", "string", "clients")
+    checks.same("go: tags", parent["tags"], [
+        shown("count", "int64", 3), shown("share", "float64", double(0.5)), shown("paid", "bool", True),
+        shown("text", "string", "gr\u00fcn"), library, shown("span.kind", "string", "server")])
+    checks.same("go: tags of a failure", child["tags"], [
+        library, shown("otel.status_code", "int64", 1), shown("otel.status_description", "string", "no money"),
+        shown("error", "bool", True)])
+    checks.same("go: the event", parent["logs"], [
+        {"fields": [shown("event", "string", "asked"), shown("size", "int64", 7)], "timestamp": 1_700_000_001_000_000}])
+    checks.same("go: the process", (process["serviceName"], process["tags"]), ("go shop", [shown("host.name", "string", "h1")]))
+    with Answering(ACCEPTED) as proxy:
+        run(proxy.url, OTEL_EXPORTER_JAEGER_USER="name", OTEL_EXPORTER_JAEGER_PASSWORD="word")
+        checks.same("go: the password", proxy.passwords, ["Basic bmFtZTp3b3Jk"] * 2)
 
 
 def main():
@@ -351,13 +465,24 @@ def main():
     except Failed as fault:
         sys.exit(str(fault))
     with tempfile.TemporaryDirectory() as folder, server:
-        checks.each("thrift", lambda: by_thrift(checks, server, generated(folder)))
+        j = generated(folder)
+        checks.each("thrift", lambda: by_thrift(checks, server, j))
+        checks.each("thrift", lambda: when_refused(checks, "thrift", lambda url: thrift_said(j, url), "RemoteDisconnected"))
         checks.each("curl", lambda: by_curl(checks, server, folder, not options.no_searches))
+        checks.each("curl", lambda: by_refused_curl(checks, folder))
+        binary = None if options.port or options.no_searches else options.bin
         ruby = ["ruby", "-e", "require 'jaeger/client'"]
         if shutil.which("ruby") and subprocess.run(ruby, capture_output=True).returncode == 0:
             checks.each("ruby", lambda: by_ruby(checks, server))
+            checks.each("ruby", lambda: when_not_taken(checks, server, binary, j, "ruby", with_ruby, "end of file"))
         else:
             print("left out: ruby, for want of Debian's package ruby-jaeger-client")
+        with_go = go_client(folder)
+        if with_go:
+            checks.each("go", lambda: by_go(checks, server, with_go))
+            checks.each("go", lambda: when_not_taken(checks, server, binary, j, "go", with_go, "EOF"))
+        else:
+            print("left out: go, for want of Debian's packages golang-go and golang-opentelemetry-otel-dev (of Debian 12)")
     print(f"{checks.passed} passed, {checks.failed} failed")
     sys.exit(1 if checks.failed else 0)
 

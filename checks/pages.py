@@ -3,14 +3,15 @@
 
     checks/pages.py [PAGE..]
 
-It reads README.md, docs/ and the READMEs of bench/, checks/, cases/ and deploy/, or the pages that are named. What it checks:
+It reads README.md, docs/ and the READMEs of bench/, checks/, cases/, deploy/ and wrong-bodies/, or the pages that are named. What it checks:
 
 * each link to a file of the repository, and its #anchor;
 * each path in backticks, from the top, from crates/ or by its last parts;
 * `crate::function`, `Type::function`, `module::test`, and single names: something has to be called so;
 * `Type::function`: `clause`, where the words after the colon have to be clauses of one of the functions before it;
 * `path/file.rt`: `function`, where they have to stand in that file;
-* `--option`, which the program or a script of checks/ or bench/ has to have.
+* `--option`, which the program or a script of checks/ or bench/ has to have;
+* that docs/ASSURANCE.md, of what is trusted, names each crate of the toolchain that crates.txt has.
 
 It prints what it doesn't find and exits with status 1. WORDS below are names of other programs and of ordinary text.
 """
@@ -19,10 +20,11 @@ import re
 import sys
 from collections import defaultdict
 
-from crates import asked_of
+from crates import asked_of, lists
 from sources import CRATES, TOP, modules
 
-PAGES = ["README.md", "CONTRIBUTING.md", "CHANGELOG.md", "bench/README.md", "checks/README.md", "cases/README.md", "deploy/README.md"]
+PAGES = ["README.md", "CONTRIBUTING.md", "CHANGELOG.md", "bench/README.md", "checks/README.md", "cases/README.md", "deploy/README.md",
+         "wrong-bodies/README.md"]
 # What the pages name and the repository doesn't have: of Rust and the toolchain, of Jaeger, of nginx, systemd and clap, of containers.
 WORDS = set("""
 Arc::ptr_eq ArrayString TcpStream::peek json::Writer mem::forget std::thread::scope
@@ -207,6 +209,15 @@ def has_clauses(names, call):
     return any(clauses_of(names, call))
 
 
+def trust_faults(text):
+    """Yields the toolchain's crates that are used and not named among what is trusted."""
+    used = lists()
+    trusted = text.partition("\n## What is trusted\n")[2].partition("\n## ")[0]
+    for crate in sorted({it for below in used.values() for it in below} - used.keys()):
+        if f"`{crate}`" not in trusted:
+            yield crate, "a crate of the toolchain that is used, and isn't named among what is trusted"
+
+
 def main():
     """Prints each fault with its page, and the count."""
     asked = asked_of(__doc__, None)
@@ -219,7 +230,10 @@ def main():
         text = page.read_text(encoding="utf-8")
         bare = without_blocks(text)
         flat = re.sub(r"\n(?![*|#\n-])\s*", " ", bare)
-        for word, why in [*link_faults(page, text), *word_faults(names, bare), *pair_faults(names, flat)]:
+        found = [*link_faults(page, text), *word_faults(names, bare), *pair_faults(names, flat)]
+        if path == "docs/ASSURANCE.md":
+            found += trust_faults(bare)
+        for word, why in found:
             faults += 1
             print(f"{path}: {word}: {why}")
     print(f"{len(pages)} pages, {faults} names not found")

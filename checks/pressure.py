@@ -13,16 +13,20 @@
             of each worker that can accept no more why (the listening socket is shut from outside)
   files     a server at its limit of open files says so once and takes less than a tenth of a core; once the limit is lifted it accepts
             who waits; the same a second time
+  waits     a worker whose clients read nothing of answers of 100,000 spans: beyond 2 GB of text it closes the next such connections, says
+            so once, and serves others; it takes 300 MB and some twenty seconds
 
 Standard library alone, Linux. One line for each part; the last line is `N passed, M failed`.
 """
+import contextlib
 import os
 import resource
 import select
 import time
 
 from crates import asked_of
-from servers import Client, Failed, Server, check, get, post, run_cases
+from servers import Client, Failed, Server, check, get, post, post_body, run_cases
+import wire
 
 
 def posted_until_refused(server):
@@ -144,13 +148,36 @@ def files():
     return f"{told[0]}; {max(shares):.3f} of a core"
 
 
+def waits():
+    many, all_of_them = 10_000, get("/api/traces?service=shop&limit=0")
+    with Server("--workers", 1, "--spans", 200_000, "--idle", 0) as server, contextlib.ExitStack() as stack:
+        with server.client() as client:
+            for trace in range(10):
+                client.ask(post_body(wire.batch("shop", [wire.span(trace + 1, number + 1) for number in range(many)])), 202)
+            text = len(client.ask(all_of_them, 200).body)
+        begin, slow = server.told(), []
+        while server.told() == begin and len(slow) * text < 3 << 30:
+            slow.append(stack.enter_context(server.client(patience=60, room=4096)))
+            slow[-1].send(all_of_them)
+            check(slow[-1].more(), "no response began")
+        told = server.told()[len(begin):]
+        wanted = "too much waits for clients that don't read: further connections of such clients are closed; queries with a limit help"
+        check(told == [wanted], f"with {len(slow)} answers of {text} bytes it said {told}")
+        check(len(slow) * text > 2 << 30, f"it said so of {len(slow)} answers of {text} bytes")
+        check(slow[0].more(), "a client that came before gets no more of its answer")
+        server.is_well()
+        check(server.told()[len(begin):] == told, f"then it said {server.told()[len(begin):]}")
+        return f"{len(slow)} answers of {text / 1e6:.1f} MB, {server.memory() / 1000:.0f} MB held; {wanted}"
+
+
 def main():
     asked = asked_of(__doc__)
     asked.add_argument("--posts", type=int, default=1_000_000)
     asked.add_argument("--only", default="", help="the parts whose name has this word")
     options = asked.parse_args()
     Server.binary = options.bin
-    run_cases({"memory": memory, "refusals": lambda: refusals(options.posts), "idle": idle, "told": told, "files": files}, options.only)
+    cases = {"memory": memory, "refusals": lambda: refusals(options.posts), "idle": idle, "told": told, "files": files, "waits": waits}
+    run_cases(cases, options.only)
 
 
 if __name__ == "__main__":

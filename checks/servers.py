@@ -284,6 +284,11 @@ class Server:
         """The most kilobytes that it held."""
         return self.kilobytes("VmHWM")
 
+    def forget_peak(self):
+        """From now on the most that it held counts from what it holds now."""
+        with open(f"/proc/{self.run.pid}/clear_refs", "w") as file:
+            file.write("5")
+
     def client(self, **more):
         return Client(self.port, **more)
 

@@ -1,0 +1,62 @@
+#!/usr/bin/env python3
+"""The longest POST while a server grows, beside a plain server that keeps its spans in one list; bench/README.md says how.
+
+    bench/growth.py [--bin PATH] [--sizes 1000000,10000000] [--rounds 3] [--save KIND]
+
+Four clients store spans in batches of 10 until a server holds as many as a size, each waiting for its 202 before it sends the
+next batch. What is printed is the longest POST of the four, and the seconds that it took: the least of the rounds of the longest, since
+other work of the machine makes a POST longer too, and the median of the seconds.
+"""
+import os
+import statistics
+import subprocess
+import tempfile
+
+from results import Record, asked_of
+from serve import NAMES, SERVERS, started
+from servers import Failed, rust_program
+
+COLUMNS = ["what", "spans stored", "jaeger_one", "plain server"]
+WORKERS = 8
+
+
+def grown(program, load, size):
+    """The milliseconds of the longest POST, and the seconds of all."""
+    with started(program, WORKERS) as server:
+        command = [load, "--port", str(server.port), "--fill", str(size), "--writers", "0"]
+        run = subprocess.run(command, capture_output=True, timeout=600, check=True)
+        reported = run.stdout.decode().split()
+        numbers = {key: float(value) for key, value in zip(reported[::2], reported[1::2])}
+        return numbers["fill_longest"], numbers["fill_seconds"]
+
+
+def main():
+    asked = asked_of(__doc__)
+    asked.add_argument("--sizes", default="1000000,10000000", help="spans stored, 10,000,000 at most")
+    asked.add_argument("--rounds", type=int, default=3)
+    options = asked.parse_args()
+    record = Record(options, "growth", COLUMNS, peers="rustc -O")
+    with tempfile.TemporaryDirectory() as folder:
+        programs = {"ours": options.bin, "plain": rust_program(folder, "bench/plain_server.rs")}
+        load = rust_program(folder, "bench/load.rs")
+        print(f"{len(os.sched_getaffinity(0))} cores, load {os.getloadavg()[0]:.1f} at the start")
+        for size in map(int, options.sizes.split(",")):
+            rounds = []
+            for _ in range(options.rounds):
+                try:
+                    rounds.append({name: grown(programs[name], load, size) for name in SERVERS})
+                except (Failed, OSError, subprocess.SubprocessError) as fault:
+                    print(f"{size:,} spans: {fault}")
+            if not rounds:
+                continue
+            longest = [min(it[name][0] for it in rounds) for name in SERVERS]
+            seconds = [statistics.median(it[name][1] for it in rounds) for name in SERVERS]
+            each = {NAMES[name]: [round(it[name][0], 1) for it in rounds] for name in SERVERS}
+            print(f"{size:,} spans: longest POST {longest[0]:.1f} ms, {longest[1]:.1f} of the plain server; in {seconds[0]:.1f} s, {seconds[1]:.1f}; rounds {each}", flush=True)
+            record.row("the longest POST, ms", size, *(round(it, 1) for it in longest))
+            record.row("seconds", size, *(round(it, 1) for it in seconds))
+    record.save()
+
+
+if __name__ == "__main__":
+    main()
