@@ -386,8 +386,13 @@ def glance_alone(found):
     return table(["What", "Measured", "By `bench/`"], rows) + found.captions(*names)
 
 
+def span_costs(found):
+    """The microseconds of a processor that the server takes for a span, for each number of writers and each size."""
+    return [found.of("serve", COST, writers, size)[0] for writers in WRITERS for size in SIZES]
+
+
 def glance_serve(found):
-    costs = [found.of("serve", COST, writers, size)[0] for writers in WRITERS for size in SIZES]
+    costs = span_costs(found)
     alone = found.of("serve, left alone", "after 1,000 spans")
     rates = f"{found.rates(ALONE, 4)} with four writers, {found.rates(ALONE, 8)} with eight"
     yield "spans that `serve` takes in a second", rates, "`serve.py`"
@@ -516,7 +521,8 @@ TABLES = {name: it for name, it in globals().items() if name in (
 def quotes(found):
     """The sentences that quote figures, with their pages."""
     noise = ("bench/README.md", f"the ratios of the rounds of `serve.py` differ by up to {found.series['serve']['noise']} of themselves")
-    return [noise, *unplaced(found), held_quote(found), itself_quote(found), *memory_quotes(found), *connection_quotes(found), *gate_quotes(found)]
+    return [noise, *unplaced(found), held_quote(found), itself_quote(found), core_quote(found), *memory_quotes(found), *connection_quotes(found),
+            *gate_quotes(found)]
 
 
 def unplaced(found):
@@ -545,12 +551,21 @@ def itself_quote(found):
     return ("bench/README.md", f"On machine {found.series['serve, itself']['machine']} its rates were {of(ALONE)} of its own, and its processor time {of(COST)}")
 
 
+def core_quote(found):
+    """How many spans a core is reckoned to take."""
+    costs = span_costs(found)
+    return ("docs/operating.md", f"A span takes [{span(costs, cell)} microseconds of CPU](../bench/README.md#servepy) in batches of ten, so one core is "
+            f"reckoned to take {span([1e6 / cost for cost in costs])} spans a second")
+
+
 def memory_quotes(found):
     """What pages say of memory."""
     one, five = (found.of("memory", 100_000, tags) for tags in TAGS)
     # Of batches of one span and of ten: each of these has nine tenths of a batch more for a span.
-    batch = [span([(found.of("memory --process-tags", tags, 1, count)[2] - found.of("memory --process-tags", tags, 10, count)[2]) / 0.9
-                   for tags in TAGS]) for count in CONNECTIONS]
+    batch = [[(found.of("memory --process-tags", tags, 1, count)[2] - found.of("memory --process-tags", tags, 10, count)[2]) / 0.9
+              for tags in TAGS] for count in CONNECTIONS]
+    # The process has four tags.
+    of_tag = (sum(batch[1]) - sum(batch[0])) / len(TAGS) / 4
     empty = found.of("memory", 0, 1)[1]
     answer = span([it[-1] * 10 for it in (one, five)])
     single = span([found.of("memory --process-tags", tags, 1, count)[-1] * 10 for tags in TAGS for count in CONNECTIONS])
@@ -559,9 +574,13 @@ def memory_quotes(found):
            f"{one[2]} and {five[2]} bytes a span")
     yield "docs/operating.md", f"An empty server takes {empty:.0f} MB"
     of_bytes = [it[-2] for it in found.rows("memory --process-tags")]
-    yield "docs/operating.md", f"times {found.rows('memory, most')[0][-1]:.1f}, the most bytes of memory that were measured for each byte of a body"
+    worst = found.rows("memory, most")[0][-1]
+    yield "docs/operating.md", f"times {worst:.1f}, the most bytes of memory that were measured for each byte of a body"
+    yield "docs/operating.md", f"times {worst:.1f}: {megabytes(1024 * 4_194_304 * worst / 1e6)} with the defaults"
     yield "docs/operating.md", f"reckon with {min(of_bytes):.1f} to {max(of_bytes):.1f} times the bytes that come"
-    yield "docs/operating.md", f"a batch takes {batch[0]} bytes of its own, and {batch[1]} with its process"
+    yield "docs/operating.md", f"a batch takes {span(batch[0])} bytes of its own, and {span(batch[1])} with its process"
+    yield "docs/operating.md", f"each further tag of a process takes some {two(of_tag)} bytes"
+    yield "docs/operating.md", in_fives(found)
     yield "docs/operating.md", f"reckoned at {start[0]} and {start[1]} bytes a span"
     yield "docs/operating.md", f"At {start[0]} bytes a span"
     yield "docs/operating.md", f"With five tags, {start[1]} bytes a span, it takes {start[1] / start[0]:.1f} times as much"
@@ -573,6 +592,13 @@ def memory_quotes(found):
     ten = f"2,000,000 spans of ten tags take about {two(2e6 * found.of('memory', 100_000, 10)[2] / 1e9)} GB"
     yield from ((page, ten) for page in ("docs/operating.md", "deploy/jaeger_one.service", "deploy/compose.yaml", "deploy/pod.yaml"))
     yield "docs/operating.md", f"It takes {answer} bytes for each span that it shows while it is made, or {single} where each trace has one span"
+
+
+def in_fives(found):
+    """What the page's example takes, in batches of five: by their number a span, between the rows of one and of ten."""
+    one, ten = (found.of("memory --process-tags", 1, in_batch, 20)[2] for in_batch in (1, 10))
+    each = ten + (one - ten) * (1 / 5 - 1 / 10) / (1 - 1 / 10)
+    return f"reckon {two(each)} bytes a span, so {megabytes(2_880_000 * each / 1e6)}"
 
 
 def connection_quotes(found):
