@@ -15,6 +15,9 @@
             who waits; the same a second time
   waits     a worker whose clients read nothing of answers of 100,000 spans: beyond 2 GB of text it closes the next such connections, says
             so once, and serves others; it takes 300 MB and some twenty seconds
+  answers   a server without memory for an answer (its data may not grow) answers 500 and says so once, with the refusal's number and how
+            many there were; once the limit is lifted the same query is answered 200
+  opening   a server without memory for a store with its limits ends with status 5 and says why
 
 Standard library alone, Linux. One line for each part; the last line is `N passed, M failed`.
 """
@@ -22,10 +25,11 @@ import contextlib
 import os
 import resource
 import select
+import subprocess
 import time
 
 from crates import asked_of
-from servers import Client, Failed, Server, check, get, post, post_body, run_cases
+from servers import Client, Failed, Server, check, get, limited_by, post, post_body, run_cases
 import wire
 
 
@@ -170,13 +174,41 @@ def waits():
         return f"{len(slow)} answers of {text / 1e6:.1f} MB, {server.memory() / 1000:.0f} MB held; {wanted}"
 
 
+def answers():
+    many, all_of_them = 10_000, get("/api/traces?service=shop&limit=0")
+    with Server("--workers", 1, "--spans", 400_000, "--idle", 0) as server, server.client(patience=60) as client:
+        for trace in range(10):
+            client.ask(post_body(wire.batch("shop", [wire.span(trace + 1, number + 1) for number in range(many)])), 202)
+        begin = server.told()
+        data = server.kilobytes("VmData") << 10
+        resource.prlimit(server.run.pid, resource.RLIMIT_DATA, (data, resource.RLIM_INFINITY))
+        for _ in range(2):
+            client.ask(all_of_them, 500)
+        told = server.told()[len(begin):]
+        wanted = "answered 500 for 22 NoMemory; requests that were answered 500 so far: 1"
+        check(told == [wanted], f"after two answers it said {told}")
+        resource.prlimit(server.run.pid, resource.RLIMIT_DATA, (resource.RLIM_INFINITY, resource.RLIM_INFINITY))
+        client.ask(all_of_them, 200)
+        return f"{wanted}; then 200"
+
+
+def opening():
+    words = [Server.binary, "serve", "--workers", "1", "--batches", "1000000"]
+    run = subprocess.run(words, stdin=subprocess.DEVNULL, capture_output=True, timeout=20, preexec_fn=limited_by({resource.RLIMIT_AS: 30 << 20}))
+    wanted = "ends with status 5: no memory for a store with these limits: give smaller ones"
+    check(run.returncode == 5 and not run.stdout, f"it ended with {run.returncode}: {run.stdout!r}")
+    check(run.stderr.decode().splitlines() == [wanted], f"it said {run.stderr!r}")
+    return wanted
+
+
 def main():
     asked = asked_of(__doc__)
     asked.add_argument("--posts", type=int, default=1_000_000)
     asked.add_argument("--only", default="", help="the parts whose name has this word")
     options = asked.parse_args()
     Server.binary = options.bin
-    cases = {"memory": memory, "refusals": lambda: refusals(options.posts), "idle": idle, "told": told, "files": files, "waits": waits}
+    cases = {"memory": memory, "refusals": lambda: refusals(options.posts), "idle": idle, "told": told, "files": files, "waits": waits,
+             "answers": answers, "opening": opening}
     run_cases(cases, options.only)
 
 
