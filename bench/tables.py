@@ -579,7 +579,7 @@ def memory_quotes(found):
     yield "docs/operating.md", f"times {worst:.1f}: {megabytes(1024 * 4_194_304 * worst / 1e6)} with the defaults"
     yield "docs/operating.md", f"reckon with {min(of_bytes):.1f} to {max(of_bytes):.1f} times the bytes that come"
     yield "docs/operating.md", f"a batch takes {span(batch[0])} bytes of its own, and {span(batch[1])} with its process"
-    yield "docs/operating.md", f"each further tag of a process takes some {two(of_tag)} bytes"
+    yield "docs/operating.md", f"reckon with {two(of_tag)} bytes for each further tag"
     yield "docs/operating.md", in_fives(found)
     yield "docs/operating.md", f"reckoned at {start[0]} and {start[1]} bytes a span"
     yield "docs/operating.md", f"At {start[0]} bytes a span"
