@@ -573,7 +573,7 @@ def memory_quotes(found):
     yield ("docs/operating.md", f"100,000 spans in batches of 10 took {one[1]:.0f} MB with one tag a span and {five[1]:.0f} MB with five, all together: "
            f"{one[2]} and {five[2]} bytes a span")
     yield "docs/operating.md", f"An empty server takes {empty:.0f} MB"
-    of_bytes = [it[-2] for it in found.rows("memory --process-tags")]
+    of_bytes = [it[-2] for it in found.rows("memory --process-tags")] + [it[3] / it[2] for it in found.rows("memory") if it[0] == 100_000]
     worst = found.rows("memory, most")[0][-1]
     yield "docs/operating.md", f"times {worst:.1f}, the most bytes of memory that were measured for each byte of a body"
     yield "docs/operating.md", f"times {worst:.1f}: {megabytes(1024 * 4_194_304 * worst / 1e6)} with the defaults"
