@@ -140,7 +140,7 @@ impl Journal {
         self.entries.is_empty()
     }
 
-    /// Returns the number of spans of all entries.
+    /// Returns the number of spans of all entries. Only tests call it.
     pub fn span_count(&self) -> u64
         ensures { result ≡ span_count self.now.held.entries }
     {

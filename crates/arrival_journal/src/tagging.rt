@@ -3,7 +3,7 @@
 ghost use Rattle.std.specs.Prelude.{◌≡◌, ◌<◌, get_or, flat_map};
 ghost use Rattle.std.specs.List.{fold};
 ghost use Rattle.jaeger_model.specs.Tags.{tag_text, hex_text};
-ghost use Rattle.arrival_journal.specs.Tagging.{text_hash, begins_number, may_be_number, text_part, tag_place, no_bits, with_bit, place_of, with_tag};
+ghost use Rattle.arrival_journal.specs.Tagging.{text_hash, begins_no_text, may_be_no_text, text_part, tag_place, no_bits, with_bit, place_of, with_tag};
 ghost use Rattle.arrival_journal.specs.Tagging.{fields_of, own_tags, bits_of, bits_brought};
 
 use jaeger_model::{Batch, Log, Span, Tag, TagValue, ValueRef};
@@ -29,36 +29,36 @@ fn text_hash(text: &str) -> u32
     (length % 128) as u32 + 3 * first + 5 * middle + 7 * last
 }
 
-/// Whether the text of a number, flag or bytes may begin with this byte.
-fn begins_number(byte: u8) -> bool
-    ensures { result ≡ begins_number byte }
+/// Whether the text of a value that is no text (a number, a flag, bytes) may begin with this byte.
+fn begins_no_text(byte: u8) -> bool
+    ensures { result ≡ begins_no_text byte }
 {
     (b'0' <= byte && byte <= b'9') || (b'a' <= byte && byte <= b'f') || byte == b't' || byte == b'-'
 }
 
 /// Whether the text may be that of a value that is no text.
-fn may_be_number(text: &str) -> bool
-    ensures { result ≡ may_be_number text.now }
+fn may_be_no_text(text: &str) -> bool
+    ensures { result ≡ may_be_no_text text.now }
 {
     match text.as_bytes() {
-        [first, ..] => begins_number(*first),
+        [first, ..] => begins_no_text(*first),
         _ => true,
     }
 }
 
-/// Returns what a tag's text adds to its place: one number for all texts that may be that of a number.
+/// Returns what a tag's text adds to its place: 0 if it may be that of a value that is no text.
 fn text_part(text: &str) -> u32
     ensures exact { result ≡ text_part text.now }
     ensures within { result < 65536 }
 {
-    if may_be_number(text) {
+    if may_be_no_text(text) {
         0
     } else {
         41 + 11 * text_hash(text)
     }
 }
 
-/// Returns what the text of bytes adds to the place, without making that text: it may be that of a number.
+/// Returns what the text of bytes adds to the place, without making that text.
 fn hex_part(bytes: &[u8]) -> u32
     ensures exact { result ≡ text_part (hex_text bytes.now) }
     ensures within { result < 65536 }

@@ -23,6 +23,7 @@ pub(crate) fn first_spans<'t, 'a>(
     let mut first = BTreeMap::new(alloc);
     for span in trace {
         let id = span.id();
+        // The first one is put back. Ids rarely recur, so this costs less than a lookup before each insert.
         if let Some(before) = first.insert(id, span)? {
             first.insert(id, before)?;
         }

@@ -35,9 +35,13 @@ impl<'a> Model for NumberedSpan<'a> {
 
     ghost Value = { Taken };
 
-    ghost view = { λ s. record { span = slice_get (placed_brought (arc_value s.entry.now).work) s.index; number = s.service_number } };
+    ghost view = { λ s. record {
+      span = slice_get (placed_brought (arc_value s.entry.now).work) s.index;
+      number = s.service_number;
+    } };
 
-    ghost invariant = { λ s. IsSome (slice_get (placed_brought (arc_value s.entry.now).work) s.index)
+    ghost invariant = { λ s.
+        IsSome (slice_get (placed_brought (arc_value s.entry.now).work) s.index)
         × HasIds s.id s.parent (slice_get (placed_brought (arc_value s.entry.now).work) s.index) };
 }
 
@@ -58,7 +62,8 @@ fn parent_id(seen: Seen<'_>) -> u64
 /// Returns the span of the entry at an index, as it was reported.
 #[tactic(auto, using(crate::proofs::Gathering::brought_there, crate::proofs::Gathering::not_brought))]
 fn seen_in(entry: &Entry, index: u32) -> Option<Seen<'_>>
-    ensures { option_map placed_by_its_entry result ≡ slice_get (placed_brought entry.now.work) index }
+    ensures { option_map placed_by_its_entry result ≡
+        slice_get (placed_brought entry.now.work) index }
 {
     match entry.work.batch() {
         Some(batch) => reported_in(batch, index),

@@ -56,6 +56,6 @@ where
         Ok(listener) => listener,
         Err(error) => return turn_down(alloc, output, address, &error),
     };
-    let plan = ServerConfig { options, keys };
-    serve_with(rt, alloc, &listener, &plan, &NoGate, output)
+    let config = ServerConfig { options, keys };
+    serve_with(rt, alloc, &listener, &config, &NoGate, output)
 }

@@ -146,8 +146,8 @@ fn play_command<'a>(alloc: Global) -> Result<clap::Command<'a>, AllocError>
     with_limits(alloc, command)
 }
 
-/// Adds a subcommand to the program. It takes `program` by value, so that no value is alive across a call that may
-/// fail.
+/// Adds a subcommand to the program. For the prover: it takes `program` by value, so that no value is alive across a
+/// call that may fail.
 fn with_subcommand<'a>(
     program: clap::Command<'a>,
     made: Result<clap::Command<'a>, AllocError>,

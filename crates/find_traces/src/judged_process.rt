@@ -171,7 +171,7 @@ impl<'a> JudgedProcess<'a> {
     }
 
     /// Whether a span of the process meets every condition of the search. Of tags, only its own and its log fields
-    /// are read.
+    /// are read. Only tests call it: a store asks [`has_all_tags`](Self::has_all_tags) of the spans that meet the rest.
     ///
     /// # Errors
     ///

@@ -63,7 +63,7 @@ impl IdTable {
         self.ids.len() as u32
     }
 
-    /// Whether one more id may be added.
+    /// Whether one more id may be added. Only tests call it.
     pub fn has_room(&self) -> bool
         ensures { IsTrue result ↔ (length self.now.ids < self.now.room) }
     {

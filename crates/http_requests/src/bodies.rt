@@ -14,6 +14,8 @@ use session_devices::Input;
 /// whole. If it is malformed, the sink got a part of what was received. Nothing is read once the bytes received decide:
 /// the body is complete, too large, or can't be read.
 ///
+/// Only tests call it: a session calls [`BodyReader::take_from`] after each read.
+///
 /// # Errors
 ///
 /// The input failed, or memory ran out for the buffer of a read, before the read.

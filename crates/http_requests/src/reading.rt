@@ -13,7 +13,7 @@ use crate::request::{BodyLength, Request, request_of};
 use crate::searching::look_when_due;
 use session_devices::Input;
 
-/// What the bytes received start with, after reading as far as necessary.
+/// What the bytes received start with, after reading as far as necessary. Only tests use it.
 #[derive(Clone, Copy, Debug)]
 pub enum Next {
     /// The head of a request, its length, and the length of the body.
@@ -65,6 +65,8 @@ impl HeadWait {
 /// starts with one. Once the caller has taken the head, the body follows, for [`read_body`](crate::read_body). Nothing
 /// is read after the end of the input, or if the bytes received decide: they start with a head, or no continuation of
 /// the complete lines received does.
+///
+/// Only tests call it: a session looks once after each read, by [`HeadWait::look`].
 ///
 /// # Errors
 ///

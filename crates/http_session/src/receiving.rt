@@ -152,7 +152,8 @@ impl PartialRequest {
         requires looked { HasLooked self.old.reader received.old.held }
         ensures took { TakesOn Carries received.old received.new self.old.sink self.new.sink
             self.old.reader
-            (λ size text content. Comes size text content received.new.held self.new.reader result) }
+            (λ size text content.
+            Comes size text content received.new.held self.new.reader result) }
         ensures leaves { Leaves self.new.reader received.new.held result }
         ensures closes { self.new.closes ≡ self.old.closes }
     {

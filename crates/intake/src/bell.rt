@@ -57,6 +57,7 @@ impl Bell {
             return false;
         }
         self.awaited.store(1, Ordering::SeqCst);
+        // The system compares the low 32 bits of the count.
         self.rings.park(rt, (rings % 4_294_967_296) as u32);
         true
     }

@@ -98,6 +98,7 @@ impl<N: StoreName> Books<N> {
         }
         unreachable!()
     }
+
     /// Closes the store, and returns the number of jobs that are left.
     pub fn close<R: Wait>(self, rt: &R) -> u64
         ensures { result ≡ length (map arc_value self.left.items) }

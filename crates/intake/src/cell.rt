@@ -38,7 +38,8 @@ impl<N: StoreName> JobOutcome<N> {
     /// Returns the receipt of an acknowledgement.
     pub(crate) fn receipt(&self) -> Option<Arc<Receipt<N>>> {
         match &self.answer {
-            // Impossible: an error. Only the count of shares changes, and it doesn't come near its limit.
+            // Impossible: an error. Only the count of shares changes, and it doesn't come near its limit. A new
+            // connection would learn an older receipt.
             Ok(ack) => Arc::try_clone(&ack.receipt).ok(),
             Err(_) => None,
         }

@@ -181,7 +181,7 @@ impl<N: StoreName> Clerk<N> {
         let Some(job) = self.inbox.pop(rt) else {
             return Ok(if closed { Turn::Ended } else { Turn::Idle });
         };
-        let (seat, number) = job.name();
+        let (seat, number) = job.id();
         let (entry, cell) = job.split();
         let answer = judge_entry(rt, self.alloc, keeper, entry);
         let account = Account {

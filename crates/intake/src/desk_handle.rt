@@ -20,7 +20,7 @@ impl<N: StoreName> Desk<N> {
     }
 
     /// Closes the desk: no seat submits anything from then on. The clerk still serves what is queued.
-    pub fn close<R: Wait>(&self, _rt: &R) {
+    pub fn close(&self) {
         self.shared.close();
     }
 

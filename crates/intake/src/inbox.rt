@@ -59,7 +59,7 @@ impl<N: StoreName> Inbox<N> {
             (λ j. self.new ≡ record self.old { taken = self.old.taken ++ j ∷ [] }) }
     {
         let job = self.shared.queue.pop_as::<PopJob, R>(rt, &mut self.end)?;
-        let (seat, number) = job.name();
+        let (seat, number) = job.id();
         self.last[seat as usize] = number;
         Some(job)
     }

@@ -47,7 +47,7 @@ impl<N: StoreName> Job<N> {
     }
 
     /// Returns the seat that submitted it, and its number there.
-    pub(crate) fn name(&self) -> (u16, u64)
+    pub(crate) fn id(&self) -> (u16, u64)
         ensures { (result.0 ≡ self.now.seat) × (result.1 ≡ self.now.number) }
     {
         let entry = self.entry.entry();

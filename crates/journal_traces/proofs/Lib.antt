@@ -5,6 +5,7 @@ pub mod Numbers
 pub mod LateTraces
 pub mod Processes
 pub mod Spots
+pub mod Numbering
 pub mod Spotting
 pub mod Cuts
 pub mod TakingSpans

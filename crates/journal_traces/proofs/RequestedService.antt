@@ -12,14 +12,10 @@ use Rattle.trace_model.specs.declared.query.Find.{Find}
 use Rattle.trace_model.proofs.NameLaws.{same_where, text_is, text_turned}
 use Rattle.service_index.specs.Reported.{reporters, service_at, group_in, group_of}
 use Rattle.service_index.proofs.PlacesGrouping.{group_within, as_many_reporters}
-use Rattle.journal_traces.specs.Lasting.{AreTold}
+use Rattle.journal_traces.specs.Told.{AreTold}
+use Rattle.journal_traces.specs.Reporting.{is_number}
 use Rattle.journal_traces.specs.Standing.{process_at}
 use Rattle.journal_traces.proofs.Numbers.{at_place}
-
--- the number is that of the service
-abbrev pub is_number : Option ℕ → ℕ → Bool
-is_number None group = false
-is_number (Some service) group = group == service
 
 -- of an entry, by the number of its own service
 by_number : (h : List Entry) (s : List ℕ) (service : Option ℕ) (n : ℕ) → n < length h → service ≡ group_of h s

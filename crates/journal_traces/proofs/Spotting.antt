@@ -33,18 +33,19 @@ use Rattle.trace_assembly.specs.Located.{span_at}
 use Rattle.journal_traces.specs.declared.tag_candidates.TakenEntry.{TakenEntry}
 use Rattle.journal_traces.specs.declared.taken_spot.TakenSpot.{TakenSpot}
 use Rattle.journal_traces.specs.Cutting.{cut_at, next_start}
-use Rattle.journal_traces.specs.Lasting.{AreTold}
+use Rattle.journal_traces.specs.Told.{AreTold}
 use Rattle.journal_traces.specs.Picked.{meets, met, met_or_none}
 use Rattle.journal_traces.specs.Pruned.{may_meet}
-use Rattle.journal_traces.specs.Spotted.{entry_shared, entries_shared, process_numbered, spot_of, taken_spotted, trace_spotted, is_entry_met, is_spot_met}
-use Rattle.journal_traces.specs.Spotted.{are_spots_met, IsTellingOf, IsWithin, AreNumbers, AddsSpan}
+use Rattle.journal_traces.specs.Spotted.{entry_shared, entries_shared, process_numbered, spot_of, taken_spotted, trace_spotted, is_entry_met, may_spot_meet}
+use Rattle.journal_traces.specs.Spotted.{may_spots_meet, IsTellingOf, IsWithin, AddsSpan}
+use Rattle.journal_traces.specs.Reporting.{is_number}
 use Rattle.journal_traces.specs.Standing.{process_at, spans_named}
 use Rattle.journal_traces.specs.Taking.{placed_taken, HasProcess}
 use Rattle.journal_traces.proofs.Processes.{process_there}
 use Rattle.journal_traces.proofs.ParentReferences.{matches-adopted}
 use Rattle.journal_traces.proofs.OutlineBounds.{passed_there}
 use Rattle.journal_traces.proofs.TakingSpans.{IsTaking}
-use Rattle.journal_traces.proofs.RequestedService.{is_number, is_told}
+use Rattle.journal_traces.proofs.RequestedService.{is_told}
 
 -- ---- an entry of which no span can meet the search
 another : (q : Find) (b : Batch) (ss : List Span) → same_text q.service b.process.service ≡ false → list_any (matches q) (map (placed b) ss) ≡ false
@@ -107,51 +108,6 @@ spotted_still es x (s ∷ ss) all =
 pub within_still : (n m : ℕ) (ss : List TakenSpot) → n ≤ m → All (IsWithin n) ss → All (IsWithin m) ss
 within_still n m ss le all = λ j d below. let own : (get_or ss j d).number < n = all j d below in omega (arith, own, le)
 
-got_last : (es : List Entry) (x : Entry) → slice_get (es ++ x ∷ []) (length es) ≡ Some x
-got_last [] x = refl
-got_last (y ∷ es) x = got_last es x
-
-got_more : (es : List Entry) (x e : Entry) (n : ℕ) → slice_get es n ≡ Some e → slice_get (es ++ x ∷ []) n ≡ Some e
-got_more [] x e n is = absurd (cc is)
-got_more (y ∷ es) x e zero is = is
-got_more (y ∷ es) x e (suc n) is = got_more es x e n is
-
-pub below_got : (es : List Entry) (n : ℕ) (e : Entry) → slice_get es n ≡ Some e → n < length es
-below_got [] n e is = absurd (cc is)
-below_got (y ∷ es) zero e is = omega arith
-below_got (y ∷ es) (suc n) e is = let rest = below_got es n e is in omega arith
-
--- ---- one more number
-module _ (h es : List Entry) (numbers : List ℕ) (x : Entry) (known : AreNumbers h es numbers) where
-  number_put : (b next : ℕ) → slice_get h b ≡ Some x → next ≡ suc (length es) → (k n : ℕ) (e : Entry) → get_or (slice_set numbers b next) k 0 ≡ suc n
-      → slice_get h k ≡ Some e → slice_get (es ++ x ∷ []) n ≡ Some e
-  number_put b next there is k n e got at = ⊎_elim same other (cases_eq k b)
-    where
-      same : k ≡ b → slice_get (es ++ x ∷ []) n ≡ Some e
-      same here =
-          let below : b < length numbers = omega (arith, below_got h b x there, known.as_many) in
-          let own : next ≡ suc n = sym (get_or-set_same numbers b next 0 below) ∙ ap (λ j. get_or (slice_set numbers b next) j 0) (sym here) ∙ got in
-          let last : n ≡ length es = omega (arith, own, is) in
-          ap (slice_get (es ++ x ∷ [])) last ∙ got_last es x ∙ sym there ∙ ap (slice_get h) (sym here) ∙ at
-
-      other : k ≢ b → slice_get (es ++ x ∷ []) n ≡ Some e
-      other apart = got_more es x e n (known.each k n e (sym (get_or-set_other numbers b k next 0 apart) ∙ got) at)
-
-  numbers_at : (place next : ℕ) → Some x ≡ entry_at h place → next ≡ suc (length es) → AreNumbers h (es ++ x ∷ []) (slice_set numbers (place - 1) next)
-  numbers_at zero next there is = absurd (cc there)
-  numbers_at (suc b) next there is =
-      let before : suc b - 1 ≡ b = omega arith in
-      subst (λ i. AreNumbers h (es ++ x ∷ []) (slice_set numbers i next)) (sym before) (record {
-        as_many = length-set numbers b next ∙ known.as_many;
-        each = number_put b next (sym there) is;
-      })
-
-pub numbers_more : (h es new : List Entry) (numbers : List ℕ) (x : Entry) (place next : ℕ) → AreNumbers h es numbers → Some x ≡ entry_at h place
-    → next ≡ length es + 1 → new ≡ es ++ x ∷ [] → AreNumbers h new (slice_set numbers (place - 1) next)
-numbers_more h es new numbers x place next known there is put =
-    let one : next ≡ suc (length es) = omega (arith, is) in
-    subst (λ l. AreNumbers h l (slice_set numbers (place - 1) next)) (sym put) (numbers_at h es numbers x known place next there one)
-
 -- ---- the last trace gets one more span
 pub adds_none : (old : List (List Taken)) (o : Option Placed) → None ≡ o → AddsSpan o old old
 adds_none old o none = λ ts t is. ([], ap (λ p. cons_option p []) none, is ∙ ap (λ l. ts ++ l ∷ []) (sym (append-nil t)))
@@ -203,12 +159,12 @@ any_cons : (w : Placed → Bool) (o : Option Placed) (ps : List Placed) → list
 any_cons w None ps a b = b
 any_cons w (Some p) ps a b = let own = or_false (w p) false a in λ i. own.0 i || b i
 
-pub trace_unmet : (q : Find) (ts : List TakenEntry) (met : List Bool) (ss : List TakenSpot) → AllZip (IsTellingOf q) ts met → are_spots_met met ss ≡ false
+pub trace_unmet : (q : Find) (ts : List TakenEntry) (met : List Bool) (ss : List TakenSpot) → AllZip (IsTellingOf q) ts met → may_spots_meet met ss ≡ false
     → list_any (matches q) (placed_taken (trace_spotted (entries_shared ts) ss)) ≡ false
 trace_unmet q ts met [] told e = refl
 trace_unmet q ts met (s ∷ ss) told e =
     let es = entries_shared ts in
-    let parts = or_false (is_spot_met met s) (are_spots_met met ss) e in
+    let parts = or_false (may_spot_meet met s) (may_spots_meet met ss) e in
     any_cons (matches q) (span_at es (spot_of s)) (placed_taken (trace_spotted es ss)) (spot_unmet q ts met s.number s.index told parts.0)
     (trace_unmet q ts met ss told parts.1)
 
@@ -230,7 +186,7 @@ unmet_at [] n e = refl
 unmet_at (b ∷ met) zero e = (or_false b (list_any (λ x. x) met) e).0
 unmet_at (b ∷ met) (suc n) e = unmet_at met n (or_false b (list_any (λ x. x) met) e).1
 
-spots_unmet : (met : List Bool) (ss : List TakenSpot) → list_any (λ b. b) met ≡ false → are_spots_met met ss ≡ false
+spots_unmet : (met : List Bool) (ss : List TakenSpot) → list_any (λ b. b) met ≡ false → may_spots_meet met ss ≡ false
 spots_unmet met [] e = refl
 spots_unmet met (s ∷ ss) e = λ i. unmet_at met s.number e i || spots_unmet met ss e i
 

@@ -1,10 +1,10 @@
 -- Traces of a window that are collected by their spots, with the numbers of their services.
-use Rattle.std.proofs.Common.{◌≡◌, ℕ, zero, suc, ◌+◌, ◌-◌, ◌<◌, ◌≤◌, List, [], ◌∷◌, ◌++◌, map, length, take, drop, replicate, get_or, refl, sym, ap, subst, ◌∙◌}
+use Rattle.std.proofs.Common.{◌≡◌, ℕ, zero, suc, ◌+◌, ◌-◌, ◌<◌, ◌≤◌, List, [], ◌∷◌, ◌++◌, map, length, take, drop, get_or, refl, sym, ap, subst, ◌∙◌}
 use Rattle.std.proofs.Common.{arith, Some, None, Option, length-append}
 use Rattle.std.specs.Prelude.{slice_get, slice_range, slice_index_or, slice_set, IfSome, option_map, is_some}
 use Rattle.std.specs.List.{cons_option, All, AllByRecursion}
 use Rattle.std.specs.Option.{option_and_then}
-use Rattle.std.proofs.lemmas.List.{length-map, length-replicate, map_push}
+use Rattle.std.proofs.lemmas.List.{length-map, map_push}
 use Rattle.std.proofs.lemmas.List.Elements.{All-cons, filter_map-append}
 use Rattle.std.proofs.lemmas.List.Sums.{passes_at_first}
 use Rattle.std.proofs.lemmas.Option.{slice_get-map}
@@ -25,13 +25,14 @@ use Rattle.call_links.specs.Seen.{StandsFor}
 use Rattle.journal_traces.specs.declared.taken_spot.TakenSpot.{TakenSpot}
 use Rattle.journal_traces.specs.declared.window_traces.WindowSpots.{WindowSpots}
 use Rattle.journal_traces.specs.Cutting.{next_start, cut_at, AreStarts}
-use Rattle.journal_traces.specs.Spotted.{IsWithin, AreNumbers, AddsSpan}
+use Rattle.journal_traces.specs.Numbered.{numbered, AreNumbers}
+use Rattle.journal_traces.specs.Spotted.{IsWithin, AddsSpan}
 use Rattle.journal_traces.specs.Standing.{HasNumber, AreNumberedByService}
 use Rattle.journal_traces.specs.Taking.{placed_taken}
 use Rattle.journal_traces.specs.Windowed.{ServedEntry, entry_seen, entries_seen, entries_in, numbered_span, taken_in, taken_reported, trace_reported}
 use Rattle.journal_traces.specs.Windowed.{traces_reported, HasService, AreWindowed}
 use Rattle.journal_traces.proofs.Cuts.{cut_begin, cut_push, starts_begin, starts_push}
-use Rattle.journal_traces.proofs.Spotting.{numbers_more}
+use Rattle.journal_traces.proofs.Numbering.{numbers_more}
 
 -- the last item of a list that is mapped
 record IsLast {A B : Type 0} (f : A → B) (xs : List A) (ts : List B) (t : B) : Type 0 where
@@ -150,7 +151,7 @@ all_within : (n m : ℕ) (ss : List TakenSpot) → n ≤ m → AllByRecursion (I
 all_within n m [] le a = tt
 all_within n m (s ∷ ss) le a = let own : s.number < n = a.0 in (omega (arith, own, le), all_within n m ss le a.1)
 
-module _ (h : List Entry) (old new : WindowSpots) (numbers : List ℕ) (known : AreWindowed h old numbers) where
+module _ (h : List Entry) (old new : WindowSpots) (numbers : List (Option ℕ)) (known : AreWindowed h old numbers) where
   module _ (x : ServedEntry) (same_spots : new.spots ≡ old.spots) (same_starts : new.starts ≡ old.starts)
       (put : entries_seen new.entries.items ≡ entries_seen old.entries.items ++ x ∷ []) where
     -- one more entry leaves the traces as they are
@@ -161,24 +162,22 @@ module _ (h : List Entry) (old new : WindowSpots) (numbers : List ℕ) (known : 
         (λ i. map (trace_reported (put i)) (cut_at (same_spots i).items (same_starts i).items))
         ∙ cuts_still es x old.spots.items old.starts.items (all_within (length old.entries.items) (length es) old.spots.items long known.within)
 
-    pub shared_known : (place next : ℕ) → Some x.0 ≡ entry_at h place → HasService h x → next ≡ length old.entries.items + 1
-        → AreWindowed h new (slice_set numbers (place - 1) next)
-    shared_known place next there served is =
+    pub shared_known : (place : ℕ) (more : List (Option ℕ)) → Some x.0 ≡ entry_at h place → HasService h x → get_or numbers (place - 1) None ≡ None
+        → more ≡ slice_set numbers (place - 1) (Some (numbered numbers)) → AreWindowed h new more
+    shared_known place more there served none is =
         let es = entries_seen old.entries.items in
-        let more : length new.entries.items ≡ length old.entries.items + 1 =
+        let long : length new.entries.items ≡ length old.entries.items + 1 =
         sym (length-map new.entries.items entry_seen) ∙ ap length put ∙ length-append es (x ∷ []) ∙ ap (λ n. n + 1) (length-map old.entries.items entry_seen) in
         let alone : entries_in (entries_seen new.entries.items) ≡ entries_in es ++ x.0 ∷ [] = ap entries_in put ∙ map_push (λ (e : ServedEntry). e.0) es x in
-        let counted : next ≡ length (entries_in es) + 1 =
-        is ∙ ap (λ n. n + 1) (sym (length-map es (λ (e : ServedEntry). e.0) ∙ length-map old.entries.items entry_seen)) in
         record {
           ordered =
               subst (λ (w : List TakenSpot × List ℕ). AreStarts (length w.0) w.1) (λ i. ((sym same_spots i).items, (sym same_starts i).items)) known.ordered;
           within =
               subst (λ ss. AllByRecursion (IsWithin (length new.entries.items)) ss)
               (λ i. (sym same_spots i).items)
-              (all_within (length old.entries.items) (length new.entries.items) old.spots.items (omega (arith, more)) known.within);
+              (all_within (length old.entries.items) (length new.entries.items) old.spots.items (omega (arith, long)) known.within);
           services = subst (AllByRecursion (HasService h)) (sym put) (each_append (HasService h) es (x ∷ []) known.services (served, tt));
-          found = numbers_more h (entries_in es) (entries_in (entries_seen new.entries.items)) numbers x.0 place next known.found there counted alone;
+          found = numbers_more h (entries_in es) numbers x.0 known.found place there (entries_in (entries_seen new.entries.items)) more none alone is;
         }
 
   -- one more spot
@@ -268,19 +267,7 @@ reported_got es (ss ∷ sss) (suc k) = reported_got es sss k
 pub new_traces : (w : WindowSpots) → w.starts.items ≡ [] → traces_reported w ≡ []
 new_traces w starts = ap (λ ss. map (trace_reported (entries_seen w.entries.items)) (cut_at w.spots.items ss)) starts
 
--- no entry has a number yet
-pub zeros_known : (h : List Entry) (numbers : List ℕ) → numbers ≡ replicate (length h) 0 → AreNumbers h [] numbers
-zeros_known h numbers zeros = subst (AreNumbers h []) (sym zeros) (record {
-  as_many = length-replicate (length h) 0;
-  each = λ k n e is at. let none : 0 ≡ suc n = sym (none_numbered (length h) k) ∙ is in absurd (omega (arith, none));
-})
-  where
-    none_numbered : (n k : ℕ) → get_or {A = ℕ} (replicate {A = ℕ} n 0) k 0 ≡ 0
-    none_numbered zero k = refl
-    none_numbered (suc n) zero = refl
-    none_numbered (suc n) (suc k) = none_numbered n k
-
-pub new_known : (h : List Entry) (w : WindowSpots) (numbers : List ℕ) → w.entries.items ≡ [] → w.spots.items ≡ [] → w.starts.items ≡ []
+pub new_known : (h : List Entry) (w : WindowSpots) (numbers : List (Option ℕ)) → w.entries.items ≡ [] → w.spots.items ≡ [] → w.starts.items ≡ []
     → AreNumbers h [] numbers → AreWindowed h w numbers
 new_known h w numbers entries spots starts known = record {
   ordered = subst (λ (x : ℕ × List ℕ). AreStarts x.0 x.1) (λ i. (length (sym spots i), sym starts i)) tt;

@@ -3,8 +3,9 @@ pub mod Picked
 pub mod Standing
 pub mod Looked
 pub mod Pruned
-pub mod Lasting
+pub mod Told
 pub mod Reporting
+pub mod Numbered
 pub mod Cutting
 pub mod Taking
 pub mod Spotted

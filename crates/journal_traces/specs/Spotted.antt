@@ -1,5 +1,5 @@
 -- Traces by the spots of their spans among entries that are collected once each.
-use Rattle.std.specs.Prelude.{◌≡◌, ◌<◌, ℕ, suc, Bool, false, List, [], ◌∷◌, ◌++◌, map, length, get_or, slice_get, Option, Some}
+use Rattle.std.specs.Prelude.{◌≡◌, ◌<◌, ℕ, suc, Bool, false, List, [], ◌∷◌, ◌++◌, map, length, get_or, Option}
 use Rattle.std.specs.Arc.{arc_value}
 use Rattle.std.specs.List.{list_any, cons_option, All}
 use Rattle.jaeger_model.specs.declared.batch.Process.{Process}
@@ -56,11 +56,11 @@ abbrev pub IsTellingOf : Find → TakenEntry → Bool → Type 0
 IsTellingOf q t may_match = IsToldBy q (arc_value t.entry) may_match
 
 -- whether the entry of the spot may, by the flag of each entry
-abbrev pub is_spot_met : List Bool → TakenSpot → Bool
-is_spot_met met s = get_or met s.number false
+abbrev pub may_spot_meet : List Bool → TakenSpot → Bool
+may_spot_meet flags s = get_or flags s.number false
 
-abbrev pub are_spots_met : List Bool → List TakenSpot → Bool
-are_spots_met met ss = list_any (is_spot_met met) ss
+abbrev pub may_spots_meet : List Bool → List TakenSpot → Bool
+may_spots_meet flags ss = list_any (may_spot_meet flags) ss
 
 -- ---- processes by the numbers of their entries
 abbrev pub process_numbered : List Entry → ℕ → Option Process
@@ -84,12 +84,6 @@ pub record IsSpotted (q : Find) (entries : List TakenEntry) (spots : List TakenS
   pub ordered : AreStarts (length spots) starts
   pub told : All (IsTold q) entries
   pub within : All (IsWithin (length entries)) spots
-
--- ---- entries by their numbers
--- for each entry of a history its number among the collected entries plus one; 0 if it isn't collected
-pub record AreNumbers (h es : List Entry) (numbers : List ℕ) : Type 0 where
-  pub as_many : length numbers ≡ length h
-  pub each : (k n : ℕ) (e : Entry) → get_or numbers k 0 ≡ suc n → slice_get h k ≡ Some e → slice_get es n ≡ Some e
 
 -- ---- the last trace grows
 -- it gets this span, if there is one

@@ -13,7 +13,8 @@ use Rattle.journal_traces.specs.declared.taken_spot.TakenSpot.{TakenSpot}
 use Rattle.journal_traces.specs.declared.window_traces.ReportedEntry.{ReportedEntry}
 use Rattle.journal_traces.specs.declared.window_traces.WindowSpots.{WindowSpots}
 use Rattle.journal_traces.specs.Cutting.{cut_at, AreStarts}
-use Rattle.journal_traces.specs.Spotted.{IsWithin, AreNumbers}
+use Rattle.journal_traces.specs.Numbered.{AreNumbers}
+use Rattle.journal_traces.specs.Spotted.{IsWithin}
 
 -- an entry and the number of its service
 abbrev pub ServedEntry : Type 0
@@ -54,7 +55,7 @@ abbrev pub HasService : List Entry → ServedEntry → Type 0
 HasService h e = StandsFor (service_at h) (group_in h) (e.1, service_brought e.0.work)
 
 -- the traces are being collected from a history, by the numbers of its entries among the collected ones
-pub record AreWindowed (h : List Entry) (w : WindowSpots) (numbers : List ℕ) : Type 0 where
+pub record AreWindowed (h : List Entry) (w : WindowSpots) (numbers : List (Option ℕ)) : Type 0 where
   pub ordered : AreStarts (length w.spots.items) w.starts.items
   pub within : AllByRecursion (IsWithin (length w.entries.items)) w.spots.items
   pub services : AllByRecursion (HasService h) (entries_seen w.entries.items)

@@ -1,4 +1,4 @@
-ghost use Rattle.journal_traces.specs.Lasting.{AreTold};
+ghost use Rattle.journal_traces.specs.Told.{AreTold};
 ghost use Rattle.std.proofs.Props.{props};
 
 use crate::judging::Judging;
@@ -64,7 +64,7 @@ impl<'a> Searched for Candidates<'a> {
                     self.prepared,
                     self.service,
                 );
-                is_found(alloc, judging, spots.again())
+                is_found(alloc, &judging, spots.again())
             }
             None => Ok(false),
         }

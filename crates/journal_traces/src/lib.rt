@@ -6,30 +6,34 @@
 //! * `search_candidates`: which traces a search by a service considers.
 //! * `service_candidates`: which traces a search by a service alone considers, if many entries are of that
 //!   service.
-//! * `late_candidates`: the traces that start after some time.
+//! * `latest_candidates`: the traces that start latest, after some time.
 //! * `span_conditions`: the conditions of a search that need a span's process.
+//! * `entry_services`: which entries are of a service.
 //! * `judging`: spans judged one after the other.
-//! * `candidates`: these traces, as a search reads them.
+//! * `candidates`: the traces that a search considers, as it reads them.
 //! * `window`: a window of time in microseconds.
 //! * `window_candidates`: the traces that may have a span in a window.
 //! * `window_taking`: collects the traces in a window of time, with the numbers of their services.
-//! * `window_traces`: these traces, with each of their entries collected once.
+//! * `window_traces`: the traces in a window of time, with each of their entries collected once.
 //! * `trace_parts`: the items of several traces in one list.
+//! * `entry_numbers`: the numbers of the collected entries.
 //! * `taken_spot`: where a span is among the collected entries.
 //! * `tag_candidates`: the traces that a search by tags considers, with each of their entries collected once.
-//! * `tag_taking`: collects them from the journal, by numbers alone.
+//! * `tag_taking`: collects the candidates of a search by tags from the journal, by numbers alone.
 //! * `taken`: traces whose spans were collected, to be read after the journal is left.
-//! * `taken_search`: a search over such traces, which judges each process once.
-//! * `process_classes`: equal processes of such traces, found once for each entry.
-//! * `recurring`: which entries are in several traces, so that comparing their processes pays.
-//! * `taken_answer`: what such a search finds, as it is to be shown.
+//! * `taken_search`: a search over collected traces, which judges each process once.
+//! * `process_classes`: equal processes of collected traces, found once for each entry.
+//! * `recurring`: which entries are in several collected traces, so that comparing their processes pays.
+//! * `taken_answer`: what a search over collected traces finds, as it is to be shown.
 //! * `taking`: collects traces from the journal.
 #![tactic(auto)]
 
 mod candidates;
+mod entry_numbers;
+mod entry_services;
 mod gathering;
 mod judging;
-mod late_candidates;
+mod latest_candidates;
 mod process_classes;
 mod pruning;
 mod recurring;
@@ -52,7 +56,7 @@ mod window_traces;
 
 pub use candidates::Candidates;
 pub use gathering::gather;
-pub use late_candidates::spots_after;
+pub use latest_candidates::spots_after;
 pub use search_candidates::spots_along;
 pub use service_candidates::spots_reported;
 pub use tag_candidates::TagCandidates;

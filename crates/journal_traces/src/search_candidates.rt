@@ -32,7 +32,7 @@ struct RowGuesses<'a> {
 impl RowGuesses<'_> {
     /// Returns the guess for the span at an index of the entry.
     fn at(self, index: u32) -> u32 {
-        self.assembly.row_at(self.before.wrapping_add(index))
+        self.assembly.row_guess_at(self.before.wrapping_add(index))
     }
 }
 

@@ -6,6 +6,7 @@ ghost use Rattle.trace_assembly.specs.Rows.{spots_of};
 ghost use Rattle.service_index.specs.Reported.{AreGroups};
 ghost use Rattle.journal_traces.specs.Reporting.{is_reported, are_reported};
 
+use crate::entry_services::is_of_service;
 use arrival_journal::Journal;
 use service_index::ServicePlaces;
 use std::alloc::{AllocError, Global};
@@ -18,11 +19,7 @@ fn is_reported(journal: &Journal, reported: &ServicePlaces, service: u32, spot: 
     ensures { result ≡
         is_reported journal.now.held.entries reported.now.groups service spot }
 {
-    if journal.entry(spot.place).is_none() {
-        return false;
-    }
-    let before = spot.place - 1;
-    reported.group_at(before as u32) == service
+    journal.entry(spot.place).is_some() && is_of_service(reported, Some(service), spot.place)
 }
 
 /// Whether the entry of one of the spots is of the service with this number.

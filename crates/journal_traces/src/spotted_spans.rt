@@ -80,15 +80,14 @@ pub(crate) fn first_id(journal: &Journal, spots: Spots<'_>) -> Option<TraceId>
 
 /// Whether one of the spans meets every condition of the search. No span is copied, and none is read after that
 /// one.
-pub(crate) fn is_found<'a>(
+pub(crate) fn is_found(
     alloc: Global,
-    judging: Judging<'a>,
+    judging: &Judging<'_>,
     spots: Spots<'_>,
 ) -> Result<bool, AllocError>
     ensures { IfOk result (λ b. b ≡
-        list_any (matches judging.entry.0) (spans_named judging.entry.1 spots.entry)) }
+        list_any (matches judging.now.0) (spans_named judging.now.1 spots.entry)) }
 {
-    let mut judging = judging;
     for spot in spots {
         let is_match = judging.is_match_at(alloc, spot)?;
         if is_match {

@@ -10,7 +10,7 @@ ghost use Rattle.trace_model.specs.Seeing.{seen};
 ghost use Rattle.trace_model.specs.Taking.{Taken};
 ghost use Rattle.trace_assembly.specs.Located.{span_at};
 ghost use Rattle.journal_traces.specs.Meeting.{IsJudgedAs};
-ghost use Rattle.journal_traces.specs.Spotted.{spot_of, taken_spotted, trace_spotted, traces_spotted, is_entry_met, is_spot_met, are_spots_met, IsToldBy};
+ghost use Rattle.journal_traces.specs.Spotted.{spot_of, taken_spotted, trace_spotted, traces_spotted, is_entry_met, may_spot_meet, may_spots_meet, IsToldBy};
 ghost use Rattle.journal_traces.specs.Spotted.{IsTold, IsTellingOf, entry_shared, entries_shared, process_numbered, AreNumbered};
 ghost use Rattle.journal_traces.specs.Taking.{placed_taken, HasProcess, ShareByNumber};
 
@@ -124,7 +124,7 @@ fn is_entry_met(
 
 /// Whether one of the spans of an entry may meet the search. The entry is judged if that is requested; else its own
 /// flag is returned.
-fn may_be_met(
+fn may_entry_meet(
     alloc: Global,
     prepared: &PreparedSearch<'_>,
     taken: &TakenEntry,
@@ -142,7 +142,7 @@ fn may_be_met(
 
 /// Returns for each entry whether one of its spans may meet the search. After [`ENOUGH_ENTRIES`] of them do, no
 /// more entries are judged: a search that finds many traces then judges only what it needs for its answer.
-fn entries_met(
+fn may_meet_by_entry(
     alloc: Global,
     prepared: &PreparedSearch<'_>,
     entries: &[TakenEntry],
@@ -151,39 +151,39 @@ fn entries_met(
     ensures { IfOk result (λ v. AllZip (IsTellingOf prepared.now) entries.now v.items) }
 {
     let mut found: usize = 0;
-    let mut met = Vec::with_capacity(alloc, entries.len())?;
+    let mut flags = Vec::with_capacity(alloc, entries.len())?;
     for entry in entries {
-        let is_met = may_be_met(alloc, prepared, entry, found < ENOUGH_ENTRIES)?;
-        if is_met {
+        let may_meet = may_entry_meet(alloc, prepared, entry, found < ENOUGH_ENTRIES)?;
+        if may_meet {
             found = found.saturating_add(1);
         }
-        met.push(is_met)?;
+        flags.push(may_meet)?;
     }
-    Ok(met)
+    Ok(flags)
 }
 
 /// Whether an entry may have a span that meets the search.
-fn is_any_met(met: &[bool]) -> bool
-    ensures { result ≡ list_any (λ b. b) met.now }
+fn may_any_meet(flags: &[bool]) -> bool
+    ensures { result ≡ list_any (λ b. b) flags.now }
 {
-    met.iter().any(|is_met| *is_met)
+    flags.iter().any(|may_meet| *may_meet)
 }
 
 /// Whether the entry of a spot may have a span that meets the search.
-fn is_spot_met(met: &[bool], spot: TakenSpot) -> bool
-    ensures { result ≡ is_spot_met met.now spot }
+fn may_spot_meet(flags: &[bool], spot: TakenSpot) -> bool
+    ensures { result ≡ may_spot_meet flags.now spot }
 {
-    match met.get(spot.number as usize) {
-        Some(is_met) => *is_met,
+    match flags.get(spot.number as usize) {
+        Some(may_meet) => *may_meet,
         None => false,
     }
 }
 
 /// Whether the entry of one of the spots may have a span that meets the search.
-fn are_spots_met(met: &[bool], spots: &[TakenSpot]) -> bool
-    ensures { result ≡ are_spots_met met.now spots.now }
+fn may_spots_meet(flags: &[bool], spots: &[TakenSpot]) -> bool
+    ensures { result ≡ may_spots_meet flags.now spots.now }
 {
-    spots.iter().any(|spot| is_spot_met(met, *spot))
+    spots.iter().any(|spot| may_spot_meet(flags, *spot))
 }
 
 /// Returns the span at a spot. The key of its process is the number of its entry.
@@ -241,13 +241,6 @@ impl<'q> TagCandidates<'q> {
         self.query
     }
 
-    /// Returns the number of entries.
-    pub(crate) fn entry_count(&self) -> usize
-        ensures { result ≡ length self.now.entries }
-    {
-        self.entries.len()
-    }
-
     /// Returns the spots of the trace at a place, which counts from 0; none if there is no such trace.
     fn spots(&self, place: usize) -> &[TakenSpot]
         ensures { trace_spotted self.now.entries result.now ≡
@@ -261,7 +254,11 @@ impl<'q> TagCandidates<'q> {
     /// # Errors
     ///
     /// Out of memory, and nothing else.
-    pub(crate) fn share(&mut self, entry: &Arc<Entry>, may_match: bool) -> Result<(), AllocError>
+    pub(crate) fn add_entry(
+        &mut self,
+        entry: &Arc<Entry>,
+        may_match: bool,
+    ) -> Result<(), AllocError>
         requires { IsToldBy self.old.query (arc_value entry.now) may_match }
         ensures query { self.new.query ≡ self.old.query }
         ensures entries { OnOk result (self.new.entries ≡
@@ -311,7 +308,7 @@ impl<'q> TagCandidates<'q> {
     /// # Errors
     ///
     /// Out of memory, and nothing else.
-    pub fn met_traces(
+    pub fn traces_that_may_meet(
         &self,
         alloc: Global,
         prepared: &PreparedSearch<'_>,
@@ -322,13 +319,13 @@ impl<'q> TagCandidates<'q> {
         ensures numbers { IfOk result ShareByNumber }
     {
         let mut traces = TakenTraces::new(alloc);
-        let met = entries_met(alloc, prepared, &self.entries)?;
-        if !is_any_met(&met) {
+        let flags = may_meet_by_entry(alloc, prepared, &self.entries)?;
+        if !may_any_meet(&flags) {
             return Ok(traces);
         }
         for place in 0..self.starts.len() {
             let spots = self.spots(place);
-            if are_spots_met(&met, spots) {
+            if may_spots_meet(&flags, spots) {
                 take_spots(&mut traces, &self.entries, spots)?;
             }
         }

@@ -6,10 +6,13 @@ ghost use Rattle.std.proofs.Props.{props};
 ghost use Rattle.trace_model.specs.declared.entry.Entry.{Entry as EntryValue};
 ghost use Rattle.trace_model.specs.Places.{entry_at};
 ghost use Rattle.trace_assembly.specs.Located.{span_at};
-ghost use Rattle.journal_traces.specs.Lasting.{AreTold};
-ghost use Rattle.journal_traces.specs.Spotted.{traces_spotted, AddsSpan, IsToldBy, AreNumbers};
+ghost use Rattle.journal_traces.specs.Told.{AreTold};
+ghost use Rattle.journal_traces.specs.Numbered.{AreNumbers};
+ghost use Rattle.journal_traces.specs.Spotted.{traces_spotted, AddsSpan, IsToldBy};
 ghost use Rattle.journal_traces.specs.Standing.{spans_named, traces_named};
 
+use crate::entry_numbers::EntryNumbers;
+use crate::entry_services::is_of_service;
 use crate::pruning::EntryFilter;
 use crate::tag_candidates::TagCandidates;
 use crate::taken_spot::TakenSpot;
@@ -32,18 +35,6 @@ struct EntryMatcher<'a> {
     ghost told: { AreTold filter journal.now.held.entries reported.now.groups service } by { Prim.hlevel props },
 }
 
-/// Whether the entry at a place is of the search's service.
-fn is_of_service(matcher: &EntryMatcher<'_>, place: u64) -> bool
-    requires { IsSome (entry_at matcher.now.journal.now.held.entries place) }
-    ensures { (e : EntryValue) → Some e ≡ entry_at matcher.now.journal.now.held.entries place →
-        IsToldBy matcher.now.filter e result }
-{
-    match matcher.service {
-        Some(service) => matcher.reported.group_at((place - 1) as u32) == service,
-        None => false,
-    }
-}
-
 /// Whether the outline of the entry at a place meets the search.
 fn is_outlined(matcher: &EntryMatcher<'_>, place: u64) -> bool
     ensures { (e : EntryValue) → Some e ≡ entry_at matcher.now.journal.now.held.entries place →
@@ -61,13 +52,13 @@ fn may_match(matcher: &EntryMatcher<'_>, place: u64) -> bool
     ensures { (e : EntryValue) → Some e ≡ entry_at matcher.now.journal.now.held.entries place →
         IsToldBy matcher.now.filter e result }
 {
-    is_of_service(matcher, place) && is_outlined(matcher, place)
+    is_of_service(matcher.reported, matcher.service, place) && is_outlined(matcher, place)
 }
 
 /// Returns the number of the entry at a place, which is collected unless it was before.
 fn number_of(
     taken: &mut TagCandidates<'_>,
-    numbers: &mut [u32],
+    numbers: &mut EntryNumbers,
     matcher: &EntryMatcher<'_>,
     entry: &Arc<Entry>,
     place: u64,
@@ -82,28 +73,17 @@ fn number_of(
     ensures query { taken.new.query ≡ taken.old.query }
     ensures traces { taken.new.traces ≡ taken.old.traces }
 {
-    let before = (place - 1) as usize;
-    let known = numbers[before];
-    if known > 0 {
-        return Ok(known - 1);
+    if let Some(number) = numbers.at(place) {
+        return Ok(number);
     }
-    let Ok(number) = u32::try_from(taken.entry_count()) else {
-        // Impossible: a store has at most 1,000,000 entries.
-        return Err(AllocError);
-    };
-    let Some(next) = number.checked_add(1) else {
-        // Impossible: a store has at most 1,000,000 entries.
-        return Err(AllocError);
-    };
-    taken.share(entry, may_match(matcher, place))?;
-    numbers[before] = next;
-    Ok(number)
+    taken.add_entry(entry, may_match(matcher, place))?;
+    Ok(numbers.add(place))
 }
 
 /// Adds the span at a spot to the last trace.
 fn take_spot(
     taken: &mut TagCandidates<'_>,
-    numbers: &mut [u32],
+    numbers: &mut EntryNumbers,
     matcher: &EntryMatcher<'_>,
     spot: Spot,
 ) -> Result<(), AllocError>
@@ -128,7 +108,7 @@ fn take_spot(
 /// Collects the trace of the spans at these spots, in their order.
 fn take_spots(
     taken: &mut TagCandidates<'_>,
-    numbers: &mut [u32],
+    numbers: &mut EntryNumbers,
     matcher: &EntryMatcher<'_>,
     spots: Spots<'_>,
 ) -> Result<(), AllocError>
@@ -167,7 +147,7 @@ pub fn take_candidates<'q>(
         traces_named journal.now.held.entries spots.now) }
 {
     let mut taken = TagCandidates::new(alloc, query);
-    let mut numbers = vec![in alloc; 0u32; journal.entries().len()]?;
+    let mut numbers = EntryNumbers::new(alloc, journal.entries().len())?;
     let matcher = EntryMatcher {
         journal,
         reported,

@@ -14,6 +14,7 @@ ghost use Rattle.journal_traces.specs.Standing.{spans_named, trace_named, AreNum
 ghost use Rattle.journal_traces.specs.Taking.{placed_taken};
 ghost use Rattle.journal_traces.specs.Windowed.{entries_in, entries_seen, traces_reported, AreWindowed};
 
+use crate::entry_numbers::EntryNumbers;
 use crate::spotted_spans::reaches_window;
 use crate::taken_spot::TakenSpot;
 use crate::window::window_of;
@@ -31,7 +32,7 @@ use trace_ring::{FirstStarts, Ring};
 /// service.
 fn number_of(
     taken: &mut WindowSpots,
-    numbers: &mut [u32],
+    numbers: &mut EntryNumbers,
     journal: &Journal,
     reported: &ServicePlaces,
     entry: &Arc<Entry>,
@@ -47,22 +48,11 @@ fn number_of(
     ensures taken { OnOk result (AreWindowed journal.now.held.entries taken.new numbers.new) }
     ensures traces { OnOk result (traces_reported taken.new ≡ traces_reported taken.old) }
 {
-    let before = (place - 1) as usize;
-    let known = numbers[before];
-    if known > 0 {
-        return Ok(known - 1);
+    if let Some(number) = numbers.at(place) {
+        return Ok(number);
     }
-    let Ok(number) = u32::try_from(taken.entries.len()) else {
-        // Impossible: a store has at most 1,000,000 entries.
-        return Err(AllocError);
-    };
-    let Some(next) = number.checked_add(1) else {
-        // Impossible: a store has at most 1,000,000 entries.
-        return Err(AllocError);
-    };
-    taken.share(entry, reported.group_at(before as u32))?;
-    numbers[before] = next;
-    Ok(number)
+    taken.add_entry(entry, reported.group_at((place - 1) as u32))?;
+    Ok(numbers.add(place))
 }
 
 /// Appends a spot to the last trace.
@@ -90,7 +80,7 @@ fn begin(taken: &mut WindowSpots) -> Result<(), AllocError>
 /// Appends the span at a spot to the last trace.
 fn take_spot(
     taken: &mut WindowSpots,
-    numbers: &mut [u32],
+    numbers: &mut EntryNumbers,
     journal: &Journal,
     reported: &ServicePlaces,
     spot: Spot,
@@ -113,7 +103,7 @@ fn take_spot(
 /// Collects the trace of the spans at these spots, in their order.
 fn take_spots(
     taken: &mut WindowSpots,
-    numbers: &mut [u32],
+    numbers: &mut EntryNumbers,
     journal: &Journal,
     reported: &ServicePlaces,
     spots: Spots<'_>,
@@ -133,7 +123,7 @@ fn take_spots(
     Ok(())
 }
 
-/// Returns the traces of the ring, the one opened first at the front.
+/// Returns the traces of the ring, the one opened first at the front. Only tests ask for them.
 ///
 /// # Errors
 ///
@@ -172,12 +162,13 @@ pub fn take_within(
         (trace_named journal.now.held.entries (spots_of assembly.now)) }
     ensures within { IfOk result (λ traces. map placed_taken traces ≡
         filter (list_any (in_window end_ms lookback_ms))
-        (map (trace_named journal.now.held.entries (spots_of assembly.now)) assembly.now.newest.ids)) }
+        (map (trace_named journal.now.held.entries (spots_of assembly.now))
+        assembly.now.newest.ids)) }
     ensures numbered { IfOk result (AreNumberedByService journal.now.held.entries) }
 {
     let window = window_of(end_ms, lookback_ms);
     let mut taken = WindowSpots::new(alloc);
-    let mut numbers = vec![in alloc; 0u32; journal.entries().len()]?;
+    let mut numbers = EntryNumbers::new(alloc, journal.entries().len())?;
     let mut place = starts.next_within(0, window);
     while place < starts.len() {
         let spots = assembly.spots_at(place);

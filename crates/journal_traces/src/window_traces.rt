@@ -71,7 +71,7 @@ impl WindowSpots {
     /// # Errors
     ///
     /// Out of memory, and nothing else.
-    pub(crate) fn share(&mut self, entry: &Arc<Entry>, service: u32) -> Result<(), AllocError>
+    pub(crate) fn add_entry(&mut self, entry: &Arc<Entry>, service: u32) -> Result<(), AllocError>
         ensures entries { OnOk result (entries_seen self.new.entries.items ≡
             entries_seen self.old.entries.items ++ (arc_value entry.now, service) ∷ []) }
         ensures spots { self.new.spots ≡ self.old.spots }

@@ -71,7 +71,7 @@ impl Readiness {
         self.poll.poll(&mut self.events, timeout)
     }
 
-    /// Returns an event of the last wait, counted from 0.
+    /// Returns an event of the last wait, counted from 0. Walks over those before it, fewer than [`MAX_EVENTS`].
     pub fn event(&self, index: usize) -> Option<Event> {
         self.events.iter().nth(index).map(|event| Event {
             token: event.token().0,

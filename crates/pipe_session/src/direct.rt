@@ -44,7 +44,7 @@ impl Direct {
         Direct { store }
     }
 
-    /// Returns the store.
+    /// Returns the store. Only tests call it.
     pub fn into_store(self) -> SpanStore
         ensures { result ≡ self }
     {

@@ -23,9 +23,9 @@ const DEFAULT_LIMIT: i64 = 100;
 /// How many milliseconds before its end a window of dependencies starts if its query doesn't say so: a day.
 const DEFAULT_LOOKBACK_MS: i64 = 86_400_000;
 
-/// Parses an optional number; for a bound on starts it is in microseconds.
+/// Parses an optional number. A bound on starts is in microseconds.
 #[tactic(auto, unfolding(crate::specs::Queries::time_at))]
-fn time_bound(pairs: &[Pair], parameter: Parameter) -> Result<Option<i64>, QueryFault>
+fn optional_number(pairs: &[Pair], parameter: Parameter) -> Result<Option<i64>, QueryFault>
     ensures { Asks (λ n. n) result (time_at parameter pairs.now) }
 {
     let Some(text) = find_parameter(pairs, parameter.name()) else {
@@ -35,9 +35,9 @@ fn time_bound(pairs: &[Pair], parameter: Parameter) -> Result<Option<i64>, Query
     Ok(Some(number))
 }
 
-/// Parses a bound on durations into microseconds; 0 if it is absent.
+/// Parses an optional duration into microseconds; 0 if it is absent.
 #[tactic(auto, unfolding(crate::specs::Queries::length_at))]
-fn duration_bound(pairs: &[Pair], parameter: Parameter) -> Result<i64, QueryFault>
+fn optional_duration(pairs: &[Pair], parameter: Parameter) -> Result<i64, QueryFault>
     ensures { Asks (λ n. n) result (length_at parameter pairs.now) }
 {
     match find_parameter(pairs, parameter.name()) {
@@ -46,12 +46,13 @@ fn duration_bound(pairs: &[Pair], parameter: Parameter) -> Result<i64, QueryFaul
     }
 }
 
-/// Parses the limit on the number of traces.
+/// Parses the limit on the number of traces that a search returns.
 #[tactic(auto, unfolding(crate::specs::Queries::limit_at, crate::specs::Queries::time_at))]
-fn trace_limit(pairs: &[Pair]) -> Result<u64, QueryFault>
+fn search_limit(pairs: &[Pair]) -> Result<u64, QueryFault>
     ensures { Asks (λ n. n) result (limit_at pairs.now) }
 {
-    let limit = time_bound(pairs, Parameter::Limit)?;
+    let limit = optional_number(pairs, Parameter::Limit)?;
+    // A number has no sign, so it isn't negative.
     Ok(limit.unwrap_or(DEFAULT_LIMIT).unsigned_abs())
 }
 
@@ -77,11 +78,11 @@ fn read_find(alloc: Global, pairs: &[Pair]) -> Result<Find, QueryFault>
     ensures { Asks (λ f. f) result (find_at pairs.now) }
 {
     let service = required_text(alloc, pairs, Parameter::Service)?;
-    let start_min = time_bound(pairs, Parameter::Start)?;
-    let start_max = time_bound(pairs, Parameter::End)?;
-    let limit = trace_limit(pairs)?;
-    let duration_min = duration_bound(pairs, Parameter::MinDuration)?;
-    let duration_max = duration_bound(pairs, Parameter::MaxDuration)?;
+    let start_min = optional_number(pairs, Parameter::Start)?;
+    let start_max = optional_number(pairs, Parameter::End)?;
+    let limit = search_limit(pairs)?;
+    let duration_min = optional_duration(pairs, Parameter::MinDuration)?;
+    let duration_max = optional_duration(pairs, Parameter::MaxDuration)?;
     let tags = requested_tags(alloc, pairs)?;
     let operation = optional_text(alloc, pairs, "operation")?;
     Ok(Find {
@@ -146,10 +147,10 @@ fn read_operations(alloc: Global, pairs: &[Pair]) -> Result<Query, QueryFault>
 fn read_links(pairs: &[Pair]) -> Result<Query, QueryFault>
     ensures { Asks (λ q. q) result (links_at pairs.now) }
 {
-    let Some(end_ms) = time_bound(pairs, Parameter::EndTs)? else {
+    let Some(end_ms) = optional_number(pairs, Parameter::EndTs)? else {
         return Err(QueryFault::Bad(Parameter::EndTs));
     };
-    let lookback_ms = time_bound(pairs, Parameter::Lookback)?.unwrap_or(DEFAULT_LOOKBACK_MS);
+    let lookback_ms = optional_number(pairs, Parameter::Lookback)?.unwrap_or(DEFAULT_LOOKBACK_MS);
     Ok(Query::Links {
         end_ms,
         lookback_ms,

@@ -95,8 +95,8 @@ fn member_tags(alloc: Global, tags: &str) -> Result<Vec<(Text, Text)>, QueryFaul
     object_texts(alloc, members)
 }
 
-#[tactic(auto, unfolding(crate::specs::Queries::tags_at))]
 /// Returns all requested pairs of key and text: those of each `tag`, then those of `tags`.
+#[tactic(auto, unfolding(crate::specs::Queries::tags_at))]
 pub(crate) fn requested_tags(alloc: Global, pairs: &[Pair]) -> Result<Seq<(Text, Text)>, QueryFault>
     ensures { Asks (λ v. v) result (tags_at pairs.now) }
 {

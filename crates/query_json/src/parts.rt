@@ -29,7 +29,8 @@ impl Model for AnswerParts {
     ghost view = { λ s. record { part = part_of s.paged; rest = rest_of s.paged } };
 
     ghost invariant = { λ s. IsReady s.paged × IsSome (part_of s.paged) (rest_of s.paged)
-        × (s.remaining ≡ length (to_come (record { part = part_of s.paged; rest = rest_of s.paged })))
+        × (s.remaining ≡
+        length (to_come (record { part = part_of s.paged; rest = rest_of s.paged })))
         × (s.remaining < 2 ^ 63) };
 }
 

@@ -72,6 +72,7 @@ impl<N: StoreName> HistoryPrefix<N> {
         ensures { MatchBool result (IsPrefix self.now other.now)
             (IsPrefix other.now self.now × (length other.now < length self.now)) }
     {
+        // For the prover: this copy learns both lists, so that one of them is a prefix of the other. It has no size.
         let mut both = self.seen.again();
         both.learn(&other.seen);
         self.len <= other.len

@@ -1,4 +1,4 @@
-ghost use Rattle.std.specs.Prelude.{◌≡◌, ℕ, ◌+◌, ◌<◌, ◌≤◌, ◌↔◌, List, [], length, Some, IfOk, IsTrue};
+ghost use Rattle.std.specs.Prelude.{◌≡◌, ℕ, ◌+◌, ◌<◌, ◌≤◌, List, [], length, Some, IfOk};
 ghost use Rattle.jaeger_model.specs.Texts.{text_cmp, sorted_set};
 ghost use Rattle.trace_model.specs.Names.{operation_cmp};
 ghost use Rattle.service_index.specs.Listing.{services_in};
@@ -86,13 +86,6 @@ impl ServiceIndex {
         self.used
     }
 
-    /// Whether one more number may be added.
-    pub fn has_room(&self) -> bool
-        ensures { IsTrue result ↔ (self.now.used < self.now.room) }
-    {
-        self.used < self.room
-    }
-
     /// Adds a number: what its span reports is listed from now on. Allocates nothing.
     pub fn add_at<T: Texts>(&mut self, n: u32, texts: &T)
         requires indexed { IsIndexed (T.names texts.now) self.old }
@@ -122,18 +115,6 @@ impl ServiceIndex {
         (self.service_row(texts, service) as usize) < self.links.services()
     }
 
-    /// Whether a span of the service with this operation and kind was added.
-    pub fn knows<T: Texts>(&self, texts: &T, service: &str, operation: &str, kind: &str) -> bool
-        requires { IsIndexed (T.names texts.now) self.now }
-        ensures { result ≡ has_operation service.now operation.now kind.now
-            (listing_by (T.names texts.now) self.now) }
-    {
-        match texts.group_of(service) {
-            Some(group) => self.knows_in(texts, group, operation, kind),
-            None => false,
-        }
-    }
-
     /// Whether a span of the service of this group with this operation and kind was added.
     pub fn knows_in<T: Texts>(&self, texts: &T, group: u32, operation: &str, kind: &str) -> bool
         requires { IsIndexed (T.names texts.now) self.now }
@@ -156,7 +137,8 @@ impl ServiceIndex {
         ensures held { (names : Names) → IsIndexed names self.now →
             AreNumbers names.count result.now }
         ensures services { (names : Names) → IsIndexed names self.now →
-            sorted_set text_cmp (owners names result.now) ≡ services_in (listing_by names self.now) }
+            sorted_set text_cmp (owners names result.now) ≡
+            services_in (listing_by names self.now) }
     {
         self.services.numbers()
     }

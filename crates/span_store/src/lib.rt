@@ -10,8 +10,8 @@
 //! * `finding`: searches over traces in the journal.
 //! * `found_traces`, `tag_search`, `window_calls`: what a search found or may find, and traces whose calls are
 //!   requested, collected from the store.
-//! * `search_plan`: which searches read all traces, and not a service's entries.
 //! * `store`: the [`SpanStore`].
+//! * `store/search_plan`: which traces a search considers.
 //! * `replaying`: a store made of a list of entries.
 #![tactic(auto)]
 
@@ -20,7 +20,6 @@ mod collected;
 mod finding;
 mod found_traces;
 mod replaying;
-mod search_plan;
 mod store;
 mod tag_search;
 mod window_calls;

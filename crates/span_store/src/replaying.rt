@@ -57,7 +57,7 @@ pub fn replay(
 }
 
 /// Returns the store's answer after all of these entries in order, accepted or refused: the plain store's answer
-/// for the accepted ones.
+/// for the accepted ones. Only tests call it.
 ///
 /// # Errors
 ///

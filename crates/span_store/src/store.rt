@@ -1,43 +1,36 @@
-ghost use Rattle.std.specs.Prelude.{◌≡◌, ◌+◌, ◌==◌, [], map, length, Ok, IfOk, IfErr, IfSome, Some, if◌then◌else◌};
+ghost use Rattle.std.specs.Prelude.{◌≡◌, ◌+◌, ◌==◌, [], map, length, Ok, IfOk, IfErr, if◌then◌else◌};
 ghost use Rattle.std.specs.Arc.{arc_value};
-ghost use Rattle.std.specs.Bool.{OnFalse};
 ghost use Rattle.trace_model.specs.declared.query.Query.TheVariants as ask;
 ghost use Rattle.trace_model.specs.declared.refusal.Refusal.TheVariants.{NoMemory};
 ghost use Rattle.trace_model.specs.Answers.{answer};
 ghost use Rattle.trace_model.specs.Histories.{IsLegal, events};
 ghost use Rattle.trace_model.specs.Linking.{links};
-ghost use Rattle.trace_model.specs.Searching.{traces, found_in};
+ghost use Rattle.trace_model.specs.Searching.{traces};
 ghost use Rattle.trace_model.specs.Showing.{ring};
 ghost use Rattle.trace_model.specs.declared.admission.Admission.TheVariants.{Added};
 ghost use Rattle.trace_model.specs.Refusals.{followed_by, with_admitted};
 ghost use Rattle.arrival_journal.specs.Journals.{admission_by, place_by};
 ghost use Rattle.trace_assembly.specs.Located.{located_events, shown_spots};
 ghost use Rattle.call_links.specs.Seen.{links_in, AreNumbered};
-ghost use Rattle.journal_traces.specs.Standing.{traces_named};
 ghost use Rattle.journal_traces.specs.Taking.{placed_taken};
-ghost use Rattle.service_index.specs.Reported.{group_of};
+ghost use Rattle.service_index.specs.Reported.{group_of, places_of};
 ghost use Rattle.span_store.specs.Collecting.{form_answer};
 ghost use Rattle.span_store.specs.Kept.{IsNamed, IsPlaced};
 ghost use Rattle.span_store.specs.NextEntry.{next_entry};
+
+mod search_plan;
 
 use crate::arrange::apply_entry;
 use crate::collected::{Collected, Form};
 use crate::finding;
 use crate::found_traces::FoundTraces;
-use crate::search_plan::{
-    COMMON_ONE_IN, ENTRIES_PER_TRACE, MAX_TRIES, TRACES_PER_ENTRY, TRY_GROWTH, are_few, first_try,
-    has_window, is_by_service_alone, is_full, is_promising,
-};
 use crate::tag_search::TagSearch;
 use crate::window_calls::WindowCalls;
 use arrival_journal::{Journal, Record};
 use find_traces::PreparedSearch;
 use jaeger_model::{Batch, Seq, Text, TraceId};
-use journal_traces::{
-    Candidates, WindowTraces, gather, ring_ids, search_window, spots_after, spots_along,
-    spots_reported, spots_within, take_candidates, take_within,
-};
-use service_index::{ArrivalNames, ServicePlaces};
+use journal_traces::{Candidates, WindowTraces, gather, ring_ids, take_candidates, take_within};
+use service_index::{ArrivalNames, Places, ServicePlaces};
 use std::alloc::{AllocError, Global};
 use std::hash::RandomState;
 use std::marker::Model;
@@ -207,7 +200,7 @@ impl SpanStore {
         place
     }
 
-    /// Returns the traces that are shown, the one opened first at the front.
+    /// Returns the traces that are shown, the one opened first at the front. Only tests call it.
     ///
     /// # Errors
     ///
@@ -299,141 +292,6 @@ impl SpanStore {
         Ok(Form::Operations(found, kind))
     }
 
-    /// Whether an arrival is of the search's service, and of its operation if it has one. If none is, the search
-    /// finds nothing.
-    fn may_find(&self, query: &Find) -> bool
-        ensures { OnFalse result
-            (found_in query.now (traces self.now.limits.traces (events self.now.entries)) ≡ []) }
-    {
-        let entries = self.journal.entries();
-        let service = query.service.as_str();
-        let operation = query.operation.as_str();
-        if operation == "" {
-            return self.names.knows_service(entries, &self.reported, service);
-        }
-        self.names
-            .knows_operation(entries, &self.reported, service, operation)
-    }
-
-    /// Returns the number of the service of a search that has no other condition, if many entries are of it: most
-    /// traces have a span of it then.
-    fn common_service(&self, query: &Find) -> Option<u32>
-        ensures { IfSome result (λ n. Some n ≡ group_of self.now.entries query.now.service) }
-    {
-        if !is_by_service_alone(query) {
-            return None;
-        }
-        let entries = self.journal.entries();
-        let service = query.service.as_str();
-        let mut places = self.reported.places_of(entries, service);
-        // A service is common if it has at least one place more than this number.
-        places.nth((self.journal.len() / COMMON_ONE_IN) as usize)?;
-        self.reported.group_of(entries, service)
-    }
-
-    /// Returns the spots of the shown traces of which entries of the service with this number brought a span.
-    fn candidates_reported(&self, query: &Find, service: u32) -> Result<Vec<Spots<'_>>, AllocError>
-        requires { Some service ≡ group_of self.now.entries query.now.service }
-        ensures { IfOk result (λ v. found_in query.now (traces_named self.now.entries v.items) ≡
-            found_in query.now (traces self.now.limits.traces (events self.now.entries))) }
-    {
-        // For the prover: `len`'s clause `legal` is used below.
-        let _legal = self.journal.len();
-        // For the prover: the binding lets the clauses of `spots_reported` be used for the result.
-        let spots = spots_reported(
-            self.alloc,
-            &self.shown,
-            &self.journal,
-            &self.reported,
-            service,
-        )?;
-        Ok(spots)
-    }
-
-    /// Returns the spots of the shown traces of which an entry of the search's service has a span that meets the
-    /// search except for its tags, unless the outline of the entry says that it has no span with these tags.
-    fn candidates_met(&self, query: &Find) -> Result<Vec<Spots<'_>>, AllocError>
-        ensures { IfOk result (λ v. found_in query.now (traces_named self.now.entries v.items) ≡
-            found_in query.now (traces self.now.limits.traces (events self.now.entries))) }
-    {
-        let places = self
-            .reported
-            .places_of(self.journal.entries(), query.service.as_str());
-        // For the prover: the binding lets the clauses of `spots_along` be used for the result.
-        let spots = spots_along(
-            self.alloc,
-            &self.shown,
-            self.names.firsts(),
-            &self.journal,
-            places,
-            query,
-        )?;
-        Ok(spots)
-    }
-
-    /// Returns the spots of the shown traces that a search considers, those of the one opened first at the front.
-    /// The search finds the same among these traces as among all. No tag is read.
-    fn candidates(&self, query: &Find) -> Result<Vec<Spots<'_>>, AllocError>
-        ensures { IfOk result (λ v. found_in query.now (traces_named self.now.entries v.items) ≡
-            found_in query.now (traces self.now.limits.traces (events self.now.entries))) }
-    {
-        if !self.may_find(query) {
-            return Ok(Vec::new(self.alloc));
-        }
-        match self.common_service(query) {
-            Some(service) => self.candidates_reported(query, service),
-            None => self.candidates_met(query),
-        }
-    }
-
-    /// Whether a search has a window of starts in which few traces may have a span, compared with the entries of
-    /// its service, so that it pays to read these traces.
-    fn should_try_window(&self, query: &Find) -> bool {
-        if !has_window(query) || !self.may_find(query) {
-            return false;
-        }
-        let count = self.starts.count_within(search_window(query));
-        let entries = self.journal.entries();
-        let mut places = self.reported.places_of(entries, query.service.as_str());
-        places
-            .nth(count.saturating_mul(ENTRIES_PER_TRACE))
-            .is_some()
-    }
-
-    /// Returns the spots of the shown traces that may have a span in the window of a search.
-    fn candidates_within(&self, query: &Find) -> Result<Vec<Spots<'_>>, AllocError>
-        ensures { IfOk result (λ v. found_in query.now (traces_named self.now.entries v.items) ≡
-            found_in query.now (traces self.now.limits.traces (events self.now.entries))) }
-    {
-        let window = search_window(query);
-        // For the prover: the binding lets the clauses of `spots_within` be used for the result.
-        let spots = spots_within(self.alloc, &self.shown, &self.starts, window)?;
-        Ok(spots)
-    }
-
-    /// Returns the spots of the shown traces that a search without tags considers, if it doesn't pay to try those
-    /// that start last: those of its window if they are few.
-    fn candidates_timed(&self, query: &Find) -> Result<Vec<Spots<'_>>, AllocError>
-        ensures { IfOk result (λ v. found_in query.now (traces_named self.now.entries v.items) ≡
-            found_in query.now (traces self.now.limits.traces (events self.now.entries))) }
-    {
-        if self.should_try_window(query) {
-            return self.candidates_within(query);
-        }
-        self.candidates(query)
-    }
-
-    /// Whether it pays to try the `count` traces that start last: they are few, and the search's service has many
-    /// entries.
-    fn should_try_latest(&self, query: &Find, count: usize) -> bool {
-        if !are_few(count, self.starts.len()) || !self.may_find(query) {
-            return false;
-        }
-        let entries = self.journal.entries();
-        let mut places = self.reported.places_of(entries, query.service.as_str());
-        places.nth(count / TRACES_PER_ENTRY).is_some()
-    }
-
     /// Returns the number of the search's service; none if no entry is of it.
     fn service_number(&self, query: &Find) -> Option<u32>
         ensures { result ≡ group_of self.now.entries query.now.service }
@@ -442,65 +300,33 @@ impl SpanStore {
             .group_of(self.journal.entries(), query.service.as_str())
     }
 
-    /// Returns the spots of about `count` shown traces that start last, those of the one opened first at the front,
-    /// if the search reaches its limit among these: it finds the same among all then. Also returns the number of
-    /// traces that it finds among these.
-    fn latest(
-        &self,
-        query: &Find,
-        count: usize,
-    ) -> Result<(Option<Vec<Spots<'_>>>, usize), AllocError>
-        ensures { IfOk result (λ r. IfSome r.0 (λ v.
-            found_in query.now (traces_named self.now.entries v.items) ≡
-            found_in query.now (traces self.now.limits.traces (events self.now.entries)))) }
+    /// Returns the places of the entries of the search's service, the newest first.
+    fn service_places(&self, query: &Find) -> Places<'_>
+        ensures { result ≡ places_of self.now.entries query.now.service }
+    {
+        self.reported
+            .places_of(self.journal.entries(), query.service.as_str())
+    }
+
+    /// Returns a search and the traces with these spots, among which it searches.
+    fn searched<'a>(
+        &'a self,
+        prepared: &'a PreparedSearch<'a>,
+        spots: &'a [Spots<'a>],
+    ) -> Candidates<'a>
+        ensures query { result.prepared.now ≡ prepared.now }
+        ensures entries { result.journal.now.held.entries ≡ self.now.entries }
+        ensures spots { result.spots.now ≡ spots.now }
     {
         // For the prover: `len`'s clause `legal` is used below.
         let _legal = self.journal.len();
-        let Some(time) = self.starts.threshold(self.alloc, count)? else {
-            return Ok((None, 0));
-        };
-        let prepared = PreparedSearch::new(self.alloc, query)?;
-        let spots = spots_after(self.alloc, &self.shown, &self.starts, time)?;
-        let service = self.service_number(query);
-        let mut late = Candidates {
+        Candidates {
             journal: &self.journal,
             reported: &self.reported,
-            service,
-            prepared: &prepared,
-            spots: &spots,
-        };
-        let found = finding::count_found(self.alloc, &mut late)?;
-        if is_full(query.limit, found) {
-            return Ok((Some(spots), found));
+            service: self.service_number(prepared.query()),
+            prepared,
+            spots,
         }
-        Ok((None, found))
-    }
-
-    /// Returns the spots of the shown traces that a search without tags considers, those of the one opened first at
-    /// the front. The search finds the same among these traces as among all. A search with a limit tries those that
-    /// start last first. If it finds some, but fewer than its limit, it tries more.
-    fn narrowed(&self, query: &Find) -> Result<Vec<Spots<'_>>, AllocError>
-        ensures { IfOk result (λ v. found_in query.now (traces_named self.now.entries v.items) ≡
-            found_in query.now (traces self.now.limits.traces (events self.now.entries))) }
-    {
-        if query.limit == 0 {
-            return self.candidates_timed(query);
-        }
-        let mut count = first_try(query.limit);
-        for _ in 0..MAX_TRIES {
-            if !self.should_try_latest(query, count) {
-                break;
-            }
-            let (late, found) = self.latest(query, count)?;
-            if let Some(spots) = late {
-                return Ok(spots);
-            }
-            if !is_promising(query.limit, found) {
-                break;
-            }
-            count = count.saturating_mul(TRY_GROWTH);
-        }
-        self.candidates_timed(query)
     }
 
     /// Collects the candidates of a search by tags.
@@ -528,18 +354,9 @@ impl SpanStore {
         ensures { IfOk result (λ a. a ≡ answer self.now.limits self.now.entries
             (ask.FindIds query.now)) }
     {
-        // For the prover: `len`'s clause `legal` is used below.
-        let _legal = self.journal.len();
         let prepared = PreparedSearch::new(self.alloc, query)?;
         let spots = self.narrowed(query)?;
-        let service = self.service_number(query);
-        let mut traces = Candidates {
-            journal: &self.journal,
-            reported: &self.reported,
-            service,
-            prepared: &prepared,
-            spots: &spots,
-        };
+        let mut traces = self.searched(&prepared, &spots);
         let ids = finding::find_ids(self.alloc, &mut traces)?;
         Ok(Answer::Ids(Seq::from_vec(ids)))
     }
@@ -553,15 +370,7 @@ impl SpanStore {
         let _legal = self.journal.len();
         let prepared = PreparedSearch::new(self.alloc, query)?;
         let spots = self.narrowed(query)?;
-        let service = self.service_number(query);
-        let candidates = Candidates {
-            journal: &self.journal,
-            reported: &self.reported,
-            service,
-            prepared: &prepared,
-            spots: &spots,
-        };
-        let found = finding::take_found(self.alloc, candidates)?;
+        let found = finding::take_found(self.alloc, self.searched(&prepared, &spots))?;
         // For the prover: the binding lets the clauses of `new` be used for the result.
         let traces = FoundTraces::new(self.limits(), found);
         Ok(traces)

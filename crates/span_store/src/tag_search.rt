@@ -47,7 +47,7 @@ impl<'q> TagSearch<'q> {
         ensures { IfOk result (λ a. a ≡ self.entry) }
     {
         let prepared = PreparedSearch::new(alloc, self.traces.query())?;
-        let traces = self.traces.met_traces(alloc, &prepared)?;
+        let traces = self.traces.traces_that_may_meet(alloc, &prepared)?;
         let mut search = TakenSearch::new(alloc, &traces, &prepared);
         if self.ids_alone {
             let ids = find_kept_ids(alloc, &mut search)?;

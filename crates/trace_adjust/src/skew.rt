@@ -166,6 +166,8 @@ fn copies_of(alloc: Global, trace: &[Shown]) -> Result<Vec<Shown>, AllocError>
 /// `process_keys` has a key for each of the first spans: the process of spans that have one key is read once.
 /// `max_skew` is the largest difference of clocks, in microseconds, that is adjusted.
 ///
+/// Only tests call it: [`adjusted`] makes what is shown.
+///
 /// # Errors
 ///
 /// Running out of memory alone; the trace is then unchanged. So copies of the spans are adjusted, and replace them

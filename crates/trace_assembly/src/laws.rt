@@ -13,22 +13,22 @@ ghost use Rattle.trace_assembly.specs.declared.spot.Spot.{Spot as SpotValue};
 ghost use Rattle.trace_assembly.specs.Located.{located_by, located_events, events_in, span_at, spots_in, shown_spots, with_event, without_left, after_arrival};
 ghost use Rattle.trace_assembly.specs.Located.{AreShown, ComesIn, Lowers};
 
-#[tactic(auto, using(crate::proofs::Places::spans_at_located_law))]
 /// The spans at the spots of a history, in order, are its arrivals.
+#[tactic(auto, using(crate::proofs::Places::spans_at_located_law))]
 pub fn spots_name_the_arrivals()
     ensures { (h : List Entry) → map (span_at h) (spots_in (without_limits (located_events h))) ≡
         map (λ p. Some p) (arrivals h) }
 {}
 
-#[tactic(auto, using(crate::proofs::Places::located_push_law))]
 /// One more entry adds its events: the spans of a batch, each at the entry's place and its own index, or a limit.
+#[tactic(auto, using(crate::proofs::Places::located_push_law))]
 pub fn an_entry_adds_its_spans()
     ensures { (h : List Entry) (e : Entry) →
         located_events (h ++ e ∷ []) ≡ located_events h ++ located_by (length h + 1) e.work }
 {}
 
-#[tactic(auto, using(crate::proofs::Feeding::shown_spots_push_law))]
 /// After an event a trace in the ring keeps its spots and gains its own new one. Any other trace has none.
+#[tactic(auto, using(crate::proofs::Feeding::shown_spots_push_law))]
 pub fn spots_since_opened()
     ensures { (n : ℕ) (es : List (Event (SpotValue × PlacedValue)))
         (e : Event (SpotValue × PlacedValue)) (t : TraceIdValue) →
@@ -37,9 +37,9 @@ pub fn spots_since_opened()
         (shown_spots n es) t else []) }
 {}
 
-#[tactic(auto, using(crate::proofs::Feeding::comes_in_law))]
 /// If the spots of each trace are those of its shown spans, they still are after the spots of the trace that leaves
 /// are removed and the new spot is added.
+#[tactic(auto, using(crate::proofs::Feeding::comes_in_law))]
 pub fn fed_as_the_ring_says()
     ensures { (n limit : ℕ) (es : List (Event (SpotValue × PlacedValue)))
         (l : SpotValue × PlacedValue) (left : Option TraceIdValue) (old new : List TraceIdValue)
@@ -47,9 +47,9 @@ pub fn fed_as_the_ring_says()
         AreShown n es spots → AreShown n (es ++ came l ∷ []) (after_arrival l left spots) }
 {}
 
-#[tactic(auto, using(crate::proofs::Feeding::lowers_law))]
 /// If the spots of each trace are those of its shown spans, they still are after the spots of the traces that leave
 /// at a limit are removed.
+#[tactic(auto, using(crate::proofs::Feeding::lowers_law))]
 pub fn lowered_as_the_ring_says()
     ensures { (n m : ℕ) (es : List (Event (SpotValue × PlacedValue)))
         (old new : List TraceIdValue) (spots : TraceIdValue → List SpotValue) →
@@ -57,8 +57,8 @@ pub fn lowered_as_the_ring_says()
         AreShown n (es ++ limited m ∷ []) (without_left old new spots) }
 {}
 
-#[tactic(auto, using(crate::proofs::Feeding::spans_at_shown_law))]
 /// The spans at a trace's shown spots are its shown spans, in the order of their arrival.
+#[tactic(auto, using(crate::proofs::Feeding::spans_at_shown_law))]
 pub fn shown_spots_name_the_shown_spans()
     ensures { (n : ℕ) (h : List Entry) (t : TraceIdValue) →
         map (span_at h) (shown_spots n (located_events h) t) ≡

@@ -5,25 +5,6 @@ use std::fmt;
 use std::sync::atomic::{AtomicU64, Ordering};
 use trace_model::Refusal;
 
-/// Each refusal, in the order of their numbers. What they carry isn't read. The compiler doesn't find out if one is
-/// missing here: it would be counted, and not written.
-const REFUSALS: [Refusal; 11] = [
-    Refusal::JournalFull {
-        batches: 0,
-        spans: 0,
-    },
-    Refusal::Stale { last: 0 },
-    Refusal::NoMemory,
-    Refusal::Deferred,
-    Refusal::Busy,
-    Refusal::Closed,
-    Refusal::Stranger,
-    Refusal::NoReply,
-    Refusal::Behind { front: 0 },
-    Refusal::Conflict { place: 0 },
-    Refusal::Gone,
-];
-
 /// The number of batches that were refused, by the refusal.
 #[derive(Drop)]
 struct RefusalCounts {
@@ -72,6 +53,53 @@ impl RefusalCounts {
             Refusal::Behind { .. } => &self.behind,
             Refusal::Conflict { .. } => &self.conflict,
             Refusal::Gone => &self.gone,
+        }
+    }
+
+    /// Returns each refusal with its count, in the order of their numbers. What they carry isn't read. The pattern
+    /// names each field, so that the compiler finds a field that isn't listed.
+    fn counted(&self) -> [(Refusal, u64); 11] {
+        let RefusalCounts {
+            journal_full,
+            stale,
+            no_memory,
+            deferred,
+            busy,
+            closed,
+            stranger,
+            no_reply,
+            behind,
+            conflict,
+            gone,
+        } = self;
+        [
+            (
+                Refusal::JournalFull {
+                    batches: 0,
+                    spans: 0,
+                },
+                journal_full.load(Ordering::SeqCst),
+            ),
+            (Refusal::Stale { last: 0 }, stale.load(Ordering::SeqCst)),
+            (Refusal::NoMemory, no_memory.load(Ordering::SeqCst)),
+            (Refusal::Deferred, deferred.load(Ordering::SeqCst)),
+            (Refusal::Busy, busy.load(Ordering::SeqCst)),
+            (Refusal::Closed, closed.load(Ordering::SeqCst)),
+            (Refusal::Stranger, stranger.load(Ordering::SeqCst)),
+            (Refusal::NoReply, no_reply.load(Ordering::SeqCst)),
+            (Refusal::Behind { front: 0 }, behind.load(Ordering::SeqCst)),
+            (
+                Refusal::Conflict { place: 0 },
+                conflict.load(Ordering::SeqCst),
+            ),
+            (Refusal::Gone, gone.load(Ordering::SeqCst)),
+        ]
+    }
+
+    /// Adds other counts to these.
+    fn add(&self, others: &RefusalCounts) {
+        for (refusal, count) in others.counted() {
+            self.of(refusal).fetch_add(count, Ordering::SeqCst);
         }
     }
 }
@@ -154,11 +182,11 @@ impl Counts {
         all
     }
 
-    /// Returns the number of batches that were refused by this refusal.
-    fn refused(&self, refusal: Refusal) -> u64 {
-        let mut all: u64 = 0;
+    /// Returns the number of refused batches, by the refusal.
+    fn refused(&self) -> RefusalCounts {
+        let all = RefusalCounts::new();
         for counts in &self.workers {
-            all = all.saturating_add(counts.refused.of(refusal).load(Ordering::SeqCst));
+            all.add(&counts.refused);
         }
         all
     }
@@ -170,11 +198,11 @@ impl fmt::Display for Counts {
         let acknowledged = self.acknowledged();
         let queries = self.queries();
         write!(f, "{acknowledged} acknowledged, {queries} queries")?;
-        for refusal in &REFUSALS {
-            let refused = self.refused(*refusal);
-            if refused > 0 {
+        let refused = self.refused();
+        for (refusal, count) in refused.counted() {
+            if count > 0 {
                 let number = refusal.number();
-                write!(f, ", {refused} refused {number}")?;
+                write!(f, ", {count} refused {number}")?;
             }
         }
         Ok(())

@@ -362,7 +362,7 @@ impl EventLoop {
         if now < self.next_check {
             return;
         }
-        self.lingering.drop_late(now);
+        self.lingering.drop_overdue(now);
         self.next_check = self.after_pause();
         if let Some(idle_limit) = self.idle_limit {
             self.open.drop_silent(now.saturating_sub(idle_limit));

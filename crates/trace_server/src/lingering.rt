@@ -157,7 +157,7 @@ impl Lingering {
     }
 
     /// Returns whether the key is of a connection whose time is up.
-    fn is_late(&self, key: usize, now: Duration) -> bool {
+    fn is_overdue(&self, key: usize, now: Duration) -> bool {
         match self.connections.get(key) {
             Some(lingering) => lingering.until.is_some_and(|until| until <= now),
             None => false,
@@ -165,9 +165,9 @@ impl Lingering {
     }
 
     /// Drops the connections whose time is up.
-    pub(crate) fn drop_late(&mut self, now: Duration) {
+    pub(crate) fn drop_overdue(&mut self, now: Duration) {
         for key in 0..self.connections.capacity() {
-            if self.is_late(key, now) {
+            if self.is_overdue(key, now) {
                 self.remove(key);
             }
         }

@@ -27,7 +27,8 @@ pub(crate) struct Loads {
 }
 
 impl Loads {
-    /// Creates counts of 0.
+    /// Creates counts of 0. No worker accepts connections before it sets its number, so none is left to one that can't
+    /// start.
     ///
     /// # Errors
     ///
@@ -35,7 +36,7 @@ impl Loads {
     pub(crate) fn new(alloc: Global, workers: u16, max_open: u32) -> Result<Loads, AllocError> {
         let mut loads = Vec::with_capacity(alloc, workers as usize)?;
         for _ in 0..workers {
-            loads.push(AtomicU32::new(0))?;
+            loads.push(AtomicU32::new(ACCEPTS_NONE))?;
         }
         Ok(Loads {
             workers: loads,

@@ -101,7 +101,7 @@ fn work_all<
         (map (λ w. w.1.seat) v.items)) }
 {
     let outcomes = work_counted(rt, server, lives);
-    server.desk.close(rt);
+    server.desk.close();
     outcomes
 }
 
@@ -143,7 +143,7 @@ impl<'d, 's, N: StoreName, R: Wait> OwnWork<R, Books<N>> for ClerkWork<'d, 's, N
     fn run(self, rt: &R, has_other: bool) -> Books<N> {
         let ClerkWork { desk, clerk, slot } = self;
         if !has_other {
-            desk.close(rt);
+            desk.close();
         }
         let Some(keeper) = slot.take() else {
             unreachable!()

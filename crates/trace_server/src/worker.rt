@@ -63,6 +63,7 @@ impl<'a, N: StoreName, G: Gate> Server<'a, N, G> {
                 return (outcome, live);
             }
         };
+        self.loads.set(worker, Some(0));
         let mut store = Gated::new(rt, self.gate, self.notices, worker, live);
         let mut acceptor = Acceptor::new();
         event_loop.run(rt, self, worker, &mut acceptor, &mut store);

@@ -17,7 +17,7 @@ pub(crate) fn closed_for_both<N: StoreName, R: Wait>(
     alloc: Global,
     mut fixture: Fixture<N>,
 ) -> bool {
-    fixture.desk.close(rt);
+    fixture.desk.close();
     let said = match fixture.seats.last_mut() {
         Some(seat) => is_batch_refused(rt, alloc, seat) && is_limit_refused(rt, alloc, seat),
         None => false,

@@ -82,7 +82,7 @@ fn hand_in<N: StoreName, R: Wait>(
 }
 
 /// Closes the desk a while after each of the four seats has a job in.
-fn close_soon<N: StoreName, R: Wait>(rt: &R, desk: &Desk<N>, turns: u64, begun: &AtomicU64) {
+fn close_soon<N: StoreName>(desk: &Desk<N>, turns: u64, begun: &AtomicU64) {
     for _ in 0..PATIENCE {
         if begun.load(Ordering::SeqCst) == 4 {
             break;
@@ -92,7 +92,7 @@ fn close_soon<N: StoreName, R: Wait>(rt: &R, desk: &Desk<N>, turns: u64, begun: 
     for _ in 0..turns {
         yield_now();
     }
-    desk.close(rt);
+    desk.close();
 }
 
 /// Two seats, each in its thread.
@@ -216,7 +216,7 @@ fn all_hand_in<N: StoreName + Send + Sync, R: Threads + Wait + Sync>(
     join_mut(
         rt,
         &mut || four_hand_in(rt, alloc, four, begun),
-        &mut || close_soon(rt, desk, *turns, begun),
+        &mut || close_soon(desk, *turns, begun),
     );
 }
 
@@ -462,7 +462,7 @@ fn leaves<N: StoreName, R: Wait>(rt: &R, alloc: Global, opened: OpenDesk<N>) -> 
     hand_in(rt, alloc, &mut four.b, 2, &begun);
     let handed = (four.a.tickets.len() as u64).saturating_add(four.b.tickets.len() as u64);
     let served = matches!(clerk.turn(rt, &mut keeper), Ok(Turn::Served { .. }));
-    desk.close(rt);
+    desk.close();
     let books = clerk.leave(keeper);
     match left_over(rt, alloc, books, four) {
         Some(left) => left.jobs == handed.saturating_sub(served as u64),

@@ -134,7 +134,7 @@ pub(crate) fn a_resent_job_is_acknowledged<N: StoreName + Send + Sync, R: Wait>(
         Some(seat) => all_answered(rt, alloc, seat, &mut clerk, &mut keeper),
         None => false,
     };
-    desk.close(rt);
+    desk.close();
     drop(desk);
     drop(seats);
     let books = clerk.run(rt, keeper);

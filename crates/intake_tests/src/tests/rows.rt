@@ -306,7 +306,7 @@ fn seat_and_clerk<N: StoreName + Send + Sync, R: Threads + Wait + Sync>(
         None => false,
     };
     drop(seats);
-    desk.close(rt);
+    desk.close();
     let mut books = clerk.run(rt, keeper);
     let kept = kept(&mut books);
     let settled = settled(rt, &desk, &mut passes, kept);
@@ -362,7 +362,7 @@ fn full_then_closed_at<N: StoreName, R: Wait>(
     let first = hands_in(rt, alloc, seat, 1);
     let full = is_full(rt, alloc, (seat, other), (clerk, keeper));
     let second = hands_in(rt, alloc, seat, 4);
-    desk.close(rt);
+    desk.close();
     let closed = is_closed(rt, alloc, other, (clerk, keeper));
     let places = (returned(rt, first), returned(rt, second));
     full && closed && places == (Ok(1), Ok(2)) && seat.submitted() == 2
@@ -404,7 +404,7 @@ fn clerk_gone<N: StoreName, R: Wait>(
         None => None,
     };
     if closed {
-        desk.close(rt);
+        desk.close();
     }
     drop(clerk);
     let said = returned(rt, waiting);

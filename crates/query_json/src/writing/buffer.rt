@@ -113,7 +113,8 @@ impl Buffer {
         ensures appended { result ≡ true → self.new.items ≡ self.old.items ++ bytes.now }
         ensures kept { result ≡ false → self.new.items ≡ self.old.items }
         ensures room { self.old.room ≤ self.new.room }
-        ensures refused { result ≡ false → self.old.room - length self.old.items < length bytes.now }
+        ensures refused { result ≡ false →
+            self.old.room - length self.old.items < length bytes.now }
     {
         if bytes.len() > self.block.len() - self.len && !self.grow(bytes.len()) {
             return false;

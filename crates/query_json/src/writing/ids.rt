@@ -17,7 +17,8 @@ impl WriteJson for SpanId {
 
 /// Writes an id whose high half isn't 0.
 fn write_both(out: &mut Page, id: TraceId)
-    ensures { Puts out.old out.new (34 ∷ ((low_digits 16 id.high ++ low_digits 16 id.low) ++ 34 ∷ [])) }
+    ensures { Puts out.old out.new
+        (34 ∷ ((low_digits 16 id.high ++ low_digits 16 id.low) ++ 34 ∷ [])) }
 {
     out.push_str("\"");
     out.digits_of_number(id.high);

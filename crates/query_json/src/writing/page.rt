@@ -190,7 +190,7 @@ impl Page {
         }
     }
 
-    /// Writes a number.
+    /// Writes a signed number.
     pub(crate) fn integer(&mut self, number: i64)
         ensures { Puts self.old self.new (signed_decimal number) }
     {
@@ -198,14 +198,14 @@ impl Page {
         self.push_str(buffer.format(number));
     }
 
-    /// Writes a number, given by reference.
+    /// Writes a signed number. For the prover: it is given by reference, so that its caller doesn't read it.
     pub(crate) fn integer_at(&mut self, number: &i64)
         ensures { Puts self.old self.new (signed_decimal number.now) }
     {
         self.integer(*number);
     }
 
-    /// Writes a number.
+    /// Writes a signed number of 128 bits, such as the delta of a clock.
     pub(crate) fn delta(&mut self, number: &i128)
         ensures { Puts self.old self.new (signed_decimal number.now) }
     {
@@ -213,7 +213,7 @@ impl Page {
         self.push_str(buffer.format(*number));
     }
 
-    /// Writes a number.
+    /// Writes a number without a sign.
     pub(crate) fn count(&mut self, number: u64)
         ensures { Puts self.old self.new (decimal number) }
     {

@@ -94,7 +94,8 @@ fn write_warnings(out: &mut Page, warning: &Option<Warning>)
     }
 }
 
-/// Writes the flags' 32 bits as an unsigned number.
+/// Writes the flags' 32 bits as an unsigned number. For the prover: they are given by reference, so that the caller
+/// doesn't read them.
 fn write_flags(out: &mut Page, flags: &i32)
     ensures { Puts out.old out.new (decimal (flags_number flags.now)) }
 {

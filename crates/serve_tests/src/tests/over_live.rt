@@ -64,7 +64,7 @@ fn session_bytes<N: StoreName, R: Wait>(
     if let Some(mut live) = live {
         let _ended = session(rt, alloc, &mut input, &mut output, &mut live);
     }
-    desk.close(rt);
+    desk.close();
     output
 }
 

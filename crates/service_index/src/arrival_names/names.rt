@@ -174,6 +174,7 @@ impl ArrivalNames {
         let producer = self.index.knows_in(&arrivals, group, operation, "producer");
         let consumer = self.index.knows_in(&arrivals, group, operation, "consumer");
         let internal = self.index.knows_in(&arrivals, group, operation, "internal");
+        // For the prover: `|` has no branches, and `||` would have one for each kind.
         plain | client | server | producer | consumer | internal
     }
 }

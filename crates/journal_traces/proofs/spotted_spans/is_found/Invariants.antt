@@ -5,8 +5,5 @@ use Rattle.journal_traces.specs.Standing.{spans_named}
 use Rattle.journal_traces.proofs.spotted_spans.is_found.Given as goal
 
 abbrev pub invariant-loop-spot : goal.invariant-loop-spot
-invariant-loop-spot l = record {
-  found : list_any (matches l.fn.judging.0) (spans_named l.fn.judging.1 l.spot-iterator)
-      ≡ list_any (matches l.fn.judging.0) (spans_named l.fn.judging.1 l.fn.spots);
-  judging : l.judging ≡ l.fn.judging;
-}
+invariant-loop-spot l =
+    list_any (matches l.judging.0) (spans_named l.judging.1 l.spot-iterator) ≡ list_any (matches l.judging.0) (spans_named l.judging.1 l.fn.spots)

@@ -1,11 +1,12 @@
 use Rattle.std.proofs.Common.{◌≡◌, take}
-use Rattle.journal_traces.specs.Spotted.{AreNumbers, traces_spotted}
+use Rattle.journal_traces.specs.Numbered.{AreNumbers}
+use Rattle.journal_traces.specs.Spotted.{traces_spotted}
 use Rattle.journal_traces.specs.Standing.{traces_named}
 use Rattle.journal_traces.proofs.tag_taking.take_candidates.Given as goal
 
 abbrev pub invariant-loop-trace : goal.invariant-loop-trace
 invariant-loop-trace l = record {
   query : l.taken.query ≡ l.query;
-  numbers : AreNumbers l.journal.held.entries l.taken.entries l.numbers.items;
+  numbers : AreNumbers l.journal.held.entries l.taken.entries l.numbers;
   spans : traces_spotted l.taken ≡ traces_named l.journal.held.entries (take l.trace-index l.spots);
 }

@@ -7,7 +7,7 @@ use Rattle.trace_assembly.specs.Located.{span_at}
 use Rattle.journal_traces.specs.declared.taken_spot.TakenSpot.{TakenSpot}
 use Rattle.journal_traces.specs.Spotted.{AddsSpan}
 use Rattle.journal_traces.specs.Windowed.{ServedEntry, entry_seen, entries_seen, entries_in, traces_reported}
-use Rattle.journal_traces.proofs.Spotting.{below_got}
+use Rattle.journal_traces.proofs.Numbering.{below_got}
 use Rattle.journal_traces.proofs.Windowing.{pushed_known, pushed_adds, placed_there}
 use Rattle.journal_traces.proofs.window_taking.take_spot.Goals as goal
 

@@ -1,21 +1,23 @@
-use Rattle.std.proofs.Common.{◌≡◌, ℕ, Bool, w64, ◌∙◌, ◌+◌, ◌++◌, ◌∷◌, ◌<◌, ◌≤◌, false, [], List, get_or, length, map, replicate, take, sym, ap, subst, arith}
+use Rattle.std.proofs.Common.{◌≡◌, ℕ, Bool, w64, ◌∙◌, ◌+◌, ◌++◌, ◌∷◌, ◌<◌, ◌≤◌, false, [], List, None, Option, get_or, length, map, replicate, take, sym, ap, subst, arith}
 use Rattle.std.specs.Prelude.{filter}
 use Rattle.std.specs.Arc.{arc_value}
 use Rattle.std.specs.List.{list_any}
 use Rattle.std.proofs.lemmas.Int.{to_z-of_z}
-use Rattle.std.proofs.lemmas.List.{length-map, take_all, take-append-le}
+use Rattle.std.proofs.lemmas.List.{length-map, take_all}
 use Rattle.jaeger_model.specs.declared.ids.TraceId.{TraceId}
 use Rattle.jaeger_model.specs.declared.placed.Placed.{Placed}
 use Rattle.trace_model.specs.Linking.{in_window}
 use Rattle.trace_assembly.specs.Rows.{spots_of}
 use Rattle.journal_traces.specs.declared.window_traces.WindowSpots.{WindowSpots}
 use Rattle.journal_traces.specs.Cutting.{cut_at}
+use Rattle.journal_traces.specs.Numbered.{AreNumbers}
 use Rattle.journal_traces.specs.Standing.{spans_named, trace_named, AreNumberedByService}
 use Rattle.journal_traces.specs.Taking.{placed_taken}
 use Rattle.journal_traces.specs.Windowed.{entries_seen, traces_reported, AreWindowed}
+use Rattle.journal_traces.proofs.Numbering.{none_known}
 use Rattle.journal_traces.proofs.SkippedTraces.{skipped}
 use Rattle.journal_traces.proofs.Spots.{no_id, kept_more, left_out}
-use Rattle.journal_traces.proofs.Windowing.{new_known, new_traces, zeros_known, traces_numbered}
+use Rattle.journal_traces.proofs.Windowing.{new_known, new_traces, traces_numbered}
 use Rattle.journal_traces.proofs.window_taking.take_within.Goals as goal
 use Rattle.journal_traces.proofs.window_taking.take_within.Goals.{then-reaches_window+in_ok-take_spots, else-reaches_window}
 
@@ -27,7 +29,6 @@ loop-place-init c =
     let e = to_z-of_z w64 c.args.end_ms c.ranges.end_ms in
     let l = to_z-of_z w64 c.args.lookback_ms c.ranges.lookback_ms in
     let first = c.next_within-place.ensures in
-    let zeros : ℕ → List ℕ = λ n. replicate n 0 in
     let long : length c.entries.result.now ≡ length h = sym (length-map c.entries.result.now arc_value) ∙ ap length c.entries.ensures in
     let none = new_traces c.new-taken.result c.new-taken.ensures.starts in
     let many = c.requires.as_many in
@@ -40,8 +41,8 @@ loop-place-init c =
           (rw (e, l) at c.window_of-window.ensures)
           0 c.next_within-place.result first.from within first.skipped));
       taken =
-          new_known h c.new-taken.result c.in_ok-numbers.numbers.items c.new-taken.ensures.entries c.new-taken.ensures.spots c.new-taken.ensures.starts
-          (zeros_known h c.in_ok-numbers.numbers.items (c.in_ok-numbers.ensures.items_if_clones_equal (λ y e. e) ∙ ap zeros long));
+          new_known h c.new-taken.result c.in_ok-numbers.numbers c.new-taken.ensures.entries c.new-taken.ensures.spots c.new-taken.ensures.starts
+          (subst (AreNumbers h []) (sym (c.in_ok-numbers.ensures ∙ ap (λ n. replicate n None) long)) (none_known h));
     }
 
 pub loop-place-preserved : goal.loop-place-preserved
@@ -78,25 +79,20 @@ loop-place-preserved c =
       ]);
       taken = elim c.if-reaches_window.branch [
         | then-reaches_window+in_ok-take_spots v ↦
-            let numbers = v.take_spots.new.numbers in
-            let long : length numbers ≡ c.loop-place.numbers.len = v.take_spots.auto.numbers ∙ v.deref_mut.ensures.len in
-            let same : c.if-reaches_window.numbers.items ≡ numbers =
-            ap (λ n. n.items) v.numbers-is ∙ take-append-le c.loop-place.numbers.len numbers _ (omega (arith, long))
-            ∙ take_all c.loop-place.numbers.len numbers (omega (arith, long)) in
-            subst (λ (x : WindowSpots × List ℕ). AreWindowed h x.0 x.1) (λ i. (sym v.taken-is i, sym same i)) v.in_ok-take_spots.ensures.taken
-        | else-reaches_window v ↦ subst (λ (x : WindowSpots × List ℕ). AreWindowed h x.0 x.1)
-            (λ i. (sym v.taken-is i, (sym v.numbers-is i).items)) c.loop-place.invariant.taken
+            subst (λ (x : WindowSpots × List (Option ℕ)). AreWindowed h x.0 x.1) (λ i. (sym v.taken-is i, sym v.numbers-is i)) v.in_ok-take_spots.ensures.taken
+        | else-reaches_window v ↦
+            subst (λ (x : WindowSpots × List (Option ℕ)). AreWindowed h x.0 x.1) (λ i. (sym v.taken-is i, sym v.numbers-is i)) c.loop-place.invariant.taken
       ];
     }
 
-pub new-requires : goal.new-requires
-new-requires c = c.loop-place.invariant.taken.ordered
+pub new-requires-2 : goal.new-requires-2
+new-requires-2 c = c.loop-place.invariant.taken.ordered
 
 pub returns-clause-numbered : goal.returns-clause-numbered
 returns-clause-numbered c =
     let h = c.args.journal.now.held.entries in
     let taken = c.loop-place.taken in
-    subst (AreNumberedByService h) (sym c.new.ensures)
+    subst (AreNumberedByService h) (sym c.new-2.ensures)
     (traces_numbered h (entries_seen taken.entries.items) (cut_at taken.spots.items taken.starts.items) c.loop-place.invariant.taken.services)
 
 pub returns-clause-within : goal.returns-clause-within
@@ -109,4 +105,4 @@ returns-clause-within c =
     let all : length ids ≤ c.loop-place.place = omega (arith, c.loop-place-test.false, c.len.ensures) in
     let e = to_z-of_z w64 c.args.end_ms c.ranges.end_ms in
     let l = to_z-of_z w64 c.args.lookback_ms c.ranges.lookback_ms in
-    ap (map placed_taken) c.new.ensures ∙ (rw (e, l) at c.loop-place.invariant.within) ∙ ap (λ ts. filter w (map f ts)) (take_all c.loop-place.place ids all)
+    ap (map placed_taken) c.new-2.ensures ∙ (rw (e, l) at c.loop-place.invariant.within) ∙ ap (λ ts. filter w (map f ts)) (take_all c.loop-place.place ids all)

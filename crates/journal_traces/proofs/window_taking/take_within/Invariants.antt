@@ -14,7 +14,7 @@ invariant-loop-place l = record {
   within : map placed_taken (traces_reported l.taken)
       ≡ filter (list_any (in_window l.end_ms l.lookback_ms))
       (map (trace_named l.journal.held.entries (spots_of l.assembly)) (take l.place l.assembly.newest.ids));
-  taken : AreWindowed l.journal.held.entries l.taken l.numbers.items;
+  taken : AreWindowed l.journal.held.entries l.taken l.numbers;
 }
 
 abbrev pub decreases-loop-place : goal.decreases-loop-place

@@ -17,8 +17,8 @@ invariant_of-self-2 g c =
     let rule = c.in_ok-job.ensures.rule in
     let numbers = c.self.inside.last.items in
     let kept = one_taken v.made v.taken numbers job c.self.invariant.3 rule.1 rule.2 in
-    let named = c.name-seat.ensures in
-    let numbers' = slice_set numbers c.name-seat.result.0 c.name-seat.result.1 in
+    let named = c.id-seat.ensures in
+    let numbers' = slice_set numbers c.id-seat.result.0 c.id-seat.result.1 in
     let P : QueueView → Type 0 = λ z. AreLast z.made z.taken numbers' in (
       search rules,
       search rules,

@@ -20,8 +20,8 @@ is_match-requires c =
     c.in-Some.ensures ∙ ap (λ (j : Find × List Entry). span_at j.1 c.args.spot) c.self.view_is in
     process_there c.args.self.now.1 c.args.spot (placed_by_its_entry s) at
 
-pub returns-in-Some-clause-found : goal.returns-in-Some-clause-found
-returns-in-Some-clause-found c =
+pub returns-in-Some : goal.returns-in-Some
+returns-in-Some c =
     let q = c.args.self.now.0 in
     let h = c.args.self.now.1 in
     let s = c.in-Some.seen in
@@ -29,4 +29,4 @@ returns-in-Some-clause-found c =
     c.in-Some.ensures ∙ ap (λ (j : Find × List Entry). span_at j.1 c.args.spot) c.self.view_is in
     IfOk-weaker c.is_match.result (λ b. b ≡ matches q (seen s)) (λ b. b ≡ list_any (matches q) (spans_named h (c.args.spot ∷ [])))
     (λ b e. e ∙ sym (matches-adopted q (seen s)) ∙ or_same (matches q (placed_by_its_entry s)) ∙ ap (λ o. list_any (matches q) (cons_option o [])) at)
-    c.is_match.ensures.found
+    c.is_match.ensures

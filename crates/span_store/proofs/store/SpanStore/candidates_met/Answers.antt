@@ -1,4 +1,4 @@
-use Rattle.std.proofs.Common.{◌≡◌, ◌∙◌, ap, subst, map, filter, List, ℕ}
+use Rattle.std.proofs.Common.{◌≡◌, ◌∙◌, ap, sym, subst, map, filter, List, ℕ}
 use Rattle.jaeger_model.specs.declared.ids.TraceId.{TraceId}
 use Rattle.jaeger_model.specs.declared.placed.Placed.{Placed}
 use Rattle.trace_model.specs.Held.{Held}
@@ -18,9 +18,9 @@ returns c =
     let h = was.journal.held in
     let q = c.args.query.now in
     let f : TraceId → List Placed = spans_of_trace h.limits.traces (events h.entries) in
-    let ids : List TraceId = filter (reaches (near_along q h.entries c.places_of-places.result)) was.shown.newest.ids in
-    let at : c.places_of-places.result ≡ places_of h.entries q.service =
-    c.places_of-places.ensures ∙ (λ i. places_of (c.entries.ensures i) (c.as_str.ensures.value i)) in
+    let ids : List TraceId = filter (reaches (near_along q h.entries c.service_places-places.result)) was.shown.newest.ids in
+    let at : c.service_places-places.result ≡ places_of h.entries q.service =
+    c.service_places-places.ensures ∙ sym (ap (λ (v : Held). places_of v.entries q.service) c.self.view_is) in
     let all : found_in q (traces_named h.entries c.in_ok-spots.spots.items) ≡ found_in q (traces h.limits.traces (events h.entries)) =
     found_kept q h was.shown was.starts was.names was.reported c.self.invariant ids c.in_ok-spots.spots.items c.in_ok-spots.ensures (
     ap (λ (ps : List ℕ). found_in q (map f (filter (reaches (near_along q h.entries ps)) was.shown.newest.ids))) at

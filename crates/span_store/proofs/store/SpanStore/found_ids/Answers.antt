@@ -11,9 +11,10 @@ pub returns : goal.returns
 returns c =
     let q : Find = c.args.query.now in
     let held : Held = c.args.self.now in
+    let among = c.searched-traces.ensures in
     ap say.Ids (
     c.from_vec.ensures ∙ c.in_ok-ids.ensures
-    ∙ ap (λ (v : Held). ids_of (found_in c.in_ok-prepared.prepared (traces_named v.entries c.deref.result.now))) c.self.view_is
+    ∙ (λ i. ids_of (found_in (among.query i) (traces_named (among.entries i) (among.spots i))))
     ∙ ap (λ (f : Find). ids_of (found_in f (traces_named held.entries c.deref.result.now))) c.in_ok-prepared.ensures
     ∙ ap (λ (ss : List (List Spot)). ids_of (found_in q (traces_named held.entries ss))) c.deref.ensures.value
     ∙ ap ids_of c.in_ok-spots.ensures)

@@ -1,8 +1,9 @@
-use Rattle.std.proofs.Common.{◌≡◌, ◌∙◌, List, map, ap, arith}
+use Rattle.std.proofs.Common.{◌≡◌, ◌∙◌, List, map, length, ap, sym, arith}
 use Rattle.jaeger_model.specs.declared.placed.Placed.{Placed}
 use Rattle.trace_assembly.specs.declared.spot.Spot.{Spot}
 use Rattle.trace_model.specs.declared.answer.Answer.TheVariants as say
 use Rattle.trace_model.specs.declared.limits.Limits.{Limits}
+use Rattle.trace_model.specs.declared.entry.Entry.{Entry}
 use Rattle.trace_model.specs.Adjusting.{adjusted}
 use Rattle.trace_model.specs.Held.{Held}
 use Rattle.trace_model.specs.Histories.{events}
@@ -13,18 +14,21 @@ use Rattle.journal_traces.specs.Taking.{placed_taken}
 use Rattle.span_store.proofs.store.SpanStore.found_traces.Goals as goal
 
 pub take_found-requires : goal.take_found-requires
-take_found-requires c = omega (arith, c.self.invariant.placed.batches, c.self.invariant.placed.kept.fits, c.len-legal.ensures.legal.batches)
+take_found-requires c =
+    let same = ap (length {A = Entry}) c.searched.ensures.entries ∙ sym (ap (λ (v : Held). length v.entries) c.self.view_is) in
+    omega (arith, same, c.self.invariant.placed.batches, c.self.invariant.placed.kept.fits, c.len-legal.ensures.legal.batches)
 
 pub new-traces-requires : goal.new-traces-requires
-new-traces-requires c = record { process_of = process_at c.self.inside.journal.held.entries; each = c.in_ok-found.ensures.numbers }
+new-traces-requires c = record { process_of = process_at c.searched.result.journal.now.held.entries; each = c.in_ok-found.ensures.numbers }
 
 pub returns : goal.returns
 returns c =
     let held : Held = c.args.self.now in
     let q : Find = c.args.query.now in
+    let among = c.searched.ensures in
     let found : map placed_taken c.in_ok-found.found ≡ found_in q (traces held.limits.traces (events held.entries)) =
     c.in_ok-found.ensures.found
-    ∙ ap (λ (v : Held). found_in c.in_ok-prepared.prepared (traces_named v.entries c.deref.result.now)) c.self.view_is
+    ∙ (λ i. found_in (among.query i) (traces_named (among.entries i) (among.spots i)))
     ∙ ap (λ (f : Find). found_in f (traces_named held.entries c.deref.result.now)) c.in_ok-prepared.ensures
     ∙ ap (λ (ss : List (List Spot)). found_in q (traces_named held.entries ss)) c.deref.ensures.value
     ∙ c.in_ok-spots.ensures in

@@ -25,8 +25,12 @@ returns-then-is_full c =
     let spots : List (List Spot) = c.in_ok-spots.spots.items in
     let full = OnTrue_at c.if-is_full.true c.is_full.ensures in
     let are = c.in_ok-spots.ensures first (kept_first h was.shown was.starts was.names was.reported c.self.invariant) in
+    let searched = c.searched-latest.ensures in
     let count : length (found_in q (traces_named h.entries spots)) ≡ c.in_ok-found.found =
-    sym (c.in_ok-found.ensures ∙ ap (λ (f : Find). length (found_in f (traces_named h.entries c.deref.result.now))) c.in_ok-prepared.ensures
+    sym (c.in_ok-found.ensures
+    ∙ (λ i. length (found_in (searched.query i) (traces_named (searched.entries i) (searched.spots i))))
+    ∙ ap (λ (v : Held). length (found_in c.in_ok-prepared.prepared (traces_named v.entries c.deref.result.now))) (sym c.self.view_is)
+    ∙ ap (λ (f : Find). length (found_in f (traces_named h.entries c.deref.result.now))) c.in_ok-prepared.ensures
     ∙ ap (λ (ss : List (List Spot)). length (found_in q (traces_named h.entries ss))) c.deref.ensures.value) in
     let all : found_in q (traces_named h.entries spots) ≡ found_in q (traces h.limits.traces (events h.entries)) =
     found_latest q h was.shown was.starts was.names was.reported c.self.invariant _ spots are full.0 (count ∙ full.1) in

@@ -2,7 +2,7 @@ use Rattle.std.proofs.Common.{◌≡◌, map, take}
 use Rattle.trace_model.specs.Searching.{matching}
 use Rattle.journal_traces.specs.Spotted.{AreNumbered, traces_spotted}
 use Rattle.journal_traces.specs.Taking.{placed_taken}
-use Rattle.journal_traces.proofs.tag_candidates.TagCandidates.met_traces.Given as goal
+use Rattle.journal_traces.proofs.tag_candidates.TagCandidates.traces_that_may_meet.Given as goal
 
 abbrev pub invariant-loop-place : goal.invariant-loop-place
 invariant-loop-place l = record {

@@ -4,7 +4,7 @@ use Rattle.std.proofs.lemmas.List.{length-map, map_push}
 use Rattle.journal_traces.specs.Cutting.{cut_at}
 use Rattle.journal_traces.specs.Spotted.{Spotted, IsWithin, entry_shared, entries_shared, trace_spotted}
 use Rattle.journal_traces.proofs.Spotting.{spotted_still, within_still}
-use Rattle.journal_traces.proofs.tag_candidates.TagCandidates.share.Goals as goal
+use Rattle.journal_traces.proofs.tag_candidates.TagCandidates.add_entry.Goals as goal
 
 pub returns-clause-traces : goal.returns-clause-traces
 returns-clause-traces c =

@@ -7,13 +7,13 @@ use Rattle.trace_model.specs.declared.entry.Entry.{Entry}
 use Rattle.trace_model.specs.Searching.{matches, matching}
 use Rattle.trace_model.specs.Taking.{Taken}
 use Rattle.journal_traces.specs.declared.tag_candidates.TakenEntry.{TakenEntry}
-use Rattle.journal_traces.specs.Spotted.{Spotted, AreNumbered, IsTellingOf, entries_shared, process_numbered, trace_spotted, traces_spotted, are_spots_met}
+use Rattle.journal_traces.specs.Spotted.{Spotted, AreNumbered, IsTellingOf, entries_shared, process_numbered, trace_spotted, traces_spotted, may_spots_meet}
 use Rattle.journal_traces.specs.Taking.{placed_taken, HaveProcesses}
 use Rattle.journal_traces.proofs.Cuts.{cuts}
 use Rattle.journal_traces.proofs.TakenSpans.{placed_got}
 use Rattle.journal_traces.proofs.Spotting.{trace_kept, trace_passed, trace_unmet, matching_found, none_matching}
-use Rattle.journal_traces.proofs.tag_candidates.TagCandidates.met_traces.Goals as goal
-use Rattle.journal_traces.proofs.tag_candidates.TagCandidates.met_traces.Goals.{then-are_spots_met+in_ok-take_spots, else-are_spots_met}
+use Rattle.journal_traces.proofs.tag_candidates.TagCandidates.traces_that_may_meet.Goals as goal
+use Rattle.journal_traces.proofs.tag_candidates.TagCandidates.traces_that_may_meet.Goals.{then-may_spots_meet+in_ok-take_spots, else-may_spots_meet}
 
 pub loop-place-preserved : goal.loop-place-preserved
 loop-place-preserved c =
@@ -30,9 +30,9 @@ loop-place-preserved c =
     let le : k < length xs = omega (arith, many, length-map v.traces placed_taken, c.loop-place-test.true, c.len-place-end.ensures) in
     let is : t ≡ slice_index_or xs k [] = ap placed_taken c.spots-spots.ensures ∙ placed_got v.traces k in
     let own : entries_shared was.entries.items ≡ v.entries = ap (λ (s : Spotted). s.entries) c.self.view_is in
-    elim c.if-are_spots_met.branch [
-      | then-are_spots_met+in_ok-take_spots w ↦
-          let here : entries_shared w.deref-then-are_spots_met.result.now ≡ v.entries = ap entries_shared w.deref-then-are_spots_met.ensures.value ∙ own in
+    elim c.if-may_spots_meet.branch [
+      | then-may_spots_meet+in_ok-take_spots w ↦
+          let here : entries_shared w.deref-then-may_spots_meet.result.now ≡ v.entries = ap entries_shared w.deref-then-may_spots_meet.ensures.value ∙ own in
           let new : List (List Taken) = w.take_spots.new.traces in
           let numbered : List Entry → List (List Taken) → Type 0 = λ es ts. AreNumbered es ts in
           let put : map placed_taken new ≡ map placed_taken old ++ t ∷ [] =
@@ -46,12 +46,12 @@ loop-place-preserved c =
                 (subst (λ es. numbered es new) here
                 (w.in_ok-take_spots.ensures.numbers (subst (λ es. numbered es old) (sym here) c.loop-place.invariant.numbers)));
           }
-      | else-are_spots_met w ↦
+      | else-may_spots_meet w ↦
           let here : entries_shared c.deref.result.now ≡ v.entries = ap entries_shared c.deref.ensures.value ∙ own in
-          let unmet = ap (λ m. are_spots_met m ss) (sym c.deref-in-loop-place.ensures.value) ∙ sym c.are_spots_met.ensures ∙ w.if-are_spots_met.false in
+          let unmet = ap (λ m. may_spots_meet m ss) (sym c.deref-in-loop-place.ensures.value) ∙ sym c.may_spots_meet.ensures ∙ w.if-may_spots_meet.false in
           let none : list_any (matches q) t ≡ false =
           ap (λ es. list_any (matches q) (placed_taken (trace_spotted es ss))) (sym here)
-          ∙ trace_unmet q c.deref.result.now c.in_ok-met.met.items ss c.in_ok-met.ensures unmet in
+          ∙ trace_unmet q c.deref.result.now c.in_ok-flags.flags.items ss c.in_ok-flags.ensures unmet in
           let numbered : List (List Taken) → Type 0 = λ ts. AreNumbered v.entries ts in
           record {
             matching =
@@ -72,20 +72,20 @@ returns-clause-found c =
     let end : length xs ≤ c.loop-place.place = omega (arith, many, length-map v.traces placed_taken, c.loop-place-test.false, c.len-place-end.ensures) in
     matching_found q (map placed_taken c.loop-place.traces) xs (c.loop-place.invariant.matching ∙ ap (matching q) (take_all c.loop-place.place xs end))
 
-pub returns-then-not-is_any_met-clause-found : goal.returns-then-not-is_any_met-clause-found
-returns-then-not-is_any_met-clause-found c =
+pub returns-then-not-may_any_meet-clause-found : goal.returns-then-not-may_any_meet-clause-found
+returns-then-not-may_any_meet-clause-found c =
     let q = c.args.prepared.now in
     let was = c.self.inside in
-    let met = c.in_ok-met.met.items in
-    let told = subst (λ (ts : List TakenEntry). AllZip (IsTellingOf q) ts met) c.deref.ensures.value c.in_ok-met.ensures in
-    let none = ap (list_any (λ b. b)) (sym c.deref-2.ensures.value) ∙ sym c.is_any_met.ensures ∙ c.if-not-is_any_met.true in
+    let flags = c.in_ok-flags.flags.items in
+    let told = subst (λ (ts : List TakenEntry). AllZip (IsTellingOf q) ts flags) c.deref.ensures.value c.in_ok-flags.ensures in
+    let none = ap (list_any (λ b. b)) (sym c.deref-2.ensures.value) ∙ sym c.may_any_meet.ensures ∙ c.if-not-may_any_meet.true in
     matching_found q (map placed_taken c.new-traces.result) (traces_spotted c.args.self.now)
     (ap (λ (ts : List (List Taken)). matching q (map placed_taken ts)) c.new-traces.ensures
-    ∙ sym (none_matching q was.entries.items met was.spots.items told none was.starts.items)
+    ∙ sym (none_matching q was.entries.items flags was.spots.items told none was.starts.items)
     ∙ ap (λ (s : Spotted). matching q (traces_spotted s)) c.self.view_is)
 
-pub returns-then-not-is_any_met-clause-numbers : goal.returns-then-not-is_any_met-clause-numbers
-returns-then-not-is_any_met-clause-numbers c =
+pub returns-then-not-may_any_meet-clause-numbers : goal.returns-then-not-may_any_meet-clause-numbers
+returns-then-not-may_any_meet-clause-numbers c =
     let process_of = process_numbered c.args.self.now.entries in
     record {
       process_of = process_of;

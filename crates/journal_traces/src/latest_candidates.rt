@@ -1,4 +1,4 @@
-//! The traces that start late, by their first starts: no other trace is read.
+//! The traces that start latest, by their first starts: no other trace is read.
 
 ghost use Rattle.std.specs.Prelude.{◌≡◌, ℤ, int_lt, IfOk, map, filter, length};
 ghost use Rattle.jaeger_model.specs.declared.ids.TraceId.{TraceId as TraceIdValue};

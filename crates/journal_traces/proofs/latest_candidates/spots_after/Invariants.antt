@@ -1,7 +1,7 @@
 use Rattle.std.proofs.Common.{◌≡◌, map, take, get_or}
 use Rattle.journal_traces.proofs.Spots.{no_id}
 use Rattle.trace_assembly.specs.Rows.{spots_of}
-use Rattle.journal_traces.proofs.late_candidates.spots_after.Given as goal
+use Rattle.journal_traces.proofs.latest_candidates.spots_after.Given as goal
 
 abbrev pub invariant-loop-place : goal.invariant-loop-place
 invariant-loop-place l = l.spots.items ≡ map (λ p. spots_of l.assembly (get_or l.assembly.newest.ids p no_id)) (take l.place-index l.place-items)

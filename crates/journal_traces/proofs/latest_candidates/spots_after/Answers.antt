@@ -6,7 +6,7 @@ use Rattle.trace_assembly.specs.Rows.{spots_of}
 use Rattle.journal_traces.proofs.Spots.{no_id}
 use Rattle.trace_ring.specs.Starting.{places_after}
 use Rattle.journal_traces.proofs.LateTraces.{placed, within}
-use Rattle.journal_traces.proofs.late_candidates.spots_after.Goals as goal
+use Rattle.journal_traces.proofs.latest_candidates.spots_after.Goals as goal
 
 pub spots_at-requires : goal.spots_at-requires
 spots_at-requires c =

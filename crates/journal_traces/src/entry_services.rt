@@ -1,0 +1,19 @@
+//! Which entries are of a service, by the numbers of services: no span is read.
+
+ghost use Rattle.std.specs.Prelude.{◌≡◌, ◌<◌, ◌≤◌, ◌-◌, ◌^◌, length, get_or};
+ghost use Rattle.journal_traces.specs.Reporting.{is_number};
+
+use service_index::ServicePlaces;
+
+/// Whether the entry at a place is of the service with this number; no entry is of a service without a number.
+pub(crate) fn is_of_service(reported: &ServicePlaces, service: Option<u32>, place: u64) -> bool
+    requires few { place < 2 ^ 32 }
+    requires above { 0 < place }
+    requires within { place ≤ length reported.now.groups }
+    ensures { result ≡ is_number service (get_or reported.now.groups (place - 1) 0) }
+{
+    match service {
+        Some(service) => reported.group_at((place - 1) as u32) == service,
+        None => false,
+    }
+}

@@ -1,0 +1,256 @@
+//! Which traces a search considers. It finds the same among these as among all: these decisions only affect speed,
+//! and no answer. There are four ways:
+//!
+//! * A search by a common service alone considers all traces of that service (`candidates_reported`). A service is
+//!   common if many entries are of it. Most traces have a span of it then, so that reading each trace once is cheaper
+//!   than reading each span of the service.
+//! * Another search reads the spans of the service's entries, and considers the traces of those that may meet it
+//!   (`candidates_met`).
+//! * Without tags and with a window of starts, it considers the traces that may have a span there, if they are few
+//!   (`candidates_within`).
+//! * Without tags and with a limit, it tries the traces that start last first (`latest`).
+
+ghost use Rattle.std.specs.Prelude.{◌≡◌, ◌<◌, [], Some, IfOk, IfSome};
+ghost use Rattle.std.specs.Bool.{OnFalse, OnTrue};
+ghost use Rattle.trace_model.specs.Histories.{events};
+ghost use Rattle.trace_model.specs.Searching.{traces, found_in};
+ghost use Rattle.service_index.specs.Reported.{group_of};
+ghost use Rattle.span_store.specs.Found.{FindsTheSame};
+
+use super::SpanStore;
+use crate::finding;
+use find_traces::PreparedSearch;
+use journal_traces::{search_window, spots_after, spots_along, spots_reported, spots_within};
+use std::alloc::AllocError;
+use trace_assembly::Spots;
+use trace_model::Find;
+
+/// A service is common if more than one entry in eight is of it.
+const COMMON_ONE_IN: u64 = 8;
+
+/// Whether a search has a condition on the service, and no other on spans.
+fn is_by_service_alone(query: &Find) -> bool {
+    query.operation.as_str().is_empty()
+        && query.tags.as_slice().is_empty()
+        && query.start_min.is_none()
+        && query.start_max.is_none()
+        && query.duration_min == 0
+        && query.duration_max == 0
+}
+
+/// Whether a search has a window of starts.
+fn has_window(query: &Find) -> bool {
+    query.start_min.is_some() || query.start_max.is_some()
+}
+
+/// The factor by which each try has more traces than the one before.
+const TRY_GROWTH: usize = 8;
+
+/// The greatest number of tries.
+const MAX_TRIES: u32 = 16;
+
+/// A try has at most one in sixteen of all traces.
+const TRIED_ONE_IN: usize = 16;
+
+/// A try pays if the service has more than one entry for each eight of its traces.
+const TRACES_PER_ENTRY: usize = 8;
+
+/// Reading the traces of a window pays if the service has more than four entries for each of them.
+const ENTRIES_PER_TRACE: usize = 4;
+
+/// Returns the number of traces, of those that start last, in the first try: a few for each that is requested.
+fn first_try(limit: u64) -> usize {
+    (limit as usize).saturating_mul(4).max(64)
+}
+
+/// Whether this number of traces is small compared with all.
+fn are_few(count: usize, all: usize) -> bool {
+    count <= all / TRIED_ONE_IN
+}
+
+/// Whether a search that found this number of traces is likely to reach its limit in a larger try.
+fn is_promising(limit: u64, found: usize) -> bool {
+    found.saturating_mul(TRY_GROWTH) as u64 >= limit
+}
+
+/// Whether a search has reached its limit.
+fn is_full(limit: u64, count: usize) -> bool
+    ensures { OnTrue result ((0 < limit) × (count ≡ limit)) }
+{
+    limit != 0 && count as u64 == limit
+}
+
+impl SpanStore {
+    /// Whether an arrival is of the search's service, and of its operation if it has one. If none is, the search
+    /// finds nothing.
+    fn may_find(&self, query: &Find) -> bool
+        ensures { OnFalse result
+            (found_in query.now (traces self.now.limits.traces (events self.now.entries)) ≡ []) }
+    {
+        let entries = self.journal.entries();
+        let service = query.service.as_str();
+        let operation = query.operation.as_str();
+        if operation == "" {
+            return self.names.knows_service(entries, &self.reported, service);
+        }
+        self.names
+            .knows_operation(entries, &self.reported, service, operation)
+    }
+
+    /// Returns the number of the service of a search that has no other condition, if many entries are of it: most
+    /// traces have a span of it then.
+    fn common_service(&self, query: &Find) -> Option<u32>
+        ensures { IfSome result (λ n. Some n ≡ group_of self.now.entries query.now.service) }
+    {
+        if !is_by_service_alone(query) {
+            return None;
+        }
+        let mut places = self.service_places(query);
+        // A service is common if it has at least one place more than this number.
+        places.nth((self.journal.len() / COMMON_ONE_IN) as usize)?;
+        self.service_number(query)
+    }
+
+    /// Returns the spots of the shown traces of which entries of the service with this number brought a span.
+    fn candidates_reported(&self, query: &Find, service: u32) -> Result<Vec<Spots<'_>>, AllocError>
+        requires { Some service ≡ group_of self.now.entries query.now.service }
+        ensures { IfOk result (λ v. FindsTheSame self.now query.now v.items) }
+    {
+        // For the prover: `len`'s clause `legal` is used below.
+        let _legal = self.journal.len();
+        // For the prover: the binding lets the clauses of `spots_reported` be used for the result.
+        let spots = spots_reported(
+            self.alloc,
+            &self.shown,
+            &self.journal,
+            &self.reported,
+            service,
+        )?;
+        Ok(spots)
+    }
+
+    /// Returns the spots of the shown traces of which an entry of the search's service has a span that meets the
+    /// search except for its tags, unless the outline of the entry says that it has no span with these tags.
+    fn candidates_met(&self, query: &Find) -> Result<Vec<Spots<'_>>, AllocError>
+        ensures { IfOk result (λ v. FindsTheSame self.now query.now v.items) }
+    {
+        let places = self.service_places(query);
+        // For the prover: the binding lets the clauses of `spots_along` be used for the result.
+        let spots = spots_along(
+            self.alloc,
+            &self.shown,
+            self.names.firsts(),
+            &self.journal,
+            places,
+            query,
+        )?;
+        Ok(spots)
+    }
+
+    /// Returns the spots of the shown traces that a search considers, those of the one opened first at the front.
+    /// The search finds the same among these traces as among all. No tag is read.
+    pub(super) fn candidates(&self, query: &Find) -> Result<Vec<Spots<'_>>, AllocError>
+        ensures { IfOk result (λ v. FindsTheSame self.now query.now v.items) }
+    {
+        if !self.may_find(query) {
+            return Ok(Vec::new(self.alloc));
+        }
+        match self.common_service(query) {
+            Some(service) => self.candidates_reported(query, service),
+            None => self.candidates_met(query),
+        }
+    }
+
+    /// Whether a search has a window of starts in which few traces may have a span, compared with the entries of
+    /// its service, so that it pays to read these traces.
+    fn should_try_window(&self, query: &Find) -> bool {
+        if !has_window(query) || !self.may_find(query) {
+            return false;
+        }
+        let count = self.starts.count_within(search_window(query));
+        self.service_places(query)
+            .nth(count.saturating_mul(ENTRIES_PER_TRACE))
+            .is_some()
+    }
+
+    /// Returns the spots of the shown traces that may have a span in the window of a search.
+    fn candidates_within(&self, query: &Find) -> Result<Vec<Spots<'_>>, AllocError>
+        ensures { IfOk result (λ v. FindsTheSame self.now query.now v.items) }
+    {
+        let window = search_window(query);
+        // For the prover: the binding lets the clauses of `spots_within` be used for the result.
+        let spots = spots_within(self.alloc, &self.shown, &self.starts, window)?;
+        Ok(spots)
+    }
+
+    /// Returns the spots of the shown traces that a search without tags considers, if it doesn't pay to try those
+    /// that start last: those of its window if they are few.
+    fn candidates_timed(&self, query: &Find) -> Result<Vec<Spots<'_>>, AllocError>
+        ensures { IfOk result (λ v. FindsTheSame self.now query.now v.items) }
+    {
+        if self.should_try_window(query) {
+            return self.candidates_within(query);
+        }
+        self.candidates(query)
+    }
+
+    /// Whether it pays to try the `count` traces that start last: they are few, and the search's service has many
+    /// entries.
+    fn should_try_latest(&self, query: &Find, count: usize) -> bool {
+        if !are_few(count, self.starts.len()) || !self.may_find(query) {
+            return false;
+        }
+        self.service_places(query)
+            .nth(count / TRACES_PER_ENTRY)
+            .is_some()
+    }
+
+    /// Returns the spots of about `count` shown traces that start last, those of the one opened first at the front,
+    /// if the search reaches its limit among these: it finds the same among all then. Also returns the number of
+    /// traces that it finds among these.
+    fn latest(
+        &self,
+        query: &Find,
+        count: usize,
+    ) -> Result<(Option<Vec<Spots<'_>>>, usize), AllocError>
+        ensures { IfOk result (λ r. IfSome r.0 (λ v. FindsTheSame self.now query.now v.items)) }
+    {
+        let Some(time) = self.starts.threshold(self.alloc, count)? else {
+            return Ok((None, 0));
+        };
+        let prepared = PreparedSearch::new(self.alloc, query)?;
+        let spots = spots_after(self.alloc, &self.shown, &self.starts, time)?;
+        let mut latest = self.searched(&prepared, &spots);
+        let found = finding::count_found(self.alloc, &mut latest)?;
+        if is_full(query.limit, found) {
+            return Ok((Some(spots), found));
+        }
+        Ok((None, found))
+    }
+
+    /// Returns the spots of the shown traces that a search without tags considers, those of the one opened first at
+    /// the front. The search finds the same among these traces as among all. A search with a limit tries those that
+    /// start last first. If it finds some, but fewer than its limit, it tries more.
+    pub(super) fn narrowed(&self, query: &Find) -> Result<Vec<Spots<'_>>, AllocError>
+        ensures { IfOk result (λ v. FindsTheSame self.now query.now v.items) }
+    {
+        if query.limit == 0 {
+            return self.candidates_timed(query);
+        }
+        let mut count = first_try(query.limit);
+        for _ in 0..MAX_TRIES {
+            if !self.should_try_latest(query, count) {
+                break;
+            }
+            let (latest, found) = self.latest(query, count)?;
+            if let Some(spots) = latest {
+                return Ok(spots);
+            }
+            if !is_promising(query.limit, found) {
+                break;
+            }
+            count = count.saturating_mul(TRY_GROWTH);
+        }
+        self.candidates_timed(query)
+    }
+}
