@@ -1,5 +1,5 @@
-pub mod Following
-pub mod Gaining
+pub mod AppendedEntries
+pub mod MoreTagBits
 pub mod Numbers
 pub mod Places
-pub mod Widening
+pub mod MoreSpans

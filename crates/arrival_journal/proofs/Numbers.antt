@@ -6,7 +6,7 @@ use Rattle.std.specs.Fmt.{decimal, digits, digits_onto, digit_glyph, signed_deci
 use Rattle.std.proofs.lemmas.Bool.{ltb-true, ltb-false, lt-leb}
 use Rattle.jaeger_model.specs.Ids.{hex_digit}
 use Rattle.jaeger_model.specs.Tags.{hex_text}
-use Rattle.arrival_journal.specs.Tagging.{text_hash, begins_no_text, may_be_no_text, text_part}
+use Rattle.arrival_journal.specs.TagBits.{text_hash, begins_no_text, may_be_no_text, text_part}
 
 -- it adds nothing to a place
 pub shared : (w : List ℕ) → may_be_no_text w ≡ true → 0 ≡ text_part w

@@ -7,24 +7,24 @@ use Rattle.trace_model.specs.declared.refusal.Refusal.TheVariants.{NoMemory}
 use Rattle.std.specs.Option.{unwrap_or}
 use Rattle.trace_model.specs.Refusals.{admission, refusal_of, place_of}
 use Rattle.std.specs.Result.{result_map_both}
-use Rattle.trace_model.specs.Held.{Held}
+use Rattle.trace_model.specs.LimitedHistories.{LimitedHistory}
 
 -- the history
 pub record Journaled : Type 0 where
-  pub held : Held
+  pub held : LimitedHistory
 
 -- what becomes of this entry
-abbrev pub admission_by : Held → Entry → Result Admission Refusal
+abbrev pub admission_by : LimitedHistory → Entry → Result Admission Refusal
 admission_by held e = admission held.limits held.entries e
 
 -- the place of this entry, or of the one that answers for it
-abbrev pub place_by : Held → Entry → Result ℕ Refusal
+abbrev pub place_by : LimitedHistory → Entry → Result ℕ Refusal
 place_by held e = result_map_both (place_of held.entries) (λ why. why) (admission_by held e)
 
 -- the refusal of this entry by the history; None if the history accepts it or has it already
-abbrev pub refusal_by : Held → Entry → Option Refusal
+abbrev pub refusal_by : LimitedHistory → Entry → Option Refusal
 refusal_by held e = refusal_of held.limits held.entries e
 
 -- why the entry was refused: by the history, or, only if the history accepts it, because memory ran out
-abbrev pub turned_away_by : Held → Entry → Refusal
+abbrev pub turned_away_by : LimitedHistory → Entry → Refusal
 turned_away_by held e = unwrap_or (refusal_by held e) NoMemory

@@ -1,6 +1,6 @@
 pub mod Journals
-pub mod Invariants
+pub mod JournalInvariants
 pub mod Times
-pub mod Tagging
-pub mod Kinds
+pub mod TagBits
+pub mod KindTexts
 pub mod Outlines

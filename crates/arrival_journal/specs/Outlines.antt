@@ -2,10 +2,10 @@
 use Rattle.std.specs.Prelude.{Bool, true, false, List, [], ◌∷◌, ◌++◌, map}
 use Rattle.trace_model.specs.declared.entry.Entry.{Entry}
 use Rattle.trace_model.specs.declared.entry.Work.{Work}
-use Rattle.trace_model.specs.Works.{spans_brought}
+use Rattle.trace_model.specs.EntryWork.{spans_brought}
 use Rattle.arrival_journal.specs.declared.outline.Outline.{Outline}
 use Rattle.arrival_journal.specs.Times.{times_of}
-use Rattle.arrival_journal.specs.Tagging.{bits_brought}
+use Rattle.arrival_journal.specs.TagBits.{bits_brought}
 
 -- (proofs unfold it by name, so that the users of a journal never look into it)
 unfoldable pub outline_of : Work → Outline

@@ -4,7 +4,7 @@ use Rattle.std.specs.List.{fold}
 use Rattle.std.specs.Int.{int_min, int_max}
 use Rattle.jaeger_model.specs.declared.span.Span.{Span}
 use Rattle.trace_model.specs.declared.entry.Entry.{Entry}
-use Rattle.trace_model.specs.Works.{spans_brought}
+use Rattle.trace_model.specs.EntryWork.{spans_brought}
 use Rattle.arrival_journal.specs.declared.times.Times.{Times}
 
 -- the greatest and the least number of microseconds

@@ -42,7 +42,7 @@ impl Model for Journal {
 
     ghost Value = { Journaled };
 
-    ghost use Rattle.arrival_journal.specs.Invariants.{IsJournalKept};
+    ghost use Rattle.arrival_journal.specs.JournalInvariants.{IsJournalKept};
 
     ghost view = { λ j. record { held = record { limits = j.limits; entries = map arc_value j.entries.items } } };
 

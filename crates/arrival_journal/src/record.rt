@@ -2,8 +2,8 @@
 
 ghost use Rattle.std.specs.Prelude.{◌≡◌, true, IfOk};
 ghost use Rattle.std.specs.Arc.{arc_value};
-ghost use Rattle.sent_batches.specs.Sent.{has_number, work_hash};
-ghost use Rattle.arrival_journal.specs.Kinds.{kinds_in};
+ghost use Rattle.sent_batches.specs.SentIndex.{has_number, work_hash};
+ghost use Rattle.arrival_journal.specs.KindTexts.{kinds_in};
 ghost use Rattle.arrival_journal.specs.Outlines.{outline_in};
 
 use crate::outline::Outline;
@@ -32,8 +32,8 @@ impl Model for Record {
     ghost use Rattle.std.specs.Prelude.{◌≡◌, true};
     ghost use Rattle.std.specs.Arc.{arc_value};
     ghost use Rattle.trace_model.specs.declared.entry.Entry.{Entry};
-    ghost use Rattle.sent_batches.specs.Sent.{has_number, work_hash};
-    ghost use Rattle.arrival_journal.specs.Kinds.{kinds_in};
+    ghost use Rattle.sent_batches.specs.SentIndex.{has_number, work_hash};
+    ghost use Rattle.arrival_journal.specs.KindTexts.{kinds_in};
     ghost use Rattle.arrival_journal.specs.Outlines.{outline_in};
 
     ghost Value = { Entry };

@@ -3,8 +3,8 @@
 ghost use Rattle.std.specs.Prelude.{◌≡◌, ◌<◌, get_or, flat_map};
 ghost use Rattle.std.specs.List.{fold};
 ghost use Rattle.jaeger_model.specs.Tags.{tag_text, hex_text};
-ghost use Rattle.arrival_journal.specs.Tagging.{text_hash, begins_no_text, may_be_no_text, text_part, tag_place, no_bits, with_bit, place_of, with_tag};
-ghost use Rattle.arrival_journal.specs.Tagging.{fields_of, own_tags, bits_of, bits_brought};
+ghost use Rattle.arrival_journal.specs.TagBits.{text_hash, begins_no_text, may_be_no_text, text_part, tag_place, no_bits, with_bit, place_of, with_tag};
+ghost use Rattle.arrival_journal.specs.TagBits.{fields_of, own_tags, bits_of, bits_brought};
 
 use jaeger_model::{Batch, Log, Span, Tag, TagValue, ValueRef};
 use trace_model::Work;

@@ -8,8 +8,8 @@ use Rattle.thrift_binary.specs.Spelling.{Field}
 use Rattle.thrift_binary.specs.declared.out.WriteError.{WriteError}
 use Rattle.thrift_binary.specs.declared.out.WriteError.TheVariants.{BadLength, Memory}
 use Rattle.thrift_binary.specs.Writing.{field_text, fields_text, stop_text, Writes}
-use Rattle.batch_codec.specs.Canon.{Encodes, front_text, text_field, list_field, list_if_any, number_if_any, canon_tag, canon_log, canon_reference}
-use Rattle.batch_codec.specs.Canon.{canon_process, canon_span, span_front, span_middle, span_fields, process_fields, batch_fields}
+use Rattle.batch_codec.specs.CanonicalTexts.{Encodes, front_text, text_field, list_field, list_if_any, number_if_any, canon_tag, canon_log, canon_reference}
+use Rattle.batch_codec.specs.CanonicalTexts.{canon_process, canon_span, span_front, span_middle, span_fields, process_fields, batch_fields}
 
 pub front_text-append : (fs gs : List Field) → front_text (fs ++ gs) ≡ front_text fs ++ front_text gs
 front_text-append [] gs = refl

@@ -19,4 +19,4 @@ pub mod Rows
 pub mod CanonTexts
 pub mod CanonSpelled
 pub mod FailsWhole
-pub mod Kept
+pub mod StoredFields

@@ -11,8 +11,8 @@ pub mod Batches
 pub mod SpelledBatches
 pub mod Cuts
 pub mod LastCounts
-pub mod Canon
-pub mod CanonBatches
-pub mod Proper
+pub mod CanonicalTexts
+pub mod EncodedBatches
+pub mod EncodableBatches
 pub mod HexFaultTexts
 pub mod HexSpelling

@@ -1,7 +1,7 @@
 //! Facts about the definitions. Each function has an empty body; its contract states the fact.
 
 ghost use Rattle.batch_codec.specs.Cuts.{FaultsHavePlaces, TrailingHasAPlace, TruncatedBeginsTruncated, BatchesEnd};
-ghost use Rattle.batch_codec.specs.Proper.{CanonSpells, CanonDecodes};
+ghost use Rattle.batch_codec.specs.EncodableBatches.{CanonSpells, CanonDecodes};
 ghost use Rattle.batch_codec.specs.SpelledBatches.{DecodesWhatIsSpelled};
 ghost use Rattle.batch_codec.specs.LastCounts.{TagLast, LogLast, ReferenceLast, ProcessLast, SpanLast, BatchLast};
 

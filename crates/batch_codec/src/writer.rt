@@ -4,11 +4,11 @@ ghost use Rattle.std.specs.Int.{w32, w64};
 ghost use Rattle.std.proofs.Common.{SFits};
 ghost use Rattle.batch_codec.specs.BatchReading.{decoded};
 ghost use Rattle.batch_codec.specs.Batches.{IsBatch, type_number, kind_number};
-ghost use Rattle.batch_codec.specs.CanonBatches.{WritesBatch};
-ghost use Rattle.batch_codec.specs.Canon.{Encodes, fits_length, front_text, text_field, i32_field, i64_field, id_field, double_field, list_field, list_fits};
-ghost use Rattle.batch_codec.specs.Canon.{list_if_any, value_type, value_field, value_fits, span_front, span_middle, span_fields, span_fits, canon_process};
-ghost use Rattle.batch_codec.specs.Canon.{process_fits, number_if_any, canon, batch_fits};
-ghost use Rattle.batch_codec.specs.Proper.{AreProper, IsProperValue, IsProperFront, IsProperMiddle, IsProperSpan, IsProperProcess, IsProperNumber, IsProper};
+ghost use Rattle.batch_codec.specs.EncodedBatches.{WritesBatch};
+ghost use Rattle.batch_codec.specs.CanonicalTexts.{Encodes, fits_length, front_text, text_field, i32_field, i64_field, id_field, double_field, list_field, list_fits};
+ghost use Rattle.batch_codec.specs.CanonicalTexts.{list_if_any, value_type, value_field, value_fits, span_front, span_middle, span_fields, span_fits, canon_process};
+ghost use Rattle.batch_codec.specs.CanonicalTexts.{process_fits, number_if_any, canon, batch_fits};
+ghost use Rattle.batch_codec.specs.EncodableBatches.{AreProper, IsProperValue, IsProperFront, IsProperMiddle, IsProperSpan, IsProperProcess, IsProperNumber, IsProper};
 
 use crate::fault::{DecodeError, Decoded};
 use jaeger_model::{Batch, Log, Process, RefKind, Span, SpanRef, Tag, TagValue, ValueRef};
@@ -141,8 +141,8 @@ fn write_value(out: &mut Out, value: &TagValue) -> Result<(), WriteError>
 }
 
 impl Spelled for Tag {
-    ghost use Rattle.batch_codec.specs.Canon.{canon_tag, tag_fits};
-    ghost use Rattle.batch_codec.specs.Proper.{IsProperTag};
+    ghost use Rattle.batch_codec.specs.CanonicalTexts.{canon_tag, tag_fits};
+    ghost use Rattle.batch_codec.specs.EncodableBatches.{IsProperTag};
 
     ghost spelling = { canon_tag };
 
@@ -150,7 +150,7 @@ impl Spelled for Tag {
 
     ghost proper = { IsProperTag };
 
-    #[tactic(auto, unfolding(crate::specs::Canon::canon_tag, crate::specs::Canon::tag_fits))]
+    #[tactic(auto, unfolding(crate::specs::CanonicalTexts::canon_tag, crate::specs::CanonicalTexts::tag_fits))]
     fn write(&self, out: &mut Out) -> Result<(), WriteError> {
         write_text(out, 1, self.key.as_str().as_bytes())?;
         write_i32(out, 2, type_number(&self.value))?;
@@ -160,8 +160,8 @@ impl Spelled for Tag {
 }
 
 impl Spelled for Log {
-    ghost use Rattle.batch_codec.specs.Canon.{canon_log, log_fits};
-    ghost use Rattle.batch_codec.specs.Proper.{IsProperLog};
+    ghost use Rattle.batch_codec.specs.CanonicalTexts.{canon_log, log_fits};
+    ghost use Rattle.batch_codec.specs.EncodableBatches.{IsProperLog};
 
     ghost spelling = { canon_log };
 
@@ -169,7 +169,7 @@ impl Spelled for Log {
 
     ghost proper = { IsProperLog };
 
-    #[tactic(auto, unfolding(crate::specs::Canon::canon_log, crate::specs::Canon::log_fits))]
+    #[tactic(auto, unfolding(crate::specs::CanonicalTexts::canon_log, crate::specs::CanonicalTexts::log_fits))]
     fn write(&self, out: &mut Out) -> Result<(), WriteError> {
         write_i64(out, 1, self.at)?;
         write_list(out, 2, self.fields.as_slice())?;
@@ -188,8 +188,8 @@ fn kind_number(kind: RefKind) -> i32
 }
 
 impl Spelled for SpanRef {
-    ghost use Rattle.batch_codec.specs.Canon.{canon_reference, reference_fits};
-    ghost use Rattle.batch_codec.specs.Proper.{IsProperReference};
+    ghost use Rattle.batch_codec.specs.CanonicalTexts.{canon_reference, reference_fits};
+    ghost use Rattle.batch_codec.specs.EncodableBatches.{IsProperReference};
 
     ghost spelling = { canon_reference };
 
@@ -197,7 +197,7 @@ impl Spelled for SpanRef {
 
     ghost proper = { IsProperReference };
 
-    #[tactic(auto, unfolding(crate::specs::Canon::canon_reference, crate::specs::Canon::reference_fits))]
+    #[tactic(auto, unfolding(crate::specs::CanonicalTexts::canon_reference, crate::specs::CanonicalTexts::reference_fits))]
     fn write(&self, out: &mut Out) -> Result<(), WriteError> {
         write_i32(out, 1, kind_number(self.kind))?;
         write_id(out, 2, self.trace.low)?;
@@ -231,7 +231,7 @@ fn write_middle(out: &mut Out, span: &Span) -> Result<(), WriteError>
 }
 
 /// Writes all fields of a span.
-#[tactic(auto, unfolding(crate::specs::Canon::span_fits), using(crate::proofs::CanonTexts::span_front_parts))]
+#[tactic(auto, unfolding(crate::specs::CanonicalTexts::span_fits), using(crate::proofs::CanonTexts::span_front_parts))]
 fn write_fields(out: &mut Out, span: &Span) -> Result<(), WriteError>
     ensures writes { Encodes (front_text (span_fields span.now)) (span_fits span.now) out.old result
         out.new }
@@ -246,8 +246,8 @@ fn write_fields(out: &mut Out, span: &Span) -> Result<(), WriteError>
 }
 
 impl Spelled for Span {
-    ghost use Rattle.batch_codec.specs.Canon.{canon_span, span_fits};
-    ghost use Rattle.batch_codec.specs.Proper.{IsProperSpan};
+    ghost use Rattle.batch_codec.specs.CanonicalTexts.{canon_span, span_fits};
+    ghost use Rattle.batch_codec.specs.EncodableBatches.{IsProperSpan};
 
     ghost spelling = { canon_span };
 
@@ -255,7 +255,7 @@ impl Spelled for Span {
 
     ghost proper = { IsProperSpan };
 
-    #[tactic(auto, unfolding(crate::specs::Canon::canon_span), using(crate::proofs::CanonTexts::span_stop))]
+    #[tactic(auto, unfolding(crate::specs::CanonicalTexts::canon_span), using(crate::proofs::CanonTexts::span_stop))]
     fn write(&self, out: &mut Out) -> Result<(), WriteError> {
         write_fields(out, self)?;
         out.stop()
@@ -263,7 +263,7 @@ impl Spelled for Span {
 }
 
 /// Writes a process.
-#[tactic(auto, unfolding(crate::specs::Canon::canon_process, crate::specs::Canon::process_fits), using(crate::proofs::CanonTexts::process_text_parts))]
+#[tactic(auto, unfolding(crate::specs::CanonicalTexts::canon_process, crate::specs::CanonicalTexts::process_fits), using(crate::proofs::CanonTexts::process_text_parts))]
 fn write_process(out: &mut Out, process: &Process) -> Result<(), WriteError>
     ensures writes { Encodes (canon_process process.now) (process_fits process.now) out.old result
         out.new }
@@ -286,7 +286,7 @@ fn write_number_if_any(out: &mut Out, id: i16, number: Option<i64>) -> Result<()
 }
 
 /// Writes a batch.
-#[tactic(auto, unfolding(crate::specs::Canon::canon, crate::specs::Canon::batch_fits), using(crate::proofs::CanonTexts::batch_text_parts))]
+#[tactic(auto, unfolding(crate::specs::CanonicalTexts::canon, crate::specs::CanonicalTexts::batch_fits), using(crate::proofs::CanonTexts::batch_text_parts))]
 fn write_batch(out: &mut Out, batch: &Batch) -> Result<(), WriteError>
     ensures writes { Encodes (canon batch.now) (batch_fits batch.now) out.old result out.new }
     ensures proper { OnOk result (IsProper batch.now) }

@@ -10,7 +10,7 @@ use Rattle.wire_pieces.proofs.Steps.{comes-trans, comes-waits, comes-inside, wai
 use Rattle.batch_codec.specs.declared.fault.DecodeError.{DecodeError}
 use Rattle.batch_codec.specs.declared.fault.DecodeError.TheVariants.{Wire}
 use Rattle.batch_codec.specs.Decoding.{Reading, wire}
-use Rattle.batch_feeder.specs.Continuing.{fault_of, ended, Faults, ContinuesTo}
+use Rattle.batch_feeder.specs.ContinuedCalls.{fault_of, ended, Faults, ContinuesTo}
 
 pub one_wire : (e f : WireError) → wire e ≡ wire f → e ≡ f
 one_wire e f h = cc

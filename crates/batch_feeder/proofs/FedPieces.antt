@@ -5,8 +5,8 @@ use Rattle.std.proofs.Math.ListN.{drop_of_length-le}
 use Rattle.jaeger_model.specs.declared.batch.Batch.{Batch}
 use Rattle.batch_codec.specs.declared.fault.DecodeError.{DecodeError}
 use Rattle.batch_codec.specs.Decoding.{Fails, Gives}
-use Rattle.batch_feeder.specs.Continuing.{Faults}
-use Rattle.batch_feeder.specs.Feeding.{HasNoFault, HasRefused, Taken, Refuses}
+use Rattle.batch_feeder.specs.ContinuedCalls.{Faults}
+use Rattle.batch_feeder.specs.FeederResults.{HasNoFault, HasRefused, Taken, Refuses}
 use Rattle.batch_feeder.proofs.FeederSteps.{none-refused, fails-unless, gives-same}
 
 module _ {V : Type 0} (f : V → List ℕ) (a d : List ℕ → Result Batch DecodeError) where

@@ -17,10 +17,10 @@ use Rattle.batch_feeder.specs.declared.fields.Step.{Step}
 use Rattle.batch_feeder.specs.declared.batch.BatchFieldPart.{BatchFieldPart}
 use Rattle.batch_feeder.specs.declared.feeder.State.{State}
 use Rattle.batch_feeder.specs.declared.feeder.State.TheVariants as state
-use Rattle.batch_feeder.specs.Continuing.{Faults}
+use Rattle.batch_feeder.specs.ContinuedCalls.{Faults}
 use Rattle.batch_feeder.specs.Fields.{struct_at, struct_from}
 use Rattle.batch_feeder.specs.Batches.{batch_continues}
-use Rattle.batch_feeder.specs.Feeding.{answers_of, is_truncated, is_short, settled, IsSettled, HasNoFault, HasRefused, Repeats, Taken, Ends, Advances}
+use Rattle.batch_feeder.specs.FeederResults.{answers_of, is_truncated, is_short, settled, IsSettled, HasNoFault, HasRefused, Repeats, Taken, Ends, Advances}
 use Rattle.batch_feeder.proofs.CallSteps.{faults-inside}
 use Rattle.thrift_binary.proofs.ReadBytesSpell.{err_is}
 

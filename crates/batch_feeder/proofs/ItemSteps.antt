@@ -13,7 +13,7 @@ use Rattle.wire_pieces.proofs.ListSteps.{items-refuses, list-waits}
 use Rattle.batch_codec.specs.declared.fault.DecodeError.{DecodeError}
 use Rattle.batch_codec.specs.declared.fault.DecodeError.TheVariants.{Wire}
 use Rattle.batch_codec.specs.Decoding.{Reading, wire}
-use Rattle.batch_feeder.specs.Continuing.{fault_of, ended, Faults}
+use Rattle.batch_feeder.specs.ContinuedCalls.{fault_of, ended, Faults}
 use Rattle.batch_feeder.specs.Lists.{items_behind, items_ended, list_from}
 use Rattle.batch_feeder.proofs.CallSteps.{faults-lift, faults-inside}
 

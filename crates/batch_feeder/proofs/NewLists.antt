@@ -9,7 +9,7 @@ use Rattle.batch_codec.specs.declared.fault.DecodeError.TheVariants.{Wire}
 use Rattle.batch_codec.specs.Decoding.{Reading}
 use Rattle.batch_feeder.specs.declared.fields.Step.{Step}
 use Rattle.batch_feeder.specs.Fields.{Opens}
-use Rattle.batch_feeder.specs.Enlisting.{Enlists}
+use Rattle.batch_feeder.specs.NewLists.{Enlists}
 use Rattle.batch_feeder.proofs.CallSteps.{faults-inside}
 
 waits-same : {T : Type 0} (a b c : Reading T) (p q : List ℕ) → ((w : List ℕ) → c w ≡ b w) → NeedsMore (Wire Truncated) a b p q

@@ -19,7 +19,7 @@ use Rattle.wire_pieces.proofs.Steps.{comes-is, comes-trans, comes-inside, refuse
 use Rattle.batch_codec.specs.declared.fault.DecodeError.{DecodeError}
 use Rattle.batch_codec.specs.declared.fault.DecodeError.TheVariants.{Wire, Missing, BadEnum, Trailing, Memory}
 use Rattle.batch_codec.specs.Decoding.{Fails, wire}
-use Rattle.batch_feeder.specs.Continuing.{Faults}
+use Rattle.batch_feeder.specs.ContinuedCalls.{Faults}
 use Rattle.batch_feeder.proofs.CallSteps.{one_wire}
 
 module _ {A E : Type 0} (short : E) (read : List ℕ → Result (A × List ℕ) E) (safe : IsCutSafe short read) where

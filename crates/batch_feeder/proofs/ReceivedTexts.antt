@@ -9,7 +9,7 @@ use Rattle.wire_pieces.specs.Pieces.{Comes}
 use Rattle.wire_pieces.proofs.Steps.{comes-lift}
 use Rattle.batch_codec.specs.declared.fault.DecodeError.TheVariants.{Wire}
 use Rattle.batch_codec.specs.Decoding.{wire}
-use Rattle.batch_feeder.specs.Continuing.{Faults}
+use Rattle.batch_feeder.specs.ContinuedCalls.{Faults}
 use Rattle.batch_feeder.specs.Values.{checked_text}
 use Rattle.batch_feeder.proofs.CallSteps.{ends-comes, ends-faults}
 

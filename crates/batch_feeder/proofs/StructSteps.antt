@@ -16,7 +16,7 @@ use Rattle.batch_codec.specs.declared.fault.DecodeError.TheVariants.{Wire}
 use Rattle.batch_codec.specs.Decoding.{Reading, wire}
 use Rattle.batch_feeder.specs.declared.fields.Step.{Step}
 use Rattle.batch_feeder.specs.declared.fields.Step.TheVariants.{Head, Value}
-use Rattle.batch_feeder.specs.Continuing.{fault_of, Arrives, Faults, ContinuesTo}
+use Rattle.batch_feeder.specs.ContinuedCalls.{fault_of, Arrives, Faults, ContinuesTo}
 use Rattle.batch_feeder.specs.Fields.{IsFresh, fields_from, struct_at, struct_from}
 use Rattle.batch_feeder.proofs.CallSteps.{faults-lift, faults-inside, comes-faults}
 

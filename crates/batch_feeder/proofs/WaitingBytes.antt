@@ -18,7 +18,7 @@ use Rattle.batch_feeder.specs.Batches.{batch_continues}
 use Rattle.batch_feeder.specs.declared.feeder.State.{State}
 use Rattle.batch_feeder.specs.declared.feeder.State.TheVariants as state
 use Rattle.batch_feeder.specs.LeastBytes.{least, least_bytes, behind_head, IsPart, AreQuiet}
-use Rattle.batch_feeder.specs.Feeding.{answers_of, HasNoFault, IsBetweenFields, Holds, Taken, Refuses, Feeds}
+use Rattle.batch_feeder.specs.FeederResults.{answers_of, HasNoFault, IsBetweenFields, Holds, Taken, Refuses, Feeds}
 use Rattle.batch_feeder.proofs.FeederSteps.{short-sound, none-repeats}
 
 abbrev Answer : Type 0

@@ -12,7 +12,7 @@ use Rattle.batch_feeder.specs.declared.fields.Step.{Step}
 use Rattle.batch_feeder.specs.declared.fields.Step.TheVariants.{Head, Value}
 use Rattle.batch_feeder.specs.declared.fields.FieldsEnd.{FieldsEnd}
 use Rattle.batch_feeder.specs.declared.fields.FieldsEnd.TheVariants as place
-use Rattle.batch_feeder.specs.Continuing.{Faults}
+use Rattle.batch_feeder.specs.ContinuedCalls.{Faults}
 
 abbrev pub fields_from : {S V : Type 0} → Take S DecodeError → (S → V → Reading S) → S → Step V → Reading S
 fields_from take resumes s (Head h) w = fields_head wire take s h w
@@ -34,12 +34,12 @@ abbrev pub made_of : {S A : Type 0} → (S → Result A DecodeError) → S → R
 made_of makes s = makes s >>= λ m. Ok (Some m)
 
 -- Where reading complete fields ended. Inside a head the remaining bytes are too few for it; before a value its head was taken.
-abbrev pub Reads : {S : Type 0} → Take S DecodeError → S → S → List ℕ → List ℕ → Result FieldsEnd DecodeError → Type 0
-Reads take s t piece left (Ok place.Stop) = Comes (fields_at wire take s) (λ w. Ok (t, w)) piece left
-Reads take s t piece left (Ok place.Head) = Comes (fields_at wire take s) (fields_at wire take t) piece left × (field_at left ≡ Err Truncated)
-Reads take s t piece left (Ok (place.Value c i)) = Comes (fields_at wire take s) (fields_value wire take (take t c i)) piece left
+abbrev pub ReadsFields : {S : Type 0} → Take S DecodeError → S → S → List ℕ → List ℕ → Result FieldsEnd DecodeError → Type 0
+ReadsFields take s t piece left (Ok place.Stop) = Comes (fields_at wire take s) (λ w. Ok (t, w)) piece left
+ReadsFields take s t piece left (Ok place.Head) = Comes (fields_at wire take s) (fields_at wire take t) piece left × (field_at left ≡ Err Truncated)
+ReadsFields take s t piece left (Ok (place.Value c i)) = Comes (fields_at wire take s) (fields_value wire take (take t c i)) piece left
     × (is_code c ≡ true) × (length left < length piece)
-Reads take s t piece left (Err e) = Faults (fields_at wire take s) piece e
+ReadsFields take s t piece left (Err e) = Faults (fields_at wire take s) piece e
 
 -- A value of a field that began: complete, or what has arrived of it, which is stored, or a fault.
 abbrev pub Opens : {S V : Type 0} → Reading S → (V → Reading S) → S → Option (Step V) → List ℕ → List ℕ → Result Bool DecodeError → Type 0

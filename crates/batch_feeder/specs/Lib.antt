@@ -1,7 +1,7 @@
-pub mod Continuing
+pub mod ContinuedCalls
 pub mod Values
 pub mod Fields
-pub mod Enlisting
+pub mod NewLists
 pub mod LeastBytes
 pub mod Lists
 pub mod ShortValues
@@ -13,5 +13,5 @@ pub mod References
 pub mod Processes
 pub mod Spans
 pub mod Batches
-pub mod Feeding
-pub mod Answers
+pub mod FeederResults
+pub mod FeederAnswers

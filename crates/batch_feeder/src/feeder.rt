@@ -5,7 +5,7 @@ ghost use Rattle.batch_codec.specs.BatchReading.{decoded};
 ghost use Rattle.batch_codec.specs.Decoding.{Gives};
 ghost use Rattle.batch_feeder.specs.declared.feeder.State.TheVariants.{Whole, Refused};
 ghost use Rattle.batch_feeder.specs.LeastBytes.{AreQuiet, least};
-ghost use Rattle.batch_feeder.specs.Feeding.{IsSettled, IsBetweenFields, Holds, Ends, Advances, Feeds, Keeps, answers_of};
+ghost use Rattle.batch_feeder.specs.FeederResults.{IsSettled, IsBetweenFields, Holds, Ends, Advances, Feeds, Keeps, answers_of};
 
 use crate::partial::Item;
 use crate::structs::Struct;
@@ -221,7 +221,7 @@ pub struct Feeder {
 }
 
 impl Feeder {
-    ghost use Rattle.batch_feeder.specs.Answers.{answers};
+    ghost use Rattle.batch_feeder.specs.FeederAnswers.{answers};
 
     /// Returns a feeder before the first byte. Whatever bytes follow, it returns what decoding them returns.
     pub fn new(alloc: Global) -> Self

@@ -7,8 +7,8 @@ ghost use Rattle.wire_pieces.specs.Heads.{fields_value};
 ghost use Rattle.batch_codec.specs.declared.fault.DecodeError.{DecodeError};
 ghost use Rattle.batch_codec.specs.declared.fault.DecodeError.TheVariants.{Wire};
 ghost use Rattle.batch_codec.specs.Decoding.{wire};
-ghost use Rattle.batch_feeder.specs.Continuing.{Attempts, Enters, ContinuesTo, IsTruncated, Tries};
-ghost use Rattle.batch_feeder.specs.Fields.{IsFresh, Opens, Reads, fields_from, struct_at};
+ghost use Rattle.batch_feeder.specs.ContinuedCalls.{Attempts, Enters, ContinuesTo, IsTruncated, Tries};
+ghost use Rattle.batch_feeder.specs.Fields.{IsFresh, Opens, ReadsFields, fields_from, struct_at};
 ghost use Rattle.batch_feeder.specs.LeastBytes.{IsPart, least_bytes};
 
 use crate::partial::fault_of;
@@ -160,7 +160,7 @@ fn read_fields<S: PieceSlots>(
     alloc: Global,
     piece: &mut Cursor<'_>,
 ) -> Decoded<FieldsEnd>
-    ensures reads { Reads S.takes slots.old slots.new piece.old piece.new result }
+    ensures reads { ReadsFields S.takes slots.old slots.new piece.old piece.new result }
     ensures no_longer { OnOk result (length piece.new ≤ length piece.old) }
 {
     let mut cursor = Cursor::new(piece.rest());

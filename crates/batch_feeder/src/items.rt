@@ -4,8 +4,8 @@ ghost use Rattle.thrift_binary.specs.Lists.{list_of};
 ghost use Rattle.wire_pieces.specs.Lists.{behind_head, items_from};
 ghost use Rattle.batch_codec.specs.declared.fault.DecodeError.TheVariants.{Wire};
 ghost use Rattle.batch_codec.specs.Decoding.{wire};
-ghost use Rattle.batch_feeder.specs.Continuing.{Enters, ContinuesTo, Lays, Places};
-ghost use Rattle.batch_feeder.specs.Enlisting.{Enlists};
+ghost use Rattle.batch_feeder.specs.ContinuedCalls.{Enters, ContinuesTo, Lays, Places};
+ghost use Rattle.batch_feeder.specs.NewLists.{Enlists};
 ghost use Rattle.batch_feeder.specs.Lists.{items_behind, items_ended, list_from};
 ghost use Rattle.batch_feeder.specs.LeastBytes.{IsPart};
 

@@ -6,7 +6,7 @@
 //! a size that they claim. Bytes of short pieces wait until their field is complete or may have a fault, and are then
 //! read together; longer pieces are read without copying. [`decode_pieces`] makes all these calls.
 //!
-//! - `partial`: partially received values, as readings of the bytes still to come (`specs/Continuing.antt`).
+//! - `partial`: partially received values, as readings of the bytes still to come (`specs/ContinuedCalls.antt`).
 //! - `values`, `texts`, `enums`, `skipped`: single values.
 //! - `fields`, `structs`, `items`: a struct's fields up to its stop byte, a struct, a list of structs.
 //! - `tag`, `log`, `reference`, `process`, `span`, `batch`: one struct of `jaeger.thrift` each.

@@ -3,7 +3,7 @@ ghost use Rattle.thrift_binary.specs.declared.fault.WireError.TheVariants.{Trunc
 ghost use Rattle.batch_codec.specs.declared.fault.DecodeError.{DecodeError};
 ghost use Rattle.batch_codec.specs.declared.fault.DecodeError.TheVariants.{Wire};
 ghost use Rattle.batch_feeder.specs.LeastBytes.{IsPart};
-ghost use Rattle.batch_feeder.specs.Continuing.{Arrives, BeginsValue, Continues, Places, fault_of};
+ghost use Rattle.batch_feeder.specs.ContinuedCalls.{Arrives, BeginsValue, Continues, Places, fault_of};
 
 use batch_codec::{DecodeError, Decoded};
 use std::alloc::Global;

@@ -2,7 +2,7 @@ ghost use Rattle.std.specs.Prelude.{◌≡◌, ◌≤◌, ℕ, List, Some, Err, 
 ghost use Rattle.thrift_binary.specs.declared.fault.WireError.TheVariants.{Truncated};
 ghost use Rattle.batch_codec.specs.declared.fault.DecodeError.TheVariants.{Wire};
 ghost use Rattle.batch_feeder.specs.declared.fields.Step.{Step};
-ghost use Rattle.batch_feeder.specs.Continuing.{BeginsValue};
+ghost use Rattle.batch_feeder.specs.ContinuedCalls.{BeginsValue};
 ghost use Rattle.batch_feeder.specs.Fields.{made_of, struct_at, struct_from};
 ghost use Rattle.batch_feeder.specs.LeastBytes.{IsPart};
 

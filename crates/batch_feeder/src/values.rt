@@ -3,7 +3,7 @@ ghost use Rattle.thrift_binary.specs.declared.fault.WireError.TheVariants.{Trunc
 ghost use Rattle.batch_codec.specs.declared.fault.DecodeError.{DecodeError};
 ghost use Rattle.batch_codec.specs.declared.fault.DecodeError.TheVariants.{Wire};
 ghost use Rattle.batch_codec.specs.Decoding.{bool_at};
-ghost use Rattle.batch_feeder.specs.Continuing.{ended};
+ghost use Rattle.batch_feeder.specs.ContinuedCalls.{ended};
 ghost use Rattle.batch_feeder.specs.Values.{bool_from};
 
 use crate::partial::{Partial, fault_of};

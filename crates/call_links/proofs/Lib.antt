@@ -1,5 +1,5 @@
-pub mod Counting
-pub mod Gathering
-pub mod Numbering
+pub mod CountedCalls
+pub mod ServiceTables
+pub mod ServiceNumbers
 pub mod Pairs
-pub mod Ranking
+pub mod TalliesByName

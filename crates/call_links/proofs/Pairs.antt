@@ -9,7 +9,7 @@ use Rattle.std.specs.declared.cmp.Ordering.TheVariants.{Less, Equal, Greater}
 use Rattle.std.specs.Ordering.{is_eq, match_ordering}
 use Rattle.std.specs.Cmp.{IsTotalOrder}
 use Rattle.jaeger_model.specs.Texts.{insert_once, sorted_set, placed_by}
-use Rattle.trace_model.proofs.Rising.{Below, has, rises_insert}
+use Rattle.trace_model.proofs.SortedSets.{Below, has, rises_insert}
 use Rattle.std.specs.List.Sorted.{IsStrictlySortedBy}
 
 abbrev pub put : {K V : Type 0} → (K → K → Ordering) → List (K × V) → K × V → List (K × V)

@@ -1,3 +1,3 @@
-pub mod Ranks
-pub mod Seen
-pub mod Tallies
+pub mod ServiceRanks
+pub mod NumberedCalls
+pub mod LinkTallies

@@ -3,7 +3,7 @@
 ghost use Rattle.std.specs.Prelude.{◌≡◌, ℕ, IfOk, option_map};
 ghost use Rattle.std.specs.Ordering.{nat_cmp};
 ghost use Rattle.std.specs.BTreeMap.{get};
-ghost use Rattle.call_links.specs.Seen.{service_seen, service_of, numbered_call, call_by};
+ghost use Rattle.call_links.specs.NumberedCalls.{service_seen, service_of, numbered_call, call_by};
 
 use crate::numbered_span::NumberedSpan;
 use std::alloc::{AllocError, Global};

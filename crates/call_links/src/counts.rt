@@ -1,14 +1,14 @@
 //! Calls counted trace by trace.
 
 ghost use Rattle.std.specs.Prelude.{◌≡◌, [], List, IfOk, OnOk, map};
-ghost use Rattle.trace_model.specs.Taking.{Taken};
-ghost use Rattle.call_links.specs.Seen.{numbered_call, placed_all, links_in, AreNumbered};
-ghost use Rattle.call_links.specs.Tallies.{with_call, with_trace, tallied};
+ghost use Rattle.trace_model.specs.TakenSpans.{Taken};
+ghost use Rattle.call_links.specs.NumberedCalls.{numbered_call, placed_all, links_in, AreServicesNumbered};
+ghost use Rattle.call_links.specs.LinkTallies.{with_call, with_trace, tallied};
 
 use crate::calls::{Call, call_to, first_spans};
 use crate::numbered_span::NumberedSpan;
 use crate::order::{in_order, linked};
-use crate::tally::{Tally, numbers_of, tally_after};
+use crate::tally::{LinkTally, link_tally_after, numbers_of};
 use std::alloc::{AllocError, Global};
 use std::collections::BTreeMap;
 use std::marker::Model;
@@ -19,13 +19,13 @@ use trace_model::Link;
 /// with its names and its number of calls.
 #[derive(Drop)]
 pub struct LinkCounts<'a> {
-    tallies: BTreeMap<(u32, u32), Tally<'a>>,
+    tallies: BTreeMap<(u32, u32), LinkTally<'a>>,
 }
 
 impl<'a> Model for LinkCounts<'a> {
-    ghost use Rattle.call_links.specs.Tallies.{Tallies, tallies_seen};
+    ghost use Rattle.call_links.specs.LinkTallies.{LinkTallies, tallies_seen};
 
-    ghost Value = { Tallies };
+    ghost Value = { LinkTallies };
 
     ghost view = { λ c. tallies_seen c.tallies.entries };
 }
@@ -46,10 +46,10 @@ impl<'a> LinkCounts<'a> {
     {
         let numbers = numbers_of(call);
         if let Some(tally) = self.tallies.get_mut(&numbers) {
-            *tally = tally_after(call, tally.calls)?;
+            *tally = link_tally_after(call, tally.calls)?;
             return Ok(());
         }
-        self.tallies.insert(numbers, tally_after(call, 0)?)?;
+        self.tallies.insert(numbers, link_tally_after(call, 0)?)?;
         Ok(())
     }
 
@@ -80,7 +80,7 @@ impl<'a> LinkCounts<'a> {
     ///
     /// Out of memory, and nothing else.
     pub fn finish(self, alloc: Global) -> Result<Vec<Link>, AllocError>
-        ensures { (traces : List (List Taken)) → AreNumbered traces → self.entry ≡ tallied traces →
+        ensures { (traces : List (List Taken)) → AreServicesNumbered traces → self.entry ≡ tallied traces →
             IfOk result (λ v. v.items ≡ links_in (map placed_all traces)) }
     {
         let ordered = in_order(alloc, self.tallies)?;

@@ -4,8 +4,8 @@ ghost use Rattle.std.specs.Prelude.{◌≡◌, Some, slice_get, IfOk, IfSome, op
 ghost use Rattle.std.specs.Option.{option_and_then};
 ghost use Rattle.std.specs.Arc.{arc_value};
 ghost use Rattle.jaeger_model.specs.Parents.{parent};
-ghost use Rattle.trace_model.specs.Works.{placed_brought};
-ghost use Rattle.trace_model.specs.Seeing.{placed_by_its_entry};
+ghost use Rattle.trace_model.specs.EntryWork.{placed_brought};
+ghost use Rattle.trace_model.specs.BorrowedSpans.{placed_by_its_entry};
 
 use jaeger_model::{Seen, parent_of};
 use std::alloc::AllocError;
@@ -29,9 +29,9 @@ pub struct NumberedSpan<'a> {
 impl<'a> Model for NumberedSpan<'a> {
     ghost use Rattle.std.specs.Prelude.{slice_get, IsSome};
     ghost use Rattle.std.specs.Arc.{arc_value};
-    ghost use Rattle.trace_model.specs.Works.{placed_brought};
-    ghost use Rattle.trace_model.specs.Taking.{Taken};
-    ghost use Rattle.call_links.specs.Seen.{HasIds};
+    ghost use Rattle.trace_model.specs.EntryWork.{placed_brought};
+    ghost use Rattle.trace_model.specs.TakenSpans.{Taken};
+    ghost use Rattle.call_links.specs.NumberedCalls.{HasIds};
 
     ghost Value = { Taken };
 
@@ -60,7 +60,7 @@ fn parent_id(seen: Seen<'_>) -> u64
 }
 
 /// Returns the span of the entry at an index, as it was reported.
-#[tactic(auto, using(crate::proofs::Gathering::brought_there, crate::proofs::Gathering::not_brought))]
+#[tactic(auto, using(crate::proofs::ServiceTables::brought_there, crate::proofs::ServiceTables::not_brought))]
 fn seen_in(entry: &Entry, index: u32) -> Option<Seen<'_>>
     ensures { option_map placed_by_its_entry result ≡
         slice_get (placed_brought entry.now.work) index }
@@ -74,7 +74,7 @@ fn seen_in(entry: &Entry, index: u32) -> Option<Seen<'_>>
 impl<'a> NumberedSpan<'a> {
     /// Makes the span of the entry at an index, which counts from 0, with this number of its service; `None` if the
     /// entry has no such span.
-    #[tactic(auto, using(crate::proofs::Gathering::id_kept, crate::proofs::Gathering::parent_kept))]
+    #[tactic(auto, using(crate::proofs::ServiceTables::id_kept, crate::proofs::ServiceTables::parent_kept))]
     pub fn new(entry: &'a Arc<Entry>, index: u32, service_number: u32) -> Option<NumberedSpan<'a>>
         ensures span { option_and_then (λ s. s.span) result ≡
             slice_get (placed_brought (arc_value entry.now).work) index }
@@ -125,7 +125,7 @@ impl<'a> NumberedSpan<'a> {
     }
 
     /// Returns the span as it was reported: its parent need not be among its references.
-    pub(crate) fn seen(&self) -> Seen<'a>
+    pub(crate) fn reported(&self) -> Seen<'a>
         ensures { Some (placed_by_its_entry result) ≡ self.now.span }
     {
         let Some(seen) = seen_in(self.entry, self.index) else {

@@ -3,30 +3,30 @@
 ghost use Rattle.std.specs.Prelude.{◌≡◌, ℕ, IfOk, map, unwrap_or};
 ghost use Rattle.std.specs.Ordering.{nat_cmp};
 ghost use Rattle.std.specs.BTreeMap.{get};
-ghost use Rattle.call_links.specs.Seen.{text_in};
-ghost use Rattle.call_links.specs.Tallies.{tally_seen, tallies_seen};
-ghost use Rattle.call_links.specs.Ranks.{service_entry, name_entry, rank_of, link_of};
-ghost use Rattle.call_links.specs.Ranks.{services_met, named, numbers_by_name, ranked};
+ghost use Rattle.call_links.specs.NumberedCalls.{text_in};
+ghost use Rattle.call_links.specs.LinkTallies.{tally_seen, tallies_seen};
+ghost use Rattle.call_links.specs.ServiceRanks.{service_entry, name_entry, rank_of, link_of};
+ghost use Rattle.call_links.specs.ServiceRanks.{services_met, named, numbers_by_name, ranked};
 
 use crate::numbered_span::NumberedSpan;
-use crate::tally::Tally;
+use crate::tally::LinkTally;
 use jaeger_model::Text;
 use std::alloc::{AllocError, Global};
 use std::collections::BTreeMap;
 use trace_model::Link;
 
 /// Returns the name of the service of a span.
-#[tactic(auto, using(crate::proofs::Gathering::name_kept))]
+#[tactic(auto, using(crate::proofs::ServiceTables::name_kept))]
 fn name_of<'a>(span: &NumberedSpan<'a>) -> &'a Text
     ensures { result.now ≡ text_in span.now.span }
 {
-    &span.seen().process.service
+    &span.reported().process.service
 }
 
 /// Returns a span of each service of the tallies, by the number of the service.
 fn services_met<'a>(
     alloc: Global,
-    tallies: &BTreeMap<(u32, u32), Tally<'a>>,
+    tallies: &BTreeMap<(u32, u32), LinkTally<'a>>,
 ) -> Result<BTreeMap<u32, NumberedSpan<'a>>, AllocError>
     ensures { IfOk result (λ m.
         map service_entry m.entries ≡ services_met (tallies_seen tallies.now.entries)) }
@@ -57,7 +57,7 @@ fn by_name<'a>(
 /// Returns the numbers of the services in order of their names.
 fn numbers_by_name(
     alloc: Global,
-    tallies: &BTreeMap<(u32, u32), Tally<'_>>,
+    tallies: &BTreeMap<(u32, u32), LinkTally<'_>>,
 ) -> Result<Vec<u32>, AllocError>
     ensures { IfOk result (λ v. v.items ≡ numbers_by_name (tallies_seen tallies.now.entries)) }
 {
@@ -97,9 +97,9 @@ fn rank(ranks: &BTreeMap<u32, usize>, number: u32) -> Result<usize, AllocError>
 /// Sorts the tallies by the ranks of their services.
 fn by_ranks<'a>(
     alloc: Global,
-    tallies: BTreeMap<(u32, u32), Tally<'a>>,
+    tallies: BTreeMap<(u32, u32), LinkTally<'a>>,
     ranks: &BTreeMap<u32, usize>,
-) -> Result<BTreeMap<(usize, usize), Tally<'a>>, AllocError>
+) -> Result<BTreeMap<(usize, usize), LinkTally<'a>>, AllocError>
     ensures { IfOk result (λ m. map tally_seen m.entries ≡
         ranked (λ n. unwrap_or (get nat_cmp ranks.now n) 0) (tallies_seen tallies.entry.entries)) }
 {
@@ -116,8 +116,8 @@ fn by_ranks<'a>(
 /// by numbers.
 pub(crate) fn in_order<'a>(
     alloc: Global,
-    tallies: BTreeMap<(u32, u32), Tally<'a>>,
-) -> Result<BTreeMap<(usize, usize), Tally<'a>>, AllocError>
+    tallies: BTreeMap<(u32, u32), LinkTally<'a>>,
+) -> Result<BTreeMap<(usize, usize), LinkTally<'a>>, AllocError>
     ensures { IfOk result (λ m. map tally_seen m.entries ≡
         ranked (λ n. unwrap_or (rank_of (numbers_by_name (tallies_seen tallies.entry.entries)) n) 0)
         (tallies_seen tallies.entry.entries)) }
@@ -130,7 +130,7 @@ pub(crate) fn in_order<'a>(
 /// Makes a link of each tally, in their order. The links share the names.
 pub(crate) fn linked(
     alloc: Global,
-    ordered: BTreeMap<(usize, usize), Tally<'_>>,
+    ordered: BTreeMap<(usize, usize), LinkTally<'_>>,
 ) -> Result<Vec<Link>, AllocError>
     ensures { IfOk result (λ v.
         v.items ≡ map (λ e. link_of e.1) (map tally_seen ordered.entry.entries)) }

@@ -1,7 +1,7 @@
 //! The number of calls between two services.
 
 ghost use Rattle.std.specs.Prelude.{◌≡◌, ◌+◌, IfOk};
-ghost use Rattle.call_links.specs.Seen.{numbered_call, numbers_called};
+ghost use Rattle.call_links.specs.NumberedCalls.{numbered_call, numbers_called};
 
 use crate::calls::Call;
 use crate::numbered_span::NumberedSpan;
@@ -9,7 +9,7 @@ use std::alloc::AllocError;
 
 /// The number of calls from one service to another one, and a span of each.
 #[derive(Drop)]
-pub(crate) struct Tally<'a> {
+pub(crate) struct LinkTally<'a> {
     pub(crate) caller: NumberedSpan<'a>,
     pub(crate) callee: NumberedSpan<'a>,
     pub(crate) calls: u64,
@@ -28,7 +28,10 @@ pub(crate) fn numbers_of(call: Call<'_, '_>) -> (u32, u32)
 /// # Errors
 ///
 /// The number would pass 64 bits: no memory holds the spans of that many calls.
-pub(crate) fn tally_after<'a>(call: Call<'_, 'a>, before: u64) -> Result<Tally<'a>, AllocError>
+pub(crate) fn link_tally_after<'a>(
+    call: Call<'_, 'a>,
+    before: u64,
+) -> Result<LinkTally<'a>, AllocError>
     ensures { IfOk result (λ t. t ≡ record {
       caller = call.entry.0.now;
       callee = call.entry.1.now;
@@ -40,7 +43,7 @@ pub(crate) fn tally_after<'a>(call: Call<'_, 'a>, before: u64) -> Result<Tally<'
         return Err(AllocError);
     };
     let (caller, callee) = call;
-    Ok(Tally {
+    Ok(LinkTally {
         caller: caller.again(),
         callee: callee.again(),
         calls,

@@ -4,34 +4,34 @@ use Rattle.std.specs.Io.KnownBytes.{Appends}
 use Rattle.std.proofs.KnownBytes.{Appends-trans}
 use Rattle.jaeger_model.specs.declared.ids.TraceId.{TraceId}
 use Rattle.trace_model.specs.declared.limits.Limits.{Limits}
-use Rattle.trace_model.specs.Held.{Held}
+use Rattle.trace_model.specs.LimitedHistories.{LimitedHistory}
 use Rattle.text_lines.specs.declared.exit_status.ExitStatus.{ExitStatus}
 use Rattle.text_lines.specs.declared.run_error.RunError.{RunError}
 use Rattle.text_lines.specs.Lines.{lines_of}
 use Rattle.text_lines.specs.RunErrors.{Finishes, IsWhyOf, StopsShort, WritesSome, status_by}
-use Rattle.text_lines.specs.Taking.{AllAnswered, SomeAnswered, LineReply, TakesEach}
-use Rattle.text_lines.specs.Results.{LineResult}
+use Rattle.text_lines.specs.HandledLines.{AllAnswered, SomeAnswered, LineReply, TakesEach}
+use Rattle.text_lines.specs.LineResults.{LineResult}
 use Rattle.text_lines.proofs.LineResults.{lines_come_to, said_append}
-use Rattle.text_lines.proofs.Wholes.{some_after, some_more, stops_all, stops_some}
+use Rattle.text_lines.proofs.CompleteRuns.{some_after, some_more, stops_all, stops_some}
 use Rattle.commands.specs.GetRuns.{TakesBatch, all_lines, found_in, line_result, nothing_held, output_of, status_by as status_at, status_of, trace_lines}
 
 -- what lines come to, taken one after the other
-lines_judged : (s : Held) (limits : Limits) (lines : List (List ℕ)) (reply : LineReply) (t : Held) → s ≡ nothing_held limits
+lines_judged : (s : LimitedHistory) (limits : Limits) (lines : List (List ℕ)) (reply : LineReply) (t : LimitedHistory) → s ≡ nothing_held limits
     → TakesEach TakesBatch s 1 lines reply t
     → (t ≡ (all_lines limits lines).held) × (reply ≡ (all_lines limits lines).reply)
-lines_judged s limits lines reply t start e = lines_come_to line_result (λ (a b : Held). a ≡ b) TakesBatch each s (nothing_held limits) 1 lines reply t start e
+lines_judged s limits lines reply t start e = lines_come_to line_result (λ (a b : LimitedHistory). a ≡ b) TakesBatch each s (nothing_held limits) 1 lines reply t start e
   where
-    each : (w : Held) (n : ℕ) (line : List ℕ) (reply : LineReply) (v : Held) → TakesBatch w n line reply v → (s : Held) → w ≡ s
+    each : (w : LimitedHistory) (n : ℕ) (line : List ℕ) (reply : LineReply) (v : LimitedHistory) → TakesBatch w n line reply v → (s : LimitedHistory) → w ≡ s
         → (v ≡ (line_result n s line).held) × (reply ≡ (line_result n s line).reply)
     each w n line reply v e s same = (e.0 ∙ ap (λ h. (line_result n h line).held) same, e.1 ∙ ap (λ h. (line_result n h line).reply) same)
 
-module _ (in0 in1 out0 out1 out2 : Option (List ℕ)) (i o : Bool) (limits : Limits) (id : TraceId) (held0 held1 : Held) (faulty : Bool) where
+module _ (in0 in1 out0 out1 out2 : Option (List ℕ)) (i o : Bool) (limits : Limits) (id : TraceId) (held0 held1 : LimitedHistory) (faulty : Bool) where
   pub finishes : held0 ≡ nothing_held limits → AllAnswered TakesBatch in0 in1 out0 out1 held0 held1 faulty → (found : Bool) (status : ExitStatus)
       → found ≡ is_some (found_in held1 id) → Appends out1 out2 (trace_lines (found_in held1 id)) → status ≡ status_at faulty found → i ≡ false → o ≡ false
       → Finishes in0 in1 out0 out2 i o (output_of limits id) (status_of limits id) status
   finishes start a found status f reply s ie oe =
       let lines = lines_of a.all.input in
-      let all : LineResult Held = all_lines limits lines in
+      let all : LineResult LimitedHistory = all_lines limits lines in
       let r = lines_judged held0 limits lines a.all.reply held1 start a.all.each in
       record {
         input = a.all.input;

@@ -1,11 +1,11 @@
 pub mod Options
-pub mod Accepting
-pub mod Asking
-pub mod Answering
-pub mod Judgings
-pub mod Finding
+pub mod SubcommandWords
+pub mod FirstWords
+pub mod WordReplies
+pub mod LineSteps
+pub mod FoundLines
 pub mod WrittenLines
 pub mod GetWholes
-pub mod PlayingLines
+pub mod PlayLines
 pub mod PlayWholes
 pub mod ReadLimits

@@ -7,20 +7,20 @@ use Rattle.text_lines.specs.declared.exit_status.ExitStatus.{ExitStatus}
 use Rattle.text_lines.specs.declared.run_error.RunError.{RunError}
 use Rattle.text_lines.specs.Lines.{lines_of}
 use Rattle.text_lines.specs.RunErrors.{Finishes, StopsShort, status_by}
-use Rattle.text_lines.specs.Taking.{AllAnswered, SomeAnswered, LineReply, TakesEach}
+use Rattle.text_lines.specs.HandledLines.{AllAnswered, SomeAnswered, LineReply, TakesEach}
 use Rattle.text_lines.proofs.LineResults.{lines_come_to, said_append}
-use Rattle.text_lines.proofs.Wholes.{some_more, stops_some}
-use Rattle.commands.specs.Playing.{StandsAt, TakesStep, all_played, output_of, play_status, played, status_of}
+use Rattle.text_lines.proofs.CompleteRuns.{some_more, stops_some}
+use Rattle.commands.specs.PlayRuns.{IsMachineAt, TakesStep, all_played, output_of, play_status, played, status_of}
 
 -- what lines come to, taken one after the other
-lines_played : (w : Option Machine) (limits : Limits) (lines : List (List ℕ)) (reply : LineReply) (v : Option Machine) → StandsAt w (new_machine limits)
+lines_played : (w : Option Machine) (limits : Limits) (lines : List (List ℕ)) (reply : LineReply) (v : Option Machine) → IsMachineAt w (new_machine limits)
     → TakesEach TakesStep w 1 lines reply v → reply ≡ (all_played limits lines).reply
 lines_played w limits lines reply v stands e =
-    let r = lines_come_to played StandsAt TakesStep (λ w n line reply v takes m at. takes m at) w (new_machine limits) 1 lines reply v stands e in
+    let r = lines_come_to played IsMachineAt TakesStep (λ w n line reply v takes m at. takes m at) w (new_machine limits) 1 lines reply v stands e in
     r.1
 
 module _ (in0 in1 out0 out1 : Option (List ℕ)) (i o : Bool) (limits : Limits) (w0 w1 : Option Machine) where
-  pub finishes : StandsAt w0 (new_machine limits) → (faulty : Bool) → AllAnswered TakesStep in0 in1 out0 out1 w0 w1 faulty → (status : ExitStatus)
+  pub finishes : IsMachineAt w0 (new_machine limits) → (faulty : Bool) → AllAnswered TakesStep in0 in1 out0 out1 w0 w1 faulty → (status : ExitStatus)
       → status ≡ play_status faulty
       → i ≡ false → o ≡ false → Finishes in0 in1 out0 out1 i o (output_of limits) (status_of limits) status
   finishes stands faulty a status is ie oe =
@@ -35,7 +35,7 @@ module _ (in0 in1 out0 out1 : Option (List ℕ)) (i o : Bool) (limits : Limits) 
         output_works = oe;
       }
 
-  pub stops : StandsAt w0 (new_machine limits) → (h : RunError) → SomeAnswered TakesStep in0 in1 out0 out1 w0 i o h → (status : ExitStatus)
+  pub stops : IsMachineAt w0 (new_machine limits) → (h : RunError) → SomeAnswered TakesStep in0 in1 out0 out1 w0 i o h → (status : ExitStatus)
       → status ≡ status_by h → StopsShort in0 in1 out0 out1 i o (output_of limits) status
   stops stands h a status is =
       let r = lines_played w0 limits a.first.lines a.first.reply a.first.last stands a.first.each in

@@ -1,19 +1,19 @@
 -- A status of a failed device while both devices work says how many reads were made.
 use Rattle.std.proofs.Common.{◌≡◌, ℕ, ◌⊎◌, inl, inr, Bool, true, false, List, [], ◌∷◌, ◌++◌, Option, subst, sym, ◌∙◌, arith}
-use Rattle.http_requests.specs.Waiting.{Gives, GivesWhile, FailsToRead, Source}
+use Rattle.http_requests.specs.AwaitedReads.{Gives, GivesWhile, FailsToRead, Source}
 use Rattle.http_session.specs.Sessions.{Exchange, IsCause}
-use Rattle.http_session.specs.InTurn.{ReadsInTurnUpTo}
+use Rattle.http_session.specs.ReadTurns.{ReadsInTurnUpTo}
 use Rattle.http_session.specs.declared.exchanges.SessionErrorKind.{SessionErrorKind}
 use Rattle.http_session.specs.declared.exchanges.SessionErrorKind.TheVariants.{Reading, Writing, Memory}
 use Rattle.text_lines.specs.declared.exit_status.ExitStatus.{ExitStatus}
 use Rattle.text_lines.specs.declared.exit_status.ExitStatus.TheVariants.{DeviceFailed}
 use Rattle.session_devices.specs.declared.limits.TheConstants.{MAX_READS}
-use Rattle.text_lines.specs.Reads.{GivesEach, MakesReads, StatusIsReads}
+use Rattle.text_lines.specs.ReadCounts.{GivesEach, MakesReads, StatusIsReads}
 use Rattle.trace_model.specs.declared.limits.Limits.{Limits}
 use Rattle.jaeger_model.specs.declared.ids.TraceId.{TraceId}
 use Rattle.commands.specs.GetRuns.{status_by as get_status}
-use Rattle.commands.specs.Playing.{play_status}
-use Rattle.commands.specs.Piping.{cause_status}
+use Rattle.commands.specs.PlayRuns.{play_status}
+use Rattle.commands.specs.PipeRuns.{cause_status}
 
 never_both : {A : Type 0} (b : Bool) → b ≡ true → b ≡ false → A
 never_both b is_true is_false = absurd (let both : true ≡ false = sym is_true ∙ is_false in cc)

@@ -6,7 +6,7 @@ use Rattle.std.proofs.lemmas.Grind.{flat_map-append}
 use Rattle.std.specs.Prelude.{flat_map}
 use Rattle.text_lines.specs.RunErrors.{Moves, WritesSome}
 use Rattle.text_lines.proofs.Buffers.{moves_more, moves_nothing, moves_then, some_written}
-use Rattle.text_lines.proofs.Wholes.{some_more}
+use Rattle.text_lines.proofs.CompleteRuns.{some_more}
 use Rattle.std.specs.List.{slice_index_or}
 
 pub flat_map-take : {X : Type 0} (f : X → List ℕ) (xs : List X) (i : ℕ) (d : X) → i < length xs → d ≡ slice_index_or xs i d

@@ -4,19 +4,19 @@ use Rattle.std.specs.Fmt.{decimal, signed_decimal}
 use Rattle.jaeger_model.specs.declared.ids.TraceId.{TraceId}
 use Rattle.jaeger_model.specs.declared.placed.Placed.{Placed}
 use Rattle.jaeger_model.specs.Ids.{trace_text, span_text}
-use Rattle.trace_model.specs.declared.answer.Shown.{Shown}
+use Rattle.trace_model.specs.declared.answer.AdjustedSpan.{AdjustedSpan}
 use Rattle.trace_model.specs.declared.limits.Limits.{Limits}
-use Rattle.trace_model.specs.Held.{Held}
+use Rattle.trace_model.specs.LimitedHistories.{LimitedHistory}
 use Rattle.trace_model.specs.Histories.{events}
-use Rattle.trace_model.specs.Showing.{trace_found}
+use Rattle.trace_model.specs.ShownSpans.{trace_found}
 use Rattle.text_lines.specs.declared.exit_status.ExitStatus.{ExitStatus}
 use Rattle.text_lines.specs.declared.exit_status.ExitStatus.TheVariants.{Success, NotFound, FaultyLine}
 use Rattle.text_lines.specs.Lines.{lines_of}
-use Rattle.text_lines.specs.Taking.{LineReply, Takes}
-use Rattle.text_lines.specs.Results.{LineResult, result_of_lines}
+use Rattle.text_lines.specs.HandledLines.{LineReply, HandlesLine}
+use Rattle.text_lines.specs.LineResults.{LineResult, result_of_lines}
 use Rattle.commands.specs.LineFaults.{fault_text}
 use Rattle.commands.specs.declared.get.line_fault.LineFault.{LineFault}
-use Rattle.commands.specs.Judging.{JudgedLine, judged_line}
+use Rattle.commands.specs.JudgedLines.{JudgedLine, judged_line}
 
 -- ---- the lines
 
@@ -29,10 +29,10 @@ abbrev pub said_to : ℕ → JudgedLine → LineReply
 said_to n j = record { text = fault_line n j.fault; faulty = is_some j.fault }
 
 -- the result of the line with the number n
-abbrev pub line_result : ℕ → Held → List ℕ → LineResult Held
+abbrev pub line_result : ℕ → LimitedHistory → List ℕ → LineResult LimitedHistory
 line_result n held line = record { reply = said_to n (judged_line held line); held = (judged_line held line).held }
 
-abbrev pub TakesBatch : Takes Held
+abbrev pub TakesBatch : HandlesLine LimitedHistory
 TakesBatch held n line reply after = (after ≡ (line_result n held line).held) × (reply ≡ (line_result n held line).reply)
 
 -- ---- the trace
@@ -50,23 +50,23 @@ names_text p = p.process.service ++ codes " " ++ p.span.operation ++ codes "\n"
 abbrev pub span_line : Placed → List ℕ
 span_line p = ids_text p ++ times_text p ++ names_text p
 
-abbrev pub shown_line : Shown → List ℕ
+abbrev pub shown_line : AdjustedSpan → List ℕ
 shown_line s = span_line s.placed
 
 abbrev pub trace_lines : Option (List Placed) → List ℕ
 trace_lines None = codes "trace not found\n"
 trace_lines (Some spans) = flat_map span_line spans
 
-abbrev pub found_in : Held → TraceId → Option (List Placed)
+abbrev pub found_in : LimitedHistory → TraceId → Option (List Placed)
 found_in held id = trace_found held.limits.traces (events held.entries) id
 
 -- ---- the complete run
 
-abbrev pub nothing_held : Limits → Held
+abbrev pub nothing_held : Limits → LimitedHistory
 nothing_held limits = record { limits = limits; entries = [] }
 
 -- the result of the lines
-abbrev pub all_lines : Limits → List (List ℕ) → LineResult Held
+abbrev pub all_lines : Limits → List (List ℕ) → LineResult LimitedHistory
 all_lines limits lines = result_of_lines line_result 1 (nothing_held limits) lines
 
 -- a line for each line that can't be used, and then the spans of the trace

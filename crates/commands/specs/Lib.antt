@@ -1,9 +1,9 @@
 pub mod Words
-pub mod Asked
+pub mod CommandWords
 pub mod LineFaults
-pub mod Judging
+pub mod JudgedLines
 pub mod GetRuns
-pub mod Playing
-pub mod Piping
-pub mod Running
-pub mod Serving
+pub mod PlayRuns
+pub mod PipeRuns
+pub mod ProgramRuns
+pub mod ServeRuns

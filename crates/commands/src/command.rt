@@ -1,7 +1,7 @@
 //! Runs the command of the program's words over an input and an output.
 ghost use Rattle.std.specs.Prelude.{◌≡◌, false, map};
 ghost use Rattle.session_devices.specs.Traffic.{traffic_of};
-ghost use Rattle.commands.specs.Running.{Runs};
+ghost use Rattle.commands.specs.ProgramRuns.{Runs};
 
 use crate::get::run_get;
 use crate::pipe::run_pipe;
@@ -25,7 +25,7 @@ use text_lines::ExitStatus;
 /// trace's id that can't be read, are answered on the output, and nothing is read then. `serve` doesn't read the input
 /// either.
 ///
-/// To add a subcommand, add a line here, and one in `Does` of `specs/Running.antt`.
+/// To add a subcommand, add a line here, and one in `Does` of `specs/ProgramRuns.antt`.
 pub fn run<H, S: AsStr, R: Input, W: Output>(
     rt: &H,
     alloc: Global,

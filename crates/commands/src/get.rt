@@ -8,7 +8,7 @@
 //! * `trace_lines`: the lines of a trace's spans.
 
 ghost use Rattle.std.specs.Prelude.{◌≡◌, false, IfErr};
-ghost use Rattle.text_lines.specs.Reads.{LimitIsReads, StatusIsReads};
+ghost use Rattle.text_lines.specs.ReadCounts.{LimitIsReads, StatusIsReads};
 ghost use Rattle.session_devices.specs.Traffic.{traffic_of};
 ghost use Rattle.text_lines.specs.RunErrors.{RunsAs, RunsOrStops, expected_of};
 ghost use Rattle.commands.specs.GetRuns.{nothing_held, output_of, status_by as status_at, status_of as status_for};

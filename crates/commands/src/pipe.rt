@@ -1,9 +1,9 @@
 //! `pipe`: a session over standard input and output.
 ghost use Rattle.std.specs.Prelude.{◌≡◌};
 ghost use Rattle.session_devices.specs.Traffic.{traffic_of};
-ghost use Rattle.text_lines.specs.Reads.{StatusIsReads};
+ghost use Rattle.text_lines.specs.ReadCounts.{StatusIsReads};
 ghost use Rattle.text_lines.specs.RunErrors.{BothWork};
-ghost use Rattle.commands.specs.Piping.{Pipes, cause_status};
+ghost use Rattle.commands.specs.PipeRuns.{Pipes, cause_status};
 
 use http_session::SessionErrorKind;
 use pipe_session::{Direct, pipe};

@@ -6,12 +6,12 @@
 //! * `script`: a machine that reads a step from each line.
 
 ghost use Rattle.std.specs.Prelude.{◌≡◌, false};
-ghost use Rattle.text_lines.specs.Reads.{StatusIsReads};
+ghost use Rattle.text_lines.specs.ReadCounts.{StatusIsReads};
 ghost use Rattle.session_devices.specs.Traffic.{traffic_of};
 ghost use Rattle.text_lines.specs.RunErrors.{RunsAs, expected_of};
 ghost use Rattle.trace_model.specs.declared.limits.Limits.{Limits as LimitsValue};
 ghost use Rattle.schedule_core.specs.Machine.{new_machine};
-ghost use Rattle.commands.specs.Playing.{StandsAt, output_of, play_status, status_of as status_for};
+ghost use Rattle.commands.specs.PlayRuns.{IsMachineAt, output_of, play_status, status_of as status_for};
 
 mod script;
 
@@ -41,7 +41,7 @@ fn play_lines<R: Input, W: Output>(
 ) -> ExitStatus
     requires input_works { R.has_failed input.old ≡ false }
     requires output_works { W.has_failed output.old ≡ false }
-    ensures runs { (limits : LimitsValue) → StandsAt script.old (new_machine limits) →
+    ensures runs { (limits : LimitsValue) → IsMachineAt script.old (new_machine limits) →
         RunsAs (traffic_of R.remaining R.has_failed input.old input.new)
         (traffic_of W.contents W.has_failed output.old output.new)
         (expected_of (output_of limits) (status_for limits)) result }

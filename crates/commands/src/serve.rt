@@ -1,7 +1,7 @@
 //! `serve`: a server on an address of this machine.
 ghost use Rattle.std.specs.Prelude.{◌≡◌, false};
 ghost use Rattle.session_devices.specs.Traffic.{traffic_of};
-ghost use Rattle.commands.specs.Serving.{ServesOrNot, TurnsDown};
+ghost use Rattle.commands.specs.ServeRuns.{ServesOrNot, TurnsDown};
 
 use serve_options::ServeOptions;
 use session_devices::Output;

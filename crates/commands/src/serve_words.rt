@@ -7,7 +7,7 @@ ghost use Rattle.commands.specs.declared.words.Command.TheVariants.{Serve};
 ghost use Rattle.commands.specs.Words.{HasHost, HasServeOptions, Makes, connections_rule, host_rule, idle_rule, port_rule, queue_rule, report_rule, serve_app};
 ghost use Rattle.commands.specs.Words.{sessions_rule, with_serving as serving_on, workers_rule};
 ghost use Rattle.text_lines.specs.declared.exit_status.ExitStatus.TheVariants.{OutOfMemory};
-ghost use Rattle.commands.specs.Asked.{Reads, Takes};
+ghost use Rattle.commands.specs.CommandWords.{ReadsWords, TakesWords};
 
 use crate::words::{limits_of, matches_of, number, with_limits};
 use clap::{Arg, ArgMatches, value_parser};
@@ -206,10 +206,10 @@ pub(crate) fn read_serve<S: AsStr, W: Write>(
     words: &[S],
     writer: &mut W,
 ) -> Result<ServeOptions, ExitStatus>
-    ensures asked { IfOk result (λ options. Reads (Serve options) (map S.text words.now)) }
+    ensures asked { IfOk result (λ options. ReadsWords (Serve options) (map S.text words.now)) }
     ensures silent { OnOk result (W.contents writer.new ≡ W.contents writer.old) }
     ensures accepted { (options : ServeOptionsValue) →
-        Takes (Serve options) (map S.text words.now) → IfErr result (λ e. e ≡ OutOfMemory) }
+        TakesWords (Serve options) (map S.text words.now) → IfErr result (λ e. e ≡ OutOfMemory) }
 {
     let matches = matches_of(serve_command(alloc), words, writer)?;
     let host = host_of(&matches, writer)?;

@@ -9,7 +9,7 @@ ghost use Rattle.commands.specs.declared.words.Command.TheVariants.{Get};
 ghost use Rattle.commands.specs.Words.{HasLimits, IsFaultOf, Makes, TakesGet, TakesLimits, are_taken, get_app, number_rule, pipe_app, play_app, trace_in};
 ghost use Rattle.commands.specs.Words.{with_limits as limits_on};
 ghost use Rattle.text_lines.specs.declared.exit_status.ExitStatus.TheVariants.{Usage, DeviceFailed, OutOfMemory};
-ghost use Rattle.commands.specs.Asked.{Accepts, Asks, Reads, Takes};
+ghost use Rattle.commands.specs.CommandWords.{Accepts, AsksCommand, ReadsWords, TakesWords};
 
 use crate::serve_words::{read_serve, serve_command};
 use clap::builder::ValueParser;
@@ -263,10 +263,10 @@ fn read_get<S: AsStr, W: Write>(
     words: &[S],
     writer: &mut W,
 ) -> Result<(Limits, TraceId), ExitStatus>
-    ensures asked { IfOk result (λ r. Reads (Get r.0 r.1) (map S.text words.now)) }
+    ensures asked { IfOk result (λ r. ReadsWords (Get r.0 r.1) (map S.text words.now)) }
     ensures silent { OnOk result (W.contents writer.new ≡ W.contents writer.old) }
     ensures accepted { (limits : LimitsValue) (id : TraceIdValue) →
-        Takes (Get limits id) (map S.text words.now) → IfErr result (λ e. e ≡ OutOfMemory) }
+        TakesWords (Get limits id) (map S.text words.now) → IfErr result (λ e. e ≡ OutOfMemory) }
     ensures bad_trace { (limits : LimitsValue) → TakesLimits limits (map S.text words.now) →
         IfErr result (λ e. e ≡ Usage → Appends (W.contents writer.old) (W.contents writer.new)
         (codes "bad trace id\n")) }
@@ -304,7 +304,7 @@ fn judge_words<S: AsStr, W: Write>(
     words: &[S],
     writer: &mut W,
 ) -> Result<Command, ExitStatus>
-    ensures asked { IfOk result (Asks (map S.text words.now)) }
+    ensures asked { IfOk result (AsksCommand (map S.text words.now)) }
     ensures silent { OnOk result (W.contents writer.new ≡ W.contents writer.old) }
     ensures accepted { (command : CommandValue) → Accepts (map S.text words.now) command →
         IfErr result (λ e. e ≡ OutOfMemory) }
@@ -344,7 +344,7 @@ fn refuse<S: AsStr, W: Write>(alloc: Global, words: &[S], writer: &mut W) -> Exi
 }
 
 /// Writes the reply to words that name no command, and returns the exit status.
-#[tactic(auto, using(crate::proofs::Answering::stopped, crate::proofs::Answering::stopped_no_fault))]
+#[tactic(auto, using(crate::proofs::WordReplies::stopped, crate::proofs::WordReplies::stopped_no_fault))]
 fn answer<W: Output>(alloc: Global, output: &mut W, text: &[u8], status: ExitStatus) -> ExitStatus
     requires { W.has_failed output.old ≡ false }
     ensures status { IsFaultOf result (W.has_failed output.new) }
@@ -378,7 +378,7 @@ pub fn read_words<S: AsStr, W: Output>(
     output: &mut W,
 ) -> Result<Command, ExitStatus>
     requires { W.has_failed output.old ≡ false }
-    ensures asked { IfOk result (Asks (map S.text words.now)) }
+    ensures asked { IfOk result (AsksCommand (map S.text words.now)) }
     ensures silent { OnOk result (W.contents output.new ≡ W.contents output.old) }
     ensures works { OnOk result (W.has_failed output.new ≡ false) }
     ensures status { IfErr result (λ e. IsFaultOf e (W.has_failed output.new)) }

@@ -10,7 +10,7 @@ use Rattle.jaeger_model.specs.declared.placed.Placed.{Placed}
 use Rattle.trace_model.specs.declared.query.Find.{Find}
 use Rattle.trace_model.specs.Searching.{matches, matching, first_start, first_id, ids_of, ranked_by_start, cut, found_in}
 use Rattle.trace_model.proofs.Lists.{map_agree, all_cut}
-use Rattle.trace_model.proofs.Ranking.{ranked-permutation, ranked-map}
+use Rattle.trace_model.proofs.RankedLists.{ranked-permutation, ranked-map}
 use Rattle.find_traces.specs.Places.{is_hit, start_of, hits, places_found, trace_at, id_at}
 use Rattle.find_traces.specs.Keys.{reverse_key_of, reverse_key_place}
 use Rattle.std.proofs.lemmas.List.FromFn.{get_or-enumerate_from, length-enumerate_from}

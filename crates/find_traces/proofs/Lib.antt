@@ -1,10 +1,10 @@
-pub mod Counting
+pub mod CountedKeys
 pub mod Numbers
-pub mod Wanting
-pub mod Rising
+pub mod RequestedPairs
+pub mod AscendingLists
 pub mod Order
-pub mod Sorting
+pub mod SortedTraces
 pub mod Found
-pub mod Walking
-pub mod Popped
-pub mod Lazy
+pub mod WalkAnswers
+pub mod HeapOrder
+pub mod RankingWalk

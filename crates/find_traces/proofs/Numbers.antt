@@ -3,7 +3,7 @@ use Rattle.std.proofs.Common.{◌≡◌, ℕ, ℤ, zero, suc, ◌+◌, ◌<◌, 
 use Rattle.std.specs.Prelude.{nat_lt, if◌then◌else◌, pos, negsuc, ◌==◌}
 use Rattle.std.specs.Fmt.{decimal, digits, digits_onto, digit_glyph, signed_decimal}
 use Rattle.std.proofs.lemmas.Bool.{ltb-false}
-use Rattle.find_traces.specs.Wanting.{begins_number, may_be_number}
+use Rattle.find_traces.specs.RequestedPairs.{begins_number, may_be_number}
 
 glyph_begins : (d : ℕ) → d < 10 → begins_number (digit_glyph false d) ≡ true
 glyph_begins d small = by (nat_lt d 10) refl

@@ -14,9 +14,9 @@ use Rattle.std.proofs.lemmas.Bool.{lt-ltb}
 use Rattle.std.proofs.lemmas.List.Elements.{All-from_recursion, recursion_from_All}
 use Rattle.std.proofs.lemmas.List.Sorted.{All-permutation}
 use Rattle.trace_model.specs.Searching.{put_by_start, ranked_by_start}
-use Rattle.trace_model.proofs.Ranking.{ranked-permutation}
+use Rattle.trace_model.proofs.RankedLists.{ranked-permutation}
 use Rattle.trace_model.proofs.NameLaws.{both_equal}
-use Rattle.trace_model.proofs.Rising.{Below, below_chain}
+use Rattle.trace_model.proofs.SortedSets.{Below, below_chain}
 use Rattle.find_traces.specs.declared.key.Key.{Key}
 use Rattle.find_traces.specs.Keys.{best_cmp, reverse_key_cmp}
 

@@ -1,4 +1,4 @@
 pub mod Places
 pub mod Keys
-pub mod Wanting
-pub mod Prepared
+pub mod RequestedPairs
+pub mod PreparedSearches

@@ -4,7 +4,7 @@ ghost use Rattle.std.specs.Prelude.{◌≡◌, ◌&&◌, ◌||◌, ℕ, List, If
 ghost use Rattle.std.specs.List.{list_all};
 ghost use Rattle.jaeger_model.specs.declared.span.Log.{Log as LogValue};
 ghost use Rattle.trace_model.specs.Searching.{matches, has_tag};
-ghost use Rattle.find_traces.specs.Wanting.{pair_of, same_pair, is_in, asks, wants, has_pair};
+ghost use Rattle.find_traces.specs.RequestedPairs.{pair_of, same_pair, is_in, asks, wants, has_pair};
 
 use crate::prepared::PreparedSearch;
 use jaeger_model::{Log, Process, Seen, Span, Tag, Text};
@@ -26,8 +26,8 @@ pub struct JudgedProcess<'a> {
 }
 
 impl<'a> Model for JudgedProcess<'a> {
-    ghost use Rattle.find_traces.specs.Wanting.{Beside};
-    ghost use Rattle.find_traces.specs.Prepared.{IsJudged};
+    ghost use Rattle.find_traces.specs.RequestedPairs.{Beside};
+    ghost use Rattle.find_traces.specs.PreparedSearches.{IsJudged};
 
     ghost Value = { Beside };
 

@@ -7,7 +7,7 @@ ghost use Rattle.std.specs.List.{list_any};
 ghost use Rattle.std.specs.Ordering.{eq_by_cmp, nat_cmp};
 ghost use Rattle.jaeger_model.specs.Tags.{hex_text, tag_text};
 ghost use Rattle.jaeger_model.specs.Texts.{text_cmp};
-ghost use Rattle.find_traces.specs.Wanting.{pair_of, same_pair, is_in, key_bits, asks, requested_count, if_requested, may_be_number};
+ghost use Rattle.find_traces.specs.RequestedPairs.{pair_of, same_pair, is_in, key_bits, asks, requested_count, if_requested, may_be_number};
 
 use jaeger_model::{Tag, TagValue, Text, ValueRef, tag_text};
 use std::alloc::{AllocError, Global};
@@ -32,7 +32,7 @@ pub struct PreparedSearch<'q> {
 
 impl<'q> Model for PreparedSearch<'q> {
     ghost use Rattle.trace_model.specs.declared.query.Find.{Find};
-    ghost use Rattle.find_traces.specs.Prepared.{IsPrepared};
+    ghost use Rattle.find_traces.specs.PreparedSearches.{IsPrepared};
 
     ghost Value = { Find };
 
@@ -129,7 +129,7 @@ fn pairs_of(alloc: Global, asked: &[(Text, Text)]) -> Result<BTreeSet<(Text, Tex
 }
 
 /// Returns the number of hexadecimal digits of these bytes.
-#[tactic(auto, using(crate::proofs::Wanting::hex_length))]
+#[tactic(auto, using(crate::proofs::RequestedPairs::hex_length))]
 fn hex_length(bytes: &[u8]) -> usize
     ensures { result ≡ length (hex_text bytes.now) }
 {

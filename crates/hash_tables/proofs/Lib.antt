@@ -1,5 +1,5 @@
-pub mod Walking
-pub mod Marking
+pub mod PlaceWalks
+pub mod MarkedRows
 pub mod Sizes
-pub mod Once
-pub mod IdProbing
+pub mod DistinctRows
+pub mod IdProbes

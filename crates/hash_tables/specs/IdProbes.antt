@@ -5,7 +5,7 @@ use Rattle.std.specs.Hash.DefaultHasher as sip
 use Rattle.std.specs.RandomState.{initial_hasher}
 use Rattle.std.specs.declared.random_state.RandomState.{RandomState}
 use Rattle.jaeger_model.specs.declared.ids.TraceId.{TraceId}
-use Rattle.hash_tables.specs.Leading.{Places, LeadsTo, AreOnce}
+use Rattle.hash_tables.specs.RowPlaces.{Places, LeadsTo, AreOnce}
 use Rattle.hash_tables.specs.IdRows.{no_id}
 
 -- the hash of an id under the keys

@@ -1,4 +1,4 @@
-pub mod Leading
+pub mod RowPlaces
 pub mod Sizes
 pub mod IdRows
 pub mod IdProbes

@@ -1,7 +1,7 @@
 //! The number of places of a table, and the table that is prepared for the next growth.
 
 ghost use Rattle.std.specs.Prelude.{◌≡◌, ◌+◌, ◌-◌, ◌*◌, ◌^◌, ◌<◌, ◌≤◌, [], ◌++◌, length, take, replicate, vec_capacity};
-ghost use Rattle.hash_tables.specs.Leading.{LeadsIn, IsPrepared};
+ghost use Rattle.hash_tables.specs.RowPlaces.{LeadsIn, IsPrepared};
 ghost use Rattle.hash_tables.specs.Sizes.{places_before};
 
 use crate::slots::mark_row;

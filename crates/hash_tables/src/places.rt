@@ -1,5 +1,5 @@
 ghost use Rattle.std.specs.Prelude.{◌≡◌, ℕ, ◌+◌, ◌*◌, ◌<◌, true, [], ◌∷◌, ◌++◌, length, get_or, IfOk};
-ghost use Rattle.hash_tables.specs.Leading.{LeadsTo, Found};
+ghost use Rattle.hash_tables.specs.RowPlaces.{LeadsTo, Found};
 
 use crate::growing::{NextPlaces, add_free, growths_for, places_before};
 use crate::slots::{first_place, mark_row, walk};
@@ -23,7 +23,7 @@ pub struct RowPlaces {
 
 impl Model for RowPlaces {
     ghost use Rattle.std.specs.Prelude.{vec_capacity, length, ◌-◌};
-    ghost use Rattle.hash_tables.specs.Leading.{Places};
+    ghost use Rattle.hash_tables.specs.RowPlaces.{Places};
     ghost use Rattle.hash_tables.specs.Sizes.{places_before, IsSized};
 
     ghost Value = { Places };

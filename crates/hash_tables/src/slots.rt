@@ -1,7 +1,7 @@
 //! Walks over places: a free one has 0, any other a row plus one.
 
 ghost use Rattle.std.specs.Prelude.{◌≡◌, ℕ, ◌+◌, ◌*◌, ◌^◌, ◌<◌, ◌≤◌, List, [], ◌∷◌, ◌++◌, length, get_or, count_by};
-ghost use Rattle.hash_tables.specs.Leading.{start_of, place_after, is_taken, steps, AreTaken, Walked, LeadsIn};
+ghost use Rattle.hash_tables.specs.RowPlaces.{start_of, place_after, is_taken, steps, AreTaken, Walked, LeadsIn};
 
 use crate::sought::Sought;
 

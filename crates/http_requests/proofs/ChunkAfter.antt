@@ -4,7 +4,7 @@ use Rattle.std.proofs.lemmas.List.Elements.{All-head, All-tail}
 use Rattle.httparse.specs.Ascii.{crlf_bytes}
 use Rattle.http_requests.specs.Chunks.{IsSizeLine, IsSomeSizeLine, Chunk, IsChunk, texts, contents, IsTrailer, IsBody, IsTooLarge, HasNone, Lacks, IsDecided}
 use Rattle.http_requests.specs.Chunks.{IsContent}
-use Rattle.http_requests.proofs.ChunkOnce.{size_line_once, chunk_cut, chunk_once, chunk_is_not_last, first_chunk, body_cut, large_cut}
+use Rattle.http_requests.proofs.OneChunkedBody.{size_line_once, chunk_cut, chunk_once, chunk_is_not_last, first_chunk, body_cut, large_cut}
 
 -- what is lacking after a text is lacking at its start
 pub lacks_after : (AtEnd : Type 0) (Is Has : List ℕ → Type 0) (text here : List ℕ) → ((h : List ℕ) → HasNone Is h → HasNone Has (text ++ h))

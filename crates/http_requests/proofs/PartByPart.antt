@@ -1,12 +1,12 @@
 -- How a body is read, part by part.
 use Rattle.std.proofs.Common.{◌≡◌, ℕ, Bool, List, [], ◌++◌, refl, sym, subst, append_assoc}
 use Rattle.std.specs.Io.KnownBytes.{IsAtEnd}
-use Rattle.session_devices.specs.Takings.{Takings, TakesNothing, TakesJoined}
+use Rattle.session_devices.specs.ByteTakers.{Takings, TakesNothing, TakesJoined}
 use Rattle.http_requests.specs.Requests.{HasBody, BodyBreaks, AwaitsBody}
-use Rattle.http_requests.specs.Waiting.{Source}
-use Rattle.http_requests.specs.Receiving.{ReadBuffer, ReadsOn, ReadsOnWhile, IsRead, ReadFails, StopsWhile, put_back}
+use Rattle.http_requests.specs.AwaitedReads.{Source}
+use Rattle.http_requests.specs.ReceivedBytes.{ReadBuffer, ReadsOn, ReadsOnWhile, IsRead, ReadFails, StopsWhile, put_back}
 use Rattle.http_requests.specs.Bodies.{TakesBody, BreaksBody}
-use Rattle.http_requests.specs.InParts.{IsPart, AwaitsMore, Comes, TakesOn, TakesPart}
+use Rattle.http_requests.specs.PartialRequests.{IsPart, AwaitsMore, Comes, TakesOn, TakesPart}
 use Rattle.http_requests.specs.declared.request.BodyLength.{BodyLength}
 use Rattle.http_requests.specs.declared.request.BadRequest.{BadRequest}
 use Rattle.http_requests.specs.declared.request.BadRequest.TheVariants as bad_request

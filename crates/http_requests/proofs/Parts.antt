@@ -5,7 +5,7 @@ use Rattle.std.proofs.lemmas.List.{flat_map_more, take-append-drop, take_all, le
 use Rattle.std.proofs.Math.Seq.{take-append_seam}
 use Rattle.httparse.specs.Ascii.{crlf_bytes}
 use Rattle.http_requests.specs.Chunks.{IsSizeLine, IsSomeSizeLine, IsTrailer, IsContent, IsDecided, Chunk, texts, contents, HasNone, NeverHas}
-use Rattle.session_devices.specs.Takings.{Takings, TakesNothing, TakesJoined}
+use Rattle.session_devices.specs.ByteTakers.{Takings, TakesNothing, TakesJoined}
 use Rattle.http_requests.specs.declared.request.TheConstants.{MAX_BODY_BYTES}
 use Rattle.http_requests.specs.declared.request.BodyLength.{BodyLength}
 use Rattle.http_requests.specs.declared.request.BodyLength.TheVariants.{Bytes, Chunked, Unreadable, TooLarge}
@@ -15,11 +15,11 @@ use Rattle.http_requests.specs.declared.body_reader.BodyReader.{BodyReader}
 use Rattle.http_requests.specs.declared.body_reader.Stage.{Stage}
 use Rattle.http_requests.specs.declared.body_reader.Stage.TheVariants.{Length, SizeLine, Data, Trailer, Refused}
 use Rattle.http_requests.specs.Requests.{HasBody, BodyBreaks, AwaitsBody}
-use Rattle.http_requests.specs.Receiving.{ReadBuffer, put_back}
+use Rattle.http_requests.specs.ReceivedBytes.{ReadBuffer, put_back}
 use Rattle.http_requests.specs.Bodies.{AwaitsLine, IsLineEnd}
-use Rattle.http_requests.specs.InParts.{WithChunks, WithData, WithLastLine, IsPartAt, IsPart, HasLookedAt, HasLooked, AwaitsAt, AwaitsMore, TakesOn, TakesText}
-use Rattle.http_requests.proofs.Chunking.{shorter, none_after, awaited_after, line_awaited, no_size, passes, each_with, sum_with, texts_with, content_awaited}
-use Rattle.http_requests.proofs.Chunking.{no_more_content, trailer_awaited, no_trailer_comes, chunks_whole}
+use Rattle.http_requests.specs.PartialRequests.{WithChunks, WithData, WithLastLine, IsPartAt, IsPart, HasLookedAt, HasLooked, AwaitsAt, AwaitsMore, TakesOn, TakesText}
+use Rattle.http_requests.proofs.ChunkParts.{shorter, none_after, awaited_after, line_awaited, no_size, passes, each_with, sum_with, texts_with, content_awaited}
+use Rattle.http_requests.proofs.ChunkParts.{no_more_content, trailer_awaited, no_trailer_comes, chunks_whole}
 
 -- ---- a size line
 

@@ -3,9 +3,9 @@ use Rattle.std.proofs.Common.{◌≡◌, ℕ, ◌+◌, ◌≤◌, Bool, List, []
 use Rattle.std.proofs.Common.{length-append}
 use Rattle.std.proofs.Math.Seq.{take-append_seam}
 use Rattle.std.proofs.KnownBytes.{Consumes-trans, Consumes-nil}
-use Rattle.http_requests.specs.Waiting.{Source, counted, ReadsWhile}
-use Rattle.http_requests.specs.Receiving.{ReadBuffer, ReadsOn, ReadsOnWhile, IsRead, ReadFails, StopsWhile, put_back}
-use Rattle.http_requests.proofs.Awaiting.{no_read, one_read, reads_in_turn, reads_after}
+use Rattle.http_requests.specs.AwaitedReads.{Source, counted, ReadsWhile}
+use Rattle.http_requests.specs.ReceivedBytes.{ReadBuffer, ReadsOn, ReadsOnWhile, IsRead, ReadFails, StopsWhile, put_back}
+use Rattle.http_requests.proofs.AwaitedReads.{no_read, one_read, reads_in_turn, reads_after}
 use Rattle.http_requests.specs.declared.read_buffer.ReadError.{ReadError}
 use Rattle.http_requests.specs.declared.read_buffer.ReadError.TheVariants.{Reading, Memory}
 

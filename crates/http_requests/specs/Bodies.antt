@@ -6,9 +6,9 @@ use Rattle.http_requests.specs.Chunks.{IsSomeSizeLine, IsContent, Chunk, IsChunk
 use Rattle.http_requests.specs.ChunkLooks.{EndsNoLine}
 use Rattle.http_requests.specs.declared.request.TheConstants.{MAX_BODY_BYTES}
 use Rattle.http_requests.specs.Requests.{HasBody, BodyBreaks, IsShorter, AwaitsBody}
-use Rattle.http_requests.specs.Waiting.{Source}
-use Rattle.http_requests.specs.Receiving.{ReadBuffer, ReadsOnWhile, put_back}
-use Rattle.session_devices.specs.Takings.{Takings}
+use Rattle.http_requests.specs.AwaitedReads.{Source}
+use Rattle.http_requests.specs.ReceivedBytes.{ReadBuffer, ReadsOnWhile, put_back}
+use Rattle.session_devices.specs.ByteTakers.{Takings}
 use Rattle.http_requests.specs.declared.request.BodyLength.{BodyLength}
 use Rattle.http_requests.specs.declared.request.BodyLength.TheVariants.{Chunked}
 use Rattle.http_requests.specs.declared.request.BadRequest.{BadRequest}

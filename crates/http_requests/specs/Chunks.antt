@@ -133,11 +133,11 @@ pub record MayHave (Is : List ℕ → Type 0) (bytes : List ℕ) : Type 0 where
   pub is : Is text
   pub cut : bytes ++ more ≡ text ++ rest
 
-abbrev pub Reads : ℕ → List ℕ → Reading → Type 0
-Reads most bytes (whole body used) = Stands (λ text. IsBody most text body) bytes used
-Reads most bytes (too_large used) = Stands (IsTooLarge most) bytes used
-Reads most bytes bad = NeverHas (IsDecided most) bytes
-Reads most bytes not_yet = HasNone (IsDecided most) bytes × MayHave (IsDecided most) bytes
+abbrev pub ReadsChunks : ℕ → List ℕ → Reading → Type 0
+ReadsChunks most bytes (whole body used) = Stands (λ text. IsBody most text body) bytes used
+ReadsChunks most bytes (too_large used) = Stands (IsTooLarge most) bytes used
+ReadsChunks most bytes bad = NeverHas (IsDecided most) bytes
+ReadsChunks most bytes not_yet = HasNone (IsDecided most) bytes × MayHave (IsDecided most) bytes
 
 -- data of this size, and CR LF
 pub record IsContent (size : ℕ) (text : List ℕ) : Type 0 where

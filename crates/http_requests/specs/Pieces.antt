@@ -1,7 +1,7 @@
 -- What one read returns.
 use Rattle.std.specs.Prelude.{◌≡◌, ℕ, ◌≤◌, List, ◌++◌, length}
 use Rattle.std.specs.Io.KnownBytes.{Consumes, IsAtEnd}
-use Rattle.http_requests.specs.Waiting.{Source}
+use Rattle.http_requests.specs.AwaitedReads.{Source}
 use Rattle.http_requests.specs.declared.room.TheConstants.{PIECE}
 
 -- one read appended this number of bytes, at most a piece, and none at the end of the input

@@ -4,7 +4,7 @@ use Rattle.httparse.specs.Grammar.{RequestHead, IsRequestHead, print_request}
 use Rattle.http_requests.specs.Chunks.{IsBody, IsTooLarge, IsDecided, IsSized, BeginsWith, HasNone, NeverHas, Lacks}
 use Rattle.http_requests.specs.declared.request.TheConstants.{MAX_BODY_BYTES}
 use Rattle.http_requests.specs.Heads.{TakesHead, HasNoHead, NeverHasHead, EndsLine, AwaitsHead}
-use Rattle.http_requests.specs.Asked.{asked_by, body_length}
+use Rattle.http_requests.specs.HeadContents.{asked_by, body_length}
 use Rattle.http_requests.specs.declared.request.BodyLength.{BodyLength}
 use Rattle.http_requests.specs.declared.request.BodyLength.TheVariants.{Bytes, Chunked, Unreadable, TooLarge}
 use Rattle.http_requests.specs.declared.request.BadRequest.{BadRequest}

@@ -1,7 +1,7 @@
 ghost use Rattle.std.specs.Prelude.{IfOk, IfErr};
 ghost use Rattle.http_requests.specs.Requests.{AwaitsBody};
-ghost use Rattle.http_requests.specs.Waiting.{source_of};
-ghost use Rattle.http_requests.specs.Receiving.{KnowsItsEnd, StopsWhile, SameUnlessReading};
+ghost use Rattle.http_requests.specs.AwaitedReads.{source_of};
+ghost use Rattle.http_requests.specs.ReceivedBytes.{KnowsItsEnd, StopsWhile, SameUnlessReading};
 ghost use Rattle.http_requests.specs.Bodies.{ReadsBody};
 
 use crate::body_reader::{BodyLook, BodyReader};

@@ -2,9 +2,9 @@
 
 ghost use Rattle.std.specs.Prelude.{◌≡◌, ◌<◌, ℕ, List, [], length, take, drop, min, IfNone};
 ghost use Rattle.http_requests.specs.Chunks.{IsTrailer, HasNone, NeverHas};
-ghost use Rattle.http_requests.specs.Searching.{LooksFor};
+ghost use Rattle.http_requests.specs.HeadSearches.{LooksFor};
 ghost use Rattle.http_requests.specs.Bodies.{AwaitsRest, IsLineEnd, Begins, begins_line_end, may_begin_line_end};
-ghost use Rattle.http_requests.specs.InParts.{IsPart, HasLooked, Comes, ComesOr, Leaves, LeavesOr, TakesOn, TakesText};
+ghost use Rattle.http_requests.specs.PartialRequests.{IsPart, HasLooked, Comes, ComesOr, Leaves, LeavesOr, TakesOn, TakesText};
 ghost use Rattle.http_requests.specs.declared.body_reader.Stage.TheVariants as stage;
 
 use crate::chunked::{Look, MAX_TRAILER_BYTES, look_for_size, look_for_trailer};

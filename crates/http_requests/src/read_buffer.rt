@@ -1,6 +1,6 @@
 ghost use Rattle.std.specs.Prelude.{◌≡◌, ◌≤◌, ◌+◌, [], false, IfErr, OnOk, OnErr, length, drop};
-ghost use Rattle.http_requests.specs.Waiting.{source_of};
-ghost use Rattle.http_requests.specs.Receiving.{ReadsOn, IsRead, ReadFails, SameUnlessReading};
+ghost use Rattle.http_requests.specs.AwaitedReads.{source_of};
+ghost use Rattle.http_requests.specs.ReceivedBytes.{ReadsOn, IsRead, ReadFails, SameUnlessReading};
 
 use crate::room::{Room, SpareRoom};
 use session_devices::{Input, MAX_READS};
@@ -35,7 +35,7 @@ pub struct ReadBuffer {
 }
 
 impl Model for ReadBuffer {
-    ghost use Rattle.http_requests.specs.Receiving.{ReadBuffer as ReadBufferValue};
+    ghost use Rattle.http_requests.specs.ReceivedBytes.{ReadBuffer as ReadBufferValue};
     ghost use Rattle.http_requests.specs.Rooms.{held};
 
     ghost Value = { ReadBufferValue };

@@ -1,10 +1,10 @@
 ghost use Rattle.std.specs.Prelude.{◌≡◌, ◌≤◌, ℕ, List, length, take, IfOk, IfErr};
-ghost use Rattle.http_requests.specs.Framing.{Frames};
+ghost use Rattle.http_requests.specs.FramedHeads.{Frames};
 ghost use Rattle.http_requests.specs.Heads.{AwaitsHead, NeverHasHead};
-ghost use Rattle.http_requests.specs.Searching.{LooksFor};
-ghost use Rattle.http_requests.specs.InParts.{HasSeen, SeesAll};
-ghost use Rattle.http_requests.specs.Waiting.{source_of};
-ghost use Rattle.http_requests.specs.Receiving.{KnowsItsEnd, StopsWhile, Finds, SameUnlessReading};
+ghost use Rattle.http_requests.specs.HeadSearches.{LooksFor};
+ghost use Rattle.http_requests.specs.PartialRequests.{HasSeen, SeesAll};
+ghost use Rattle.http_requests.specs.AwaitedReads.{source_of};
+ghost use Rattle.http_requests.specs.ReceivedBytes.{KnowsItsEnd, StopsWhile, Finds, SameUnlessReading};
 
 use crate::chunked::Look;
 use crate::head::HeadSearch;

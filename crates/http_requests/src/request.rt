@@ -1,7 +1,7 @@
 ghost use Rattle.std.specs.Prelude.{◌≡◌, ◌==◌, ◌||◌, codes};
-ghost use Rattle.http_requests.specs.Asked.{method_of, body_of_size, length_by, body_by, IsBounded, closes_by, media_type, is_thrift, has_batch_type};
+ghost use Rattle.http_requests.specs.HeadContents.{method_of, body_of_size, length_by, body_by, IsBounded, closes_by, media_type, is_thrift, has_batch_type};
 ghost use Rattle.http_requests.specs.Fields.{values_of};
-ghost use Rattle.http_requests.specs.Framing.{Frames};
+ghost use Rattle.http_requests.specs.FramedHeads.{Frames};
 ghost use Rattle.http_requests.specs.Heads.{IsWholeHead};
 
 use crate::chunked::prefix_of;

@@ -1,6 +1,6 @@
 ghost use Rattle.std.specs.Prelude.{◌≡◌, ◌≤◌, ℕ, List, [], false, length, take};
 ghost use Rattle.http_requests.specs.LineEnds.{is_due};
-ghost use Rattle.http_requests.specs.Searching.{LooksFor};
+ghost use Rattle.http_requests.specs.HeadSearches.{LooksFor};
 
 use crate::chunked::Look;
 use crate::line_ends::is_due;

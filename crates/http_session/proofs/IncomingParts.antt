@@ -5,14 +5,14 @@ use Rattle.std.proofs.lemmas.List.{take-append-drop, take_all}
 use Rattle.std.proofs.Math.Seq.{take-append_seam}
 use Rattle.httparse.specs.Grammar.{RequestHead, print_request}
 use Rattle.batch_codec.specs.BatchReading.{decoded}
-use Rattle.batch_feeder.specs.Answers.{answers}
-use Rattle.session_devices.specs.Takings.{Takings}
-use Rattle.http_requests.specs.Asked.{Asked, asked_by, body_length}
+use Rattle.batch_feeder.specs.FeederAnswers.{answers}
+use Rattle.session_devices.specs.ByteTakers.{Takings}
+use Rattle.http_requests.specs.HeadContents.{Asked, asked_by, body_length}
 use Rattle.http_requests.specs.Heads.{TakesHead, AwaitsHead, NeverHasHead}
 use Rattle.http_requests.specs.Requests.{HasBody, BodyBreaks, Spells, IsMalformed, BreaksAfter, IsHeadOf, AwaitsRequest}
-use Rattle.http_requests.specs.Receiving.{ReadBuffer, put_back}
-use Rattle.http_requests.specs.Framing.{Frames}
-use Rattle.http_requests.specs.InParts.{IsPart, Comes, AwaitsMore, TakesOn}
+use Rattle.http_requests.specs.ReceivedBytes.{ReadBuffer, put_back}
+use Rattle.http_requests.specs.FramedHeads.{Frames}
+use Rattle.http_requests.specs.PartialRequests.{IsPart, Comes, AwaitsMore, TakesOn}
 use Rattle.http_requests.specs.declared.request.BodyLength.{BodyLength}
 use Rattle.http_requests.specs.declared.request.BodyLength.TheVariants.{Bytes, Chunked, Unreadable, TooLarge}
 use Rattle.http_requests.specs.declared.request.BadRequest.{BadRequest}
@@ -20,15 +20,15 @@ use Rattle.http_requests.specs.declared.request.BadRequest.TheVariants as bad_re
 use Rattle.http_requests.specs.declared.request.Request.{Request}
 use Rattle.http_requests.specs.declared.body_reader.BodyReader.{BodyReader}
 use Rattle.http_requests.specs.declared.body_reader.BodyLook.TheVariants as look
-use Rattle.http_requests.proofs.Once.{head_stays}
-use Rattle.http_requests.proofs.Wholes.{head_cut}
+use Rattle.http_requests.proofs.OneRequest.{head_stays}
+use Rattle.http_requests.proofs.WholeRequests.{head_cut}
 use Rattle.http_requests.proofs.Parts.{awaits_body, has_looked, ended_breaks, breaks_anyway}
 use Rattle.http_session.specs.Verdicts.{Judges, JudgesBatch, asked_of}
-use Rattle.http_session.specs.Questions.{Decides, Asks, JudgesRead}
-use Rattle.http_session.specs.Fed.{Follows}
-use Rattle.http_session.specs.FedLaws.{follows_joined}
-use Rattle.http_session.specs.Incoming.{JudgesBy, Carries, IsPartOf, HasReceived, HasLookedBy, WaitsAfter, ReceivesOne, ReceivesBadRequest, ReceivesPart}
-use Rattle.http_session.specs.Incoming.{ReceivesWhole, ReceivesOf, FinishesAs, before_a_request}
+use Rattle.http_session.specs.Questions.{Decides, AsksQuestion, JudgesRead}
+use Rattle.http_session.specs.BodySinks.{Follows}
+use Rattle.http_session.specs.BodySinkLaws.{follows_joined}
+use Rattle.http_session.specs.IncomingRequests.{JudgesBy, Carries, IsPartOf, HasReceived, HasLookedBy, WaitsAfter, ReceivesOne, ReceivesBadRequest, ReceivesPart}
+use Rattle.http_session.specs.IncomingRequests.{ReceivesWhole, ReceivesOf, FinishesAs, before_a_request}
 use Rattle.http_session.specs.declared.question.Question.{Question}
 use Rattle.http_session.specs.declared.question.Question.TheVariants as question
 use Rattle.http_session.specs.declared.verdict.Verdict.{Verdict}
@@ -40,7 +40,7 @@ use Rattle.http_session.specs.declared.receiving.BodySink.TheVariants.{Settled, 
 use Rattle.http_session.specs.declared.receiving.PartialRequest.{PartialRequest}
 use Rattle.http_session.specs.declared.receiving.SessionStage.{SessionStage}
 use Rattle.http_session.specs.declared.receiving.SessionStage.TheVariants.{Head, Body}
-use Rattle.http_session.proofs.Feeding.{batch_verdict}
+use Rattle.http_session.proofs.FedBatches.{batch_verdict}
 use Rattle.http_session.proofs.Texts.{asked_is}
 
 -- ---- what is made of a body
@@ -79,7 +79,7 @@ head_of bytes len r size frames =
 
 -- the head of a request, before its body
 pub begins_request : (bytes : List ℕ) (len : ℕ) (r : Request) (size : BodyLength) (q : Question) (request : PartialRequest) (frames : Frames bytes len r size)
-    → Asks (asked_of (take len bytes) r) q
+    → AsksQuestion (asked_of (take len bytes) r) q
     → IsPart size [] [] request.reader → JudgesBy q request.sink [] → request.closes ≡ r.closes → IsPartOf request (take len bytes)
 unfolding head_of
 begins_request bytes len r size q request frames asks part judged closes =
@@ -93,7 +93,7 @@ begins_request bytes len r size q request frames asks part judged closes =
       takes = record { reads = (frames.takes.reads.0, sym (append-nil (print_request frames.head))); size = frames.takes.size; fields = frames.takes.fields };
       text_is = is.bytes_are ∙ sym (append-nil (print_request frames.head));
       part = subst (λ (z : BodyLength). IsPart z [] [] request.reader) frames.size_is part;
-      asks = subst (λ (a : Asked). Asks a q) (sym same) asks;
+      asks = subst (λ (a : Asked). AsksQuestion a q) (sym same) asks;
       judged = judged;
       closes_is = closes ∙ ap (λ (a : Asked). a.closes) (sym same);
     }

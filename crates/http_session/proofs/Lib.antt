@@ -1,9 +1,9 @@
-pub mod Judging
+pub mod HeadQuestions
 pub mod Texts
-pub mod Feeding
+pub mod FedBatches
 pub mod IncomingParts
-pub mod Awaiting
-pub mod Turns
-pub mod Answering
-pub mod Points
-pub mod Piecewise
+pub mod ConnectionSteps
+pub mod SessionTurns
+pub mod AnsweredRequests
+pub mod HistoryPoints
+pub mod SessionPieces

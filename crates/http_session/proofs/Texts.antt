@@ -1,6 +1,6 @@
 -- What a head asks, by its bytes.
 use Rattle.std.proofs.Common.{◌≡◌, ℕ, List, sym, ap, ◌∙◌}
-use Rattle.http_requests.specs.Asked.{asked_by}
+use Rattle.http_requests.specs.HeadContents.{asked_by}
 use Rattle.http_requests.specs.Requests.{IsHeadOf}
 use Rattle.http_requests.specs.declared.request.Request.{Request}
 use Rattle.http_session.specs.Verdicts.{asked_of}

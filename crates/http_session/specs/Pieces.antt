@@ -4,18 +4,18 @@ use Rattle.std.specs.Io.KnownBytes.{Keeps as KeepsBytes}
 use Rattle.session_devices.specs.declared.limits.TheConstants.{MAX_READS}
 use Rattle.http_requests.specs.declared.room.TheConstants.{PIECE}
 use Rattle.http_requests.specs.Requests.{AwaitsRequest}
-use Rattle.http_requests.specs.Receiving.{KnowsItsEnd, put_back}
+use Rattle.http_requests.specs.ReceivedBytes.{KnowsItsEnd, put_back}
 use Rattle.jaeger_model.specs.declared.batch.Batch.{Batch}
 use Rattle.trace_model.specs.declared.query.Query.{Query}
 use Rattle.trace_model.specs.declared.answer.Answer.{Answer}
 use Rattle.trace_model.specs.declared.refusal.Refusal.{Refusal}
-use Rattle.trace_model.specs.Knowing.{Keeps}
+use Rattle.trace_model.specs.StoreKnowledge.{Keeps}
 use Rattle.http_session.specs.Sessions.{Submits, Reads, Step}
-use Rattle.http_session.specs.InOrder.{Line}
-use Rattle.http_session.specs.Underway.{SoFar}
-use Rattle.http_session.specs.Related.{Related, nothing_seen}
-use Rattle.http_session.specs.Between.{Store, EndsServed, FailsServed}
-use Rattle.http_session.specs.Incoming.{before_a_request, HasReceived, HasLookedBy, WaitsAfter}
+use Rattle.http_session.specs.ResponseOrder.{Line}
+use Rattle.http_session.specs.UnderwaySessions.{SoFar}
+use Rattle.http_session.specs.HistoryPoints.{Related, nothing_seen}
+use Rattle.http_session.specs.SessionRuns.{Store, EndsServed, FailsServed}
+use Rattle.http_session.specs.IncomingRequests.{before_a_request, HasReceived, HasLookedBy, WaitsAfter}
 use Rattle.http_session.specs.declared.pieces.Session.{Session}
 use Rattle.http_session.specs.declared.pieces.Progress.{Progress}
 use Rattle.http_session.specs.declared.pieces.Progress.TheVariants.{Paused, Answered, Ended as EndedBy}

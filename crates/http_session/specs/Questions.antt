@@ -3,7 +3,7 @@ use Rattle.std.specs.Prelude.{◌≡◌, ◌≢◌, ℕ, true, List, Result, Ok,
 use Rattle.jaeger_model.specs.declared.batch.Batch.{Batch as BatchValue}
 use Rattle.batch_codec.specs.declared.fault.DecodeError.{DecodeError}
 use Rattle.batch_codec.specs.declared.fault.DecodeError.TheVariants.{Memory}
-use Rattle.http_requests.specs.Asked.{Asked}
+use Rattle.http_requests.specs.HeadContents.{Asked}
 use Rattle.http_session.specs.Verdicts.{JudgesBatch, Judges}
 use Rattle.http_session.specs.declared.question.Question.{Question}
 use Rattle.http_session.specs.declared.question.Question.TheVariants.{Settled, Batch}
@@ -17,8 +17,8 @@ Decides (Settled settled) body v = v ≡ settled
 Decides Batch body v = JudgesBatch true body v
 
 -- the verdict, whatever the body is
-abbrev pub Asks : Asked → Question → Type 0
-Asks a q = (body : List ℕ) (v : Verdict) → Decides q body v → Judges a body v
+abbrev pub AsksQuestion : Asked → Question → Type 0
+AsksQuestion a q = (body : List ℕ) (v : Verdict) → Decides q body v → Judges a body v
 
 -- the verdict on a batch that was decoded, or on the fault
 abbrev pub JudgesRead : Result BatchValue DecodeError → Verdict → Type 0

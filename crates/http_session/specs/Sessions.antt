@@ -8,7 +8,7 @@ use Rattle.trace_model.specs.declared.query.Query.{Query}
 use Rattle.trace_model.specs.declared.answer.Answer.{Answer}
 use Rattle.trace_model.specs.declared.refusal.Refusal.{Refusal}
 use Rattle.session_devices.specs.declared.limits.TheConstants.{MAX_READS}
-use Rattle.http_requests.specs.Asked.{asked_by}
+use Rattle.http_requests.specs.HeadContents.{asked_by}
 use Rattle.http_requests.specs.Requests.{Spells, IsMalformed, AwaitsRequest}
 use Rattle.http_requests.specs.declared.read_buffer.ReadError.{ReadError}
 use Rattle.http_requests.specs.declared.read_buffer.ReadError.TheVariants as why

@@ -3,7 +3,7 @@ use Rattle.std.specs.Prelude.{◌≡◌, ℕ, ◌⊎◌, Bool, true, false, List
 use Rattle.batch_codec.specs.BatchReading.{decoded}
 use Rattle.trace_model.specs.declared.query.Query.{Query}
 use Rattle.httparse.specs.Grammar.{RequestHead}
-use Rattle.http_requests.specs.Asked.{Asked, asked_by}
+use Rattle.http_requests.specs.HeadContents.{Asked, asked_by}
 use Rattle.http_requests.specs.Heads.{TakesHead}
 use Rattle.http_requests.specs.declared.request.Method.{Method}
 use Rattle.http_requests.specs.declared.request.Method.TheVariants.{Get, Post, Other}

@@ -4,8 +4,8 @@ ghost use Rattle.query_json.specs.Parts.{to_come};
 ghost use Rattle.http_session.specs.Replies.{response_of, closes, takes_no_memory};
 ghost use Rattle.http_session.specs.declared.exchanges.SessionErrorKind.TheVariants.{Writing, Memory};
 ghost use Rattle.http_session.specs.Sessions.{Step, WritesResponse, part_written, cause_by};
-ghost use Rattle.http_session.specs.InOrder.{line_of};
-ghost use Rattle.http_session.specs.Between.{store_of, devices_of, EndsBetween, FailsBetween, EndsServed, FailsServed};
+ghost use Rattle.http_session.specs.ResponseOrder.{line_of};
+ghost use Rattle.http_session.specs.SessionRuns.{store_of, devices_of, EndsBetween, FailsBetween, EndsServed, FailsServed};
 
 use crate::pieces::Session;
 use crate::reply::Reply;

@@ -1,7 +1,7 @@
 //! Laws of sessions that run in pieces. Each function does nothing, and its contract is the law.
 
-ghost use Rattle.http_session.specs.InOrder.{line_of};
-ghost use Rattle.http_session.specs.Between.{store_of};
+ghost use Rattle.http_session.specs.ResponseOrder.{line_of};
+ghost use Rattle.http_session.specs.SessionRuns.{store_of};
 ghost use Rattle.http_session.specs.Pieces.{no_requests_yet, CanContinue, Underway, UnderwayAmong, AnswersSoFar, StaysUnderway, OutlastsWrites, SubmitsSome};
 ghost use Rattle.http_session.specs.Pieces.{ReadsSome, AsksOnce, ForgetsNothing};
 

@@ -2,8 +2,8 @@
 
 ghost use Rattle.std.specs.Prelude.{◌≡◌, ◌≢◌, ◌+◌, ◌↔◌, [], IsTrue, false, OnOk};
 ghost use Rattle.query_http.specs.Paths.{endpoint_rows};
-ghost use Rattle.http_session.specs.InOrder.{line_of};
-ghost use Rattle.http_session.specs.Between.{store_of};
+ghost use Rattle.http_session.specs.ResponseOrder.{line_of};
+ghost use Rattle.http_session.specs.SessionRuns.{store_of};
 ghost use Rattle.http_session.specs.Pieces.{no_requests_yet, CanContinue, IfOpen, IfAnswered, IfPaused, AwaitsMore, piece_of, AsksOnce, GoesOn};
 
 use crate::exchanges::{

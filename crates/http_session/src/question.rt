@@ -4,7 +4,7 @@ ghost use Rattle.query_http.specs.Paths.{endpoint_rows};
 ghost use Rattle.query_http.specs.QueryStrings.{pairs_of};
 ghost use Rattle.query_http.specs.Queries.{query_at};
 ghost use Rattle.http_session.specs.Verdicts.{JudgesQuery, AsksQuery, asked_of};
-ghost use Rattle.http_session.specs.Questions.{Asks};
+ghost use Rattle.http_session.specs.Questions.{AsksQuestion};
 
 use crate::verdict::{ErrorReply, Verdict};
 use http_requests::{Method, Request};
@@ -67,7 +67,7 @@ pub(crate) fn question_of(
 ) -> Result<Question, AllocError>
     requires routes { router.now ≡ endpoint_rows }
     requires whole { IsHeadOf head.now request.now }
-    ensures asks { IfOk result (Asks (asked_of head.now request.now)) }
+    ensures asks { IfOk result (AsksQuestion (asked_of head.now request.now)) }
     ensures memory { OnErr result (AsksQuery (asked_of head.now request.now)) }
 {
     let (path, query_string) = split_target(target_of(head, request));

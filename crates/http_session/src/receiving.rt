@@ -2,15 +2,15 @@
 
 ghost use Rattle.std.specs.Prelude.{◌≡◌, ℕ, List, [], ◌++◌, IfOk, OnErr};
 ghost use Rattle.batch_codec.specs.BatchReading.{decoded};
-ghost use Rattle.batch_feeder.specs.Answers.{answers};
+ghost use Rattle.batch_feeder.specs.FeederAnswers.{answers};
 ghost use Rattle.query_http.specs.Paths.{endpoint_rows};
-ghost use Rattle.http_requests.specs.InParts.{IsPart, HasSeen, HasLooked, Comes, Leaves, TakesOn};
-ghost use Rattle.http_requests.specs.Receiving.{put_back};
+ghost use Rattle.http_requests.specs.PartialRequests.{IsPart, HasSeen, HasLooked, Comes, Leaves, TakesOn};
+ghost use Rattle.http_requests.specs.ReceivedBytes.{put_back};
 ghost use Rattle.http_session.specs.Verdicts.{BeginsWithQuery};
 ghost use Rattle.http_session.specs.Questions.{JudgesRead, Decides};
 ghost use Rattle.http_session.specs.declared.question.Question.{Question as QuestionValue};
-ghost use Rattle.http_session.specs.Incoming.{before_a_request, JudgesBy, Carries, IsPartOf, HasReceived, HasLookedBy, IsBody, PartComes, LeavesPart};
-ghost use Rattle.http_session.specs.Incoming.{FinishesAs, ReceivesOf, LeavesWaiting};
+ghost use Rattle.http_session.specs.IncomingRequests.{before_a_request, JudgesBy, Carries, IsPartOf, HasReceived, HasLookedBy, IsBody, PartComes, LeavesPart};
+ghost use Rattle.http_session.specs.IncomingRequests.{FinishesAs, ReceivesOf, LeavesWaiting};
 
 use crate::question::{Question, question_of};
 use crate::verdict::{ErrorReply, Verdict};
@@ -41,8 +41,8 @@ pub(crate) enum Incoming {
 struct Discard;
 
 impl Sink for Discard {
-    ghost use Rattle.http_session.specs.Fed.{Passes};
-    ghost use Rattle.http_session.specs.FedLaws.{passes_nothing, passes_joined};
+    ghost use Rattle.http_session.specs.BodySinks.{Passes};
+    ghost use Rattle.http_session.specs.BodySinkLaws.{passes_nothing, passes_joined};
 
     ghost takes = { Passes };
 
@@ -83,9 +83,9 @@ impl BatchBody {
 }
 
 impl Sink for BatchBody {
-    ghost use Rattle.batch_feeder.specs.Answers.{answers};
-    ghost use Rattle.http_session.specs.Fed.{Follows};
-    ghost use Rattle.http_session.specs.FedLaws.{follows_nothing, follows_joined};
+    ghost use Rattle.batch_feeder.specs.FeederAnswers.{answers};
+    ghost use Rattle.http_session.specs.BodySinks.{Follows};
+    ghost use Rattle.http_session.specs.BodySinkLaws.{follows_nothing, follows_joined};
 
     ghost takes = { λ s w t. Follows (answers s.feeder.value) w (answers t.feeder.value) };
 

@@ -10,8 +10,8 @@ use Rattle.trace_model.specs.declared.entry.Entry.{Entry}
 use Rattle.intake.specs.Queues.{jobs_of, CountUp, AllCountUp, AreLast}
 use Rattle.intake.specs.Books.{has_job}
 use Rattle.intake.proofs.Steps.{jobs_of-append}
-use Rattle.intake.proofs.Ends.{last-number, of-one}
-use Rattle.intake.proofs.Taking.{job-of-seat, counted-has, counted-within}
+use Rattle.intake.proofs.EndedSeats.{last-number, of-one}
+use Rattle.intake.proofs.TakenJobs.{job-of-seat, counted-has, counted-within}
 
 zeros : (n s : ℕ) → slice_index (replicate n zero) s ≡ zero
 zeros zero s = refl

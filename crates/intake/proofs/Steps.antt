@@ -11,7 +11,7 @@ use Rattle.atomic_table.proofs.Lists.{at_set, set_else}
 use Rattle.trace_model.specs.declared.entry.Entry.{Entry}
 use Rattle.intake.specs.declared.queue.QueueView.{QueueView}
 use Rattle.intake.specs.declared.queue.EndedSeat.{EndedSeat}
-use Rattle.intake.specs.Queues.{jobs_of, CountUp, AllCountUp, FitsSeat, FitsClerk, AreEnded, Balanced, Puts, Takes, Queued, Waiting, AreWhole, first_view}
+use Rattle.intake.specs.Queues.{jobs_of, CountUp, AllCountUp, FitsSeat, FitsClerk, AreEnded, Balanced, PutsJob, TakesJob, IsQueued, Waiting, AreWhole, first_view}
 use Rattle.intake.specs.Queues.{one_more, new_seat, took_in, retired, spent}
 
 pub jobs_of-append : (s : ℕ) (xs ys : List Entry) → jobs_of s (xs ++ ys) ≡ jobs_of s xs ++ jobs_of s ys
@@ -22,9 +22,9 @@ counted-left k [] ys c = tt
 counted-left k (x ∷ xs) ys c = (c.0, counted-left (k + 1) xs ys c.1)
 
 -- the jobs of each seat are numbered from 1 on in the front part, if they are in all of them
-pub counted-front : (handed : ℕ → List Entry) (front items : List Entry) → ((s : ℕ) → jobs_of s (front ++ items) ≡ handed s) → ((s : ℕ) → CountUp 1 (handed s))
+pub counted-front : (submitted : ℕ → List Entry) (front items : List Entry) → ((s : ℕ) → jobs_of s (front ++ items) ≡ submitted s) → ((s : ℕ) → CountUp 1 (submitted s))
     → AllCountUp front
-counted-front handed front items same counts s =
+counted-front submitted front items same counts s =
     counted-left 1 (jobs_of s front) (jobs_of s items) (subst (CountUp 1) (sym (same s) ∙ jobs_of-append s front items) (counts s))
 
 -- a seat of which some job was submitted has jobs
@@ -37,7 +37,7 @@ some-of s before j after is gone =
     let nothing = ap length all in
     absurd (omega (arith, size, nothing))
 
-pub takes : (pass : ℕ) (v : QueueView) → v.takes ≡ true → v.submits ≡ false → Pops Balanced pass v (Takes v)
+pub takes : (pass : ℕ) (v : QueueView) → v.takes ≡ true → v.submits ≡ false → Pops Balanced pass v (TakesJob v)
 takes pass v may not j items views b at =
     let w = record v { taken = v.taken ++ j ∷ [] } in
     let taken = b.3 in
@@ -67,70 +67,70 @@ count-snoc n (x ∷ xs) j h e = (h.0, count-snoc (n + 1) xs j h.1 (omega (arith,
 
 -- the lists after seat `at` has submitted one more
 abbrev pub more : (ℕ → List Entry) → ℕ → Entry → ℕ → List Entry
-more handed at j s = cond (s == at) (handed s ++ j ∷ []) (handed s)
+more submitted at j s = cond (s == at) (submitted s ++ j ∷ []) (submitted s)
 
-pub more-here : (handed : ℕ → List Entry) (at : ℕ) (j : Entry) → more handed at j at ≡ handed at ++ j ∷ []
-more-here handed at j = rw (eq-eqb at at refl) refl
+pub more-here : (submitted : ℕ → List Entry) (at : ℕ) (j : Entry) → more submitted at j at ≡ submitted at ++ j ∷ []
+more-here submitted at j = rw (eq-eqb at at refl) refl
 
-pub more-else : (handed : ℕ → List Entry) (at : ℕ) (j : Entry) (s : ℕ) → s ≢ at → more handed at j s ≡ handed s
-more-else handed at j s n = rw (ne_eqb s at n) refl
+pub more-else : (submitted : ℕ → List Entry) (at : ℕ) (j : Entry) (s : ℕ) → s ≢ at → more submitted at j s ≡ submitted s
+more-else submitted at j s n = rw (ne_eqb s at n) refl
 
-pub more-of : (handed : ℕ → List Entry) (at : ℕ) (j : Entry) (s : ℕ) (all : List Entry) → j.seat ≡ at → jobs_of s all ≡ handed s
-    → jobs_of s (all ++ j ∷ []) ≡ more handed at j s
-more-of handed at j s all is same = jobs_of-append s all (j ∷ []) ∙ (ap (λ z. z ++ jobs_of s (j ∷ [])) same ∙ go (s == at) (j.seat == s) (grind (arith, is)))
+pub more-of : (submitted : ℕ → List Entry) (at : ℕ) (j : Entry) (s : ℕ) (all : List Entry) → j.seat ≡ at → jobs_of s all ≡ submitted s
+    → jobs_of s (all ++ j ∷ []) ≡ more submitted at j s
+more-of submitted at j s all is same = jobs_of-append s all (j ∷ []) ∙ (ap (λ z. z ++ jobs_of s (j ∷ [])) same ∙ go (s == at) (j.seat == s) (grind (arith, is)))
   where
-    go : (b c : Bool) → b ≡ c → handed s ++ cond c (j ∷ []) [] ≡ cond b (handed s ++ j ∷ []) (handed s)
+    go : (b c : Bool) → b ≡ c → submitted s ++ cond c (j ∷ []) [] ≡ cond b (submitted s ++ j ∷ []) (submitted s)
     go true true e = refl
-    go false false e = append-nil (handed s)
+    go false false e = append-nil (submitted s)
     go true false e = absurd (cc e)
     go false true e = absurd (cc e)
 
-pub more-count : (handed : ℕ → List Entry) (at : ℕ) (j : Entry) (s : ℕ) → CountUp 1 (handed s) → (s ≡ at → j.number ≡ length (handed s) + 1)
-    → CountUp 1 (more handed at j s)
-more-count handed at j s h e = go (s == at) refl
+pub more-count : (submitted : ℕ → List Entry) (at : ℕ) (j : Entry) (s : ℕ) → CountUp 1 (submitted s) → (s ≡ at → j.number ≡ length (submitted s) + 1)
+    → CountUp 1 (more submitted at j s)
+more-count submitted at j s h e = go (s == at) refl
   where
-    go : (b : Bool) → (s == at) ≡ b → CountUp 1 (cond b (handed s ++ j ∷ []) (handed s))
-    go true is = count-snoc 1 (handed s) j h (e (grind (arith, nat_tests)))
+    go : (b : Bool) → (s == at) ≡ b → CountUp 1 (cond b (submitted s ++ j ∷ []) (submitted s))
+    go true is = count-snoc 1 (submitted s) j h (e (grind (arith, nat_tests)))
     go false is = h
 
 -- ended seats stay so if only seats change that some view is of
-pub ended-on : (holder holder' : ℕ → Option ℕ) (handed handed' : ℕ → List Entry) (m n : ℕ) (ks : List EndedSeat) → m < n + 1
-    → ((s : ℕ) → s < m → holder s ≡ none → (holder' s ≡ none) × (handed' s ≡ handed s)) → AreEnded holder handed m ks → AreEnded holder' handed' n ks
-ended-on holder holder' handed handed' m n [] le keep h = tt
-ended-on holder holder' handed handed' m n (k ∷ ks) le keep h =
+pub ended-on : (holder holder' : ℕ → Option ℕ) (submitted submitted' : ℕ → List Entry) (m n : ℕ) (ks : List EndedSeat) → m < n + 1
+    → ((s : ℕ) → s < m → holder s ≡ none → (holder' s ≡ none) × (submitted' s ≡ submitted s)) → AreEnded holder submitted m ks → AreEnded holder' submitted' n ks
+ended-on holder holder' submitted submitted' m n [] le keep h = tt
+ended-on holder holder' submitted submitted' m n (k ∷ ks) le keep h =
     let same = keep k.seat h.0.0 h.0.1 in
-    (((let l = h.0.0 in omega (arith, le, l)), same.0, same.1 ∙ h.0.2), ended-on holder holder' handed handed' m n ks le keep h.1)
+    (((let l = h.0.0 in omega (arith, le, l)), same.0, same.1 ∙ h.0.2), ended-on holder holder' submitted submitted' m n ks le keep h.1)
 
-pub puts : (n pass : ℕ) (v : QueueView) (j : Entry) → v.submits ≡ true → v.takes ≡ false → j.seat ≡ v.seat → j.number ≡ length v.handed + 1
-    → Pushes Balanced n pass v j (Puts v j)
+pub puts : (n pass : ℕ) (v : QueueView) (j : Entry) → v.submits ≡ true → v.takes ≡ false → j.seat ≡ v.seat → j.number ≡ length v.submitted + 1
+    → Pushes Balanced n pass v j (PutsJob v j)
 puts n pass v j may not is next items views room b at =
-    let w = record v { handed = v.handed ++ j ∷ [] } in
+    let w = record v { submitted = v.submitted ++ j ∷ [] } in
     let holder = b.1 in
-    let handed = b.2 in
+    let submitted = b.2 in
     let taken = b.3 in
     let mine = (b.6 pass v at).0 may in
-    let handed' = more handed v.seat j in
-    let other : (s : ℕ) → holder s ≡ none → handed' s ≡ handed s =
-    λ s free. more-else handed v.seat j s (λ same. some-ne-none pass (sym mine.0 ∙ (ap holder (sym same) ∙ free))) in (
+    let submitted' = more submitted v.seat j in
+    let other : (s : ℕ) → holder s ≡ none → submitted' s ≡ submitted s =
+    λ s free. more-else submitted v.seat j s (λ same. some-ne-none pass (sym mine.0 ∙ (ap holder (sym same) ∙ free))) in (
       w,
       (
         b.0,
         holder,
-        handed',
+        submitted',
         taken,
-        (λ s. ap (jobs_of s) (sym (append_assoc taken items (j ∷ []))) ∙ more-of handed v.seat j s (taken ++ items) is (b.4 s)),
-        (λ s. more-count handed v.seat j s (b.5 s) (λ same. next ∙ ap (λ z. length z + 1) (mine.1 ∙ ap handed (sym same)))),
+        (λ s. ap (jobs_of s) (sym (append_assoc taken items (j ∷ []))) ∙ more-of submitted v.seat j s (taken ++ items) is (b.4 s)),
+        (λ s. more-count submitted v.seat j s (b.5 s) (λ same. next ∙ ap (λ z. length z + 1) (mine.1 ∙ ap submitted (sym same)))),
         (λ k u e. ⊎_elim
-            (λ t. subst (λ (z : QueueView). FitsSeat holder handed' k z × FitsClerk b.0 holder handed' taken k z) t.1
-            ((λ y. (mine.0 ∙ ap some (sym t.0), ap (λ z. z ++ j ∷ []) mine.1 ∙ sym (more-here handed v.seat j))), (λ y. absurd (cc (y, not)))))
+            (λ t. subst (λ (z : QueueView). FitsSeat holder submitted' k z × FitsClerk b.0 holder submitted' taken k z) t.1
+            ((λ y. (mine.0 ∙ ap some (sym t.0), ap (λ z. z ++ j ∷ []) mine.1 ∙ sym (more-here submitted v.seat j))), (λ y. absurd (cc (y, not)))))
             (λ t. let f = b.6 k u t.1 in
             let apart : u.submits ≡ true → u.seat ≢ v.seat = λ y same. t.0 (some-injective k pass (sym ((f.0 y).0) ∙ (ap holder same ∙ mine.0))) in (
-              (λ y. ((f.0 y).0, (f.0 y).1 ∙ sym (more-else handed v.seat j u.seat (apart y)))),
+              (λ y. ((f.0 y).0, (f.0 y).1 ∙ sym (more-else submitted v.seat j u.seat (apart y)))),
               (λ y. (
                 (f.1 y).0,
                 (f.1 y).1,
                 (λ s le. let g = (f.1 y).2 s le in (g.0, other s g.0 ∙ g.1)),
-                ended-on holder holder handed handed' u.made u.made u.ended (omega arith) (λ s l free. (free, other s free)) (f.1 y).3,
+                ended-on holder holder submitted submitted' u.made u.made u.ended (omega arith) (λ s l free. (free, other s free)) (f.1 y).3,
               )),
             ))
             (at_set views pass k w u e)),
@@ -180,19 +180,19 @@ seats pass v may not items views b at =
     let w = one_more v in
     let here = length (set views pass w) in
     let holder = b.1 in
-    let handed = b.2 in
+    let submitted = b.2 in
     let mine = (b.6 pass v at).1 may in
     let holder' = seat_given holder v.made (some here) in
     let fresh = mine.2 v.made (omega arith) in
     let older : (s : ℕ) → s ≢ v.made → holder' s ≡ holder s = λ s n. seat_given-else holder v.made (some here) s n in
     reheld items views (set views pass w ++ new_seat v ∷ []) b holder'
-    (each_forked (λ k u. FitsSeat holder' handed k u × FitsClerk b.0 holder' handed b.3 k u) views pass w (new_seat v) (
+    (each_forked (λ k u. FitsSeat holder' submitted k u × FitsClerk b.0 holder' submitted b.3 k u) views pass w (new_seat v) (
       (λ y. absurd (cc (y, not))),
       (λ y. (
         mine.0,
         mine.1,
         (λ s le. let g = mine.2 s (omega (arith, le)) in (older s (omega (arith, le)) ∙ g.0, g.1)),
-        ended-on holder holder' handed handed v.made (v.made + 1) v.ended (omega arith) (λ s l free. (older s (omega (arith, l)) ∙ free, refl)) mine.3,
+        ended-on holder holder' submitted submitted v.made (v.made + 1) v.ended (omega arith) (λ s l free. (older s (omega (arith, l)) ∙ free, refl)) mine.3,
       )),
     )
     ((λ y. (seat_given-here holder v.made (some here), sym fresh.1)), (λ y. absurd (cc y)))
@@ -207,13 +207,13 @@ resigns pass v may not items views b at =
     let w = retired v in
     let here = length (set views pass w) in
     let holder = b.1 in
-    let handed = b.2 in
+    let submitted = b.2 in
     let mine = (b.6 pass v at).0 may in
     let holder' = seat_given holder v.seat (some here) in
     let other : (s : ℕ) → holder s ≡ none → holder' s ≡ none =
     λ s free. seat_given-else holder v.seat (some here) s (λ same. some-ne-none pass (sym mine.0 ∙ (ap holder (sym same) ∙ free))) ∙ free in
     reheld items views (set views pass w ++ v ∷ []) b holder'
-    (each_forked (λ k u. FitsSeat holder' handed k u × FitsClerk b.0 holder' handed b.3 k u) views pass w v
+    (each_forked (λ k u. FitsSeat holder' submitted k u × FitsClerk b.0 holder' submitted b.3 k u) views pass w v
     ((λ y. absurd (cc y)), (λ y. absurd (cc (y, not))))
     ((λ y. (seat_given-here holder v.seat (some here), mine.1)), (λ y. absurd (cc (y, not))))
     (λ k u apart is. let f = b.6 k u is in (
@@ -226,7 +226,7 @@ resigns pass v may not items views b at =
         (f.1 y).0,
         (f.1 y).1,
         (λ s le. let g = (f.1 y).2 s le in (other s g.0, g.1)),
-        ended-on holder holder' handed handed u.made u.made u.ended (omega arith) (λ s l free. (other s free, refl)) (f.1 y).3,
+        ended-on holder holder' submitted submitted u.made u.made u.ended (omega arith) (λ s l free. (other s free, refl)) (f.1 y).3,
       )),
     )))
 
@@ -236,7 +236,7 @@ pub takes_in : (pass : ℕ) (v : QueueView) (other : ℕ) (w : QueueView) → v.
 takes_in pass v other w may not theirs quiet items views b at apart its =
     let both = took_in v w in
     let holder = b.1 in
-    let handed = b.2 in
+    let submitted = b.2 in
     let taken = b.3 in
     let mine = (b.6 pass v at).1 may in
     let it : get_elem? views other ≡ some w = sym (set_else views pass other both apart) ∙ its in
@@ -246,15 +246,15 @@ takes_in pass v other w may not theirs quiet items views b at apart its =
     let within : w.seat < v.made = lt_of_not-le (λ le. some-ne-none other (sym seat.0 ∙ (mine.2 w.seat (omega (arith, le))).0)) in (
       b.0,
       holder',
-      handed,
+      submitted,
       taken,
       b.4,
       b.5,
       (λ k u e. ⊎_elim
-          (λ t. subst (λ (z : QueueView). FitsSeat holder' handed k z × FitsClerk b.0 holder' handed taken k z) t.1
+          (λ t. subst (λ (z : QueueView). FitsSeat holder' submitted k z × FitsClerk b.0 holder' submitted taken k z) t.1
           ((λ y. absurd (cc y)), (λ y. absurd (cc y))))
           (λ p. ⊎_elim
-          (λ t. subst (λ (z : QueueView). FitsSeat holder' handed k z × FitsClerk b.0 holder' handed taken k z) t.1 (
+          (λ t. subst (λ (z : QueueView). FitsSeat holder' submitted k z × FitsClerk b.0 holder' submitted taken k z) t.1 (
             (λ y. absurd (cc (y, not))),
             (λ y. (
               t.0 ∙ mine.0,
@@ -262,7 +262,7 @@ takes_in pass v other w may not theirs quiet items views b at apart its =
               (λ s le. let g = mine.2 s le in (freed s g.0, g.1)),
               (
                 (within, seat_given-here holder w.seat none, sym seat.1),
-                ended-on holder holder' handed handed v.made v.made v.ended (omega arith) (λ s l free. (freed s free, refl)) mine.3,
+                ended-on holder holder' submitted submitted v.made v.made v.ended (omega arith) (λ s l free. (freed s free, refl)) mine.3,
               ),
             )),
           ))
@@ -283,7 +283,7 @@ takes_in pass v other w may not theirs quiet items views b at apart its =
     stays-none false h e = e
 
 -- what a push implies for the queue
-pub full : (pass : ℕ) (v : QueueView) → v.submits ≡ true → Learns Balanced pass v (Queued v)
+pub full : (pass : ℕ) (v : QueueView) → v.submits ≡ true → Learns Balanced pass v (IsQueued v)
 full pass v may items views b at = (b.3, b.4 v.seat ∙ sym ((b.6 pass v at).0 may).1)
 
 -- what a pop implies for the queue
@@ -291,11 +291,11 @@ pub waits : (pass : ℕ) (v : QueueView) → v.takes ≡ true → Learns Balance
 waits pass v may items views b at = let mine = (b.6 pass v at).1 may in
     go b.1 b.2 v.made v.ended (v.taken ++ items) (λ s. ap (λ z. jobs_of s (z ++ items)) mine.1 ∙ b.4 s) b.5 mine.3
   where
-    go : (holder : ℕ → Option ℕ) (handed : ℕ → List Entry) (made : ℕ) (ks : List EndedSeat) (all : List Entry) → ((s : ℕ) → jobs_of s all ≡ handed s)
-        → ((s : ℕ) → CountUp 1 (handed s)) → AreEnded holder handed made ks → AreWhole ks all
-    go holder handed made [] all same counts h = tt
-    go holder handed made (k ∷ ks) all same counts h =
-        ((same k.seat ∙ h.0.2, subst (CountUp 1) h.0.2 (counts k.seat)), go holder handed made ks all same counts h.1)
+    go : (holder : ℕ → Option ℕ) (submitted : ℕ → List Entry) (made : ℕ) (ks : List EndedSeat) (all : List Entry) → ((s : ℕ) → jobs_of s all ≡ submitted s)
+        → ((s : ℕ) → CountUp 1 (submitted s)) → AreEnded holder submitted made ks → AreWhole ks all
+    go holder submitted made [] all same counts h = tt
+    go holder submitted made (k ∷ ks) all same counts h =
+        ((same k.seat ∙ h.0.2, subst (CountUp 1) h.0.2 (counts k.seat)), go holder submitted made ks all same counts h.1)
 
 pub empty : Balanced [] (first_view ∷ [])
 empty = (0, (λ s. none), (λ s. []), [], (λ s. refl), (λ s. tt), first)

@@ -5,7 +5,7 @@ use Rattle.trace_model.specs.declared.entry.Entry.{Entry}
 use Rattle.trace_model.specs.declared.limits.Limits.{Limits}
 use Rattle.trace_model.specs.declared.refusal.Refusal.{Refusal}
 use Rattle.trace_model.specs.declared.refusal.Refusal.TheVariants.{Deferred}
-use Rattle.trace_model.specs.Resending.{is_sent}
+use Rattle.trace_model.specs.ResentBatches.{is_sent}
 use Rattle.read_side.specs.Keepers.{Lists, Answers, accepted}
 use Rattle.read_side.specs.Receipts.{AnsweredAt}
 use Rattle.intake.specs.declared.account.Account.{Account}

@@ -4,5 +4,5 @@ pub mod Denials
 pub mod Turns
 pub mod Books
 pub mod Places
-pub mod LiveSharing
+pub mod LiveStores
 pub mod LiveLaws

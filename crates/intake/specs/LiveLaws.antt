@@ -10,12 +10,12 @@ use Rattle.trace_model.specs.declared.limits.Limits.{Limits}
 use Rattle.trace_model.specs.declared.query.Query.{Query}
 use Rattle.trace_model.specs.declared.answer.Answer.{Answer}
 use Rattle.trace_model.specs.declared.refusal.Refusal.{Refusal}
-use Rattle.trace_model.specs.Resending.{AnswersFor}
+use Rattle.trace_model.specs.ResentBatches.{AnswersFor}
 use Rattle.trace_model.proofs.Prefixes.{prefix_self, prefix_trans}
 use Rattle.intake.specs.Seats.{next_job}
 use Rattle.intake.specs.Places.{stands-split}
-use Rattle.trace_model.specs.Knowing.{History, IsPrefixOf, HasAt, Keeps, SubmitKnows, ReadKnows}
-use Rattle.intake.specs.LiveSharing.{LiveValue, LiveKnows, LiveSubmits, LiveReads}
+use Rattle.trace_model.specs.StoreKnowledge.{History, IsPrefixOf, HasAt, Keeps, SubmitKnows, ReadKnows}
+use Rattle.intake.specs.LiveStores.{LiveValue, LiveKnows, LiveSubmits, LiveReads}
 
 keeps : (limits : Limits) (s t : LiveValue) → IsPrefix s.known t.known → Keeps (λ _. limits) LiveKnows s t
 keeps limits s t more = record { same_limits = refl; knowledge = λ h k. prefix_trans h s.known t.known k more }

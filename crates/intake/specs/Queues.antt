@@ -27,8 +27,8 @@ pub record AreLast (made : ℕ) (jobs : List Entry) (numbers : List ℕ) : Type 
   pub each : (s : ℕ) → slice_index numbers s ≡ length (jobs_of s jobs)
 
 abbrev pub queue_view : Bool → Bool → ℕ → ℕ → List Entry → List Entry → List EndedSeat → QueueView
-queue_view submits takes seat made handed taken ended =
-    record { submits = submits; takes = takes; seat = seat; made = made; handed = handed; taken = taken; ended = ended }
+queue_view submits takes seat made submitted taken ended =
+    record { submits = submits; takes = takes; seat = seat; made = made; submitted = submitted; taken = taken; ended = ended }
 
 abbrev pub ended_seat : ℕ → List Entry → EndedSeat
 ended_seat seat jobs = record { seat = seat; jobs = jobs }
@@ -39,44 +39,44 @@ first_view = queue_view false true 0 0 [] [] []
 
 -- a view that submits is the only one of its seat, and its list is the seat's
 abbrev pub FitsSeat : (ℕ → Option ℕ) → (ℕ → List Entry) → ℕ → QueueView → Type 0
-FitsSeat holder handed pass v =
-    v.submits ≡ true → (holder v.seat ≡ some pass) × (v.handed ≡ handed v.seat)
+FitsSeat holder submitted pass v =
+    v.submits ≡ true → (holder v.seat ≡ some pass) × (v.submitted ≡ submitted v.seat)
 
 -- these seats were made, no view is of them any more, and these jobs are theirs
 abbrev pub AreEnded : (ℕ → Option ℕ) → (ℕ → List Entry) → ℕ → List EndedSeat → Type 0
-AreEnded holder handed made [] = Unit {0}
-AreEnded holder handed made (k ∷ ks) =
-    ((k.seat < made) × (holder k.seat ≡ none) × (handed k.seat ≡ k.jobs))
-    × AreEnded holder handed made ks
+AreEnded holder submitted made [] = Unit {0}
+AreEnded holder submitted made (k ∷ ks) =
+    ((k.seat < made) × (holder k.seat ≡ none) × (submitted k.seat ≡ k.jobs))
+    × AreEnded holder submitted made ks
 
 -- seats that were not made have no view and no job
 abbrev pub NotYetMade : (ℕ → Option ℕ) → (ℕ → List Entry) → ℕ → Type 0
-NotYetMade holder handed made = (s : ℕ) → made < s + 1 → (holder s ≡ none) × (handed s ≡ [])
+NotYetMade holder submitted made = (s : ℕ) → made < s + 1 → (holder s ≡ none) × (submitted s ≡ [])
 
 -- only one view takes: its list is all that was taken, and it knows which seats were made and which have ended
 abbrev pub FitsClerk : ℕ → (ℕ → Option ℕ) → (ℕ → List Entry) → List Entry → ℕ → QueueView → Type 0
-FitsClerk clerk holder handed taken pass v =
+FitsClerk clerk holder submitted taken pass v =
     v.takes ≡ true → (pass ≡ clerk) × (v.taken ≡ taken)
-    × NotYetMade holder handed v.made × AreEnded holder handed v.made v.ended
+    × NotYetMade holder submitted v.made × AreEnded holder submitted v.made v.ended
 
 -- for each seat its jobs taken, followed by those queued, are the jobs that it submitted, numbered from 1 on
 abbrev pub Balanced : List Entry → List QueueView → Type 0
 Balanced items views =
-    (clerk : ℕ) × (holder : ℕ → Option ℕ) × (handed : ℕ → List Entry) × (taken : List Entry)
-    × ((s : ℕ) → jobs_of s (taken ++ items) ≡ handed s)
-    × ((s : ℕ) → CountUp 1 (handed s))
+    (clerk : ℕ) × (holder : ℕ → Option ℕ) × (submitted : ℕ → List Entry) × (taken : List Entry)
+    × ((s : ℕ) → jobs_of s (taken ++ items) ≡ submitted s)
+    × ((s : ℕ) → CountUp 1 (submitted s))
     × ((pass : ℕ) (v : QueueView) → get_elem? views pass ≡ some v
-    → FitsSeat holder handed pass v × FitsClerk clerk holder handed taken pass v)
+    → FitsSeat holder submitted pass v × FitsClerk clerk holder submitted taken pass v)
 
 -- ---- what a step does to the view of the one who makes it
 
 -- the job is added at the end of the seat's list
-abbrev pub Puts : QueueView → Entry → QueueView → Type 0
-Puts v j w = w ≡ record v { handed = v.handed ++ j ∷ [] }
+abbrev pub PutsJob : QueueView → Entry → QueueView → Type 0
+PutsJob v j w = w ≡ record v { submitted = v.submitted ++ j ∷ [] }
 
 -- the job is added at the end of what was taken; it is of a seat that was made, and has that seat's next number
-abbrev pub Takes : QueueView → Entry → QueueView → Type 0
-Takes v j w =
+abbrev pub TakesJob : QueueView → Entry → QueueView → Type 0
+TakesJob v j w =
     (w ≡ record v { taken = v.taken ++ j ∷ [] }) × (j.seat < v.made) × AllCountUp (v.taken ++ j ∷ [])
 
 -- a seat was made
@@ -96,13 +96,13 @@ spent = queue_view false false 0 0 [] [] []
 
 -- a seat was taken in
 abbrev pub took_in : QueueView → QueueView → QueueView
-took_in v w = record v { ended = ended_seat w.seat w.handed ∷ v.ended }
+took_in v w = record v { ended = ended_seat w.seat w.submitted ∷ v.ended }
 
 -- ---- what a step says of the queue
 
 -- after some jobs that were taken, these queued ones end with all that the seat submitted
-abbrev pub Queued : QueueView → List Entry → Type 0
-Queued v items = (taken : List Entry) × (jobs_of v.seat (taken ++ items) ≡ v.handed)
+abbrev pub IsQueued : QueueView → List Entry → Type 0
+IsQueued v items = (taken : List Entry) × (jobs_of v.seat (taken ++ items) ≡ v.submitted)
 
 -- for each ended seat these are just the jobs that it submitted, numbered from 1 on
 abbrev pub AreWhole : List EndedSeat → List Entry → Type 0

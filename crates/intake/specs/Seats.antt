@@ -16,16 +16,16 @@ pub record SeatValue : Type 0 where
   pub capacity : ℕ
   pub seat : ℕ
   pub jobs : List Entry
-  pub hands_in : Bool
+  pub may_submit : Bool
 
 abbrev pub seat_value : TableId → ℕ → ℕ → QueueView → SeatValue
 seat_value desk capacity number v =
-    record { desk = desk; capacity = capacity; seat = number; jobs = v.handed; hands_in = v.submits }
+    record { desk = desk; capacity = capacity; seat = number; jobs = v.submitted; may_submit = v.submits }
 
 -- a seat of this desk that has submitted nothing yet
 abbrev pub IsNewSeat : TableId → ℕ → SeatValue → Type 0
 IsNewSeat desk capacity s =
-    (s.desk ≡ desk) × (s.capacity ≡ capacity) × (s.jobs ≡ []) × (s.hands_in ≡ true)
+    (s.desk ≡ desk) × (s.capacity ≡ capacity) × (s.jobs ≡ []) × (s.may_submit ≡ true)
 
 -- the entry that the seat makes of the work: it has the seat's next number, counted from 1
 abbrev pub next_job : SeatValue → Work → Entry
@@ -42,7 +42,7 @@ WasFull s = (items : List Entry) × (length items ≡ s.capacity)
 
 -- the seat has not ended, and has a number left
 abbrev pub HasNextNumber : SeatValue → Type 0
-HasNextNumber s = (s.hands_in ≡ true) × (length s.jobs < 2 ^ 64 - 1)
+HasNextNumber s = (s.may_submit ≡ true) × (length s.jobs < 2 ^ 64 - 1)
 
 -- why a batch was not submitted; a seat that has ended, or has no number left, only says that the desk is closed
 abbrev pub IsNotTaken : SeatValue → Refusal → Type 0
@@ -67,4 +67,4 @@ abbrev pub IsEndOf : {A : Type 0} → SeatValue → Pass A QueueView → Type 0
 IsEndOf s e =
     (e.table_id ≡ s.desk) × (e.me.1 ≡ [])
     × ((view e).submits ≡ true) × ((view e).takes ≡ false)
-    × ((view e).seat ≡ s.seat) × ((view e).handed ≡ s.jobs)
+    × ((view e).seat ≡ s.seat) × ((view e).submitted ≡ s.jobs)

@@ -62,8 +62,8 @@ with_account c job answer =
     record c { taken = c.taken ++ job ∷ []; accounts = c.accounts ++ account_of job answer ∷ [] }
 
 -- one job of this seat and number was taken, and judged as one call of admit does
-abbrev pub Serves : Limits → ClerkValue → Lists → ℕ → ℕ → ClerkValue → Lists → Type 0
-Serves limits old lists seat number new lists' =
+abbrev pub ServesJob : Limits → ClerkValue → Lists → ℕ → ℕ → ClerkValue → Lists → Type 0
+ServesJob limits old lists seat number new lists' =
     (job : Entry) × (answer : Result ℕ Refusal) × (job.seat ≡ seat) × (job.number ≡ number)
     × (new ≡ with_account old job answer) × Answers limits lists job answer lists'
 

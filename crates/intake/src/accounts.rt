@@ -60,7 +60,7 @@ impl Accounts {
     }
 
     /// Returns the number of refused jobs.
-    #[tactic(auto, using(crate::proofs::Accounting::both_counted))]
+    #[tactic(auto, using(crate::proofs::ClerkAccounts::both_counted))]
     pub fn refused(&self) -> u64
         ensures { result ≡ refused self.now }
     {
@@ -75,7 +75,7 @@ impl Accounts {
     }
 
     /// Appends an account. Allocates nothing.
-    #[tactic(auto, using(crate::proofs::Accounting::both_counted))]
+    #[tactic(auto, using(crate::proofs::ClerkAccounts::both_counted))]
     pub(crate) fn add<R: Wait>(&mut self, rt: &R, account: &Account)
         requires { length self.old < 2 ^ 62 }
         ensures { self.new ≡ self.old ++ account.now ∷ [] }

@@ -50,10 +50,10 @@ impl<N: StoreName> Books<N> {
         requires desk { self.old.inbox.desk ≡ seat.old.desk }
         requires books { Balances self.old.inbox.taken self.old.accounts
             (map arc_value self.old.left.items) }
-        requires seat { (seat.old.hands_in ≡ true)
+        requires seat { (seat.old.may_submit ≡ true)
             ⊎ HasEnded self.old.inbox.ended seat.old.seat seat.old.jobs }
 
-        ensures seat { seat.new ≡ record seat.old { hands_in = false } }
+        ensures seat { seat.new ≡ record seat.old { may_submit = false } }
         ensures desk { self.new.inbox.desk ≡ self.old.inbox.desk }
         ensures accounts { self.new.accounts ≡ self.old.accounts }
         ensures counts { (self.new.acknowledged ≡ self.old.acknowledged)

@@ -6,7 +6,7 @@ ghost use Rattle.trace_model.specs.declared.refusal.Refusal.TheVariants.{NoMemor
 ghost use Rattle.read_side.specs.Keepers.{Answers};
 ghost use Rattle.read_side.specs.Receipts.{AnsweredAt};
 ghost use Rattle.intake.specs.Denials.{IsDenied};
-ghost use Rattle.intake.specs.Turns.{IsNewInbox, IsNewClerk, Accounted, place_or_refusal, Serves, IfServed, IfNotServed, IfNoJob, WasEmpty};
+ghost use Rattle.intake.specs.Turns.{IsNewInbox, IsNewClerk, Accounted, place_or_refusal, ServesJob, IfServed, IfNotServed, IfNoJob, WasEmpty};
 ghost use Rattle.intake.specs.Books.{Ran, Balances, acknowledged, refused};
 
 use crate::account::Account;
@@ -168,7 +168,8 @@ impl<N: StoreName> Clerk<N> {
     /// [`Refusal::NoMemory`]: there is no room for another account, and no job was taken.
     pub fn turn<R: Wait>(&mut self, rt: &R, keeper: &mut Keeper<N>) -> Result<Turn, Refusal>
         ensures served { IfServed result
-            (λ seat number. Serves N.limits self.old keeper.old seat number self.new keeper.new) }
+            (λ seat number. ServesJob N.limits self.old keeper.old seat number
+            self.new keeper.new) }
         ensures unchanged { IfNotServed result ((self.new ≡ self.old) × (keeper.new ≡ keeper.old)) }
         ensures empty { IfNoJob result (WasEmpty self.old.ended self.old.taken) }
         ensures reason { IfErr result (λ why. why ≡ NoMemory) }

@@ -89,7 +89,7 @@ impl<N: StoreName> Inbox<N> {
         requires queue { (end.table_id ≡ self.old.desk) × (end.me.1 ≡ []) }
         requires seat { ((view end).submits ≡ true) × ((view end).takes ≡ false) }
         ensures { self.new ≡ record self.old {
-          ended = ended_seat (view end).seat (view end).handed ∷ self.old.ended;
+          ended = ended_seat (view end).seat (view end).submitted ∷ self.old.ended;
         } }
     {
         self.shared.queue.absorb::<TakeIn>(&mut self.end, end);
@@ -98,9 +98,9 @@ impl<N: StoreName> Inbox<N> {
     /// Ends a seat, unless it has ended.
     pub(crate) fn end(&mut self, seat: &mut Seat<N>)
         requires desk { self.old.desk ≡ seat.old.desk }
-        requires seat { (seat.old.hands_in ≡ true)
+        requires seat { (seat.old.may_submit ≡ true)
             ⊎ HasEnded self.old.ended seat.old.seat seat.old.jobs }
-        ensures seat { seat.new ≡ record seat.old { hands_in = false } }
+        ensures seat { seat.new ≡ record seat.old { may_submit = false } }
         ensures same { (self.new.desk ≡ self.old.desk) × (self.new.taken ≡ self.old.taken) }
         ensures ended { HasEnded self.new.ended seat.old.seat seat.old.jobs }
         ensures others { StillEnded self.old.ended self.new.ended }

@@ -15,7 +15,7 @@ ghost use Rattle.trace_model.specs.declared.entry.Entry.{Entry};
 ghost use Rattle.trace_model.specs.Histories.{IsLegal};
 ghost use Rattle.intake.specs.Seats.{IsNotTaken, next_job};
 ghost use Rattle.intake.specs.Denials.{IsDenied};
-ghost use Rattle.intake.specs.LiveSharing.{HandsIn, IsTurnedDown, LiveSubmits};
+ghost use Rattle.intake.specs.LiveStores.{SubmitsAs, IsTurnedDown, LiveSubmits};
 
 mod processes;
 
@@ -42,7 +42,7 @@ pub struct Live<N: StoreName> {
 }
 
 impl<N: StoreName> Model for Live<N> {
-    ghost use Rattle.intake.specs.LiveSharing.{LiveValue};
+    ghost use Rattle.intake.specs.LiveStores.{LiveValue};
 
     ghost Value = { LiveValue };
 
@@ -97,7 +97,7 @@ impl<N: StoreName> Live<N> {
         ensures refused_by { self.new.refused_by ≡ self.old.refused_by }
         ensures job { IfOk result (λ ticket.
             ticket ≡ next_job self.old.seat (brings.Batch batch)) }
-        ensures handed_in { OnOk result (HandsIn self.old.seat batch self.new.seat) }
+        ensures submitted { OnOk result (SubmitsAs self.old.seat batch self.new.seat) }
         ensures unchanged { OnErr result (self.new.seat ≡ self.old.seat) }
         ensures reason { IfErr result (IsNotTaken self.old.seat) }
     {
@@ -154,7 +154,7 @@ impl<N: StoreName> Live<N> {
 }
 
 impl<N: StoreName, R: Wait> Backend<R> for Live<N> {
-    ghost use Rattle.intake.specs.LiveSharing.{LiveKnows, LiveSubmits, LiveReads};
+    ghost use Rattle.intake.specs.LiveStores.{LiveKnows, LiveSubmits, LiveReads};
     ghost use Rattle.intake.specs.LiveLaws.{submit_knows, read_knows};
 
     ghost limits = { λ s. N.limits };

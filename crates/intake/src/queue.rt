@@ -24,7 +24,7 @@ pub struct QueueView {
     /// The number of seats that it has made.
     pub made: u64,
     /// The jobs that it submitted.
-    pub handed: LinkedList<Entry>,
+    pub submitted: LinkedList<Entry>,
     /// The jobs that it took.
     pub taken: LinkedList<Entry>,
     /// The seats that it took in.
@@ -49,24 +49,24 @@ impl<N: StoreName> Protocol<Job<N>, QueueView> for InOrder<N> {
 pub struct PushJob;
 
 impl<N: StoreName> Outcome<Job<N>, QueueView> for PushJob {
-    ghost use Rattle.intake.specs.Queues.{Puts};
+    ghost use Rattle.intake.specs.Queues.{PutsJob};
 
-    ghost then = { Puts };
+    ghost then = { PutsJob };
 }
 
 impl<N: StoreName> Lesson<Job<N>, QueueView> for PushJob {
-    ghost use Rattle.intake.specs.Queues.{Queued};
+    ghost use Rattle.intake.specs.Queues.{IsQueued};
 
-    ghost fact = { Queued };
+    ghost fact = { IsQueued };
 }
 
 /// The step that takes a job, and what is returned if there is none.
 pub struct PopJob;
 
 impl<N: StoreName> Outcome<Job<N>, QueueView> for PopJob {
-    ghost use Rattle.intake.specs.Queues.{Takes};
+    ghost use Rattle.intake.specs.Queues.{TakesJob};
 
-    ghost then = { Takes };
+    ghost then = { TakesJob };
 }
 
 impl<N: StoreName> Lesson<Job<N>, QueueView> for PopJob {

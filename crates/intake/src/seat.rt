@@ -25,9 +25,9 @@ pub struct Seat<N: StoreName> {
     end: QueueEnd<N>,
     number: u16,
     /// The number of jobs that it submitted.
-    handed: u64,
+    submitted: u64,
     /// Whether it may submit more.
-    stays: bool,
+    may_submit: bool,
 }
 
 impl<N: StoreName> Model for Seat<N> {
@@ -43,8 +43,8 @@ impl<N: StoreName> Model for Seat<N> {
         (view_at s.end) };
 
     ghost invariant = { λ s. IsPassOf (arc_value s.shared).queue s.end
-        × ((view_at s.end).takes ≡ false) × ((view_at s.end).submits ≡ s.stays)
-        × ((view_at s.end).seat ≡ s.number) × (length (view_at s.end).handed ≡ s.handed) };
+        × ((view_at s.end).takes ≡ false) × ((view_at s.end).submits ≡ s.may_submit)
+        × ((view_at s.end).seat ≡ s.number) × (length (view_at s.end).submitted ≡ s.submitted) };
 }
 
 /// Returns the entry when it has no other owner.
@@ -68,7 +68,7 @@ impl<N: StoreName> Seat<N> {
         requires queue { IsPassOf (arc_value shared).queue end }
         requires rights { ((view end).takes ≡ false) × ((view end).submits ≡ true) }
         requires seat { (view end).seat ≡ number }
-        requires handed { (view end).handed ≡ [] }
+        requires submitted { (view end).submitted ≡ [] }
         ensures seat { result.seat ≡ number }
         ensures unused { IsNewSeat end.table_id (ruled_capacity (arc_value shared).queue) result }
     {
@@ -76,8 +76,8 @@ impl<N: StoreName> Seat<N> {
             shared,
             end,
             number,
-            handed: 0,
-            stays: true,
+            submitted: 0,
+            may_submit: true,
         }
     }
 
@@ -92,19 +92,19 @@ impl<N: StoreName> Seat<N> {
     pub fn submitted(&self) -> u64
         ensures { result ≡ length self.now.jobs }
     {
-        self.handed
+        self.submitted
     }
 
     /// Gives up the right to submit, if it has it.
     pub(crate) fn retire(&mut self) -> Option<QueueEnd<N>>
         ensures { MatchOption result
-            ((self.old.hands_in ≡ false) × (self.new ≡ self.old))
-            (λ e. IsEndOf self.old e × (self.new ≡ record self.old { hands_in = false })) }
+            ((self.old.may_submit ≡ false) × (self.new ≡ self.old))
+            (λ e. IsEndOf self.old e × (self.new ≡ record self.old { may_submit = false })) }
     {
-        if !self.stays {
+        if !self.may_submit {
             return None;
         }
-        self.stays = false;
+        self.may_submit = false;
         Some(self.shared.queue.another::<Resign>(&mut self.end))
     }
 
@@ -125,7 +125,7 @@ impl<N: StoreName> Seat<N> {
     ) -> Result<Ticket<N>, (Refusal, Batch)>
         ensures may { OnOk result (HasNextNumber self.old) }
         ensures job { IfOk result (λ ticket. ticket ≡ next_job self.old (brings.Batch batch)) }
-        ensures handed_in { OnOk result
+        ensures submitted { OnOk result
             (self.new ≡ with_job self.old (next_job self.old (brings.Batch batch))) }
 
         ensures batch_back { IfErr result (λ r. r.1 ≡ batch) }
@@ -156,7 +156,7 @@ impl<N: StoreName> Seat<N> {
     ) -> Result<Ticket<N>, Refusal>
         ensures may { OnOk result (HasNextNumber self.old) }
         ensures job { IfOk result (λ ticket. ticket ≡ next_job self.old (brings.TraceLimit limit)) }
-        ensures handed_in { OnOk result
+        ensures submitted { OnOk result
             (self.new ≡ with_job self.old (next_job self.old (brings.TraceLimit limit))) }
 
         ensures unchanged { OnErr result (self.new ≡ self.old) }
@@ -177,16 +177,16 @@ impl<N: StoreName> Seat<N> {
     ) -> Result<Ticket<N>, (Refusal, Work)>
         ensures may { OnOk result (HasNextNumber self.old) }
         ensures job { IfOk result (λ ticket. ticket ≡ next_job self.old work) }
-        ensures handed_in { OnOk result (self.new ≡ with_job self.old (next_job self.old work)) }
+        ensures submitted { OnOk result (self.new ≡ with_job self.old (next_job self.old work)) }
 
         ensures work_back { IfErr result (λ r. r.1 ≡ work) }
         ensures unchanged { OnErr result (self.new ≡ self.old) }
         ensures reason { IfErr result (λ r. IsNotTaken self.old r.0) }
     {
-        if self.shared.is_closed() || !self.stays || self.handed == u64::MAX {
+        if self.shared.is_closed() || !self.may_submit || self.submitted == u64::MAX {
             return Err((Refusal::Closed, work));
         }
-        let number = self.handed + 1;
+        let number = self.submitted + 1;
         let entry = Entry {
             seat: self.number,
             number,
@@ -205,7 +205,7 @@ impl<N: StoreName> Seat<N> {
             .push_as::<PushJob, R>(rt, &mut self.end, job)
         {
             Ok(()) => {
-                self.handed = number;
+                self.submitted = number;
                 if self.shared.jobs.ring() {
                     return Ok(ticket.without_spins());
                 }

@@ -14,7 +14,7 @@ use Rattle.jaeger_model.specs.declared.batch.Process.{Process}
 use Rattle.jaeger_model.specs.declared.tag.Tag.{Tag}
 use Rattle.jaeger_model.specs.declared.tag.Value.{Value}
 use Rattle.jaeger_model.specs.declared.tag.Value.TheVariants.{Text, Double, Bool as Flag, Long, Bytes}
-use Rattle.jaeger_model.specs.Same.{same_process, same_tag, same_value}
+use Rattle.jaeger_model.specs.Sameness.{same_process, same_tag, same_value}
 use Rattle.jaeger_model.specs.SameLaws.{same_process-decides, same_value-decides}
 use Rattle.jaeger_model.specs.ProcessOrder.{rank, number, content, value_cmp, tag_cmp, process_cmp}
 

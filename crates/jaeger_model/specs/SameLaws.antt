@@ -21,8 +21,8 @@ use Rattle.jaeger_model.specs.declared.tag.Tag.{Tag}
 use Rattle.jaeger_model.specs.declared.batch.Process.{Process}
 use Rattle.jaeger_model.specs.declared.tag.Value.{Value}
 use Rattle.jaeger_model.specs.declared.tag.Value.TheVariants.{Text, Double, Bool as BoolValue, Long, Bytes}
-use Rattle.jaeger_model.specs.Same.{same_value, same_tag, same_process, same_id, same_kind, same_reference, same_log, same_span, same_number, same_batch}
-use Rattle.jaeger_model.specs.Same.{same_placed}
+use Rattle.jaeger_model.specs.Sameness.{same_value, same_tag, same_process, same_id, same_kind, same_reference, same_log, same_span, same_number, same_batch}
+use Rattle.jaeger_model.specs.Sameness.{same_placed}
 
 pub same_value-decides : (a b : Value) → Decides (same_value a b) (a ≡ b)
 same_value-decides (Text x) (Text y) = Decides-like (pointwise ◌==◌ x y) (λ e. ap (λ t. Text t) e) (λ e. cc) (bytes_decides x y)

@@ -1,6 +1,6 @@
 ghost use Rattle.std.specs.Prelude.{◌≡◌, ◌↔◌, IsTrue};
 ghost use Rattle.std.specs.Cmp.{decided, partial_equiv_from_equiv};
-ghost use Rattle.jaeger_model.specs.Same.{same_process, same_batch};
+ghost use Rattle.jaeger_model.specs.Sameness.{same_process, same_batch};
 ghost use Rattle.jaeger_model.specs.SameLaws.{same_process-decides, same_batch-decides};
 
 use crate::seq::Seq;

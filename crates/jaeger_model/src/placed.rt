@@ -1,6 +1,6 @@
 ghost use Rattle.std.specs.Prelude.{◌≡◌, ◌↔◌, ◌∷◌, IfOk, OnOk, OnErr, IsTrue};
 ghost use Rattle.std.specs.Cmp.{decided, partial_equiv_from_equiv};
-ghost use Rattle.jaeger_model.specs.Same.{same_placed};
+ghost use Rattle.jaeger_model.specs.Sameness.{same_placed};
 ghost use Rattle.jaeger_model.specs.SameLaws.{same_placed-decides};
 ghost use Rattle.jaeger_model.specs.Parents.{with_parent, parent_reference, domain};
 

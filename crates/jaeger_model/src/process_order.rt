@@ -2,7 +2,7 @@ ghost use Rattle.std.specs.Prelude.{◌≡◌, Some, refl};
 ghost use Rattle.std.specs.Ordering.{on};
 ghost use Rattle.std.specs.Cmp.{on_equiv, on_per, on_po, on_total, partial_equiv_from_equiv};
 ghost use Rattle.std.specs.Cmp.Lexicographic.{slice_cmp};
-ghost use Rattle.jaeger_model.specs.Same.{same_process};
+ghost use Rattle.jaeger_model.specs.Sameness.{same_process};
 ghost use Rattle.jaeger_model.specs.ProcessOrder.{content, number, process_cmp, rank, tag_cmp};
 ghost use Rattle.jaeger_model.specs.ProcessOrderLaws.{process_equiv, process_po, process_ties, process_total};
 

@@ -1,6 +1,6 @@
 ghost use Rattle.std.specs.Prelude.{◌≡◌, ◌↔◌, IfOk, IsTrue};
 ghost use Rattle.std.specs.Cmp.{decided, partial_equiv_from_equiv};
-ghost use Rattle.jaeger_model.specs.Same.{same_process};
+ghost use Rattle.jaeger_model.specs.Sameness.{same_process};
 ghost use Rattle.jaeger_model.specs.SameLaws.{same_process-decides};
 
 use crate::batch::Process;

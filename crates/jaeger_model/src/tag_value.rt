@@ -1,6 +1,6 @@
 ghost use Rattle.std.specs.Prelude.{◌≡◌};
 ghost use Rattle.std.specs.Cmp.{decided, partial_equiv_from_equiv};
-ghost use Rattle.jaeger_model.specs.Same.{same_value};
+ghost use Rattle.jaeger_model.specs.Sameness.{same_value};
 ghost use Rattle.jaeger_model.specs.SameLaws.{same_value-decides};
 ghost use Rattle.jaeger_model.specs.StoredValues.{stored_value, borrowed_value};
 

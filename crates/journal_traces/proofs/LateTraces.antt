@@ -4,8 +4,8 @@ use Rattle.std.specs.Prelude.{filter, int_lt, if◌then◌else◌}
 use Rattle.std.proofs.lemmas.List.{get_or-drop, drop-drop}
 use Rattle.jaeger_model.specs.declared.ids.TraceId.{TraceId}
 use Rattle.trace_assembly.specs.declared.spot.Spot.{Spot}
-use Rattle.journal_traces.proofs.Spots.{no_id}
-use Rattle.trace_ring.specs.Starting.{places_from, places_after}
+use Rattle.journal_traces.proofs.SpansAtSpots.{no_id}
+use Rattle.trace_ring.specs.FirstStarts.{places_from, places_after}
 
 -- each of the places is one of a start
 within_from : (time : ℤ) (k : ℕ) (ss : List ℤ) (i : ℕ) → i < length (places_from time k ss) → get_or (places_from time k ss) i 0 < k + length ss

@@ -10,14 +10,14 @@ use Rattle.jaeger_model.specs.Texts.{same_text}
 use Rattle.trace_model.specs.declared.entry.Entry.{Entry}
 use Rattle.trace_model.specs.declared.entry.Work.{Work}
 use Rattle.trace_model.specs.declared.entry.Work.TheVariants as brings
-use Rattle.trace_model.specs.Works.{batch_brought, service_brought}
+use Rattle.trace_model.specs.EntryWork.{batch_brought, service_brought}
 use Rattle.trace_model.proofs.NameLaws.{text_is}
 use Rattle.trace_assembly.specs.declared.spot.Spot.{Spot}
-use Rattle.trace_assembly.specs.Located.{span_at}
-use Rattle.service_index.specs.Reported.{reporters, service_at, group_in, AreGroups}
-use Rattle.service_index.proofs.PlacesGrouping.{group_within, as_many_reporters}
-use Rattle.call_links.specs.Seen.{StandsFor}
-use Rattle.journal_traces.specs.Standing.{process_at}
+use Rattle.trace_assembly.specs.LocatedSpans.{span_at}
+use Rattle.service_index.specs.ServicePlaces.{reporters, service_at, service_number_in, AreServiceNumbers}
+use Rattle.service_index.proofs.ServiceNumbers.{service_number_within, as_many_reporters}
+use Rattle.call_links.specs.NumberedCalls.{StandsFor}
+use Rattle.journal_traces.specs.SpansAtSpots.{process_at}
 use Rattle.journal_traces.proofs.Processes.{process_there}
 
 of_work : (w : Work) (p : Process) → Some p ≡ option_map (λ (b : Batch). b.process) (batch_brought w) → p.service ≡ service_brought w
@@ -49,18 +49,18 @@ pub place_there : (h : List Entry) (s : Spot) (q : Placed) → Some q ≡ span_a
 place_there h s q e = at_place h s.place q.process (process_there h s q e)
 
 -- and its service has the number that is stored there
-pub number_there : (h : List Entry) (groups : List ℕ) (s : Spot) (q : Placed) → AreGroups h groups → Some q ≡ span_at h s
-    → StandsFor (service_at h) (group_in h) (get_or groups (s.place - 1) 0, q.process.service)
-number_there h groups s q kept e =
+pub number_there : (h : List Entry) (service_numbers : List ℕ) (s : Spot) (q : Placed) → AreServiceNumbers h service_numbers → Some q ≡ span_at h s
+    → StandsFor (service_at h) (service_number_in h) (get_or service_numbers (s.place - 1) 0, q.process.service)
+number_there h service_numbers s q kept e =
     let there = place_there h s q e in
     let n = s.place - 1 in
     let below : n < length h = there.1.0 in
     let same : q.process.service ≡ service_at h n = there.1.1 in
-    let number : get_or groups n 0 ≡ group_in h q.process.service = kept.each n below ∙ ap (group_in h) (sym same) in
-    let within : group_in h (service_at h n) ≤ n = group_within h n below in
-    let first : group_in h q.process.service ≡ group_in h (service_at h n) = ap (group_in h) same in
+    let number : get_or service_numbers n 0 ≡ service_number_in h q.process.service = kept.each n below ∙ ap (service_number_in h) (sym same) in
+    let within : service_number_in h (service_at h n) ≤ n = service_number_within h n below in
+    let first : service_number_in h q.process.service ≡ service_number_in h (service_at h n) = ap (service_number_in h) same in
     let many = as_many_reporters h in
-    let known : q.process.service ≡ service_at h (group_in h q.process.service) =
-    text_is q.process.service (service_at h (group_in h q.process.service))
+    let known : q.process.service ≡ service_at h (service_number_in h q.process.service) =
+    text_is q.process.service (service_at h (service_number_in h q.process.service))
     (passes_at_first (same_text q.process.service) (reporters h) [] (omega (arith, within, first, many, below))) in
     (number, ap (service_at h) number ∙ sym known)

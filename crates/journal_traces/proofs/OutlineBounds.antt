@@ -17,11 +17,11 @@ use Rattle.arrival_journal.specs.Outlines.{outline_of, outline_in}
 use Rattle.trace_model.specs.declared.entry.Entry.{Entry}
 use Rattle.trace_model.specs.declared.entry.Work.{Work}
 use Rattle.trace_model.specs.declared.entry.Work.TheVariants as brings
-use Rattle.trace_model.specs.Works.{batch_brought}
-use Rattle.arrival_journal.specs.Tagging.{bits_of}
+use Rattle.trace_model.specs.EntryWork.{batch_brought}
+use Rattle.arrival_journal.specs.TagBits.{bits_of}
 use Rattle.std.specs.Option.{option_and_then}
-use Rattle.journal_traces.specs.Picked.{meets, met, met_or_none}
-use Rattle.journal_traces.specs.Pruned.{may_meet}
+use Rattle.journal_traces.specs.MatchingSpans.{meets, met, met_or_none}
+use Rattle.journal_traces.specs.SkippedEntries.{may_meet}
 use Rattle.journal_traces.proofs.TagBits.{AreSet, all_set, all_marked}
 
 -- the span's start and duration are within these bounds

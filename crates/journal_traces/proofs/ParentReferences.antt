@@ -6,8 +6,8 @@ use Rattle.jaeger_model.specs.declared.placed.Placed.{Placed}
 use Rattle.jaeger_model.specs.Parents.{needs_no_reference, parent_reference}
 use Rattle.trace_model.specs.declared.query.Find.{Find}
 use Rattle.trace_model.specs.Searching.{matches}
-use Rattle.trace_model.specs.Linking.{in_window}
-use Rattle.journal_traces.specs.Given.{adopted}
+use Rattle.trace_model.specs.ServiceLinks.{in_window}
+use Rattle.journal_traces.specs.AdoptedSpans.{adopted}
 
 abbrev with_if : Bool → Span → Span
 with_if b s = if b then s else record s { references = parent_reference s ∷ s.references }

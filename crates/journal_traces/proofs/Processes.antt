@@ -11,11 +11,11 @@ use Rattle.jaeger_model.specs.Parents.{with_parent}
 use Rattle.trace_model.specs.declared.entry.Entry.{Entry}
 use Rattle.trace_model.specs.declared.entry.Work.{Work}
 use Rattle.trace_model.specs.declared.entry.Work.TheVariants as brings
-use Rattle.trace_model.specs.Works.{batch_brought, placed_brought}
+use Rattle.trace_model.specs.EntryWork.{batch_brought, placed_brought}
 use Rattle.trace_model.specs.Places.{entry_at}
 use Rattle.trace_assembly.specs.declared.spot.Spot.{Spot}
-use Rattle.trace_assembly.specs.Located.{span_at}
-use Rattle.journal_traces.specs.Standing.{process_at, AreAt}
+use Rattle.trace_assembly.specs.LocatedSpans.{span_at}
+use Rattle.journal_traces.specs.SpansAtSpots.{process_at, AreReportedAt}
 
 of_batch : (p : Process) (ss : List Span) (i : ℕ) (q : Placed) → Some q ≡ slice_get (map {B = Placed} (λ s. record { process = p; span = with_parent s }) ss) i
     → q.process ≡ p
@@ -37,8 +37,8 @@ process_there h s q e = there (entry_at h s.place) e
     there (Some x) e = brought x.work s.index q e
 
 -- one more span
-pub more_at : (h : List Entry) (spans more : List Placed) (places next : List ℕ) (q : Placed) (place : ℕ) → AreAt h spans places → more ≡ spans ++ q ∷ []
-    → next ≡ places ++ place ∷ [] → Some q.process ≡ process_at h place → AreAt h more next
+pub more_at : (h : List Entry) (spans more : List Placed) (places next : List ℕ) (q : Placed) (place : ℕ) → AreReportedAt h spans places → more ≡ spans ++ q ∷ []
+    → next ≡ places ++ place ∷ [] → Some q.process ≡ process_at h place → AreReportedAt h more next
 more_at h spans more places next q place at put put_place here =
     ap (map (λ (p : Placed). Some p.process)) put ∙ map_push (λ (p : Placed). Some p.process) spans q ∙ (λ i. at i ++ here i ∷ [])
     ∙ sym (ap (map (process_at h)) put_place ∙ map_push (process_at h) places place)

@@ -10,15 +10,15 @@ use Rattle.std.proofs.lemmas.List.Elements.{filter-append}
 use Rattle.std.proofs.lemmas.Option.{slice_get-get_or}
 use Rattle.jaeger_model.specs.declared.ids.TraceId.{TraceId}
 use Rattle.jaeger_model.specs.declared.placed.Placed.{Placed}
-use Rattle.trace_model.specs.Linking.{in_window, is_between}
+use Rattle.trace_model.specs.ServiceLinks.{in_window, is_between}
 use Rattle.trace_ring.specs.declared.first_starts.ranges.Range.{Range}
 use Rattle.trace_ring.specs.declared.first_starts.ranges.Window.{Window}
-use Rattle.trace_ring.specs.Starting.{Starts}
+use Rattle.trace_ring.specs.FirstStarts.{Starts}
 use Rattle.trace_ring.specs.StartRanges.{IsIn, range_at, reaches}
 use Rattle.trace_assembly.specs.declared.spot.Spot.{Spot}
-use Rattle.trace_assembly.specs.Rows.{Assembled, spots_of}
-use Rattle.journal_traces.specs.Ranged.{AreRanged, FailsOutside, StartsIn}
-use Rattle.journal_traces.proofs.Spots.{no_id, left_out}
+use Rattle.trace_assembly.specs.AssembledRows.{Assembled, spots_of}
+use Rattle.journal_traces.specs.TraceRanges.{AreRanged, FailsOutside, StartsIn}
+use Rattle.journal_traces.proofs.SpansAtSpots.{no_id, left_out}
 
 -- the window of these times in milliseconds
 abbrev pub window_of : ℤ → ℤ → Window

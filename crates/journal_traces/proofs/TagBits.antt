@@ -16,9 +16,9 @@ use Rattle.jaeger_model.specs.Tags.{tag_text}
 use Rattle.jaeger_model.specs.Texts.{same_text}
 use Rattle.trace_model.specs.Searching.{tag_matches, has_tag, tags_of}
 use Rattle.trace_model.proofs.Lists.{each_append, each_front, each_behind}
-use Rattle.arrival_journal.specs.Tagging.{tag_place, place_of, no_bits, with_bit, with_tag, fields_of, own_tags, bits_of}
-use Rattle.journal_traces.specs.Pruned.{bit_of_words, is_marked}
-use Rattle.find_traces.proofs.Wanting.{bit_own}
+use Rattle.arrival_journal.specs.TagBits.{tag_place, place_of, no_bits, with_bit, with_tag, fields_of, own_tags, bits_of}
+use Rattle.journal_traces.specs.SkippedEntries.{bit_of_words, is_marked}
+use Rattle.find_traces.proofs.RequestedPairs.{bit_own}
 
 -- the tag's bit is among these
 abbrev pub IsSet : List ℕ → Tag → Type 0

@@ -9,8 +9,8 @@ use Rattle.std.proofs.lemmas.Bool.{and_parts, cases_eq, eqb-true, false_from_ne_
 use Rattle.std.proofs.lemmas.List.{get_or_past}
 use Rattle.std.proofs.lemmas.Nat.Bits.{bit_at_or, bit_at-lt, bit_at-zero, bit_at-pow_same, bit_at-pow_other, same_from_bits}
 use Rattle.std.proofs.lemmas.List.Sums.{fold_more}
-use Rattle.arrival_journal.specs.Tagging.{tag_place, no_bits, with_bit}
-use Rattle.journal_traces.specs.Pruned.{bit_of_words, is_marked, with_requested, requested_bits}
+use Rattle.arrival_journal.specs.TagBits.{tag_place, no_bits, with_bit}
+use Rattle.journal_traces.specs.SkippedEntries.{bit_of_words, is_marked, with_requested, requested_bits}
 use Rattle.journal_traces.proofs.TagBits.{word_put, word_still, as_many, below_eight}
 
 -- each bit of the second words is one of the first

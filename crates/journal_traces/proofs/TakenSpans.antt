@@ -12,14 +12,14 @@ use Rattle.jaeger_model.specs.declared.placed.Placed.{Placed}
 use Rattle.jaeger_model.specs.declared.placed.Seen.{Seen}
 use Rattle.trace_model.specs.declared.query.Find.{Find}
 use Rattle.trace_model.specs.Searching.{matches}
-use Rattle.trace_model.specs.Keeping.{spans_there}
-use Rattle.trace_model.specs.Sharing.{ShareProcesses}
+use Rattle.trace_model.specs.KeptTraces.{spans_there}
+use Rattle.trace_model.specs.SharedProcesses.{ShareProcesses}
 use Rattle.trace_model.proofs.KeptSpans.{one_more}
-use Rattle.trace_model.specs.Seeing.{seen, placed_by_its_entry}
-use Rattle.trace_model.specs.Taking.{Taken}
+use Rattle.trace_model.specs.BorrowedSpans.{seen, placed_by_its_entry}
+use Rattle.trace_model.specs.TakenSpans.{Taken}
 use Rattle.journal_traces.specs.declared.process_classes.ProcessClasses.{ProcessClasses}
-use Rattle.journal_traces.specs.Classes.{Leads}
-use Rattle.journal_traces.specs.Taking.{placed_taken, HasProcess, HaveProcesses}
+use Rattle.journal_traces.specs.ProcessClasses.{Leads}
+use Rattle.journal_traces.specs.TakenTraces.{placed_taken, HasProcess, HaveProcesses}
 use Rattle.journal_traces.proofs.ParentReferences.{matches-adopted}
 use Rattle.journal_traces.proofs.TraceMarks.{or_same}
 use Rattle.journal_traces.proofs.Processes.{one_process}

@@ -18,11 +18,11 @@ use Rattle.trace_model.specs.declared.query.Find.{Find}
 use Rattle.jaeger_model.specs.Parents.{same_trace}
 use Rattle.trace_model.specs.Rings.{holds}
 use Rattle.trace_model.proofs.Admissions.{none_passes}
-use Rattle.trace_model.proofs.Traces.{same_is, same_self}
-use Rattle.trace_ring.specs.Windows.{NoneTwice}
-use Rattle.trace_assembly.specs.Rows.{is_of}
-use Rattle.trace_assembly.proofs.Written.{same_swap}
-use Rattle.journal_traces.specs.Picked.{reaches, meets, met, same_before}
+use Rattle.trace_model.proofs.ShownOfTrace.{same_is, same_self}
+use Rattle.trace_ring.specs.RingValues.{NoneTwice}
+use Rattle.trace_assembly.specs.AssembledRows.{is_of}
+use Rattle.trace_assembly.proofs.WrittenRows.{same_swap}
+use Rattle.journal_traces.specs.MatchingSpans.{any_of, meets, met, same_before}
 
 -- ---- the place of a trace in the ring
 pub held : (r : List TraceId) (k : ℕ) (t : TraceId) → slice_get r k ≡ Some t → holds r t ≡ true
@@ -100,52 +100,52 @@ module _ (q : Find) (o : Process) (ss : List Span) (i : ℕ) (s : Span) (le : i 
   more = filter_more (meets q o) ss i s le ∙ ap (λ (x : Span). met q o (take i ss) ++ cond (meets q o x) (x ∷ []) []) (sym is)
 
   -- one that meets the search
-  reach_more : meets q o s ≡ true → (u : TraceId) → reaches (met q o (take (i + 1) ss)) u ≡ (reaches (met q o (take i ss)) u || same_trace u s.trace)
+  reach_more : meets q o s ≡ true → (u : TraceId) → any_of (met q o (take (i + 1) ss)) u ≡ (any_of (met q o (take i ss)) u || same_trace u s.trace)
   reach_more m u =
       ap (list_any (is_of u)) (more ∙ ap (λ b. met q o (take i ss) ++ cond b (s ∷ []) []) m) ∙ list_any-append (is_of u) (met q o (take i ss)) (s ∷ [])
-      ∙ ap (λ b. reaches (met q o (take i ss)) u || b) (sym (or_same (is_of u s)))
+      ∙ ap (λ b. any_of (met q o (take i ss)) u || b) (sym (or_same (is_of u s)))
 
   pub marked_more : (p : TraceId → Bool) (r : List TraceId) → meets q o s ≡ true
-      → map (λ u. (p u || reaches (met q o (take i ss)) u) || same_trace u s.trace) r ≡ map (λ u. p u || reaches (met q o (take (i + 1) ss)) u) r
-  marked_more p r m = λ j. map (λ u. (or_assoc (p u) (reaches (met q o (take i ss)) u) (same_trace u s.trace) ∙ ap (λ b. p u || b) (sym (reach_more m u))) j) r
+      → map (λ u. (p u || any_of (met q o (take i ss)) u) || same_trace u s.trace) r ≡ map (λ u. p u || any_of (met q o (take (i + 1) ss)) u) r
+  marked_more p r m = λ j. map (λ u. (or_assoc (p u) (any_of (met q o (take i ss)) u) (same_trace u s.trace) ∙ ap (λ b. p u || b) (sym (reach_more m u))) j) r
 
-  still : reaches (met q o (take i ss)) s.trace ≡ true → (u : TraceId)
-      → reaches (met q o (take i ss)) u ≡ (reaches (met q o (take i ss)) u || same_trace u s.trace)
-  still there u = elim (same_trace u s.trace) as (λ b. same_trace u s.trace ≡ b → reaches (met q o (take i ss)) u ≡ (reaches (met q o (take i ss)) u || b)) [
-    | true ↦ λ e. ap (reaches (met q o (take i ss))) (same_is u s.trace e) ∙ there ∙ sym (or-true (reaches (met q o (take i ss)) u))
-    | false ↦ λ _. or_same (reaches (met q o (take i ss)) u)
+  still : any_of (met q o (take i ss)) s.trace ≡ true → (u : TraceId)
+      → any_of (met q o (take i ss)) u ≡ (any_of (met q o (take i ss)) u || same_trace u s.trace)
+  still there u = elim (same_trace u s.trace) as (λ b. same_trace u s.trace ≡ b → any_of (met q o (take i ss)) u ≡ (any_of (met q o (take i ss)) u || b)) [
+    | true ↦ λ e. ap (any_of (met q o (take i ss))) (same_is u s.trace e) ∙ there ∙ sym (or-true (any_of (met q o (take i ss)) u))
+    | false ↦ λ _. or_same (any_of (met q o (take i ss)) u)
   ] refl
 
   -- one that doesn't meet it, or whose trace was marked before
-  same_reach : (meets q o s ≡ true → reaches (met q o (take i ss)) s.trace ≡ true) → (u : TraceId)
-      → reaches (met q o (take (i + 1) ss)) u ≡ reaches (met q o (take i ss)) u
-  same_reach there u = elim (meets q o s) as (λ b. meets q o s ≡ b → reaches (met q o (take (i + 1) ss)) u ≡ reaches (met q o (take i ss)) u) [
+  same_reach : (meets q o s ≡ true → any_of (met q o (take i ss)) s.trace ≡ true) → (u : TraceId)
+      → any_of (met q o (take (i + 1) ss)) u ≡ any_of (met q o (take i ss)) u
+  same_reach there u = elim (meets q o s) as (λ b. meets q o s ≡ b → any_of (met q o (take (i + 1) ss)) u ≡ any_of (met q o (take i ss)) u) [
     | true ↦ λ m. reach_more m u ∙ sym (still (there m) u)
     | false ↦ λ m. ap (list_any (is_of u)) (more ∙ ap (λ b. met q o (take i ss) ++ cond b (s ∷ []) []) m ∙ append-nil (met q o (take i ss)))
   ] refl
 
-  pub marked_again : (p : TraceId → Bool) (r : List TraceId) → (meets q o s ≡ true → reaches (met q o (take i ss)) s.trace ≡ true)
-      → map (λ u. p u || reaches (met q o (take i ss)) u) r ≡ map (λ u. p u || reaches (met q o (take (i + 1) ss)) u) r
+  pub marked_again : (p : TraceId → Bool) (r : List TraceId) → (meets q o s ≡ true → any_of (met q o (take i ss)) s.trace ≡ true)
+      → map (λ u. p u || any_of (met q o (take i ss)) u) r ≡ map (λ u. p u || any_of (met q o (take (i + 1) ss)) u) r
   marked_again p r there = λ j. map (λ u. p u || sym (same_reach there u) j) r
 
-  pub reached_own : (t : TraceId) → meets q o s ≡ true → s.trace ≡ t → reaches (met q o (take (i + 1) ss)) t ≡ true
+  pub reached_own : (t : TraceId) → meets q o s ≡ true → s.trace ≡ t → any_of (met q o (take (i + 1) ss)) t ≡ true
   reached_own t m own =
-      reach_more m t ∙ ap (λ x. reaches (met q o (take i ss)) t || same_trace t x) own ∙ ap (λ b. reaches (met q o (take i ss)) t || b) (same_self t)
-      ∙ or-true (reaches (met q o (take i ss)) t)
+      reach_more m t ∙ ap (λ x. any_of (met q o (take i ss)) t || same_trace t x) own ∙ ap (λ b. any_of (met q o (take i ss)) t || b) (same_self t)
+      ∙ or-true (any_of (met q o (take i ss)) t)
 
-  pub reached_still : (t : TraceId) → (meets q o s ≡ true → reaches (met q o (take i ss)) s.trace ≡ true) → reaches (met q o (take i ss)) t ≡ true
-      → reaches (met q o (take (i + 1) ss)) t ≡ true
+  pub reached_still : (t : TraceId) → (meets q o s ≡ true → any_of (met q o (take i ss)) s.trace ≡ true) → any_of (met q o (take i ss)) t ≡ true
+      → any_of (met q o (take (i + 1) ss)) t ≡ true
   reached_still t there before = same_reach there t ∙ before
 
 pub marked_all : (q : Find) (o : Process) (p : TraceId → Bool) (r : List TraceId) (ss : List Span) (i : ℕ) → length ss ≤ i
-    → map (λ u. p u || reaches (met q o (take i ss)) u) r ≡ map (λ u. p u || reaches (met q o ss) u) r
-marked_all q o p r ss i le = ap (λ (l : List Span). map (λ u. p u || reaches (met q o l) u) r) (take_all i ss le)
+    → map (λ u. p u || any_of (met q o (take i ss)) u) r ≡ map (λ u. p u || any_of (met q o ss) u) r
+marked_all q o p r ss i le = ap (λ (l : List Span). map (λ u. p u || any_of (met q o l) u) r) (take_all i ss le)
 
 -- ---- one more of the places
 pub marked_place : (spans_at : ℕ → List Span) (r : List TraceId) (done : List ℕ) (place : ℕ)
-    → map (λ u. reaches (flat_map spans_at done) u || reaches (spans_at place) u) r ≡ map (reaches (flat_map spans_at (done ++ place ∷ []))) r
+    → map (λ u. any_of (flat_map spans_at done) u || any_of (spans_at place) u) r ≡ map (any_of (flat_map spans_at (done ++ place ∷ []))) r
 marked_place spans_at r done place = λ j. map (λ u. sym (
-    ap (λ l. reaches l u) (sym (flat_map_more spans_at [] done place))
+    ap (λ l. any_of l u) (sym (flat_map_more spans_at [] done place))
     ∙ list_any-append (is_of u) (flat_map spans_at done) (spans_at place)) j) r
 
 -- ---- what was marked is picked

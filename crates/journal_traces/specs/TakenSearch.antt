@@ -6,10 +6,10 @@ use Rattle.std.specs.Ordering.{nat_cmp}
 use Rattle.jaeger_model.specs.declared.batch.Process.{Process}
 use Rattle.jaeger_model.specs.declared.placed.Placed.{Placed}
 use Rattle.trace_model.specs.declared.query.Find.{Find}
-use Rattle.trace_model.specs.Taking.{Taken}
-use Rattle.find_traces.specs.Wanting.{Beside}
-use Rattle.journal_traces.specs.Meeting.{IsJudgedAs}
-use Rattle.journal_traces.specs.Taking.{placed_taken, HaveProcesses}
+use Rattle.trace_model.specs.TakenSpans.{Taken}
+use Rattle.find_traces.specs.RequestedPairs.{Beside}
+use Rattle.journal_traces.specs.ProcessConditions.{IsJudgedAs}
+use Rattle.journal_traces.specs.TakenTraces.{placed_taken, HaveProcesses}
 
 -- the process of the number was judged with this result
 abbrev pub IsOfNumber : Find → (ℕ → Option Process) → ℕ → Option Beside → Type 0

@@ -22,12 +22,12 @@ pub struct Candidates<'a> {
     pub prepared: &'a PreparedSearch<'a>,
     /// The spots of each trace, those of the one opened first at the front.
     pub spots: &'a [Spots<'a>],
-    pub ghost told: { AreTold prepared.now journal.now.held.entries reported.now.groups
+    pub ghost correct: { AreTold prepared.now journal.now.held.entries reported.now.service_numbers
         service } by { Prim.hlevel props },
 }
 
 impl<'a> Searched for Candidates<'a> {
-    ghost use Rattle.journal_traces.specs.Looked.{traces_of, query_of};
+    ghost use Rattle.journal_traces.specs.CandidateTraces.{traces_of, query_of};
 
     ghost traces = { traces_of };
 

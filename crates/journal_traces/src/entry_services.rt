@@ -1,7 +1,7 @@
 //! Which entries are of a service, by the numbers of services: no span is read.
 
 ghost use Rattle.std.specs.Prelude.{◌≡◌, ◌<◌, ◌≤◌, ◌-◌, ◌^◌, length, get_or};
-ghost use Rattle.journal_traces.specs.Reporting.{is_number};
+ghost use Rattle.journal_traces.specs.ReportedSpots.{is_number};
 
 use service_index::ServicePlaces;
 
@@ -9,11 +9,11 @@ use service_index::ServicePlaces;
 pub(crate) fn is_of_service(reported: &ServicePlaces, service: Option<u32>, place: u64) -> bool
     requires few { place < 2 ^ 32 }
     requires above { 0 < place }
-    requires within { place ≤ length reported.now.groups }
-    ensures { result ≡ is_number service (get_or reported.now.groups (place - 1) 0) }
+    requires within { place ≤ length reported.now.service_numbers }
+    ensures { result ≡ is_number service (get_or reported.now.service_numbers (place - 1) 0) }
 {
     match service {
-        Some(service) => reported.group_at((place - 1) as u32) == service,
+        Some(service) => reported.service_number_at((place - 1) as u32) == service,
         None => false,
     }
 }

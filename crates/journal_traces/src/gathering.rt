@@ -1,9 +1,9 @@
 //! The spans at spots, in their entries: the entries are shared, and no span is copied.
 
 ghost use Rattle.std.specs.Prelude.{◌≡◌, Some, IfOk, option_map};
-ghost use Rattle.trace_model.specs.Keeping.{spans_there};
-ghost use Rattle.trace_assembly.specs.Located.{span_at};
-ghost use Rattle.journal_traces.specs.Standing.{spans_named, AreAt};
+ghost use Rattle.trace_model.specs.KeptTraces.{spans_there};
+ghost use Rattle.trace_assembly.specs.LocatedSpans.{span_at};
+ghost use Rattle.journal_traces.specs.SpansAtSpots.{spans_named, AreReportedAt};
 
 use arrival_journal::Journal;
 use std::alloc::{AllocError, Global};
@@ -51,7 +51,7 @@ pub fn gather(
     ensures spans { IfOk result (λ g. spans_there g.spans.items ≡
         spans_named journal.now.held.entries spots.entry) }
     ensures places { IfOk result (λ g.
-        AreAt journal.now.held.entries (spans_there g.spans.items) g.process_keys.items) }
+        AreReportedAt journal.now.held.entries (spans_there g.spans.items) g.process_keys.items) }
     ensures form { IfOk result (λ g. (g.limits ≡ limits) × (g.raw ≡ raw)) }
 {
     let count = spot_count(spots.again());

@@ -5,9 +5,9 @@ ghost use Rattle.std.specs.List.{list_any};
 ghost use Rattle.jaeger_model.specs.declared.batch.Process.{Process as ProcessValue};
 ghost use Rattle.jaeger_model.specs.Texts.{same_text};
 ghost use Rattle.trace_model.specs.Searching.{matches};
-ghost use Rattle.trace_model.specs.Seeing.{seen};
+ghost use Rattle.trace_model.specs.BorrowedSpans.{seen};
 ghost use Rattle.journal_traces.specs.Told.{AreTold};
-ghost use Rattle.journal_traces.specs.Standing.{process_at, spans_named};
+ghost use Rattle.journal_traces.specs.SpansAtSpots.{process_at, spans_named};
 
 use crate::entry_services::is_of_service;
 use crate::spotted_spans::seen_at;
@@ -41,7 +41,7 @@ impl<'a> Model for Judging<'a> {
 
     ghost view = { λ j. (j.prepared.now, j.journal.now.held.entries) };
 
-    ghost invariant = { λ j. AreTold j.prepared.now j.journal.now.held.entries j.reported.now.groups
+    ghost invariant = { λ j. AreTold j.prepared.now j.journal.now.held.entries j.reported.now.service_numbers
         j.service };
 }
 
@@ -52,7 +52,7 @@ impl<'a> Judging<'a> {
         prepared: &'a PreparedSearch<'a>,
         service: Option<u32>,
     ) -> Self
-        requires { AreTold prepared.now journal.now.held.entries reported.now.groups service }
+        requires { AreTold prepared.now journal.now.held.entries reported.now.service_numbers service }
         ensures { result ≡ (prepared.now, journal.now.held.entries) }
     {
         Judging {

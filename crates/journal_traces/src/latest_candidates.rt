@@ -2,7 +2,7 @@
 
 ghost use Rattle.std.specs.Prelude.{◌≡◌, ℤ, int_lt, IfOk, map, filter, length};
 ghost use Rattle.jaeger_model.specs.declared.ids.TraceId.{TraceId as TraceIdValue};
-ghost use Rattle.trace_assembly.specs.Rows.{spots_of};
+ghost use Rattle.trace_assembly.specs.AssembledRows.{spots_of};
 
 use std::alloc::{AllocError, Global};
 use trace_assembly::{Assembly, Spots};

@@ -4,8 +4,8 @@ ghost use Rattle.std.specs.Prelude.{◌≡◌, ◌==◌, ℕ, Option, Some, IfOk
 ghost use Rattle.std.specs.BTreeMap.{get};
 ghost use Rattle.std.specs.Ordering.{nat_cmp};
 ghost use Rattle.jaeger_model.specs.declared.batch.Process.{Process as ProcessValue};
-ghost use Rattle.journal_traces.specs.Classes.{Leads};
-ghost use Rattle.journal_traces.specs.Taking.{HasProcess};
+ghost use Rattle.journal_traces.specs.ProcessClasses.{Leads};
+ghost use Rattle.journal_traces.specs.TakenTraces.{HasProcess};
 
 use crate::recurring::Recurring;
 use jaeger_model::{ByContent, Process};
@@ -106,7 +106,7 @@ impl<'a> ProcessClasses<'a> {
         if let Some(class) = known(&self.by_key, key) {
             return Ok(class);
         }
-        let class = self.class_of_process(span.seen().process, key)?;
+        let class = self.class_of_process(span.reported().process, key)?;
         keep(&mut self.by_key, key, class)?;
         Ok(class)
     }

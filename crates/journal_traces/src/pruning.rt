@@ -3,7 +3,7 @@
 ghost use Rattle.std.specs.Prelude.{◌≡◌, ◌==◌, ℕ, List};
 ghost use Rattle.std.specs.Int.Bits.{bit_or};
 ghost use Rattle.std.specs.List.{list_all};
-ghost use Rattle.journal_traces.specs.Pruned.{may_meet_durations, may_meet_starts, is_marked, requested_bits, may_meet, may_reach};
+ghost use Rattle.journal_traces.specs.SkippedEntries.{may_meet_durations, may_meet_starts, is_marked, requested_bits, may_meet, may_reach};
 
 use arrival_journal::{Outline, TagBits, Times, no_bits, set_bit, tag_place};
 use jaeger_model::Text;
@@ -69,7 +69,7 @@ pub(crate) struct EntryFilter<'q> {
 impl<'q> Model for EntryFilter<'q> {
     ghost use Rattle.std.specs.Prelude.{◌≡◌};
     ghost use Rattle.trace_model.specs.declared.query.Find.{Find};
-    ghost use Rattle.journal_traces.specs.Pruned.{requested_bits as bits_of_asked};
+    ghost use Rattle.journal_traces.specs.SkippedEntries.{requested_bits as bits_of_asked};
 
     ghost Value = { Find };
 

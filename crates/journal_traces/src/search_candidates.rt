@@ -5,10 +5,10 @@ ghost use Rattle.std.specs.Bool.{OnTrue, OnFalse};
 ghost use Rattle.jaeger_model.specs.Parents.{same_trace};
 ghost use Rattle.jaeger_model.specs.Texts.{same_text};
 ghost use Rattle.jaeger_model.specs.declared.ids.TraceId.{TraceId as TraceIdValue};
-ghost use Rattle.trace_assembly.specs.Rows.{spots_of};
-ghost use Rattle.trace_ring.specs.Windows.{NoneTwice};
-ghost use Rattle.journal_traces.specs.Picked.{reaches, meets, met, met_or_none, near, near_at, near_along, same_before};
-ghost use Rattle.journal_traces.specs.Standing.{batch_at};
+ghost use Rattle.trace_assembly.specs.AssembledRows.{spots_of};
+ghost use Rattle.trace_ring.specs.RingValues.{NoneTwice};
+ghost use Rattle.journal_traces.specs.MatchingSpans.{any_of, meets, met, met_or_none, without_tags, near_at, near_along, same_before};
+ghost use Rattle.journal_traces.specs.SpansAtSpots.{batch_at};
 
 use crate::pruning::EntryFilter;
 use crate::spotted_spans::batch_at;
@@ -62,7 +62,7 @@ fn is_trace_before(before: Option<TraceId>, trace: TraceId) -> bool
 /// Whether a span of the requested service meets every condition of the search but those on tags.
 fn is_met_without_tags(query: &Find, at: Seen<'_>) -> bool
     requires { same_text query.now.service at.process.now.service ≡ true }
-    ensures { result ≡ meets (near query.now) at.entry.process.now at.entry.span.now }
+    ensures { result ≡ meets (without_tags query.now) at.entry.process.now at.entry.span.now }
 {
     meets_span_conditions(at, query)
 }
@@ -71,7 +71,7 @@ fn is_met_without_tags(query: &Find, at: Seen<'_>) -> bool
 fn is_new_match(before: Option<TraceId>, query: &Find, at: Seen<'_>) -> bool
     requires { same_text query.now.service at.process.now.service ≡ true }
     ensures { result ≡ (not (same_before before at.entry.span.now.trace)
-        && meets (near query.now) at.entry.process.now at.entry.span.now) }
+        && meets (without_tags query.now) at.entry.process.now at.entry.span.now) }
 {
     !is_trace_before(before, at.span.trace) && is_met_without_tags(query, at)
 }
@@ -91,7 +91,7 @@ fn mark_spans(
     requires service { same_text query.now.service process.now.service ≡ true }
     ensures { (p : TraceIdValue → Bool) → marks.old ≡ map p ring.now.ids →
         marks.new ≡ map (λ t. p t ||
-        reaches (met (near query.now) process.now spans.now) t) ring.now.ids }
+        any_of (met (without_tags query.now) process.now spans.now) t) ring.now.ids }
 {
     let mut before = None;
     let mut index: u32 = 0;
@@ -109,7 +109,7 @@ fn mark_spans(
 fn is_skipped(journal: &Journal, place: u64, filter: &EntryFilter<'_>) -> bool
     ensures passed { OnTrue result (near_at filter.now journal.now.held.entries place ≡ []) }
     ensures looked_at { OnFalse result (near_at filter.now journal.now.held.entries place ≡
-        met_or_none (near filter.now) (batch_at journal.now.held.entries place)) }
+        met_or_none (without_tags filter.now) (batch_at journal.now.held.entries place)) }
 {
     match journal.outline(place) {
         Some(outline) => !filter.may_meet(outline),
@@ -129,7 +129,7 @@ fn mark_entry(
     requires once { NoneTwice ring.now.ids }
     requires size { length marks.old ≡ length ring.now.ids }
     ensures { (p : TraceIdValue → Bool) → marks.old ≡ map p ring.now.ids →
-        marks.new ≡ map (λ t. p t || reaches (near_at filter.now journal.now.held.entries place) t)
+        marks.new ≡ map (λ t. p t || any_of (near_at filter.now journal.now.held.entries place) t)
         ring.now.ids }
 {
     if is_skipped(journal, place, filter) {
@@ -161,7 +161,7 @@ fn marks_along(
     query: &Find,
 ) -> Result<Vec<bool>, AllocError>
     ensures { IfOk result (λ v. v.items ≡
-        map (reaches (near_along query.now journal.now.held.entries places.entry))
+        map (any_of (near_along query.now journal.now.held.entries places.entry))
         assembly.now.newest.ids) }
 {
     let ring = assembly.ring();
@@ -214,7 +214,7 @@ pub fn spots_along<'a>(
     query: &Find,
 ) -> Result<Vec<Spots<'a>>, AllocError>
     ensures { IfOk result (λ v. v.items ≡ map (spots_of assembly.now)
-        (filter (reaches (near_along query.now journal.now.held.entries places.entry))
+        (filter (any_of (near_along query.now journal.now.held.entries places.entry))
         assembly.now.newest.ids)) }
 {
     let marks = marks_along(alloc, assembly, firsts, journal, places, query)?;

@@ -2,9 +2,9 @@
 
 ghost use Rattle.std.specs.Prelude.{◌≡◌, ◌<◌, ◌^◌, IfOk, map, filter, length};
 ghost use Rattle.std.specs.List.{list_any};
-ghost use Rattle.trace_assembly.specs.Rows.{spots_of};
-ghost use Rattle.service_index.specs.Reported.{AreGroups};
-ghost use Rattle.journal_traces.specs.Reporting.{is_reported, are_reported};
+ghost use Rattle.trace_assembly.specs.AssembledRows.{spots_of};
+ghost use Rattle.service_index.specs.ServicePlaces.{AreServiceNumbers};
+ghost use Rattle.journal_traces.specs.ReportedSpots.{is_reported, are_reported};
 
 use crate::entry_services::is_of_service;
 use arrival_journal::Journal;
@@ -15,9 +15,9 @@ use trace_assembly::{Assembly, Spot, Spots};
 /// Whether there is an entry at a spot's place, and its service has this number.
 fn is_reported(journal: &Journal, reported: &ServicePlaces, service: u32, spot: Spot) -> bool
     requires few { length journal.now.held.entries < 2 ^ 32 }
-    requires numbers { AreGroups journal.now.held.entries reported.now.groups }
+    requires numbers { AreServiceNumbers journal.now.held.entries reported.now.service_numbers }
     ensures { result ≡
-        is_reported journal.now.held.entries reported.now.groups service spot }
+        is_reported journal.now.held.entries reported.now.service_numbers service spot }
 {
     journal.entry(spot.place).is_some() && is_of_service(reported, Some(service), spot.place)
 }
@@ -25,9 +25,9 @@ fn is_reported(journal: &Journal, reported: &ServicePlaces, service: u32, spot: 
 /// Whether the entry of one of the spots is of the service with this number.
 fn are_reported(journal: &Journal, reported: &ServicePlaces, service: u32, spots: Spots<'_>) -> bool
     requires few { length journal.now.held.entries < 2 ^ 32 }
-    requires numbers { AreGroups journal.now.held.entries reported.now.groups }
+    requires numbers { AreServiceNumbers journal.now.held.entries reported.now.service_numbers }
     ensures { result ≡
-        are_reported journal.now.held.entries reported.now.groups service spots.entry }
+        are_reported journal.now.held.entries reported.now.service_numbers service spots.entry }
 {
     for spot in spots {
         if is_reported(journal, reported, service, spot) {
@@ -52,9 +52,9 @@ pub fn spots_reported<'a>(
     service: u32,
 ) -> Result<Vec<Spots<'a>>, AllocError>
     requires few { length journal.now.held.entries < 2 ^ 32 }
-    requires numbers { AreGroups journal.now.held.entries reported.now.groups }
+    requires numbers { AreServiceNumbers journal.now.held.entries reported.now.service_numbers }
     ensures { IfOk result (λ v. v.items ≡ map (spots_of assembly.now)
-        (filter (λ t. are_reported journal.now.held.entries reported.now.groups service
+        (filter (λ t. are_reported journal.now.held.entries reported.now.service_numbers service
         (spots_of assembly.now t)) assembly.now.newest.ids)) }
 {
     let mut found = Vec::new(alloc);

@@ -3,7 +3,7 @@
 ghost use Rattle.std.specs.Prelude.{◌≡◌, IfOk};
 ghost use Rattle.jaeger_model.specs.declared.batch.Process.{Process as ProcessValue};
 ghost use Rattle.trace_model.specs.declared.query.Find.{Find as FindValue};
-ghost use Rattle.journal_traces.specs.Meeting.{of_service_with_tags, IsJudgedAs};
+ghost use Rattle.journal_traces.specs.ProcessConditions.{of_service_with_tags, IsJudgedAs};
 
 use find_traces::{JudgedProcess, PreparedSearch};
 use jaeger_model::{Process, Span};

@@ -4,10 +4,10 @@ ghost use Rattle.std.specs.Prelude.{◌≡◌, false, [], ◌∷◌, option_map,
 ghost use Rattle.std.specs.Bool.{OnTrue};
 ghost use Rattle.std.specs.List.{list_any};
 ghost use Rattle.trace_model.specs.Searching.{matches, first_start, first_id};
-ghost use Rattle.trace_model.specs.Linking.{in_window};
-ghost use Rattle.trace_assembly.specs.Located.{span_at};
-ghost use Rattle.trace_model.specs.Seeing.{placed_by_its_entry};
-ghost use Rattle.journal_traces.specs.Standing.{batch_at, spans_named};
+ghost use Rattle.trace_model.specs.ServiceLinks.{in_window};
+ghost use Rattle.trace_assembly.specs.LocatedSpans.{span_at};
+ghost use Rattle.trace_model.specs.BorrowedSpans.{placed_by_its_entry};
+ghost use Rattle.journal_traces.specs.SpansAtSpots.{batch_at, spans_named};
 
 use crate::judging::Judging;
 use crate::pruning::may_reach;
@@ -29,7 +29,7 @@ pub(crate) fn batch_at(journal: &Journal, place: u64) -> Option<&Batch>
 }
 
 /// Returns the span at a spot.
-#[tactic(auto, using(crate::proofs::Spots::span_there, crate::proofs::Spots::no_span_there))]
+#[tactic(auto, using(crate::proofs::SpansAtSpots::span_there, crate::proofs::SpansAtSpots::no_span_there))]
 pub(crate) fn seen_at(journal: &Journal, spot: Spot) -> Option<Seen<'_>>
     ensures { option_map placed_by_its_entry result ≡ span_at journal.now.held.entries spot }
 {

@@ -6,13 +6,13 @@ ghost use Rattle.std.specs.Option.{option_and_then};
 ghost use Rattle.std.specs.List.{list_any, All, AllZip};
 ghost use Rattle.jaeger_model.specs.Parents.{domain};
 ghost use Rattle.trace_model.specs.Searching.{found_in, matches};
-ghost use Rattle.trace_model.specs.Seeing.{seen};
-ghost use Rattle.trace_model.specs.Taking.{Taken};
-ghost use Rattle.trace_assembly.specs.Located.{span_at};
-ghost use Rattle.journal_traces.specs.Meeting.{IsJudgedAs};
-ghost use Rattle.journal_traces.specs.Spotted.{spot_of, taken_spotted, trace_spotted, traces_spotted, is_entry_met, may_spot_meet, may_spots_meet, IsToldBy};
-ghost use Rattle.journal_traces.specs.Spotted.{IsTold, IsTellingOf, entry_shared, entries_shared, process_numbered, AreNumbered};
-ghost use Rattle.journal_traces.specs.Taking.{placed_taken, HasProcess, ShareByNumber};
+ghost use Rattle.trace_model.specs.BorrowedSpans.{seen};
+ghost use Rattle.trace_model.specs.TakenSpans.{Taken};
+ghost use Rattle.trace_assembly.specs.LocatedSpans.{span_at};
+ghost use Rattle.journal_traces.specs.ProcessConditions.{IsJudgedAs};
+ghost use Rattle.journal_traces.specs.TagCandidates.{spot_of, taken_spotted, trace_spotted, traces_spotted, is_entry_met, may_spot_meet, may_spots_meet, IsMatchFlag};
+ghost use Rattle.journal_traces.specs.TagCandidates.{HasMatchFlag, IsMatchFlagOf, entry_shared, entries_shared, process_numbered, AreNumberedByEntry};
+ghost use Rattle.journal_traces.specs.TakenTraces.{placed_taken, HasProcess, ShareByNumber};
 
 use crate::span_conditions::{has_tags, judge};
 use crate::taken::TakenTraces;
@@ -52,10 +52,10 @@ pub struct TagCandidates<'q> {
 
 impl<'q> Model for TagCandidates<'q> {
     ghost use Rattle.std.specs.Prelude.{map};
-    ghost use Rattle.journal_traces.specs.Cutting.{cut_at};
-    ghost use Rattle.journal_traces.specs.Spotted.{Spotted, IsSpotted, entries_shared, trace_spotted};
+    ghost use Rattle.journal_traces.specs.TraceParts.{cut_at};
+    ghost use Rattle.journal_traces.specs.TagCandidates.{TagCandidatesValue, AreTagCandidates, entries_shared, trace_spotted};
 
-    ghost Value = { Spotted };
+    ghost Value = { TagCandidatesValue };
 
     ghost view = { λ c. record {
       query = c.query.now;
@@ -64,7 +64,7 @@ impl<'q> Model for TagCandidates<'q> {
           c.starts.items;
     } };
 
-    ghost invariant = { λ c. IsSpotted c.query.now c.entries.items c.spots.items c.starts.items };
+    ghost invariant = { λ c. AreTagCandidates c.query.now c.entries.items c.spots.items c.starts.items };
 }
 
 /// Whether a span of a judged process meets every condition of the search.
@@ -110,7 +110,7 @@ fn is_entry_met(
     prepared: &PreparedSearch<'_>,
     taken: &TakenEntry,
 ) -> Result<bool, AllocError>
-    requires { IsTold prepared.now taken.now }
+    requires { HasMatchFlag prepared.now taken.now }
     ensures { IfOk result (λ b. b ≡ is_entry_met prepared.now (entry_shared taken.now)) }
 {
     if !taken.may_match {
@@ -130,8 +130,8 @@ fn may_entry_meet(
     taken: &TakenEntry,
     is_judged: bool,
 ) -> Result<bool, AllocError>
-    requires { IsTold prepared.now taken.now }
-    ensures { IfOk result (IsToldBy prepared.now (entry_shared taken.now)) }
+    requires { HasMatchFlag prepared.now taken.now }
+    ensures { IfOk result (IsMatchFlag prepared.now (entry_shared taken.now)) }
 {
     if is_judged {
         is_entry_met(alloc, prepared, taken)
@@ -147,8 +147,8 @@ fn may_meet_by_entry(
     prepared: &PreparedSearch<'_>,
     entries: &[TakenEntry],
 ) -> Result<Vec<bool>, AllocError>
-    requires { All (IsTold prepared.now) entries.now }
-    ensures { IfOk result (λ v. AllZip (IsTellingOf prepared.now) entries.now v.items) }
+    requires { All (HasMatchFlag prepared.now) entries.now }
+    ensures { IfOk result (λ v. AllZip (IsMatchFlagOf prepared.now) entries.now v.items) }
 {
     let mut found: usize = 0;
     let mut flags = Vec::with_capacity(alloc, entries.len())?;
@@ -208,8 +208,8 @@ fn take_spots(
 ) -> Result<(), AllocError>
     ensures spans { OnOk result (map placed_taken traces.new ≡ map placed_taken traces.old
         ++ placed_taken (trace_spotted (entries_shared entries.now) spots.now) ∷ []) }
-    ensures numbers { OnOk result (AreNumbered (entries_shared entries.now) traces.old →
-        AreNumbered (entries_shared entries.now) traces.new) }
+    ensures numbers { OnOk result (AreNumberedByEntry (entries_shared entries.now) traces.old →
+        AreNumberedByEntry (entries_shared entries.now) traces.new) }
 {
     traces.begin()?;
     for spot in spots {
@@ -259,7 +259,7 @@ impl<'q> TagCandidates<'q> {
         entry: &Arc<Entry>,
         may_match: bool,
     ) -> Result<(), AllocError>
-        requires { IsToldBy self.old.query (arc_value entry.now) may_match }
+        requires { IsMatchFlag self.old.query (arc_value entry.now) may_match }
         ensures query { self.new.query ≡ self.old.query }
         ensures entries { OnOk result (self.new.entries ≡
             self.old.entries ++ arc_value entry.now ∷ []) }

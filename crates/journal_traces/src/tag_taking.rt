@@ -5,11 +5,11 @@ ghost use Rattle.std.specs.Arc.{arc_value};
 ghost use Rattle.std.proofs.Props.{props};
 ghost use Rattle.trace_model.specs.declared.entry.Entry.{Entry as EntryValue};
 ghost use Rattle.trace_model.specs.Places.{entry_at};
-ghost use Rattle.trace_assembly.specs.Located.{span_at};
+ghost use Rattle.trace_assembly.specs.LocatedSpans.{span_at};
 ghost use Rattle.journal_traces.specs.Told.{AreTold};
 ghost use Rattle.journal_traces.specs.Numbered.{AreNumbers};
-ghost use Rattle.journal_traces.specs.Spotted.{traces_spotted, AddsSpan, IsToldBy};
-ghost use Rattle.journal_traces.specs.Standing.{spans_named, traces_named};
+ghost use Rattle.journal_traces.specs.TagCandidates.{traces_spotted, AddsSpan, IsMatchFlag};
+ghost use Rattle.journal_traces.specs.SpansAtSpots.{spans_named, traces_named};
 
 use crate::entry_numbers::EntryNumbers;
 use crate::entry_services::is_of_service;
@@ -32,13 +32,13 @@ struct EntryMatcher<'a> {
     /// The number of the search's service; none if no entry is of it.
     service: Option<u32>,
     filter: EntryFilter<'a>,
-    ghost told: { AreTold filter journal.now.held.entries reported.now.groups service } by { Prim.hlevel props },
+    ghost correct: { AreTold filter journal.now.held.entries reported.now.service_numbers service } by { Prim.hlevel props },
 }
 
 /// Whether the outline of the entry at a place meets the search.
 fn is_outlined(matcher: &EntryMatcher<'_>, place: u64) -> bool
     ensures { (e : EntryValue) → Some e ≡ entry_at matcher.now.journal.now.held.entries place →
-        IsToldBy matcher.now.filter e result }
+        IsMatchFlag matcher.now.filter e result }
 {
     match matcher.journal.outline(place) {
         Some(outline) => matcher.filter.may_meet(outline),
@@ -50,7 +50,7 @@ fn is_outlined(matcher: &EntryMatcher<'_>, place: u64) -> bool
 fn may_match(matcher: &EntryMatcher<'_>, place: u64) -> bool
     requires { IsSome (entry_at matcher.now.journal.now.held.entries place) }
     ensures { (e : EntryValue) → Some e ≡ entry_at matcher.now.journal.now.held.entries place →
-        IsToldBy matcher.now.filter e result }
+        IsMatchFlag matcher.now.filter e result }
 {
     is_of_service(matcher.reported, matcher.service, place) && is_outlined(matcher, place)
 }
@@ -141,7 +141,7 @@ pub fn take_candidates<'q>(
     query: &'q Find,
     spots: &[Spots<'_>],
 ) -> Result<TagCandidates<'q>, AllocError>
-    requires { AreTold query.now journal.now.held.entries reported.now.groups service }
+    requires { AreTold query.now journal.now.held.entries reported.now.service_numbers service }
     ensures query { IfOk result (λ taken. taken.query ≡ query.now) }
     ensures spans { IfOk result (λ taken. traces_spotted taken ≡
         traces_named journal.now.held.entries spots.now) }

@@ -1,7 +1,7 @@
 //! Traces whose spans were collected from a store.
 
 ghost use Rattle.std.specs.Prelude.{◌≡◌, List, [], ◌∷◌, ◌++◌, OnOk, length, slice_index_or};
-ghost use Rattle.trace_model.specs.Taking.{Taken};
+ghost use Rattle.trace_model.specs.TakenSpans.{Taken};
 
 use crate::trace_parts::trace_part;
 use std::alloc::{AllocError, Global};
@@ -20,8 +20,8 @@ pub struct TakenTraces {
 
 impl Model for TakenTraces {
     ghost use Rattle.std.specs.Prelude.{List, length};
-    ghost use Rattle.trace_model.specs.Taking.{Taken};
-    ghost use Rattle.journal_traces.specs.Cutting.{cut_at, AreStarts};
+    ghost use Rattle.trace_model.specs.TakenSpans.{Taken};
+    ghost use Rattle.journal_traces.specs.TraceParts.{cut_at, AreStarts};
 
     ghost Value = { List (List Taken) };
 

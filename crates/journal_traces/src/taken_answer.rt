@@ -3,11 +3,11 @@
 ghost use Rattle.std.specs.Prelude.{◌≡◌, false, ℕ, Option, [], IfOk, OnOk, map, slice_index_or};
 ghost use Rattle.jaeger_model.specs.declared.batch.Process.{Process as ProcessValue};
 ghost use Rattle.trace_model.specs.Adjusting.{adjusted};
-ghost use Rattle.trace_model.specs.Keeping.{spans_there};
+ghost use Rattle.trace_model.specs.KeptTraces.{spans_there};
 ghost use Rattle.trace_model.specs.Searching.{found_in, ids_of};
-ghost use Rattle.trace_model.specs.Sharing.{ShareProcesses};
-ghost use Rattle.journal_traces.specs.Classes.{Leads, ShareByClass};
-ghost use Rattle.journal_traces.specs.Taking.{placed_taken, HasProcess, HaveProcesses, ShareByNumber};
+ghost use Rattle.trace_model.specs.SharedProcesses.{ShareProcesses};
+ghost use Rattle.journal_traces.specs.ProcessClasses.{Leads, ShareByClass};
+ghost use Rattle.journal_traces.specs.TakenTraces.{placed_taken, HasProcess, HaveProcesses, ShareByNumber};
 ghost use Rattle.journal_traces.specs.TakenSearch.{traces_taken, query_taken};
 
 use crate::process_classes::ProcessClasses;

@@ -4,8 +4,8 @@ ghost use Rattle.std.specs.Prelude.{◌≡◌, ℕ, Option, Some, [], ◌∷◌,
 ghost use Rattle.std.specs.List.{list_any};
 ghost use Rattle.jaeger_model.specs.declared.batch.Process.{Process as ProcessValue};
 ghost use Rattle.trace_model.specs.Searching.{matches, first_start, first_id};
-ghost use Rattle.trace_model.specs.Seeing.{seen};
-ghost use Rattle.journal_traces.specs.Taking.{placed_taken, HasProcess, HaveProcesses, ShareByNumber};
+ghost use Rattle.trace_model.specs.BorrowedSpans.{seen};
+ghost use Rattle.journal_traces.specs.TakenTraces.{placed_taken, HasProcess, HaveProcesses, ShareByNumber};
 ghost use Rattle.journal_traces.specs.TakenSearch.{AreJudged, traces_taken, query_taken};
 
 use crate::span_conditions::{has_tags, judge};
@@ -33,7 +33,7 @@ pub struct TakenSearch<'a> {
 impl<'a> Model for TakenSearch<'a> {
     ghost use Rattle.std.specs.Prelude.{List};
     ghost use Rattle.trace_model.specs.declared.query.Find.{Find};
-    ghost use Rattle.trace_model.specs.Taking.{Taken};
+    ghost use Rattle.trace_model.specs.TakenSpans.{Taken};
     ghost use Rattle.journal_traces.specs.TakenSearch.{IsSearching};
 
     ghost Value = { Find × List (List Taken) };
@@ -86,7 +86,7 @@ fn is_found<'a>(
         AreJudged prepared.now process_of judged.new }
 {
     for span in spans {
-        let is_match = is_match(alloc, prepared, judged, span.process_key(), span.seen())?;
+        let is_match = is_match(alloc, prepared, judged, span.process_key(), span.reported())?;
         if is_match {
             return Ok(true);
         }
@@ -131,14 +131,14 @@ impl<'a> Searched for TakenSearch<'a> {
 
     fn start_at(&self, place: usize) -> i64 {
         match self.traces.trace(place).first() {
-            Some(span) => span.seen().span.start,
+            Some(span) => span.reported().span.start,
             None => 0,
         }
     }
 
     fn id_at(&self, place: usize) -> Option<TraceId> {
         match self.traces.trace(place).first() {
-            Some(span) => Some(span.seen().span.trace),
+            Some(span) => Some(span.reported().span.trace),
             None => None,
         }
     }

@@ -2,9 +2,9 @@
 
 ghost use Rattle.std.specs.Prelude.{◌≡◌, ◌<◌, ◌^◌, ◌++◌, ◌∷◌, [], length, map, IfOk, IfSome, OnOk};
 ghost use Rattle.std.specs.Option.{option_and_then};
-ghost use Rattle.trace_assembly.specs.Located.{span_at};
-ghost use Rattle.journal_traces.specs.Standing.{process_at, spans_named};
-ghost use Rattle.journal_traces.specs.Taking.{placed_taken, HasProcess, AreNumberedByPlace};
+ghost use Rattle.trace_assembly.specs.LocatedSpans.{span_at};
+ghost use Rattle.journal_traces.specs.SpansAtSpots.{process_at, spans_named};
+ghost use Rattle.journal_traces.specs.TakenTraces.{placed_taken, HasProcess, AreNumberedByPlace};
 
 use crate::taken::TakenTraces;
 use arrival_journal::Journal;

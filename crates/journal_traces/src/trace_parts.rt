@@ -1,7 +1,7 @@
 //! The items of several traces in one list, with the number of items before each trace.
 
 ghost use Rattle.std.specs.Prelude.{◌≡◌, ◌+◌, ◌<◌, ◌≤◌, [], length, slice_index_or, slice_range};
-ghost use Rattle.journal_traces.specs.Cutting.{cut_at, AreStarts};
+ghost use Rattle.journal_traces.specs.TraceParts.{cut_at, AreStarts};
 
 /// Returns the start of the trace after the one at a place, or the end.
 fn next_start(starts: &[usize], place: usize, end: usize) -> usize

@@ -1,7 +1,7 @@
 //! Windows of time in microseconds.
 
 ghost use Rattle.std.specs.Prelude.{◌≡◌, Some, pos, ◌+ℤ◌, ◌-ℤ◌, ◌*ℤ◌, ◌≤ℤ◌, ◌<ℤ◌, ◌^◌, option_map};
-ghost use Rattle.journal_traces.specs.Ranged.{search_window};
+ghost use Rattle.journal_traces.specs.TraceRanges.{search_window};
 
 use trace_model::Find;
 use trace_ring::Window;

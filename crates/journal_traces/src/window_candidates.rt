@@ -2,8 +2,8 @@
 
 ghost use Rattle.std.specs.Prelude.{◌≡◌, Bool, List, IfOk, map, filter, length};
 ghost use Rattle.trace_assembly.specs.declared.spot.Spot.{Spot as SpotValue};
-ghost use Rattle.trace_assembly.specs.Rows.{spots_of};
-ghost use Rattle.journal_traces.specs.Ranged.{FailsOutside};
+ghost use Rattle.trace_assembly.specs.AssembledRows.{spots_of};
+ghost use Rattle.journal_traces.specs.TraceRanges.{FailsOutside};
 
 use std::alloc::{AllocError, Global};
 use trace_assembly::{Assembly, Spots};

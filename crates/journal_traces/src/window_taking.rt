@@ -3,16 +3,16 @@
 ghost use Rattle.std.specs.Prelude.{◌≡◌, ◌<◌, ◌^◌, ◌++◌, ◌∷◌, [], IfOk, OnOk, Some, map, filter, length, slice_get};
 ghost use Rattle.std.specs.Arc.{arc_value};
 ghost use Rattle.std.specs.List.{list_any};
-ghost use Rattle.trace_model.specs.Linking.{in_window};
+ghost use Rattle.trace_model.specs.ServiceLinks.{in_window};
 ghost use Rattle.trace_model.specs.Places.{entry_at};
-ghost use Rattle.trace_assembly.specs.Located.{span_at};
-ghost use Rattle.trace_assembly.specs.Rows.{spots_of};
-ghost use Rattle.service_index.specs.Reported.{AreGroups};
-ghost use Rattle.journal_traces.specs.Ranged.{AreRanged};
-ghost use Rattle.journal_traces.specs.Spotted.{AddsSpan};
-ghost use Rattle.journal_traces.specs.Standing.{spans_named, trace_named, AreNumberedByService};
-ghost use Rattle.journal_traces.specs.Taking.{placed_taken};
-ghost use Rattle.journal_traces.specs.Windowed.{entries_in, entries_seen, traces_reported, AreWindowed};
+ghost use Rattle.trace_assembly.specs.LocatedSpans.{span_at};
+ghost use Rattle.trace_assembly.specs.AssembledRows.{spots_of};
+ghost use Rattle.service_index.specs.ServicePlaces.{AreServiceNumbers};
+ghost use Rattle.journal_traces.specs.TraceRanges.{AreRanged};
+ghost use Rattle.journal_traces.specs.TagCandidates.{AddsSpan};
+ghost use Rattle.journal_traces.specs.SpansAtSpots.{spans_named, trace_named, AreNumberedByService};
+ghost use Rattle.journal_traces.specs.TakenTraces.{placed_taken};
+ghost use Rattle.journal_traces.specs.WindowTraces.{entries_in, entries_seen, traces_reported, AreWindowSpots};
 
 use crate::entry_numbers::EntryNumbers;
 use crate::spotted_spans::reaches_window;
@@ -39,19 +39,19 @@ fn number_of(
     place: u64,
 ) -> Result<u32, AllocError>
     requires few { length journal.now.held.entries < 2 ^ 32 }
-    requires groups { AreGroups journal.now.held.entries reported.now.groups }
+    requires service_numbers { AreServiceNumbers journal.now.held.entries reported.now.service_numbers }
     requires there { Some (arc_value entry.now) ≡ entry_at journal.now.held.entries place }
-    requires taken { AreWindowed journal.now.held.entries taken.old numbers.old }
+    requires taken { AreWindowSpots journal.now.held.entries taken.old numbers.old }
     ensures number { IfOk result (λ n.
         slice_get (entries_in (entries_seen taken.new.entries.items)) n ≡
         Some (arc_value entry.now)) }
-    ensures taken { OnOk result (AreWindowed journal.now.held.entries taken.new numbers.new) }
+    ensures taken { OnOk result (AreWindowSpots journal.now.held.entries taken.new numbers.new) }
     ensures traces { OnOk result (traces_reported taken.new ≡ traces_reported taken.old) }
 {
     if let Some(number) = numbers.at(place) {
         return Ok(number);
     }
-    taken.add_entry(entry, reported.group_at((place - 1) as u32))?;
+    taken.add_entry(entry, reported.service_number_at((place - 1) as u32))?;
     Ok(numbers.add(place))
 }
 
@@ -86,9 +86,9 @@ fn take_spot(
     spot: Spot,
 ) -> Result<(), AllocError>
     requires few { length journal.now.held.entries < 2 ^ 32 }
-    requires groups { AreGroups journal.now.held.entries reported.now.groups }
-    requires taken { AreWindowed journal.now.held.entries taken.old numbers.old }
-    ensures taken { OnOk result (AreWindowed journal.now.held.entries taken.new numbers.new) }
+    requires service_numbers { AreServiceNumbers journal.now.held.entries reported.now.service_numbers }
+    requires taken { AreWindowSpots journal.now.held.entries taken.old numbers.old }
+    ensures taken { OnOk result (AreWindowSpots journal.now.held.entries taken.new numbers.new) }
     ensures traces { OnOk result (AddsSpan (span_at journal.now.held.entries spot)
         (traces_reported taken.old) (traces_reported taken.new)) }
 {
@@ -109,9 +109,9 @@ fn take_spots(
     spots: Spots<'_>,
 ) -> Result<(), AllocError>
     requires few { length journal.now.held.entries < 2 ^ 32 }
-    requires groups { AreGroups journal.now.held.entries reported.now.groups }
-    requires taken { AreWindowed journal.now.held.entries taken.old numbers.old }
-    ensures taken { OnOk result (AreWindowed journal.now.held.entries taken.new numbers.new) }
+    requires service_numbers { AreServiceNumbers journal.now.held.entries reported.now.service_numbers }
+    requires taken { AreWindowSpots journal.now.held.entries taken.old numbers.old }
+    ensures taken { OnOk result (AreWindowSpots journal.now.held.entries taken.new numbers.new) }
     ensures spans { OnOk result (map placed_taken (traces_reported taken.new) ≡
         map placed_taken (traces_reported taken.old)
         ++ spans_named journal.now.held.entries spots.entry ∷ []) }
@@ -156,7 +156,7 @@ pub fn take_within(
     lookback_ms: i64,
 ) -> Result<WindowTraces, AllocError>
     requires few { length journal.now.held.entries < 2 ^ 32 }
-    requires numbers { AreGroups journal.now.held.entries reported.now.groups }
+    requires numbers { AreServiceNumbers journal.now.held.entries reported.now.service_numbers }
     requires as_many { length starts.now.starts ≡ length assembly.now.newest.ids }
     requires ranged { AreRanged starts.now assembly.now.newest.ids
         (trace_named journal.now.held.entries (spots_of assembly.now)) }

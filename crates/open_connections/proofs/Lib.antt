@@ -1,2 +1,2 @@
 pub mod Deliveries
-pub mod Keeping
+pub mod OpenConnections

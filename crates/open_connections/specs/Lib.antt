@@ -1,4 +1,4 @@
-pub mod Leaving
-pub mod Outgoing
-pub mod Boxes
-pub mod Open
+pub mod ReadEffects
+pub mod UnsentResponses
+pub mod Outboxes
+pub mod OpenConnections

@@ -3,7 +3,7 @@
 ghost use Rattle.std.specs.Prelude.{◌≡◌, ℕ, List, Option};
 ghost use Rattle.std.specs.Io.{WritesAtMost};
 ghost use Rattle.std.specs.Io.KnownBytes.{WriteAppends};
-ghost use Rattle.open_connections.specs.Leaving.{LeavesContents};
+ghost use Rattle.open_connections.specs.ReadEffects.{LeavesContents};
 
 use session_devices::{Failed, Input};
 

@@ -2,10 +2,10 @@
 
 ghost use Rattle.std.specs.Prelude.{◌≡◌, true, false, OnOk};
 ghost use Rattle.query_http.specs.Paths.{endpoint_rows};
-ghost use Rattle.http_session.specs.Between.{store_of};
+ghost use Rattle.http_session.specs.SessionRuns.{store_of};
 ghost use Rattle.http_session.specs.Pieces.{AsksOnce, CanContinue, GoesOn, IfOpen, no_requests_yet, piece_of};
-ghost use Rattle.open_connections.specs.Boxes.{box_line};
-ghost use Rattle.open_connections.specs.Open.{IsOpen, HasCome, Delivers, stays_open};
+ghost use Rattle.open_connections.specs.Outboxes.{box_line};
+ghost use Rattle.open_connections.specs.OpenConnections.{IsOpen, HasCome, Delivers, stays_open};
 
 use crate::nonblocking::TryConnection;
 use crate::outbox::Outbox;

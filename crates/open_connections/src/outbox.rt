@@ -3,8 +3,8 @@
 ghost use Rattle.std.specs.Prelude.{◌≡◌, ◌<◌, false, true, IfOk, OnOk, OnErr, is_some, length, None};
 ghost use Rattle.std.specs.Io.KnownBytes.{Keeps};
 ghost use Rattle.query_json.specs.Parts.{to_come};
-ghost use Rattle.open_connections.specs.Boxes.{bytes_waiting, handed_over};
-ghost use Rattle.open_connections.specs.Outgoing.{TakesFirst};
+ghost use Rattle.open_connections.specs.Outboxes.{bytes_waiting, handed_over};
+ghost use Rattle.open_connections.specs.UnsentResponses.{TakesFirst};
 
 use crate::nonblocking::TryConnection;
 use crate::waiting::Waiting;
@@ -131,7 +131,7 @@ impl<C: TryConnection> Outbox<C> {
 }
 
 impl<C: TryConnection> Input for Outbox<C> {
-    ghost use Rattle.open_connections.specs.Boxes.{box_gives};
+    ghost use Rattle.open_connections.specs.Outboxes.{box_gives};
 
     ghost remaining = { λ s. C.remaining s.connection };
 
@@ -151,7 +151,7 @@ impl<C: TryConnection> Input for Outbox<C> {
 impl<C: TryConnection> Output for Outbox<C> {
     ghost use Rattle.std.proofs.Common.{refl, ◌∙◌};
     ghost use Rattle.std.proofs.KnownBytes.{Appends-nil, Appends-trans};
-    ghost use Rattle.open_connections.specs.Boxes.{box_takes, handed_over};
+    ghost use Rattle.open_connections.specs.Outboxes.{box_takes, handed_over};
 
     ghost contents = { handed_over C.contents };
 
@@ -192,7 +192,7 @@ impl<C: TryConnection> Output for Outbox<C> {
 impl<C: TryConnection> Connection for Outbox<C> {
     ghost use Rattle.std.proofs.Common.{ap, ◌∙◌};
     ghost use Rattle.std.specs.Io.KnownBytes.{append_known};
-    ghost use Rattle.open_connections.specs.Boxes.{bytes_waiting};
+    ghost use Rattle.open_connections.specs.Outboxes.{bytes_waiting};
 
     ghost reads_leave = { λ s t bytes given. (
       ap (λ x. append_known x (bytes_waiting t.waiting))

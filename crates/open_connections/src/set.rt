@@ -1,10 +1,10 @@
 //! The connections of a thread, with their sessions.
 
 ghost use Rattle.std.specs.Prelude.{◌≡◌, false, IfOk};
-ghost use Rattle.http_session.specs.Between.{store_of};
+ghost use Rattle.http_session.specs.SessionRuns.{store_of};
 ghost use Rattle.http_session.specs.Pieces.{AsksOnce};
-ghost use Rattle.open_connections.specs.Boxes.{box_line};
-ghost use Rattle.open_connections.specs.Open.{AllOpen, IsEmpty, IsRest, TurnsTo};
+ghost use Rattle.open_connections.specs.Outboxes.{box_line};
+ghost use Rattle.open_connections.specs.OpenConnections.{AllOpen, IsEmpty, IsRest, TurnsTo};
 
 use crate::nonblocking::TryConnection;
 use crate::open::{ConnectionProgress, Moment, OpenConnection};

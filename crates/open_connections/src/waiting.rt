@@ -17,7 +17,7 @@ pub(crate) struct Waiting {
 impl Model for Waiting {
     ghost use Rattle.std.specs.Prelude.{◌≡◌, ◌<◌, ◌⊎◌, length};
     ghost use Rattle.query_json.specs.Parts.{Parted};
-    ghost use Rattle.open_connections.specs.Outgoing.{unsent};
+    ghost use Rattle.open_connections.specs.UnsentResponses.{unsent};
 
     ghost Value = { Parted };
 

@@ -1,13 +1,13 @@
 -- The contract of a session's call implies the premises of the laws on sessions.
 use Rattle.std.proofs.Common.{◌≡◌, ℕ, Bool, List, ◌++◌, take, Option, Some, None, refl, ap}
-use Rattle.trace_model.specs.Held.{Held}
+use Rattle.trace_model.specs.LimitedHistories.{LimitedHistory}
 use Rattle.pipe_session.specs.DirectCalls.{DirectSubmits, DirectReads}
 use Rattle.http_session.specs.Sessions.{EndsAs, FailsAs, last_of, responses, exchange_due, bytes_due}
 use Rattle.http_session.specs.declared.exchanges.SessionError.{SessionError}
 use Rattle.pipe_session.specs.OneFunction.{NeverWants, Finished, Failed}
 use Rattle.pipe_session.proofs.Prefixes.{spoken}
 
-pub finished : (bytes before : List ℕ) (left out : Option (List ℕ)) (s t : Held) (n : ℕ) (c : Bool)
+pub finished : (bytes before : List ℕ) (left out : Option (List ℕ)) (s t : LimitedHistory) (n : ℕ) (c : Bool)
     (ends : EndsAs DirectSubmits DirectReads (Some bytes) left (Some before) out s t n c)
     → NeverWants (ends.opens ++ last_of ends.ending) → (written : List ℕ) × (out ≡ Some (before ++ written)) × Finished bytes s written t n c
 finished bytes before left None s t n c ends memory = absurd ends.written
@@ -35,7 +35,7 @@ finished bytes before left (Some after) s t n c ends memory = (
   },
 )
 
-pub failed : (bytes before : List ℕ) (left out : Option (List ℕ)) (s t : Held) (i o : Bool) (error : SessionError)
+pub failed : (bytes before : List ℕ) (left out : Option (List ℕ)) (s t : LimitedHistory) (i o : Bool) (error : SessionError)
     (fails : FailsAs DirectSubmits DirectReads (Some bytes) left (Some before) out s t i o error)
     → NeverWants (fails.opens ++ exchange_due fails.next) → (written : List ℕ) × (out ≡ Some (before ++ written)) × Failed bytes s written
 failed bytes before left None s t i o error fails memory = absurd fails.written

@@ -4,7 +4,7 @@ use Rattle.jaeger_model.specs.declared.batch.Batch.{Batch}
 use Rattle.batch_codec.specs.declared.fault.DecodeError.{DecodeError}
 use Rattle.trace_model.specs.declared.query.Query.{Query}
 use Rattle.batch_codec.specs.BatchReading.{decoded}
-use Rattle.http_requests.specs.Asked.{Asked}
+use Rattle.http_requests.specs.HeadContents.{Asked}
 use Rattle.http_requests.specs.declared.request.Method.{Method}
 use Rattle.http_requests.specs.declared.request.Method.TheVariants.{Get, Post, Other}
 use Rattle.query_http.specs.declared.fault.Parameter.{Parameter}

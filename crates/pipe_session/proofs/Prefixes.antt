@@ -2,13 +2,13 @@
 use Rattle.std.proofs.Common.{◌≡◌, ℕ, false, List, [], ◌∷◌, ◌++◌, take, drop, refl, sym, ap, ◌∙◌, subst, append_assoc, append-nil, take-append-drop, All}
 use Rattle.std.proofs.lemmas.List.Elements.{All-head, All-tail}
 use mathlib.Core.List.{IsPrefix}
-use Rattle.trace_model.specs.Held.{Held}
+use Rattle.trace_model.specs.LimitedHistories.{LimitedHistory}
 use Rattle.trace_model.proofs.Prefixes.{prefix_trans}
-use Rattle.http_requests.proofs.Once.{Breaks, breaks_all}
+use Rattle.http_requests.proofs.OneRequest.{Breaks, breaks_all}
 use Rattle.http_session.specs.declared.exchanges.SessionErrorKind.{SessionErrorKind}
 use Rattle.http_session.specs.Sessions.{Exchange, IsExchange, IsOpen, texts, response_to, responses, Ending, Ending.{closing, malformed}, last_of}
 use Rattle.http_session.specs.Sessions.{malformed_response, Due, Due.{none_yet, due, due_malformed}, exchange_due, IsDue, bytes_due}
-use Rattle.pipe_session.specs.Exact.{held_after}
+use Rattle.pipe_session.specs.ExactAnswers.{held_after}
 use Rattle.pipe_session.proofs.Courses.{Asks, same_exchange, ComesNext, one_next, RunsTo, goes_on, goes_after, Stand, first_asks, rest_stands}
 
 -- all that is written on a course
@@ -22,7 +22,7 @@ abbrev first : List Exchange → Ending → Ending
 first [] e = e
 first (x ∷ xs) e = closing x
 
-first_comes : (bytes : List ℕ) (s : Held) (xs : List Exchange) (e : Ending) (t : Held) → RunsTo bytes s xs e t → (rest : List ℕ)
+first_comes : (bytes : List ℕ) (s : LimitedHistory) (xs : List Exchange) (e : Ending) (t : LimitedHistory) → RunsTo bytes s xs e t → (rest : List ℕ)
     × ComesNext bytes s (first xs e) rest
 first_comes bytes s [] e t runs_to = (runs_to.0, runs_to.1)
 first_comes bytes s (x ∷ xs) e t runs_to = (runs_to.0, runs_to.1)
@@ -36,7 +36,7 @@ spoken_first (x ∷ xs) e = (
 )
 
 -- what is first said at these bytes begins all that is said
-says_first : (bytes : List ℕ) (s : Held) (n : Ending) (rest : List ℕ) (xs : List Exchange) (e : Ending) (t : Held) → ComesNext bytes s n rest
+says_first : (bytes : List ℕ) (s : LimitedHistory) (n : Ending) (rest : List ℕ) (xs : List Exchange) (e : Ending) (t : LimitedHistory) → ComesNext bytes s n rest
     → RunsTo bytes s xs e t
     → IsPrefix (spoken [] n) (spoken xs e)
 says_first bytes s n rest xs e t next runs_to =
@@ -46,7 +46,7 @@ says_first bytes s n rest xs e t next runs_to =
 -- ---- up to where a session failed
 
 -- the exchanges came in turn and left the session open, and then this was due
-abbrev pub Stops : List ℕ → Held → List Exchange → Due → Type 0
+abbrev pub Stops : List ℕ → LimitedHistory → List Exchange → Due → Type 0
 Stops bytes s [] none_yet = Unit {0}
 Stops bytes s [] (due x) = (rest : List ℕ) × Asks bytes s x rest
 Stops bytes s [] (due_malformed b) = Breaks bytes b
@@ -66,7 +66,7 @@ longer y x some all more behind same begins = (
       ∙ sym (append_assoc (response_to x) all behind),
 )
 
-pub meant_begins : (bytes : List ℕ) (s : Held) (ys : List Exchange) (d : Due) (xs : List Exchange) (e : Ending) (t : Held) → Stops bytes s ys d
+pub meant_begins : (bytes : List ℕ) (s : LimitedHistory) (ys : List Exchange) (d : Due) (xs : List Exchange) (e : Ending) (t : LimitedHistory) → Stops bytes s ys d
     → RunsTo bytes s xs e t
     → IsPrefix (meant ys d) (spoken xs e)
 meant_begins bytes s [] none_yet xs e t stops runs_to = (spoken xs e, refl)
@@ -92,12 +92,12 @@ due_at cause rest left none_yet is = tt
 due_at cause rest left (due x) is = is.0
 due_at cause rest left (due_malformed b) is = breaks_all rest left b is.0
 
-last_stops : (bytes : List ℕ) (s : Held) (d : Due) (behind : List ℕ) (t : Held) → Stand bytes s (exchange_due d) behind t → DueAt behind d → Stops bytes s [] d
+last_stops : (bytes : List ℕ) (s : LimitedHistory) (d : Due) (behind : List ℕ) (t : LimitedHistory) → Stand bytes s (exchange_due d) behind t → DueAt behind d → Stops bytes s [] d
 last_stops bytes s none_yet behind t stand is = tt
 last_stops bytes s (due x) behind t stand is = (behind, first_asks bytes s x [] behind t is stand)
 last_stops bytes s (due_malformed b) behind t stand is = subst (λ (l : List ℕ). Breaks l b) (sym stand.front) is
 
-pub stops : (bytes : List ℕ) (s : Held) (ys : List Exchange) (d : Due) (behind : List ℕ) (t : Held) → All IsOpen ys
+pub stops : (bytes : List ℕ) (s : LimitedHistory) (ys : List Exchange) (d : Due) (behind : List ℕ) (t : LimitedHistory) → All IsOpen ys
     → Stand bytes s (ys ++ exchange_due d) behind t → DueAt behind d → Stops bytes s ys d
 stops bytes s [] d behind t opens stand is = last_stops bytes s d behind t stand is
 stops bytes s (y ∷ ys) d behind t opens stand is =

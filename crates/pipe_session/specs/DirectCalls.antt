@@ -6,24 +6,24 @@ use Rattle.trace_model.specs.declared.query.Query.{Query}
 use Rattle.trace_model.specs.declared.answer.Answer.{Answer}
 use Rattle.trace_model.specs.declared.refusal.Refusal.{Refusal}
 use Rattle.trace_model.specs.declared.refusal.Refusal.TheVariants.{NoMemory}
-use Rattle.trace_model.specs.Held.{Held}
+use Rattle.trace_model.specs.LimitedHistories.{LimitedHistory}
 use Rattle.trace_model.specs.Histories.{IsLegal}
 use Rattle.trace_model.specs.Refusals.{place_of, with_admitted}
 use Rattle.trace_model.specs.Answers.{answer}
 use Rattle.arrival_journal.specs.Journals.{admission_by, turned_away_by}
 use Rattle.span_store.specs.NextEntry.{next_entry}
-use Rattle.trace_model.specs.Knowing.{History, IsPrefixOf}
+use Rattle.trace_model.specs.StoreKnowledge.{History, IsPrefixOf}
 
-abbrev pub DirectKnows : Held → History → Type 0
+abbrev pub DirectKnows : LimitedHistory → History → Type 0
 DirectKnows s h = IsPrefixOf h s.entries
 
 -- a batch is accepted if the entries admit it, or have it already: then they don't change, and its place is the old one
-abbrev pub DirectSubmits : Held → Batch → Result ℕ Refusal → Held → Type 0
+abbrev pub DirectSubmits : LimitedHistory → Batch → Result ℕ Refusal → LimitedHistory → Type 0
 DirectSubmits s b (Ok place) t =
     (a : Admission) × (admission_by s (next_entry s b) ≡ Ok a) × (place ≡ place_of s.entries a)
     × (t ≡ with_admitted s (next_entry s b) (Ok a)) × IsLegal t.limits t.entries
 DirectSubmits s b (Err why) t = (t ≡ s) × ((why ≡ NoMemory) ⊎ (why ≡ turned_away_by s (next_entry s b)))
 
-abbrev pub DirectReads : Held → Query → Result Answer Refusal → Held → Type 0
+abbrev pub DirectReads : LimitedHistory → Query → Result Answer Refusal → LimitedHistory → Type 0
 DirectReads s q (Ok a) t = (t ≡ s) × (a ≡ answer s.limits s.entries q) × IsLegal s.limits s.entries
 DirectReads s q (Err why) t = (t ≡ s) × (why ≡ NoMemory)

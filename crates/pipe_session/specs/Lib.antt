@@ -1,5 +1,5 @@
-pub mod Exact
+pub mod ExactAnswers
 pub mod OneFunction
-pub mod DirectAfter
+pub mod DirectLemmas
 pub mod DirectCalls
 pub mod DirectLaws

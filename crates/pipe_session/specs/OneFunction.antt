@@ -1,20 +1,20 @@
 -- Sessions over a store with one owner in which memory never ran out, or not up to some exchange.
 use Rattle.std.specs.Prelude.{◌≡◌, ◌≢◌, ℕ, ◌⊎◌, Bool, List, ◌∷◌, ◌++◌, All, Option, Some}
 use mathlib.Core.List.{IsPrefix}
-use Rattle.trace_model.specs.Held.{Held}
+use Rattle.trace_model.specs.LimitedHistories.{LimitedHistory}
 use Rattle.pipe_session.specs.DirectCalls.{DirectSubmits, DirectReads}
 use Rattle.http_session.specs.Sessions.{Exchange, EndsAs, FailsAs, last_of, exchange_due}
 use Rattle.http_session.specs.declared.exchanges.SessionError.{SessionError}
 use Rattle.http_session.specs.declared.verdict.ErrorReply.TheVariants.{NoMemory}
 use Rattle.http_session.specs.declared.verdict.Verdict.TheVariants.{Reject}
-use Rattle.pipe_session.specs.Exact.{HasMemory}
+use Rattle.pipe_session.specs.ExactAnswers.{HasMemory}
 
 -- a session ended whose input had these bytes; its output follows what was written before
-abbrev pub EndsOf : List ℕ → Option (List ℕ) → List ℕ → Option (List ℕ) → Held → Held → ℕ → Bool → Type 0
+abbrev pub EndsOf : List ℕ → Option (List ℕ) → List ℕ → Option (List ℕ) → LimitedHistory → LimitedHistory → ℕ → Bool → Type 0
 EndsOf bytes left before out s t answered clean = EndsAs DirectSubmits DirectReads (Some bytes) left (Some before) out s t answered clean
 
 -- like EndsOf, for a session that failed
-abbrev pub FailsOf : List ℕ → Option (List ℕ) → List ℕ → Option (List ℕ) → Held → Held → Bool → Bool → SessionError → Type 0
+abbrev pub FailsOf : List ℕ → Option (List ℕ) → List ℕ → Option (List ℕ) → LimitedHistory → LimitedHistory → Bool → Bool → SessionError → Type 0
 FailsOf bytes left before out s t in_failed out_failed error =
     FailsAs DirectSubmits DirectReads (Some bytes) left (Some before) out s t in_failed out_failed error
 
@@ -25,17 +25,17 @@ pub record NeverWants (xs : List Exchange) : Type 0 where
 
 -- A session with these input bytes over the store s ended: what it wrote, what the store holds then, how many requests
 -- it answered, and whether the input ended between two of them.
-pub record Finished (bytes : List ℕ) (s : Held) (written : List ℕ) (t : Held) (answered : ℕ) (clean : Bool) : Type 0 where
+pub record Finished (bytes : List ℕ) (s : LimitedHistory) (written : List ℕ) (t : LimitedHistory) (answered : ℕ) (clean : Bool) : Type 0 where
   pub before : List ℕ
   pub left : Option (List ℕ)
   pub ends : EndsAs DirectSubmits DirectReads (Some bytes) left (Some before) (Some (before ++ written)) s t answered clean
   pub memory : NeverWants (ends.opens ++ last_of ends.ending)
 
 -- A session with these input bytes over the store s failed: what it wrote.
-pub record Failed (bytes : List ℕ) (s : Held) (written : List ℕ) : Type 0 where
+pub record Failed (bytes : List ℕ) (s : LimitedHistory) (written : List ℕ) : Type 0 where
   pub before : List ℕ
   pub left : Option (List ℕ)
-  pub held : Held
+  pub held : LimitedHistory
   pub in_failed : Bool
   pub out_failed : Bool
   pub error : SessionError
@@ -43,22 +43,22 @@ pub record Failed (bytes : List ℕ) (s : Held) (written : List ℕ) : Type 0 wh
   pub memory : NeverWants (fails.opens ++ exchange_due fails.next)
 
 -- one of the two is a prefix of the other
-abbrev pub OneBegins : List ℕ → List ℕ → Type 0
-OneBegins w v = IsPrefix w v ⊎ IsPrefix v w
+abbrev pub OneTextBegins : List ℕ → List ℕ → Type 0
+OneTextBegins w v = IsPrefix w v ⊎ IsPrefix v w
 
 -- A session with these input bytes over the store s wrote these bytes first. So does a session that fails there without
 -- running out of memory before.
-pub record WroteFirst (bytes before : List ℕ) (out : Option (List ℕ)) (s : Held) (first : List ℕ) : Type 0 where
+pub record WroteFirst (bytes before : List ℕ) (out : Option (List ℕ)) (s : LimitedHistory) (first : List ℕ) : Type 0 where
   pub more : List ℕ
   pub written : out ≡ Some (before ++ (first ++ more))
   pub failed : Failed bytes s first
 
 -- what was written is the output of a session that ended
-abbrev pub WroteFinished : List ℕ → List ℕ → Option (List ℕ) → Held → Held → ℕ → Bool → Type 0
+abbrev pub WroteFinished : List ℕ → List ℕ → Option (List ℕ) → LimitedHistory → LimitedHistory → ℕ → Bool → Type 0
 WroteFinished bytes before out s t n c = (written : List ℕ) × (out ≡ Some (before ++ written)) × Finished bytes s written t n c
 
 -- what was written is the output of a session that failed
-abbrev pub WroteFailed : List ℕ → List ℕ → Option (List ℕ) → Held → Type 0
+abbrev pub WroteFailed : List ℕ → List ℕ → Option (List ℕ) → LimitedHistory → Type 0
 WroteFailed bytes before out s = (written : List ℕ) × (out ≡ Some (before ++ written)) × Failed bytes s written
 
 -- the first of these exchanges are xs, more follow, and memory ran out for none of xs

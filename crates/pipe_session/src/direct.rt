@@ -22,10 +22,10 @@ pub struct Direct {
 
 impl Model for Direct {
     ghost use Rattle.std.specs.Prelude.{◌≤◌, length};
-    ghost use Rattle.trace_model.specs.Held.{Held};
+    ghost use Rattle.trace_model.specs.LimitedHistories.{LimitedHistory};
     ghost use Rattle.trace_model.specs.Histories.{IsLegal, last_number};
 
-    ghost Value = { Held };
+    ghost Value = { LimitedHistory };
 
     ghost view = { λ s. s.store };
 

@@ -2,15 +2,15 @@
 
 ghost use Rattle.std.specs.Prelude.{◌≡◌, ◌≢◌, ℕ, Bool, List, ◌++◌, Option};
 ghost use mathlib.Core.List.{IsPrefix};
-ghost use Rattle.trace_model.specs.Held.{Held};
-ghost use Rattle.http_requests.specs.Asked.{Asked};
+ghost use Rattle.trace_model.specs.LimitedHistories.{LimitedHistory};
+ghost use Rattle.http_requests.specs.HeadContents.{Asked};
 ghost use Rattle.http_session.specs.Sessions.{Exchange as ExchangeValue, last_of, exchange_due, responses};
 ghost use Rattle.http_session.specs.declared.exchanges.SessionError.{SessionError as SessionErrorValue};
 ghost use Rattle.http_session.specs.Verdicts.{Judges};
 ghost use Rattle.http_session.specs.declared.verdict.ErrorReply.TheVariants.{NoMemory};
 ghost use Rattle.http_session.specs.declared.verdict.Verdict.{Verdict as VerdictValue};
 ghost use Rattle.http_session.specs.declared.verdict.Verdict.TheVariants.{Reject};
-ghost use Rattle.pipe_session.specs.OneFunction.{EndsOf, FailsOf, NeverWants, Finished, Failed, HadMemoryFirst, OneBegins, WroteFailed, WroteFinished};
+ghost use Rattle.pipe_session.specs.OneFunction.{EndsOf, FailsOf, NeverWants, Finished, Failed, HadMemoryFirst, OneTextBegins, WroteFailed, WroteFinished};
 ghost use Rattle.pipe_session.specs.OneFunction.{WroteFirst};
 
 /// A request determines its verdict, unless memory ran out.
@@ -22,7 +22,7 @@ pub fn a_request_has_one_verdict()
 /// If the bytes of the devices are known and memory did not run out, a session that ended as `pipe` promises meets the
 /// premises of the laws below.
 pub fn a_session_that_ended_is_finished()
-    ensures { (bytes before : List ℕ) (left out : Option (List ℕ)) (s t : Held) (n : ℕ) (c : Bool)
+    ensures { (bytes before : List ℕ) (left out : Option (List ℕ)) (s t : LimitedHistory) (n : ℕ) (c : Bool)
         (ends : EndsOf bytes left before out s t n c) →
         NeverWants (ends.opens ++ last_of ends.ending) →
         WroteFinished bytes before out s t n c }
@@ -31,7 +31,7 @@ pub fn a_session_that_ended_is_finished()
 /// If the bytes of the devices are known and memory ran out for no exchange, a session that failed as `pipe` promises
 /// meets the premises of the laws below.
 pub fn a_session_that_failed_is_failed()
-    ensures { (bytes before : List ℕ) (left out : Option (List ℕ)) (s t : Held) (i o : Bool)
+    ensures { (bytes before : List ℕ) (left out : Option (List ℕ)) (s t : LimitedHistory) (i o : Bool)
         (error : SessionErrorValue) (fails : FailsOf bytes left before out s t i o error) →
         NeverWants (fails.opens ++ exchange_due fails.next) →
         WroteFailed bytes before out s }
@@ -41,27 +41,27 @@ pub fn a_session_that_failed_is_failed()
 /// the start, however the bytes are read and written. So are the entries at the end, the number of responses, and
 /// whether the input ended between two requests.
 pub fn bytes_written_are_one_function()
-    ensures { (bytes : List ℕ) (s : Held) (w v : List ℕ) (t u : Held) (n m : ℕ) (c d : Bool) →
+    ensures { (bytes : List ℕ) (s : LimitedHistory) (w v : List ℕ) (t u : LimitedHistory) (n m : ℕ) (c d : Bool) →
         Finished bytes s w t n c → Finished bytes s v u m d →
         (w ≡ v) × (t ≡ u) × (n ≡ m) × (c ≡ d) }
 {}
 
 /// A session that fails, by a device or because memory ran out elsewhere, wrote a prefix of what one that ends writes.
 pub fn a_failed_session_wrote_a_prefix()
-    ensures { (bytes : List ℕ) (s : Held) (w v : List ℕ) (t : Held) (n : ℕ) (c : Bool) →
+    ensures { (bytes : List ℕ) (s : LimitedHistory) (w v : List ℕ) (t : LimitedHistory) (n : ℕ) (c : Bool) →
         Failed bytes s w → Finished bytes s v t n c → IsPrefix w v }
 {}
 
 /// Of two sessions that failed over one input, one wrote a prefix of what the other wrote.
 pub fn of_two_failed_sessions_one_wrote_a_prefix()
-    ensures { (bytes : List ℕ) (s : Held) (w v : List ℕ) →
-        Failed bytes s w → Failed bytes s v → OneBegins w v }
+    ensures { (bytes : List ℕ) (s : LimitedHistory) (w v : List ℕ) →
+        Failed bytes s w → Failed bytes s v → OneTextBegins w v }
 {}
 
 /// The exchanges of a session that ended, before the first one for which memory ran out, were written first, and are
 /// those of a session that failed there. So they are a prefix of what any session writes in which memory never ran out.
 pub fn what_an_ended_session_wrote_before_memory_ran_out()
-    ensures { (bytes before : List ℕ) (left out : Option (List ℕ)) (s t : Held) (n : ℕ) (c : Bool)
+    ensures { (bytes before : List ℕ) (left out : Option (List ℕ)) (s t : LimitedHistory) (n : ℕ) (c : Bool)
         (ends : EndsOf bytes left before out s t n c)
         (xs : List ExchangeValue) → HadMemoryFirst xs (ends.opens ++ last_of ends.ending) →
         WroteFirst bytes before out s (responses xs) }
@@ -70,7 +70,7 @@ pub fn what_an_ended_session_wrote_before_memory_ran_out()
 /// The exchanges of a session that failed, before the first one for which memory ran out, were written first, and are
 /// those of a session that failed there.
 pub fn what_a_failed_session_wrote_before_memory_ran_out()
-    ensures { (bytes before : List ℕ) (left out : Option (List ℕ)) (s t : Held) (i o : Bool)
+    ensures { (bytes before : List ℕ) (left out : Option (List ℕ)) (s t : LimitedHistory) (i o : Bool)
         (error : SessionErrorValue) (fails : FailsOf bytes left before out s t i o error)
         (xs : List ExchangeValue) → HadMemoryFirst xs (fails.opens ++ exchange_due fails.next) →
         WroteFirst bytes before out s (responses xs) }

@@ -4,8 +4,8 @@ use Rattle.std.specs.Prelude.{IfOk, Result, Ok, Err}
 use Rattle.jaeger_model.specs.declared.placed.Placed.{Placed}
 use Rattle.trace_model.specs.Events.{Event, came, limited}
 use Rattle.trace_model.specs.Rings.{arrive, newest}
-use Rattle.trace_model.specs.Showing.{trace_of}
-use Rattle.trace_model.proofs.Shows.{ring_more, kept_more, ring_fewer, kept_fewer, limit_came, limit_limited}
+use Rattle.trace_model.specs.ShownSpans.{trace_of}
+use Rattle.trace_model.proofs.ShownByEvents.{ring_more, kept_more, ring_fewer, kept_fewer, limit_came, limit_limited}
 use Rattle.plain_store.specs.Events.{in_ring, Shows}
 use Rattle.plain_store.specs.declared.showing.Showing.{Showing}
 

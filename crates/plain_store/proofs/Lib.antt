@@ -1,3 +1,3 @@
-pub mod Climbing
-pub mod Found
+pub mod RootPaths
+pub mod FoundAnswers
 pub mod Events

@@ -4,7 +4,7 @@ use Rattle.jaeger_model.specs.declared.ids.TraceId.{TraceId}
 use Rattle.jaeger_model.specs.declared.placed.Placed.{Placed}
 use Rattle.trace_model.specs.Events.{Event, came, limited}
 use Rattle.trace_model.specs.Rings.{holds}
-use Rattle.trace_model.specs.Showing.{trace_of, ring, limit_after, shown}
+use Rattle.trace_model.specs.ShownSpans.{trace_of, ring, limit_after, shown}
 use Rattle.plain_store.specs.declared.showing.StoreEvent.{StoreEvent}
 use Rattle.plain_store.specs.declared.showing.StoreEvent.TheVariants as happens
 use Rattle.plain_store.specs.declared.showing.Showing.{Showing}

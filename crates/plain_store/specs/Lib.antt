@@ -1,2 +1,2 @@
-pub mod Climbing
+pub mod RootPaths
 pub mod Events

@@ -4,15 +4,15 @@
 ghost use Rattle.std.specs.Prelude.{◌≡◌, ◌<◌, ℕ, None, IfOk, map, length, get_or, option_map, if◌then◌else◌};
 ghost use Rattle.std.specs.List.{list_any, position, AllByRecursion};
 ghost use Rattle.jaeger_model.specs.declared.placed.Placed.{Placed as PlacedValue};
-ghost use Rattle.trace_model.specs.Linking.{has_id, place_of_parent};
+ghost use Rattle.trace_model.specs.ServiceLinks.{has_id, place_of_parent};
 ghost use Rattle.trace_model.specs.Adjusting.{with_parent_first, clock_of, unadjusted, shifted_by, skew_adjusted, adjusted};
-ghost use Rattle.plain_store.specs.Climbing.{path, next_clock, clock_down};
+ghost use Rattle.plain_store.specs.RootPaths.{path, next_clock, clock_down};
 
 use crate::clock::{clock_below, root_clock, shifted};
 use jaeger_model::{Placed, Seq, SpanId, parent_of};
 use span_steps::{unadjusted, with_parent_first};
 use std::alloc::{AllocError, Global};
-use trace_model::{Clock, Shown};
+use trace_model::{AdjustedSpan, Clock};
 
 /// Moves the references to parents to the front.
 #[tactic(auto, using(std::proofs::lemmas::List::map_push))]
@@ -159,7 +159,7 @@ fn shown_after(
     placed: &Placed,
     clock: Option<Clock>,
     max_skew: u64,
-) -> Result<Shown, AllocError>
+) -> Result<AdjustedSpan, AllocError>
     ensures { IfOk result (λ s. s ≡ (if list_any (has_id placed.now.span.id) before.now
         then unadjusted placed.now else shifted_by max_skew placed.now clock)) }
 {
@@ -172,7 +172,11 @@ fn shown_after(
     }
 }
 
-fn without_skew(alloc: Global, trace: &[Placed], max_skew: u64) -> Result<Vec<Shown>, AllocError>
+fn without_skew(
+    alloc: Global,
+    trace: &[Placed],
+    max_skew: u64,
+) -> Result<Vec<AdjustedSpan>, AllocError>
     ensures { IfOk result (λ v. v.items ≡ skew_adjusted max_skew trace.now) }
 {
     let parents = parent_places(alloc, trace)?;
@@ -194,7 +198,7 @@ pub fn adjusted_trace(
     alloc: Global,
     trace: Seq<Placed>,
     max_skew: u64,
-) -> Result<Seq<Shown>, AllocError>
+) -> Result<Seq<AdjustedSpan>, AllocError>
     ensures { IfOk result (λ s. s ≡ adjusted max_skew trace) }
 {
     let trace = with_parents_first(alloc, trace)?;

@@ -3,7 +3,7 @@
 ghost use Rattle.std.specs.Prelude.{◌≡◌, ◌++◌, IfOk, OnOk};
 ghost use Rattle.std.specs.Option.{option_copied};
 ghost use Rattle.std.specs.List.{list_any};
-ghost use Rattle.trace_model.specs.Linking.{parent_in, call_from, calls_of, in_window, calls_within, calls, counted, same_call, links};
+ghost use Rattle.trace_model.specs.ServiceLinks.{parent_in, call_from, calls_of, in_window, calls_within, calls, counted, same_call, links};
 
 use crate::sets::insert_once;
 use jaeger_model::{Placed, Seq, Text, parent_of};

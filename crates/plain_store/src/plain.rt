@@ -6,10 +6,10 @@ ghost use Rattle.trace_model.specs.Adjusting.{adjusted, shown_as};
 ghost use Rattle.trace_model.specs.Answers.{answer};
 ghost use Rattle.trace_model.specs.Histories.{events};
 ghost use Rattle.trace_model.specs.Events.{came, without_limits};
-ghost use Rattle.trace_model.specs.Works.{events_brought};
+ghost use Rattle.trace_model.specs.EntryWork.{events_brought};
 ghost use Rattle.plain_store.specs.Events.{event_of};
 ghost use Rattle.trace_model.specs.Searching.{traces};
-ghost use Rattle.trace_model.specs.Showing.{trace_found};
+ghost use Rattle.trace_model.specs.ShownSpans.{trace_found};
 
 use crate::adjust::adjusted_trace;
 use crate::links::service_links;
@@ -20,7 +20,7 @@ use jaeger_model::{Placed, Seq, TraceId, domain};
 use span_steps::all_unadjusted;
 use std::alloc::{AllocError, Global};
 use std::sync::Arc;
-use trace_model::{Answer, AnsweredTrace, Entry, Limits, Query, Shown, ShownTrace, Work};
+use trace_model::{AdjustedSpan, AdjustedTrace, Answer, AnsweredTrace, Entry, Limits, Query, Work};
 
 /// Returns the events of these spans.
 #[tactic(auto, using(std::proofs::lemmas::List::map_push))]
@@ -114,10 +114,10 @@ pub fn get_trace(
 }
 
 /// Makes a trace of an answer of these spans.
-fn made(alloc: Global, spans: Seq<Shown>) -> AnsweredTrace
+fn made(alloc: Global, spans: Seq<AdjustedSpan>) -> AnsweredTrace
     ensures { result ≡ spans }
 {
-    AnsweredTrace::made(ShownTrace::without_keys(alloc, spans))
+    AnsweredTrace::made(AdjustedTrace::without_keys(alloc, spans))
 }
 
 /// Returns the spans of a trace as they are shown: as reported if `raw` is set, else adjusted.

@@ -7,7 +7,7 @@ ghost use Rattle.plain_store.specs.Events.{event_of, in_ring, Shows};
 ghost use Rattle.trace_model.specs.Events.{Event};
 ghost use Rattle.trace_model.specs.Rings.{holds, arrive, newest};
 ghost use Rattle.trace_model.specs.Searching.{traces};
-ghost use Rattle.trace_model.specs.Showing.{of_trace, trace_of};
+ghost use Rattle.trace_model.specs.ShownSpans.{of_trace, trace_of};
 
 use jaeger_model::{Placed, Seq, TraceId};
 use std::alloc::{AllocError, Global};

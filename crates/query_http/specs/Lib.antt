@@ -3,6 +3,6 @@ pub mod Paths
 pub mod QueryStrings
 pub mod Numbers
 pub mod Queries
-pub mod Answering
+pub mod ReadResults
 pub mod Statuses
 pub mod Responses

@@ -10,7 +10,7 @@ use Rattle.query_json.specs.declared.items.Items.TheVariants.{Names, Operations,
 use Rattle.query_json.specs.declared.writing.trace.TraceItem.{TraceItem}
 use Rattle.query_json.specs.declared.writing.trace.TraceItem.TheVariants.{Lent, Made, One}
 use Rattle.query_json.specs.LentTraces.{IsWritable}
-use Rattle.query_json.specs.Named.{first_named}
+use Rattle.query_json.specs.NamedProcesses.{first_named}
 use Rattle.query_json.specs.Pieces.{AreWritable, item_pieces, item_trees, one_piece, runs_of}
 use Rattle.query_json.specs.Runs.{front_text, joined, text_of}
 use Rattle.query_json.specs.TracePieces.{item_spans, item_tree, trace_pieces}

@@ -6,7 +6,7 @@ use Rattle.serde_json.specs.Data.{Data}
 use Rattle.serde_json.specs.View.{items_of}
 use Rattle.serde_json.specs.Written.{compact_text, items_text}
 use Rattle.query_json.specs.declared.writing.page.Page.{Page}
-use Rattle.query_json.specs.Around.{head_text, tail_text}
+use Rattle.query_json.specs.AnswerTexts.{head_text, tail_text}
 use Rattle.query_json.specs.Page.{Puts}
 use Rattle.query_json.specs.Runs.{Fills, PutsNext, end_text, front_text, joined, left_at, more_runs, runs, separator, steps, text_of, without}
 use Rattle.query_json.specs.Trees.{items_tree, list}

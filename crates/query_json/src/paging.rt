@@ -176,7 +176,7 @@ fn page_for(alloc: Global, largest: usize) -> Result<Page, AllocError>
 }
 
 impl PagedAnswer {
-    ghost use Rattle.query_json.specs.Paging.{part_of, rest_of, IsReady};
+    ghost use Rattle.query_json.specs.AnswerPages.{part_of, rest_of, IsReady};
     ghost use Rattle.query_json.specs.Parts.{IsSome};
 
     /// Returns a finished text as one part.

@@ -1,7 +1,7 @@
 //! The text of an answer, in parts.
 ghost use Rattle.std.specs.Prelude.{◌≡◌, ◌+◌, ◌<◌, ◌^◌, [], ◌++◌, IfOk, length};
 ghost use Rattle.serde_json.specs.Written.{compact_text};
-ghost use Rattle.query_json.specs.Paging.{part_of, rest_of, IsReady};
+ghost use Rattle.query_json.specs.AnswerPages.{part_of, rest_of, IsReady};
 ghost use Rattle.query_json.specs.Parts.{to_come, IsSome};
 ghost use Rattle.query_json.specs.Trees.{answer_tree};
 
@@ -21,7 +21,7 @@ pub struct AnswerParts {
 
 impl Model for AnswerParts {
     ghost use Rattle.std.specs.Prelude.{◌≡◌, ◌<◌, ◌^◌, length};
-    ghost use Rattle.query_json.specs.Paging.{part_of, rest_of, IsReady};
+    ghost use Rattle.query_json.specs.AnswerPages.{part_of, rest_of, IsReady};
     ghost use Rattle.query_json.specs.Parts.{Parted, to_come, IsSome};
 
     ghost Value = { Parted };

@@ -1,9 +1,9 @@
 pub mod Copies
 pub mod CountedLogs
-pub mod Rules
+pub mod CopyRules
 pub mod Keepers
 pub mod Receipts
-pub mod Naming
+pub mod StoreNames
 pub mod Passes
-pub mod Holding
+pub mod HeldPasses
 pub mod OneHistory

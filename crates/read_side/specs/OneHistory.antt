@@ -7,7 +7,7 @@ use Rattle.trace_model.specs.declared.query.Query.{Query}
 use Rattle.trace_model.specs.declared.refusal.Refusal.{Refusal}
 use Rattle.trace_model.specs.Answers.{answer}
 use Rattle.trace_model.specs.Refusals.{refusal_of}
-use Rattle.trace_model.specs.Resending.{AnswersFor}
+use Rattle.trace_model.specs.ResentBatches.{AnswersFor}
 use Rattle.read_side.specs.Receipts.{StandsAt}
 
 -- the answer is the plain store's for the first entries, as many as the front says

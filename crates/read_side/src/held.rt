@@ -17,7 +17,7 @@ pub struct Held<'a, N: StoreName> {
 }
 
 impl<'a, N: StoreName> Held<'a, N> {
-    ghost use Rattle.read_side.specs.Holding.{pass_of, list_of, IsInside};
+    ghost use Rattle.read_side.specs.HeldPasses.{pass_of, list_of, IsInside};
 
     /// Keeps the pass inside.
     pub(crate) fn new(pass: &'a mut Pass<N>) -> Held<'a, N>
@@ -74,7 +74,7 @@ impl<'a, N: StoreName> Held<'a, N> {
 }
 
 impl<N: StoreName> Drop for Held<'_, N> {
-    ghost use Rattle.read_side.specs.Holding.{pass_of};
+    ghost use Rattle.read_side.specs.HeldPasses.{pass_of};
 
     fn drop(self)
         ensures { self.exit.0.now ≡ come_out (pass_of self.entry).now }

@@ -86,7 +86,7 @@ impl<N: StoreName> Drop for Pass<N> {
 }
 
 impl<N: StoreName> Pass<N> {
-    ghost use Rattle.read_side.specs.Holding.{pass_of, list_of, IsInside};
+    ghost use Rattle.read_side.specs.HeldPasses.{pass_of, list_of, IsInside};
 
     /// Makes a pass that knows only the empty list.
     pub(crate) fn new(visitor: Visitor<N>) -> Pass<N>

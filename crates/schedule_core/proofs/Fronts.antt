@@ -12,8 +12,8 @@ use Rattle.schedule_core.specs.declared.step.Step.{Step}
 use Rattle.schedule_core.specs.Machine.{Machine, Reader, Visit, new_machine, longer, step, outcomes}
 use Rattle.schedule_core.specs.Runs.{along, is_of, front_in, front_for, NeverFalls}
 use Rattle.schedule_core.proofs.StepCases.{on_step}
-use Rattle.schedule_core.proofs.Fitting.{Fits, reader_stands, step_fits, new_fits}
-use Rattle.schedule_core.proofs.Looks.{get_other, get_same}
+use Rattle.schedule_core.proofs.LegalMachines.{Fits, reader_stands, step_fits, new_fits}
+use Rattle.schedule_core.proofs.ReadersInside.{get_other, get_same}
 
 -- the number of entries that the reader has seen, if there is such a reader
 seen_front : List Reader → ℕ → ℕ

@@ -8,10 +8,10 @@ use Rattle.trace_model.specs.declared.limits.Limits.{Limits}
 use Rattle.trace_model.specs.Histories.{RisesAfter}
 use Rattle.schedule_core.specs.declared.step.Step.{Step}
 use Rattle.schedule_core.specs.Machine.{Machine, new_machine, accepted, step, outcomes, at_last}
-use Rattle.schedule_core.specs.Numbering.{IsNumbered}
+use Rattle.schedule_core.specs.JobNumbers.{IsNumbered}
 use Rattle.schedule_core.specs.Runs.{along, job_of, verdict_of, kept}
 use Rattle.schedule_core.proofs.StepCases.{on_step}
-use Rattle.schedule_core.proofs.Numbering.{numbered_put, numbered_taken}
+use Rattle.schedule_core.proofs.JobNumbers.{numbered_put, numbered_taken}
 
 -- ---- what a step does to the jobs
 

@@ -16,9 +16,9 @@ use Rattle.trace_model.specs.declared.entry.Work.{Work}
 use Rattle.trace_model.specs.declared.limits.Limits.{Limits}
 use Rattle.trace_model.specs.declared.refusal.Refusal.{Refusal}
 use Rattle.trace_model.specs.declared.refusal.Refusal.TheVariants.{JournalFull, Stale, Conflict}
-use Rattle.trace_model.specs.Works.{same_work}
+use Rattle.trace_model.specs.EntryWork.{same_work}
 use Rattle.trace_model.specs.Histories.{last_number, span_count}
-use Rattle.trace_model.specs.Resending.{sent_before}
+use Rattle.trace_model.specs.ResentBatches.{sent_before}
 use Rattle.trace_model.specs.Refusals.{has_room, repeated, admitted_anew, admission}
 use Rattle.trace_model.proofs.Admissions.{admission_repeated, admission_anew}
 use Rattle.schedule_core.specs.declared.outcome.Outcome.{Outcome}
@@ -27,12 +27,12 @@ use Rattle.schedule_core.specs.declared.readers.Inside.{Inside}
 use Rattle.schedule_core.specs.declared.readers.ReaderState.{ReaderState}
 use Rattle.schedule_core.specs.Machine.{Machine, Reader, Stepped, Visit, drops, outcome_by, judged_job, takes_by, takes, holds, published, publishes}
 use Rattle.schedule_core.specs.Machine.{publishes_by, with_reader}
-use Rattle.schedule_core.specs.Numbering.{IsNumbered}
-use Rattle.schedule_core.specs.Copied.{Copied, after_admission, turned, with_pending}
-use Rattle.schedule_core.specs.Queued.{Queued, number_after, next_number, queued}
-use Rattle.schedule_core.specs.Standing.{is_held, visit_at, reader_at, Visits, Stands}
+use Rattle.schedule_core.specs.JobNumbers.{IsNumbered}
+use Rattle.schedule_core.specs.CopiedLists.{Copied, after_admission, turned, with_pending}
+use Rattle.schedule_core.specs.WaitingJobs.{Queued, number_after, next_number, queued}
+use Rattle.schedule_core.specs.ReaderStates.{is_held, visit_at, reader_at, Visits, Stands}
 use Rattle.schedule_core.specs.MachineStates.{IsState, Verdict, machine_of, verdict}
-use Rattle.schedule_core.proofs.Numbering.{numbered_put, numbered_taken, numbered_dropped, numbered_above}
+use Rattle.schedule_core.proofs.JobNumbers.{numbered_put, numbered_taken, numbered_dropped, numbered_above}
 
 -- ---- jobs
 
@@ -57,10 +57,10 @@ state_put c q fronts places seat work number s e =
       standing = s.standing;
     }
 
-pub state_handed : (c : Copied) (q : Queued) (fronts : List ℕ) (places : List ReaderState) (seat : ℕ) (work : Work) (n : Option ℕ) (now : Queued)
+pub state_submitted : (c : Copied) (q : Queued) (fronts : List ℕ) (places : List ReaderState) (seat : ℕ) (work : Work) (n : Option ℕ) (now : Queued)
     → IsState c q fronts places → n ≡ next_number q.numbers seat → now ≡ queued q seat work n → IsState c now fronts places
-state_handed c q fronts places seat work None now s e is = subst (λ x. IsState c x fronts places) (sym is) s
-state_handed c q fronts places seat work (Some n) now s e is =
+state_submitted c q fronts places seat work None now s e is = subst (λ x. IsState c x fronts places) (sym is) s
+state_submitted c q fronts places seat work (Some n) now s e is =
     subst (λ x. IsState c x fronts places) (sym is) (state_put c q fronts places seat work n s (sym e))
 
 pub state_taken : (c : Copied) (q : Queued) (fronts : List ℕ) (places : List ReaderState) (e : Entry)

@@ -11,14 +11,14 @@ use Rattle.trace_model.specs.declared.entry.Work.TheVariants as brings
 use Rattle.trace_model.specs.declared.limits.Limits.{Limits}
 use Rattle.trace_model.specs.declared.query.Query.{Query}
 use Rattle.trace_model.specs.declared.refusal.Refusal.TheVariants.{Conflict}
-use Rattle.trace_model.specs.Works.{same_work}
-use Rattle.trace_model.specs.Resending.{sent_before}
+use Rattle.trace_model.specs.EntryWork.{same_work}
+use Rattle.trace_model.specs.ResentBatches.{sent_before}
 use Rattle.trace_model.specs.Refusals.{has_room, repeated}
 use Rattle.schedule_core.specs.declared.step.Step.{Step}
 use Rattle.schedule_core.specs.declared.step.Step.TheVariants as ask
 use Rattle.schedule_core.specs.declared.outcome.Outcome.{Outcome}
 use Rattle.schedule_core.specs.declared.outcome.Outcome.TheVariants.{Again, Refused, Idle, Published, Held, Left, Inside, Outside, Unknown}
-use Rattle.schedule_core.specs.Machine.{Machine, Reader, Visit, Stepped, stays, accepted, handed_in, puts, full, drops, outcome_by, judged_job, takes_by, takes}
+use Rattle.schedule_core.specs.Machine.{Machine, Reader, Visit, Stepped, stays, accepted, with_submitted, puts, full, drops, outcome_by, judged_job, takes_by, takes}
 use Rattle.schedule_core.specs.Machine.{holds, published, publishes_by, with_reader, enters, reads, longer, learns_list, learns, leaves, front_of, step}
 use Rattle.schedule_core.specs.Runs.{job_of, verdict_of, reported_by, front_in, IsOf}
 
@@ -38,9 +38,9 @@ at_most job verdict name front answer = record { job = job; verdict = verdict; n
 pub record StepCases (m : Machine) (P : Step → Stepped → Type 0) : Type 0 where
   pub silent : (s : Step) (o : Outcome) → AtMost s o [] → P s (stays m o)
   pub put : (seat : ℕ) (batch : Batch) (last : ℕ) → slice_get m.numbers seat ≡ Some last
-      → P (ask.Put seat batch) (handed_in m seat (brings.Batch batch) (last + 1))
+      → P (ask.Put seat batch) (with_submitted m seat (brings.Batch batch) (last + 1))
   pub limited : (seat n : ℕ) (last : ℕ) → slice_get m.numbers seat ≡ Some last
-      → P (ask.Limit seat n) (handed_in m seat (brings.TraceLimit n) (last + 1))
+      → P (ask.Limit seat n) (with_submitted m seat (brings.TraceLimit n) (last + 1))
   pub taken : (job : Entry) (rest : List Entry) → m.waiting ≡ job ∷ rest → sent_before (accepted m) job ≡ None
       → has_room m.limits (accepted m) job ≡ true
       → P ask.Take (judged_job m job rest true)
@@ -57,11 +57,11 @@ pub record StepCases (m : Machine) (P : Step → Stepped → Type 0) : Type 0 wh
 module _ (m : Machine) (P : Step → Stepped → Type 0) (c : StepCases m P) where
   -- ---- jobs
   on_puts : (s : Step) (seat : ℕ) (work : Work) → AtMost s Unknown []
-      → ((last : ℕ) → slice_get m.numbers seat ≡ Some last → P s (handed_in m seat work (last + 1)))
+      → ((last : ℕ) → slice_get m.numbers seat ≡ Some last → P s (with_submitted m seat work (last + 1)))
       → (o : Option ℕ) → slice_get m.numbers seat ≡ o → P s (puts m seat work o)
   on_puts s seat work unknown put None e = c.silent s Unknown unknown
   on_puts s seat work unknown put (Some last) e =
-      elim (nat_lt last 18446744073709551615) as (λ b. P s (if b then handed_in m seat work (last + 1) else stays m Unknown)) [
+      elim (nat_lt last 18446744073709551615) as (λ b. P s (if b then with_submitted m seat work (last + 1) else stays m Unknown)) [
         | true ↦ put last e
         | false ↦ c.silent s Unknown unknown
       ]

@@ -1,9 +1,9 @@
-pub mod Copied
-pub mod Facts
+pub mod CopiedLists
+pub mod RunFacts
 pub mod Machine
-pub mod Numbering
-pub mod Queued
+pub mod JobNumbers
+pub mod WaitingJobs
 pub mod Runs
 pub mod MachineStates
-pub mod Standing
-pub mod Worlds
+pub mod ReaderStates
+pub mod BoundedMachines

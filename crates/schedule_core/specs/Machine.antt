@@ -13,7 +13,7 @@ use Rattle.trace_model.specs.declared.query.Query.{Query}
 use Rattle.trace_model.specs.declared.refusal.Refusal.{Refusal}
 use Rattle.trace_model.specs.declared.refusal.Refusal.TheVariants.{JournalFull}
 use Rattle.trace_model.specs.Histories.{span_count}
-use Rattle.trace_model.specs.Resending.{sent_before}
+use Rattle.trace_model.specs.ResentBatches.{sent_before}
 use Rattle.trace_model.specs.Refusals.{has_room, repeated}
 use Rattle.trace_model.specs.Answers.{answer}
 use Rattle.schedule_core.specs.declared.step.Step.{Step}
@@ -68,8 +68,8 @@ accepted m = m.history ++ m.pending
 
 -- ---- jobs
 
-abbrev pub handed_in : Machine → ℕ → Work → ℕ → Stepped
-handed_in m seat work number = record {
+abbrev pub with_submitted : Machine → ℕ → Work → ℕ → Stepped
+with_submitted m seat work number = record {
   outcome = Put number;
   machine = record m { waiting = m.waiting ++ record { seat = seat; number = number; work = work } ∷ []; numbers = slice_set m.numbers seat number };
 }
@@ -77,7 +77,7 @@ handed_in m seat work number = record {
 -- by the seat's last number, if there is such a seat
 abbrev pub puts : Machine → ℕ → Work → Option ℕ → Stepped
 puts m seat work None = stays m Unknown
-puts m seat work (Some last) = if nat_lt last 18446744073709551615 then handed_in m seat work (last + 1) else stays m Unknown
+puts m seat work (Some last) = if nat_lt last 18446744073709551615 then with_submitted m seat work (last + 1) else stays m Unknown
 
 -- a limit above 1,000,000 does nothing
 abbrev pub limits_by : Machine → ℕ → ℕ → Option ℕ → Stepped

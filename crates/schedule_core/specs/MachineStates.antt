@@ -7,10 +7,10 @@ use Rattle.trace_model.specs.declared.refusal.Refusal.{Refusal}
 use Rattle.schedule_core.specs.declared.outcome.Outcome.{Outcome}
 use Rattle.schedule_core.specs.declared.readers.ReaderState.{ReaderState}
 use Rattle.schedule_core.specs.Machine.{Machine, outcome_by}
-use Rattle.schedule_core.specs.Numbering.{IsNumbered}
-use Rattle.schedule_core.specs.Copied.{Copied, after_admission}
-use Rattle.schedule_core.specs.Queued.{Queued}
-use Rattle.schedule_core.specs.Standing.{Stands, reader_at}
+use Rattle.schedule_core.specs.JobNumbers.{IsNumbered}
+use Rattle.schedule_core.specs.CopiedLists.{Copied, after_admission}
+use Rattle.schedule_core.specs.WaitingJobs.{Queued}
+use Rattle.schedule_core.specs.ReaderStates.{Stands, reader_at}
 
 -- the machine that this state represents
 abbrev pub machine_of : Copied → Queued → List ℕ → List ReaderState → Machine

@@ -10,7 +10,7 @@ ghost use Rattle.trace_model.specs.Refusals.{followed_by};
 ghost use Rattle.trace_model.specs.declared.admission.Admission.TheVariants.{Added};
 ghost use Rattle.trace_model.specs.declared.refusal.Refusal.TheVariants.{NoMemory};
 ghost use Rattle.arrival_journal.specs.Journals.{admission_by};
-ghost use Rattle.schedule_core.specs.Copied.{after_admission, all_of, turned};
+ghost use Rattle.schedule_core.specs.CopiedLists.{after_admission, all_of, turned};
 
 use arrival_journal::Journal;
 use span_store::SpanStore;
@@ -33,7 +33,7 @@ pub(crate) struct Copies {
 
 impl Model for Copies {
     ghost use Rattle.std.specs.Prelude.{length, drop};
-    ghost use Rattle.schedule_core.specs.Copied.{Copied, IsCopied};
+    ghost use Rattle.schedule_core.specs.CopiedLists.{Copied, IsCopied};
 
     ghost Value = { Copied };
 

@@ -10,7 +10,7 @@ ghost use Rattle.schedule_core.specs.declared.step.Step.{Step as StepValue};
 ghost use Rattle.schedule_core.specs.declared.step.Step.TheVariants.{Read as ReadValue};
 ghost use Rattle.schedule_core.specs.Machine.{new_machine, outcomes, at_last, accepted, step, Reader as ReaderValue, Visit};
 ghost use Rattle.schedule_core.specs.Runs.{along, AllAlong, IsOf, NeverFalls, front_for, is_of, job_of, kept, verdict_of};
-ghost use Rattle.schedule_core.specs.Facts.{IsRun, IsSteady};
+ghost use Rattle.schedule_core.specs.RunFacts.{IsRun, IsSteady};
 
 /// The history only grows at its end.
 pub fn the_history_only_grows()

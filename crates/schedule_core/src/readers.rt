@@ -2,7 +2,7 @@
 
 ghost use Rattle.std.specs.Prelude.{◌≡◌, ◌<◌, IfOk, IfSome, None, length, replicate, slice_get, slice_set};
 ghost use Rattle.std.specs.List.{position};
-ghost use Rattle.schedule_core.specs.Standing.{is_held};
+ghost use Rattle.schedule_core.specs.ReaderStates.{is_held};
 
 use std::alloc::{AllocError, Global};
 use std::marker::Model;

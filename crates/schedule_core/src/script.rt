@@ -1,6 +1,6 @@
 ghost use Rattle.std.specs.Prelude.{IfOk};
-ghost use Rattle.schedule_core.specs.Facts.{IsPlayed};
-ghost use Rattle.schedule_core.specs.Worlds.{PlaysFrom};
+ghost use Rattle.schedule_core.specs.RunFacts.{IsPlayed};
+ghost use Rattle.schedule_core.specs.BoundedMachines.{PlaysFrom};
 
 use crate::outcome::Outcome;
 use crate::step::Step;

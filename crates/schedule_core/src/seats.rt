@@ -2,7 +2,7 @@
 
 ghost use Rattle.std.specs.Prelude.{◌≡◌, [], ◌∷◌, ◌++◌, IfOk, MatchOption, OnErr, replicate};
 ghost use Rattle.std.specs.Arc.{arc_value};
-ghost use Rattle.schedule_core.specs.Queued.{next_number, queued};
+ghost use Rattle.schedule_core.specs.WaitingJobs.{next_number, queued};
 
 use std::alloc::{AllocError, Global};
 use std::collections::VecDeque;
@@ -24,7 +24,7 @@ pub(crate) struct Seats {
 impl Model for Seats {
     ghost use Rattle.std.specs.Prelude.{◌≡◌, map, length};
     ghost use Rattle.std.specs.Arc.{arc_value};
-    ghost use Rattle.schedule_core.specs.Queued.{Queued};
+    ghost use Rattle.schedule_core.specs.WaitingJobs.{Queued};
 
     ghost Value = { Queued };
 

@@ -1,6 +1,6 @@
 ghost use Rattle.std.specs.Prelude.{◌≡◌, Option, Some, IfOk};
 ghost use Rattle.schedule_core.specs.Machine.{Machine, new_machine};
-ghost use Rattle.schedule_core.specs.Worlds.{Steps};
+ghost use Rattle.schedule_core.specs.BoundedMachines.{Steps};
 
 use crate::machine_state::MachineState;
 use crate::outcome::Outcome;

@@ -1,2 +1,2 @@
-pub mod Hashing
-pub mod Sent
+pub mod BatchHashes
+pub mod SentIndex

@@ -2,10 +2,10 @@
 
 ghost use Rattle.std.specs.Prelude.{◌≡◌, ◌<◌, ◌≤◌, [], ◌∷◌, ◌++◌, true, map, length, IfOk};
 ghost use Rattle.std.specs.Arc.{arc_value};
-ghost use Rattle.trace_model.specs.Resending.{SentOnceAfter, sent_before};
+ghost use Rattle.trace_model.specs.ResentBatches.{SentOnceAfter, sent_before};
 ghost use Rattle.trace_model.specs.Histories.{before_last};
 ghost use Rattle.trace_model.specs.declared.entry.Entry.{Entry as EntryValue};
-ghost use Rattle.sent_batches.specs.Sent.{IsSentKept, has_number, work_hash};
+ghost use Rattle.sent_batches.specs.SentIndex.{IsSentKept, has_number, work_hash};
 
 use crate::keys::BatchKeys;
 use crate::sought::SoughtBatch;
@@ -29,7 +29,7 @@ pub struct SentBatches {
 
 impl Model for SentBatches {
     ghost use Rattle.std.specs.Prelude.{vec_capacity, ◌≤◌};
-    ghost use Rattle.sent_batches.specs.Sent.{Sent};
+    ghost use Rattle.sent_batches.specs.SentIndex.{Sent};
 
     ghost Value = { Sent };
 

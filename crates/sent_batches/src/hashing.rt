@@ -2,7 +2,7 @@
 
 ghost use Rattle.std.specs.Prelude.{◌≡◌, fold, flat_map};
 ghost use Rattle.std.specs.Hash.DefaultHasher as sip;
-ghost use Rattle.sent_batches.specs.Hashing.{bytes_fed, value_fed, tag_fed, process_fed, hash_of, batch_hash};
+ghost use Rattle.sent_batches.specs.BatchHashes.{bytes_fed, value_fed, tag_fed, process_fed, hash_of, batch_hash};
 
 use crate::keys::BatchKeys;
 use jaeger_model::{Batch, Process, Tag, TagValue, ValueRef};

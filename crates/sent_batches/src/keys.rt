@@ -2,8 +2,8 @@
 
 ghost use Rattle.std.specs.Prelude.{◌≡◌, true, fold};
 ghost use Rattle.std.specs.Hash.DefaultHasher as sip;
-ghost use Rattle.sent_batches.specs.Hashing.{keys_fed};
-ghost use Rattle.sent_batches.specs.Sent.{has_number, work_hash};
+ghost use Rattle.sent_batches.specs.BatchHashes.{keys_fed};
+ghost use Rattle.sent_batches.specs.SentIndex.{has_number, work_hash};
 
 use crate::hashing::batch_hash;
 use std::hash::{BuildHasher, DefaultHasher, Hasher, RandomState};

@@ -1,7 +1,7 @@
 //! The batch to find, and the entries that are searched.
 
 ghost use Rattle.std.specs.Prelude.{◌≡◌};
-ghost use Rattle.trace_model.specs.Resending.{is_sent_as};
+ghost use Rattle.trace_model.specs.ResentBatches.{is_sent_as};
 
 use hash_tables::Sought;
 use jaeger_model::Batch;
@@ -22,7 +22,7 @@ pub(crate) struct SoughtBatch<'a> {
 impl<'a> Sought for SoughtBatch<'a> {
     ghost use Rattle.std.specs.Prelude.{map, get_or, ◌≡◌, length};
     ghost use Rattle.std.specs.Arc.{arc_value};
-    ghost use Rattle.sent_batches.specs.Sent.{AreAfterEntries, is_sent_after};
+    ghost use Rattle.sent_batches.specs.SentIndex.{AreAfterEntries, is_sent_after};
 
     ghost can_read = { λ s. AreAfterEntries (map arc_value s.entries.now) s.befores.now
         × (length s.befores.now ≡ length s.hashes.now) };

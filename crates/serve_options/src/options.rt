@@ -1,5 +1,5 @@
 ghost use Rattle.std.specs.Prelude.{◌≡◌, ◌↔◌, IfSome, IsSome};
-ghost use Rattle.serve_options.specs.Ranges.{IsWithin};
+ghost use Rattle.serve_options.specs.Ranges.{AreOptionsWithin};
 
 use crate::host::Host;
 use trace_model::Limits;
@@ -38,7 +38,7 @@ pub struct ServeOptions {
     pub idle: u32,
     /// The number of seconds between two reports of its counts on standard error, up to 86,400; 0 for none.
     pub report: u32,
-    ghost within: { IsWithin port workers queue sessions connections idle report },
+    ghost within: { AreOptionsWithin port workers queue sessions connections idle report },
 }
 
 impl ServeOptions {
@@ -55,7 +55,7 @@ impl ServeOptions {
         report: u32,
     ) -> Option<ServeOptions>
         ensures within { IsSome result ↔
-            IsWithin port workers queue sessions connections idle report }
+            AreOptionsWithin port workers queue sessions connections idle report }
         ensures keeps { IfSome result (λ o. o.limits ≡ limits) }
         ensures listens { IfSome result (λ o. (o.host ≡ host) × (o.port ≡ port)) }
         ensures holds { IfSome result (λ o. (o.workers ≡ workers) × (o.queue ≡ queue)) }

@@ -6,13 +6,13 @@ use Rattle.std.proofs.Math.Bool.{or-true}
 use Rattle.jaeger_model.specs.declared.placed.Placed.{Placed}
 use Rattle.jaeger_model.specs.Tags.{is_kind, kind_in, kind_of, first_text}
 use Rattle.jaeger_model.specs.Texts.{same_text}
-use Rattle.trace_model.proofs.Rising.{any_set, or_swap}
+use Rattle.trace_model.proofs.SortedSets.{any_set, or_swap}
 use Rattle.trace_model.proofs.NameLaws.{any_map, text_turned}
-use Rattle.service_index.specs.Listing.{Listed, same_listed, listed, listed_in}
+use Rattle.service_index.specs.ListedNames.{Listed, same_listed, listed, listed_in}
 use Rattle.service_index.specs.Indexes.{has_operation}
-use Rattle.service_index.proofs.Known.{any_agree}
-use Rattle.service_index.proofs.Sets.{listed_exact}
-use Rattle.service_index.specs.NamesKept.{reports_operation}
+use Rattle.service_index.proofs.KnownNames.{any_agree}
+use Rattle.service_index.proofs.ListedSets.{listed_exact}
+use Rattle.service_index.specs.KeptNames.{reports_operation}
 
 any_or : {X : Type 0} (f g : X → Bool) (xs : List X) → (list_any f xs || list_any g xs) ≡ list_any (λ x. f x || g x) xs
 any_or f g [] = refl

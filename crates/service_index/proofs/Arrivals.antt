@@ -8,10 +8,10 @@ use Rattle.jaeger_model.specs.declared.placed.Placed.{Placed}
 use Rattle.jaeger_model.specs.Texts.{same_text, sorted_set, insert_once}
 use Rattle.trace_model.specs.declared.answer.Operation.{Operation}
 use Rattle.trace_model.specs.Names.{services, operation_names, operations, operation_of, of_service, is_asked_kind}
-use Rattle.trace_model.proofs.Rising.{any_set}
+use Rattle.trace_model.proofs.SortedSets.{any_set}
 use Rattle.trace_model.proofs.NameLaws.{text_total, text_exact, operation_total, operation_exact, any_map, any_filter}
-use Rattle.service_index.specs.Listing.{Listed, listed, listed_cmp, listed_in, services_in, operations_of, names_in, operations_in}
-use Rattle.service_index.proofs.Sets.{same_set, listed_exact}
+use Rattle.service_index.specs.ListedNames.{Listed, listed, listed_cmp, listed_in, services_in, operations_of, names_in, operations_in}
+use Rattle.service_index.proofs.ListedSets.{same_set, listed_exact}
 
 pub listed_more : (ps : List Placed) (p : Placed) → listed_in (ps ++ p ∷ []) ≡ insert_once listed_cmp (listed_in ps) (listed p)
 listed_more ps p = ap (sorted_set listed_cmp) (map_push listed ps p) ∙ fold_push (insert_once listed_cmp) [] (map listed ps) (listed p)

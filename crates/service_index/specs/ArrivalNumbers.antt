@@ -3,7 +3,7 @@ use Rattle.std.specs.Prelude.{◌≡◌, ℕ, ◌-◌, ◌<◌, ◌≤◌, List,
 use Rattle.jaeger_model.specs.declared.placed.Placed.{Placed}
 use Rattle.trace_model.specs.declared.entry.Entry.{Entry}
 use Rattle.arrival_journal.specs.declared.kind.Kind.{Kind}
-use Rattle.trace_model.specs.Works.{spans_brought, placed_brought}
+use Rattle.trace_model.specs.EntryWork.{spans_brought, placed_brought}
 use Rattle.trace_model.specs.Histories.{arrivals}
 
 -- the value of the numbers: for each arrival its entry, for each entry the number of its first span, for each

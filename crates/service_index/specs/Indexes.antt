@@ -4,9 +4,9 @@ use Rattle.std.specs.List.{list_any, position_or_len}
 use Rattle.trace_model.specs.declared.answer.Operation.{Operation}
 use Rattle.trace_model.specs.Names.{operation_cmp}
 use Rattle.jaeger_model.specs.Texts.{same_text, sorted_set, insert_once}
-use Rattle.service_index.specs.Listing.{Listed, listed_cmp, same_listed, operations_of}
-use Rattle.service_index.specs.Naming.{Names, operation_labels, group_labels}
-use Rattle.service_index.specs.Probes.{Table, IsNamed}
+use Rattle.service_index.specs.ListedNames.{Listed, listed_cmp, same_listed, operations_of}
+use Rattle.service_index.specs.Labels.{Names, operation_labels, service_number_labels}
+use Rattle.service_index.specs.Probes.{Table, IsLabelTable}
 
 -- the value of an index: a number for each operation of a service with its kind; a number for each service; for
 -- each service the row of its newest operation plus one; for each operation the row plus one of the one before it
@@ -94,6 +94,6 @@ pub record IsSized (used room : ℕ) (operations services : Table) (newest earli
 
 -- the index leads to its numbers by these names
 pub record IsIndexed (names : Names) (index : Index) : Type 0 where
-  pub operations : IsNamed (operation_labels names) index.operations
-  pub services : IsNamed (group_labels names) index.services
+  pub operations : IsLabelTable (operation_labels names) index.operations
+  pub services : IsLabelTable (service_number_labels names) index.services
   pub linked : IsLinked (owners names index.operations.numbers) (owners names index.services.numbers) index.newest index.earlier

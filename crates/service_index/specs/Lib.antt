@@ -1,11 +1,11 @@
-pub mod Listing
-pub mod Naming
+pub mod ListedNames
+pub mod Labels
 pub mod Probes
 pub mod LinkedRows
 pub mod Indexes
-pub mod Reported
-pub mod PlacesAlong
+pub mod ServicePlaces
+pub mod PlaceChains
 pub mod ArrivalNumbers
-pub mod NamesKept
-pub mod ArrivalGroups
+pub mod KeptNames
+pub mod ArrivalServices
 pub mod TakenNames

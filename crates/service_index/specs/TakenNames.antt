@@ -2,7 +2,7 @@
 use Rattle.std.specs.Prelude.{ℕ, List, [], slice_get, option_map, unwrap_or}
 use Rattle.jaeger_model.specs.declared.span.Span.{Span}
 use Rattle.trace_model.specs.declared.entry.Work.{Work}
-use Rattle.trace_model.specs.Works.{spans_brought}
+use Rattle.trace_model.specs.EntryWork.{spans_brought}
 
 -- the operation of the span at the index; empty if there is no such span
 abbrev pub name_brought : Work → ℕ → List ℕ

@@ -7,7 +7,7 @@ use crate::labels::Label;
 /// The number of guesses.
 const CLASSES: usize = 256;
 
-/// A cache of the rows in which labels were last found. Labels fall into classes by their groups, by the lengths of
+/// A cache of the rows in which labels were last found. Labels fall into classes by their services' numbers, by the lengths of
 /// their names and kinds and by three of their bytes; each class has one row.
 #[derive(Drop)]
 pub(crate) struct Guesses {
@@ -31,8 +31,8 @@ fn class_of(label: Label<'_>) -> usize
     let last = byte_at(name, name.len().saturating_sub(1));
     let kind = label.kind.as_bytes();
     let kind = kind.len() % CLASSES + byte_at(kind, 0);
-    let group = label.group as usize % CLASSES;
-    (name.len() % CLASSES + 17 * middle + 29 * last + 61 * group + 7 * kind) % CLASSES
+    let service_number = label.service_number as usize % CLASSES;
+    (name.len() % CLASSES + 17 * middle + 29 * last + 61 * service_number + 7 * kind) % CLASSES
 }
 
 impl Guesses {

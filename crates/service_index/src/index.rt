@@ -1,16 +1,16 @@
 ghost use Rattle.std.specs.Prelude.{◌≡◌, ℕ, ◌+◌, ◌<◌, ◌≤◌, List, [], length, Some, IfOk};
 ghost use Rattle.jaeger_model.specs.Texts.{text_cmp, sorted_set};
 ghost use Rattle.trace_model.specs.Names.{operation_cmp};
-ghost use Rattle.service_index.specs.Listing.{services_in};
-ghost use Rattle.service_index.specs.Naming.{Names, IsGroupOf, label_value, group_alone};
-ghost use Rattle.service_index.specs.Probes.{AreNumbers};
+ghost use Rattle.service_index.specs.ListedNames.{services_in};
+ghost use Rattle.service_index.specs.Labels.{Names, IsServiceNumberOf, label_value, service_number_alone};
+ghost use Rattle.service_index.specs.Probes.{AreNumbersBelow};
 ghost use Rattle.service_index.specs.Indexes.{listing_by, listing_with, service_row, has_service, has_operation, own_operations, operations_at};
 ghost use Rattle.service_index.specs.Indexes.{owners, AreFrom, IsChain, IsIndexed, LeadsBack};
 
 use crate::labels::Label;
 use crate::links::RowLinks;
 use crate::name_table::NameTable;
-use crate::texts::{GroupLabels, OperationLabels, Texts};
+use crate::texts::{OperationLabels, ServiceNumberLabels, Texts};
 use std::alloc::{AllocError, Global};
 use std::hash::RandomState;
 use std::marker::Model;
@@ -28,7 +28,7 @@ pub struct ServiceIndex {
     used: u32,
     /// A number for each operation of a service with its kind.
     operations: NameTable,
-    /// A number for each service, found by its group.
+    /// A number for each service, found by the service's own.
     services: NameTable,
     /// The rows of the operations, linked for each service.
     links: RowLinks,
@@ -103,7 +103,7 @@ impl ServiceIndex {
         if (row as usize) < self.links.rows() {
             return;
         }
-        let service = self.services.add(&GroupLabels { texts }, n);
+        let service = self.services.add(&ServiceNumberLabels { texts }, n);
         self.links.add_row(service as usize);
     }
 
@@ -115,15 +115,21 @@ impl ServiceIndex {
         (self.service_row(texts, service) as usize) < self.links.services()
     }
 
-    /// Whether a span of the service of this group with this operation and kind was added.
-    pub fn knows_in<T: Texts>(&self, texts: &T, group: u32, operation: &str, kind: &str) -> bool
+    /// Whether a span of the service of this number with this operation and kind was added.
+    pub fn knows_in<T: Texts>(
+        &self,
+        texts: &T,
+        service_number: u32,
+        operation: &str,
+        kind: &str,
+    ) -> bool
         requires { IsIndexed (T.names texts.now) self.now }
-        ensures { (service : List ℕ) → IsGroupOf (T.names texts.now) service (Some group) →
+        ensures { (service : List ℕ) → IsServiceNumberOf (T.names texts.now) service (Some service_number) →
             result ≡ has_operation service operation.now kind.now
             (listing_by (T.names texts.now) self.now) }
     {
         let label = Label {
-            group,
+            service_number,
             name: operation,
             kind,
         };
@@ -135,7 +141,7 @@ impl ServiceIndex {
     /// [`sorted_texts`](crate::sorted_texts) sorts the services.
     pub fn service_numbers(&self) -> &[u32]
         ensures held { (names : Names) → IsIndexed names self.now →
-            AreNumbers names.count result.now }
+            AreNumbersBelow names.count result.now }
         ensures services { (names : Names) → IsIndexed names self.now →
             sorted_set text_cmp (owners names result.now) ≡
             services_in (listing_by names self.now) }
@@ -148,10 +154,11 @@ impl ServiceIndex {
         requires { IsIndexed (T.names texts.now) self.now }
         ensures { result ≡ service_row (T.names texts.now) self.now service.now }
     {
-        match texts.group_of(service) {
-            Some(group) => self
-                .services
-                .row_of(&GroupLabels { texts }, group_label(group)),
+        match texts.service_number_of(service) {
+            Some(service_number) => self.services.row_of(
+                &ServiceNumberLabels { texts },
+                service_number_label(service_number),
+            ),
             None => self.links.services() as u32,
         }
     }
@@ -169,7 +176,7 @@ impl ServiceIndex {
         service: &str,
     ) -> Result<Vec<u32>, AllocError>
         requires { IsIndexed (T.names texts.now) self.now }
-        ensures held { IfOk result (λ v. AreNumbers (T.names texts.now).count v.items) }
+        ensures held { IfOk result (λ v. AreNumbersBelow (T.names texts.now).count v.items) }
         ensures operations { IfOk result (λ v.
             sorted_set operation_cmp (operations_at (T.names texts.now) v.items) ≡
             own_operations service.now (listing_by (T.names texts.now) self.now)) }
@@ -187,12 +194,12 @@ impl ServiceIndex {
     }
 }
 
-/// Returns the label of the group itself.
-fn group_label(group: u32) -> Label<'static>
-    ensures { label_value result ≡ group_alone group }
+/// Returns the label of the service itself.
+fn service_number_label(service_number: u32) -> Label<'static>
+    ensures { label_value result ≡ service_number_alone service_number }
 {
     Label {
-        group,
+        service_number,
         name: "",
         kind: "",
     }
@@ -208,8 +215,8 @@ fn numbers_along(
 ) -> Result<Vec<u32>, AllocError>
     requires falls { LeadsBack (length numbers.now) earlier.now }
     requires within { newest ≤ length numbers.now }
-    ensures held { IfOk result (λ v. (count : ℕ) → AreNumbers count numbers.now →
-        AreNumbers count v.items) }
+    ensures held { IfOk result (λ v. (count : ℕ) → AreNumbersBelow count numbers.now →
+        AreNumbersBelow count v.items) }
     ensures along { IfOk result (λ v. (names : Names) →
         IsChain (owners names numbers.now) earlier.now →
         AreFrom names numbers.now newest (operations_at names v.items)) }

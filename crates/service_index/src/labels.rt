@@ -2,20 +2,20 @@
 
 ghost use Rattle.std.specs.Prelude.{◌≡◌, ◌<◌};
 ghost use Rattle.jaeger_model.specs.Texts.{same_text};
-ghost use Rattle.service_index.specs.Naming.{label_value, same_label};
+ghost use Rattle.service_index.specs.Labels.{label_value, same_label};
 
-/// A name in a group, with a kind. The group of an operation is the number of its service. A table without groups
-/// has all names in group 0.
+/// A name and a kind, with the number of a service: that of an operation is its service's. A table of services has
+/// all names under number 0.
 #[derive(Clone, Copy)]
 pub struct Label<'a> {
-    pub group: u32,
+    pub service_number: u32,
     pub name: &'a str,
     pub kind: &'a str,
 }
 
 /// Access to the labels of numbers.
 pub trait Labels {
-    ghost use Rattle.service_index.specs.Naming.{Labelling};
+    ghost use Rattle.service_index.specs.Labels.{Labelling};
 
     /// The number of labels, and the label of each number.
     ghost labels: { Self → Labelling };
@@ -40,5 +40,7 @@ pub(crate) fn is_label<L: Labels>(labels: &L, n: u32, label: Label<'_>) -> bool
     ensures { result ≡ same_label ((L.labels labels.now).at n) (label_value label.entry) }
 {
     let found = labels.label_at(n);
-    found.group == label.group && is_same(found.name, label.name) && is_same(found.kind, label.kind)
+    found.service_number == label.service_number
+        && is_same(found.name, label.name)
+        && is_same(found.kind, label.kind)
 }

@@ -6,9 +6,9 @@ ghost use Rattle.std.specs.Prelude.{◌≡◌, true, ℕ, List, [], ◌∷◌, �
 ghost use Rattle.jaeger_model.specs.declared.placed.Placed.{Placed as PlacedValue};
 ghost use Rattle.jaeger_model.specs.Texts.{insert_once};
 ghost use Rattle.trace_model.specs.Names.{services, operation_names, operations};
-ghost use Rattle.service_index.specs.Naming.{Names, Extends};
+ghost use Rattle.service_index.specs.Labels.{Names, Extends};
 ghost use Rattle.service_index.specs.Indexes.{Index, listing_by, IsIndexed};
-ghost use Rattle.service_index.specs.Listing.{Listed, same_listed, listed, listed_cmp, listed_in, services_in, names_in, operations_in};
+ghost use Rattle.service_index.specs.ListedNames.{Listed, same_listed, listed, listed_cmp, listed_in, services_in, names_in, operations_in};
 
 /// The index of all arrivals answers as the plain store does.
 pub fn listed_answers()
@@ -27,7 +27,7 @@ pub fn listed_once_more()
 {}
 
 /// A name that is listed already is not listed again.
-#[tactic(auto, using(crate::proofs::Known::known_again))]
+#[tactic(auto, using(crate::proofs::KnownNames::known_again))]
 pub fn listed_already()
     ensures { (ls : List Listed) (l : Listed) → IsStrictlySortedBy listed_cmp ls →
         list_any (same_listed l) ls ≡ true → insert_once listed_cmp ls l ≡ ls }

@@ -6,7 +6,7 @@
 //! arrivals.
 //!
 //! The index allocates once. It holds only numbers of spans, and reads their names from the spans ([`Texts`]).
-//! There each service has a number, its group: an operation is found by its group, its name and its kind, so
+//! There each service has a number: an operation is found by its service's number, its name and its kind, so
 //! that no text of a service is hashed or compared when a number is added. Adding a number allocates nothing.
 //! Its label is first compared with one that was found recently. If that differs, the label is hashed under
 //! keys drawn at the start, and looked up in the few places to which the hash leads, in a table that is at most

@@ -2,8 +2,8 @@
 
 ghost use Rattle.std.specs.Prelude.{◌≡◌, ◌<◌, [], length, IfOk};
 ghost use Rattle.std.specs.Bool.{OnTrue};
-ghost use Rattle.service_index.specs.Naming.{Labelling, label_value};
-ghost use Rattle.service_index.specs.Probes.{IsNamed, row_of, with_number};
+ghost use Rattle.service_index.specs.Labels.{Labelling, label_value};
+ghost use Rattle.service_index.specs.Probes.{IsLabelTable, row_of, with_number};
 
 use crate::guesses::Guesses;
 use crate::labels::{Label, Labels, is_label};
@@ -44,7 +44,7 @@ impl NameTable {
     pub fn with_room(alloc: Global, keys: RandomState, room: u32) -> Result<Self, AllocError>
         ensures numbers { IfOk result (λ table. table.numbers ≡ []) }
         ensures room { IfOk result (λ table. table.room ≡ room) }
-        ensures leads { IfOk result (λ table. (labels : Labelling) → IsNamed labels table) }
+        ensures leads { IfOk result (λ table. (labels : Labelling) → IsLabelTable labels table) }
     {
         let places = RowPlaces::with_room(alloc, room)?;
         let numbers = Vec::with_capacity(alloc, room as usize)?;
@@ -65,7 +65,7 @@ impl NameTable {
 
     /// Returns the row of a label, or the number of rows if the label is not known.
     pub fn row_of<L: Labels>(&self, labels: &L, label: Label<'_>) -> u32
-        requires { IsNamed (L.labels labels.now) self.now }
+        requires { IsLabelTable (L.labels labels.now) self.now }
         ensures { result ≡ row_of (L.labels labels.now) self.now.numbers (label_value label.entry) }
     {
         let sought = SoughtLabel {
@@ -82,7 +82,7 @@ impl NameTable {
 
     /// Whether a label has this row, without a lookup.
     fn has_row<L: Labels>(&self, labels: &L, row: u32, label: Label<'_>) -> bool
-        requires { IsNamed (L.labels labels.now) self.now }
+        requires { IsLabelTable (L.labels labels.now) self.now }
         ensures { OnTrue result ((row < length self.now.numbers)
             × (row ≡ row_of (L.labels labels.now) self.now.numbers (label_value label.entry))) }
     {
@@ -93,14 +93,14 @@ impl NameTable {
     /// Adds a number unless a number with its label is there, and returns the row of the label. Allocates nothing.
     /// If the label equals the one that was last found in its class, there is no lookup.
     pub fn add<L: Labels>(&mut self, labels: &L, n: u32) -> u32
-        requires leads { IsNamed (L.labels labels.now) self.old }
+        requires leads { IsLabelTable (L.labels labels.now) self.old }
         requires held { n < (L.labels labels.now).count }
         requires room { length self.old.numbers < self.old.room }
         ensures row { result ≡ row_of (L.labels labels.now) self.old.numbers
             ((L.labels labels.now).at n) }
         ensures numbers { self.new.numbers ≡ with_number (L.labels labels.now) self.old.numbers n }
         ensures room { self.new.room ≡ self.old.room }
-        ensures leads { IsNamed (L.labels labels.now) self.new }
+        ensures leads { IsLabelTable (L.labels labels.now) self.new }
     {
         let label = labels.label_at(n);
         let guess = self.guesses.row(label);

@@ -4,7 +4,7 @@ ghost use Rattle.std.specs.Prelude.{◌≡◌, IfOk, map};
 ghost use Rattle.jaeger_model.specs.Texts.{text_cmp, sorted_set};
 ghost use Rattle.trace_model.specs.declared.answer.Operation.{Operation as OperationValue};
 ghost use Rattle.trace_model.specs.Names.{operation_cmp};
-ghost use Rattle.service_index.specs.Listing.{names_of};
+ghost use Rattle.service_index.specs.ListedNames.{names_of};
 
 use jaeger_model::Text;
 use std::alloc::{AllocError, Global};

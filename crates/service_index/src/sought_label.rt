@@ -1,7 +1,7 @@
 //! The label to find, and the numbers whose labels are searched.
 
 ghost use Rattle.std.specs.Prelude.{◌≡◌};
-ghost use Rattle.service_index.specs.Naming.{label_value};
+ghost use Rattle.service_index.specs.Labels.{label_value};
 ghost use Rattle.service_index.specs.Probes.{hash_of};
 
 use crate::labels::{Label, Labels, is_label};
@@ -13,7 +13,7 @@ pub(crate) fn label_hash(keys: RandomState, label: Label<'_>) -> u64
     ensures { result ≡ hash_of keys (label_value label.entry) }
 {
     let mut state = keys.build_hasher();
-    label.group.hash(&mut state);
+    label.service_number.hash(&mut state);
     label.name.hash(&mut state);
     label.kind.hash(&mut state);
     state.finish()
@@ -30,10 +30,10 @@ pub(crate) struct SoughtLabel<'a, L> {
 
 impl<'a, L: Labels> Sought for SoughtLabel<'a, L> {
     ghost use Rattle.std.specs.Prelude.{map, get_or};
-    ghost use Rattle.service_index.specs.Naming.{label_value, same_label};
-    ghost use Rattle.service_index.specs.Probes.{AreNumbers, hashes_of};
+    ghost use Rattle.service_index.specs.Labels.{label_value, same_label};
+    ghost use Rattle.service_index.specs.Probes.{AreNumbersBelow, hashes_of};
 
-    ghost can_read = { λ s. AreNumbers (L.labels s.labels.now).count s.numbers.now };
+    ghost can_read = { λ s. AreNumbersBelow (L.labels s.labels.now).count s.numbers.now };
 
     ghost hashes = { λ s. hashes_of s.keys (map (L.labels s.labels.now).at s.numbers.now) };
 

@@ -1,16 +1,16 @@
 //! Access to the names of numbers.
 
 ghost use Rattle.std.specs.Prelude.{◌≡◌, ◌<◌};
-ghost use Rattle.service_index.specs.Naming.{IsGroupOf};
+ghost use Rattle.service_index.specs.Labels.{IsServiceNumberOf};
 
 use crate::labels::{Label, Labels};
 
-/// Access to the names of numbers: what each number's span reported. Services have numbers of their own, their
-/// groups, so that no call compares the services of two spans.
+/// Access to the names of numbers: what each number's span reported. Services have numbers of their own,
+/// so that no call compares the services of two spans.
 pub trait Texts {
-    ghost use Rattle.service_index.specs.Naming.{Names, IsGrouped};
+    ghost use Rattle.service_index.specs.Labels.{Names, IsNumberedByService};
 
-    /// The number of names, the name of each number, and the group of each.
+    /// The number of names, the name of each number, and the number of its service.
     ghost names: { Self → Names };
 
     /// Returns the service, the operation and the kind of the span with this number; the kind is empty if it has
@@ -21,54 +21,54 @@ pub trait Texts {
         ensures operation { result.1.now ≡ ((names self.now).at n).operation.name }
         ensures kind { result.2.now ≡ ((names self.now).at n).operation.kind };
 
-    /// Returns the group of the span with this number: the number of its service.
-    fn group_at(&self, n: u32) -> u32
+    /// Returns the number of the service of the span with this number.
+    fn service_number_at(&self, n: u32) -> u32
         requires { n < (names self.now).count }
-        ensures { result ≡ (names self.now).group n };
+        ensures { result ≡ (names self.now).service_number n };
 
-    /// Returns the group of a service, or none if no span has the service.
-    fn group_of(&self, service: &str) -> Option<u32>
-        ensures { IsGroupOf (names self.now) service.now result };
+    /// Returns the number of a service, or none if no span has the service.
+    fn service_number_of(&self, service: &str) -> Option<u32>
+        ensures { IsServiceNumberOf (names self.now) service.now result };
 
-    /// Spans have the same group exactly if they have the same service.
-    ghost grouped: { (texts : Self) → IsGrouped (names texts) };
+    /// Spans have the same number of a service exactly if they have the same service.
+    ghost services_numbered: { (texts : Self) → IsNumberedByService (names texts) };
 }
 
-/// The operations of the names with their kinds, each in the group of its service.
+/// The operations of the names with their kinds, each with the number of its service.
 #[derive(Drop)]
 pub(crate) struct OperationLabels<'a, T> {
     pub(crate) texts: &'a T,
 }
 
 impl<'a, T: Texts> Labels for OperationLabels<'a, T> {
-    ghost use Rattle.service_index.specs.Naming.{operation_labels};
+    ghost use Rattle.service_index.specs.Labels.{operation_labels};
 
     ghost labels = { λ s. operation_labels (T.names s.texts.now) };
 
     fn label_at(&self, n: u32) -> Label<'_> {
         let (_, name, kind) = self.texts.name_at(n);
         Label {
-            group: self.texts.group_at(n),
+            service_number: self.texts.service_number_at(n),
             name,
             kind,
         }
     }
 }
 
-/// The groups of the names, each without an operation.
+/// The numbers of the services of the names, without an operation.
 #[derive(Drop)]
-pub(crate) struct GroupLabels<'a, T> {
+pub(crate) struct ServiceNumberLabels<'a, T> {
     pub(crate) texts: &'a T,
 }
 
-impl<'a, T: Texts> Labels for GroupLabels<'a, T> {
-    ghost use Rattle.service_index.specs.Naming.{group_labels};
+impl<'a, T: Texts> Labels for ServiceNumberLabels<'a, T> {
+    ghost use Rattle.service_index.specs.Labels.{service_number_labels};
 
-    ghost labels = { λ s. group_labels (T.names s.texts.now) };
+    ghost labels = { λ s. service_number_labels (T.names s.texts.now) };
 
     fn label_at(&self, n: u32) -> Label<'_> {
         Label {
-            group: self.texts.group_at(n),
+            service_number: self.texts.service_number_at(n),
             name: "",
             kind: "",
         }

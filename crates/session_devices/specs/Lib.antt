@@ -1,2 +1,2 @@
-pub mod Takings
+pub mod ByteTakers
 pub mod Traffic

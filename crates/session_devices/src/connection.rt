@@ -1,5 +1,5 @@
 ghost use Rattle.std.specs.Prelude.{◌≡◌};
-ghost use Rattle.session_devices.specs.Takings.{LeavesOther};
+ghost use Rattle.session_devices.specs.ByteTakers.{LeavesOther};
 
 use crate::{Failed, Input, Output};
 

@@ -2,7 +2,7 @@
 
 ghost use Rattle.std.specs.Prelude.{◌≡◌};
 ghost use Rattle.trace_model.specs.Searching.{at_least, at_most, bound, is_named, is_timed};
-ghost use Rattle.trace_model.specs.Seeing.{seen};
+ghost use Rattle.trace_model.specs.BorrowedSpans.{seen};
 ghost use Rattle.span_steps.specs.SpanConditions.{has_operation, meets_span_conditions};
 
 use jaeger_model::Seen;

@@ -1,7 +1,7 @@
 //! Whether a time is in a window of time.
 
 ghost use Rattle.std.specs.Prelude.{◌≡◌, ◌&&◌, pos, ◌-ℤ◌, ◌*ℤ◌, ◌≤ℤ◌, ◌^◌, int_lt};
-ghost use Rattle.trace_model.specs.Linking.{is_between};
+ghost use Rattle.trace_model.specs.ServiceLinks.{is_between};
 
 use crate::skew::{difference, wide};
 

@@ -20,28 +20,28 @@ use Rattle.trace_model.specs.declared.entry.Entry.{Entry}
 use Rattle.trace_model.specs.declared.query.Find.{Find}
 use Rattle.trace_model.specs.declared.entry.Work.{Work}
 use Rattle.trace_model.specs.declared.entry.Work.TheVariants as brings
-use Rattle.trace_model.specs.Works.{batch_brought, placed_brought, service_brought}
+use Rattle.trace_model.specs.EntryWork.{batch_brought, placed_brought, service_brought}
 use Rattle.trace_model.specs.Events.{Event, came, limited, without_limits}
 use Rattle.trace_model.specs.Histories.{arrivals, events}
-use Rattle.trace_model.proofs.Arriving.{came_of}
+use Rattle.trace_model.proofs.ArrivedItems.{came_of}
 use Rattle.trace_model.specs.Searching.{matches, matching, found_in, ranked_by_start, first_start, cut, is_named, is_timed, has_tag, traces}
-use Rattle.trace_model.specs.Showing.{ring, shown, spans_of_trace, lasting_after, longer_prefixes, is_in_ring, trace_of}
+use Rattle.trace_model.specs.ShownSpans.{ring, shown, spans_of_trace, lasting_after, longer_prefixes, is_in_ring, trace_of}
 use Rattle.trace_model.proofs.NameLaws.{any_filter, text_turned}
-use Rattle.jaeger_model.proofs.Referred.{trace_stays}
+use Rattle.jaeger_model.proofs.ParentReferences.{trace_stays}
 use Rattle.trace_model.specs.Places.{entry_at}
 use Rattle.trace_assembly.specs.declared.spot.Spot.{Spot}
-use Rattle.trace_assembly.specs.Located.{span_at}
-use Rattle.trace_assembly.specs.Rows.{is_of}
-use Rattle.service_index.proofs.Numbering.{arrivals_push}
-use Rattle.service_index.specs.NamesKept.{reports_service, reports_operation}
-use Rattle.service_index.specs.Reported.{reporters, places_upto, places_of, group_in, group_of, AreGroups}
-use Rattle.journal_traces.specs.Picked.{reaches, meets, met, met_or_none, met_at, met_along, near_along}
-use Rattle.journal_traces.specs.Reporting.{is_reported, are_reported}
-use Rattle.journal_traces.specs.Standing.{spans_named}
+use Rattle.trace_assembly.specs.LocatedSpans.{span_at}
+use Rattle.trace_assembly.specs.AssembledRows.{is_of}
+use Rattle.service_index.proofs.NumbersOfEntry.{arrivals_push}
+use Rattle.service_index.specs.KeptNames.{reports_service, reports_operation}
+use Rattle.service_index.specs.ServicePlaces.{reporters, places_upto, places_of, service_number_in, service_number_of, AreServiceNumbers}
+use Rattle.journal_traces.specs.MatchingSpans.{any_of, meets, met, met_or_none, met_at, met_along, near_along}
+use Rattle.journal_traces.specs.ReportedSpots.{is_reported, are_reported}
+use Rattle.journal_traces.specs.SpansAtSpots.{spans_named}
 use Rattle.journal_traces.proofs.ParentReferences.{matches-adopted}
 use Rattle.journal_traces.proofs.NearMatches.{near_covers}
 use Rattle.journal_traces.proofs.Numbers.{number_there}
-use Rattle.trace_model.proofs.Traces.{or_cases}
+use Rattle.trace_model.proofs.ShownOfTrace.{or_cases}
 
 first_true : (a b c : Bool) → (a && b && c) ≡ true → a ≡ true
 first_true true b c e = refl
@@ -89,7 +89,7 @@ match_reported q p e =
     ∙ (and_parts (same_text q.service p.process.service) (same_text q.operation [] || same_text q.operation p.span.operation) named).0
 
 own_spans : (q : Find) (t : TraceId) (b : Batch) (ss : List Span) → list_any (is_hit q t) (map (placed b) ss) ≡ true
-    → (same_text b.process.service q.service ≡ true) × (reaches (met q b.process ss) t ≡ true)
+    → (same_text b.process.service q.service ≡ true) × (any_of (met q b.process ss) t ≡ true)
 own_spans q t b [] h = absurd (false≢true h)
 own_spans q t b (x ∷ xs) h =
     let bare : Placed = record { process = b.process; span = x } in
@@ -115,7 +115,7 @@ own_spans q t b (x ∷ xs) h =
     ] refl h
 
 own_brought : (q : Find) (t : TraceId) (w : Work) → list_any (is_hit q t) (placed_brought w) ≡ true
-    → (same_text (service_brought w) q.service ≡ true) × (reaches (met_or_none q (batch_brought w)) t ≡ true)
+    → (same_text (service_brought w) q.service ≡ true) × (any_of (met_or_none q (batch_brought w)) t ≡ true)
 own_brought q t (brings.Batch b) k = own_spans q t b b.spans k
 own_brought q t (brings.TraceLimit n) k = absurd (false≢true k)
 
@@ -160,7 +160,7 @@ matched_arrival q n es t e =
     any_lasting (λ p. own p && matches q p) (is_in_ring trace_of n) [] es (sym (any_filter (matches q) own (shown n es)) ∙ e)
 
 covered : (q : Find) (n : ℕ) (h : List Entry) (t : TraceId) → list_any (matches q) (spans_of_trace n (events h) t) ≡ true
-    → reaches (met_along q h (places_of h q.service)) t ≡ true
+    → any_of (met_along q h (places_of h q.service)) t ≡ true
 covered q n [] t e = absurd (false≢true (matched_arrival q n [] t e))
 covered q n (x ∷ xs) t e =
     let h : List Entry = x ∷ xs in
@@ -184,20 +184,20 @@ match_among q f p h (x ∷ xs) =
 
 -- a search finds the same among the traces that are near as among all
 pub found_near : (q : Find) (n : ℕ) (h : List Entry) (r : List TraceId)
-    → found_in q (map (spans_of_trace n (events h)) (filter (reaches (near_along q h (places_of h q.service))) r))
+    → found_in q (map (spans_of_trace n (events h)) (filter (any_of (near_along q h (places_of h q.service))) r))
     ≡ found_in q (map (spans_of_trace n (events h)) r)
 found_near q n h r =
     ap (λ l. cut q.limit (ranked_by_start first_start l))
-    (match_among q (spans_of_trace n (events h)) (reaches (near_along q h (places_of h q.service)))
+    (match_among q (spans_of_trace n (events h)) (any_of (near_along q h (places_of h q.service)))
     (λ t e. near_covers q h (places_of h q.service) t (covered q n h t e)) r)
 
 -- ---- the traces of a service by its number
 -- the number of a service is the one that is found
-number_is : (h : List Entry) (service : List ℕ) (n : ℕ) → Some n ≡ group_of h service → group_in h service ≡ n
-number_is h service n e = by (nat_lt (group_in h service) (length (reporters h))) e
+number_is : (h : List Entry) (service : List ℕ) (n : ℕ) → Some n ≡ service_number_of h service → service_number_in h service ≡ n
+number_is h service n e = by (nat_lt (service_number_in h service) (length (reporters h))) e
   where
-    by : (b : Bool) → Some n ≡ cond b (Some (group_in h service)) None → group_in h service ≡ n
-    by true e = let same : n ≡ group_in h service = cc e in sym same
+    by : (b : Bool) → Some n ≡ cond b (Some (service_number_in h service)) None → service_number_in h service ≡ n
+    by true e = let same : n ≡ service_number_in h service = cc e in sym same
     by false e = absurd (cc e)
 
 entry_there : (h : List Entry) (s : Spot) (p : Placed) → span_at h s ≡ Some p → is_some (entry_at h s.place) ≡ true
@@ -207,31 +207,31 @@ entry_there h s p e = by (entry_at h s.place) e
     by None e = absurd (cc e)
     by (Some x) e = refl
 
-module _ (q : Find) (h : List Entry) (groups : List ℕ) (k : ℕ) (kept : AreGroups h groups) (known : Some k ≡ group_of h q.service) where
+module _ (q : Find) (h : List Entry) (service_numbers : List ℕ) (k : ℕ) (kept : AreServiceNumbers h service_numbers) (known : Some k ≡ service_number_of h q.service) where
   -- a span that matches is at a spot of the service
-  own_spot : (s : Spot) (p : Placed) → span_at h s ≡ Some p → matches q p ≡ true → is_reported h groups k s ≡ true
+  own_spot : (s : Spot) (p : Placed) → span_at h s ≡ Some p → matches q p ≡ true → is_reported h service_numbers k s ≡ true
   own_spot s p at m =
       let service : p.process.service ≡ q.service = texts_are p.process.service q.service (sym (match_reported q p m)) in
-      let number : get_or groups (s.place - 1) 0 ≡ k = (number_there h groups s p kept (sym at)).0 ∙ ap (group_in h) service ∙ number_is h q.service k known in
-      and_from (is_some (entry_at h s.place)) (get_or groups (s.place - 1) 0 == k) (entry_there h s p at) (eq-eqb (get_or groups (s.place - 1) 0) k number)
+      let number : get_or service_numbers (s.place - 1) 0 ≡ k = (number_there h service_numbers s p kept (sym at)).0 ∙ ap (service_number_in h) service ∙ number_is h q.service k known in
+      and_from (is_some (entry_at h s.place)) (get_or service_numbers (s.place - 1) 0 == k) (entry_there h s p at) (eq-eqb (get_or service_numbers (s.place - 1) 0) k number)
 
-  own_spots : (ss : List Spot) → list_any (matches q) (spans_named h ss) ≡ true → are_reported h groups k ss ≡ true
+  own_spots : (ss : List Spot) → list_any (matches q) (spans_named h ss) ≡ true → are_reported h service_numbers k ss ≡ true
   own_spots [] e = absurd (false≢true e)
   own_spots (s ∷ ss) e = by (own_spots ss) (span_at h s) refl e
     where
-      by : (list_any (matches q) (spans_named h ss) ≡ true → are_reported h groups k ss ≡ true) → (o : Option Placed) → span_at h s ≡ o
-          → list_any (matches q) (cons_option o (spans_named h ss)) ≡ true → (is_reported h groups k s || are_reported h groups k ss) ≡ true
-      by later None at e = or_right (is_reported h groups k s) (are_reported h groups k ss) (later e)
+      by : (list_any (matches q) (spans_named h ss) ≡ true → are_reported h service_numbers k ss ≡ true) → (o : Option Placed) → span_at h s ≡ o
+          → list_any (matches q) (cons_option o (spans_named h ss)) ≡ true → (is_reported h service_numbers k s || are_reported h service_numbers k ss) ≡ true
+      by later None at e = or_right (is_reported h service_numbers k s) (are_reported h service_numbers k ss) (later e)
       by later (Some p) at e = or_cases (matches q p) (list_any (matches q) (spans_named h ss)) e
-          (λ m. ap (λ b. b || are_reported h groups k ss) (own_spot s p at m))
-          (λ rest. or_right (is_reported h groups k s) (are_reported h groups k ss) (later rest))
+          (λ m. ap (λ b. b || are_reported h service_numbers k ss) (own_spot s p at m))
+          (λ rest. or_right (is_reported h service_numbers k s) (are_reported h service_numbers k ss) (later rest))
 
   -- a search finds the same among the traces with a spot of the service as among all
   pub found_reported : (n : ℕ) (spots : TraceId → List Spot) (r : List TraceId) → ((t : TraceId) → spans_named h (spots t) ≡ spans_of_trace n (events h) t)
-      → found_in q (map (spans_of_trace n (events h)) (filter (λ t. are_reported h groups k (spots t)) r)) ≡ found_in q (map (spans_of_trace n (events h)) r)
+      → found_in q (map (spans_of_trace n (events h)) (filter (λ t. are_reported h service_numbers k (spots t)) r)) ≡ found_in q (map (spans_of_trace n (events h)) r)
   found_reported n spots r is_in_ring =
       ap (λ l. cut q.limit (ranked_by_start first_start l))
-      (match_among q (spans_of_trace n (events h)) (λ t. are_reported h groups k (spots t))
+      (match_among q (spans_of_trace n (events h)) (λ t. are_reported h service_numbers k (spots t))
       (λ t e. own_spots (spots t) (ap (list_any (matches q)) (is_in_ring t) ∙ e)) r)
 
 -- ---- if no arrival has the service, or the operation of the service, nothing is found

@@ -4,27 +4,27 @@ use Rattle.std.proofs.lemmas.Simd.{map-map}
 use Rattle.jaeger_model.specs.declared.ids.TraceId.{TraceId}
 use Rattle.trace_model.specs.declared.entry.Entry.{Entry}
 use Rattle.trace_model.specs.declared.admission.Admission.TheVariants.{Added}
-use Rattle.trace_model.specs.Held.{Held}
+use Rattle.trace_model.specs.LimitedHistories.{LimitedHistory}
 use Rattle.trace_model.specs.Histories.{IsLegal, arrivals, events, span_count}
-use Rattle.trace_model.specs.Works.{spans_brought}
+use Rattle.trace_model.specs.EntryWork.{spans_brought}
 use Rattle.trace_model.proofs.Admissions.{MayFollow, IsSaid, admission_says}
 use Rattle.trace_model.proofs.Legality.{span_count_push}
 use Rattle.arrival_journal.specs.Journals.{admission_by}
 use Rattle.trace_model.specs.Refusals.{followed_by}
 use Rattle.trace_model.specs.declared.query.Find.{Find}
 use Rattle.trace_model.specs.Searching.{traces, found_in}
-use Rattle.trace_model.specs.Showing.{ring, spans_of_trace}
+use Rattle.trace_model.specs.ShownSpans.{ring, spans_of_trace}
 use Rattle.trace_assembly.specs.declared.spot.Spot.{Spot}
-use Rattle.trace_assembly.specs.Rows.{Assembled, spots_of}
-use Rattle.trace_assembly.specs.Located.{located_events, shown_spots}
+use Rattle.trace_assembly.specs.AssembledRows.{Assembled, spots_of}
+use Rattle.trace_assembly.specs.LocatedSpans.{located_events, shown_spots}
 use Rattle.trace_assembly.proofs.Places.{events-located}
-use Rattle.service_index.specs.NamesKept.{Kept as Names}
-use Rattle.service_index.proofs.Numbering.{length-arrivals}
-use Rattle.service_index.specs.Reported.{Reported}
-use Rattle.journal_traces.specs.Standing.{spans_named, traces_named}
-use Rattle.trace_ring.specs.Starting.{Starts}
-use Rattle.span_store.specs.Opening.{AreFirst, IsCounted, IsRanged}
-use Rattle.span_store.specs.Kept.{Follows, IsWithin, IsStoreKept, IsNamed, IsPlaced}
+use Rattle.service_index.specs.KeptNames.{KeptNames}
+use Rattle.service_index.proofs.NumbersOfEntry.{length-arrivals}
+use Rattle.service_index.specs.ServicePlaces.{ServicePlacesValue}
+use Rattle.journal_traces.specs.SpansAtSpots.{spans_named, traces_named}
+use Rattle.trace_ring.specs.FirstStarts.{Starts}
+use Rattle.span_store.specs.ShownStarts.{AreFirst, IsCounted, IsRanged}
+use Rattle.span_store.specs.StoreIndexes.{FollowsEvents, IsRingWithin, IsStoreKept, AreNamesOf, ArePlacesOf}
 use Rattle.span_store.proofs.RingFollowsEvents.{follows_within, trace_stands}
 
 -- the given number of further spots is in the same room
@@ -33,71 +33,71 @@ pub record Grows (shown shown' : Assembled) (more : ℕ) : Type 0 where
   pub used : shown'.used ≡ shown.used + more
 
 -- one more entry
-pub kept_more : (old held : Held) (e : Entry) (shown shown' : Assembled) (starts starts' : Starts) (index index' : Names) (reported reported' : Reported)
+pub kept_more : (old held : LimitedHistory) (e : Entry) (shown shown' : Assembled) (starts starts' : Starts) (index index' : KeptNames) (reported reported' : ServicePlacesValue)
     → IsStoreKept old shown starts index reported → held ≡ followed_by old e → Grows shown shown' (length (spans_brought e.work))
-    → Follows old.limits.traces (located_events (old.entries ++ e ∷ [])) shown'.newest (spots_of shown')
+    → FollowsEvents old.limits.traces (located_events (old.entries ++ e ∷ [])) shown'.newest (spots_of shown')
     → AreFirst old.limits.traces (located_events (old.entries ++ e ∷ [])) starts'.starts → IsCounted shown' starts'
     → IsRanged old.limits.traces (located_events (old.entries ++ e ∷ [])) shown' starts'
-    → IsNamed (followed_by old e) index' → IsPlaced (followed_by old e) reported' → IsStoreKept held shown' starts' index' reported'
+    → AreNamesOf (followed_by old e) index' → ArePlacesOf (followed_by old e) reported' → IsStoreKept held shown' starts' index' reported'
 kept_more old held e shown shown' starts starts' index index' reported reported' k h grows f first counted ranged listed placed =
-    let now : Held = followed_by old e in
+    let now : LimitedHistory = followed_by old e in
     let back : now ≡ held = sym h in
     record {
-      room = grows.room ∙ k.room ∙ ap (λ (v : Held). v.limits.spans) back;
+      room = grows.room ∙ k.room ∙ ap (λ (v : LimitedHistory). v.limits.spans) back;
       used =
-          grows.used ∙ ap (λ n. n + length (spans_brought e.work)) k.used ∙ sym (span_count_push old.entries e) ∙ ap (λ (v : Held). span_count v.entries) back;
-      follows = subst (λ (v : Held). Follows v.limits.traces (located_events v.entries) shown'.newest (spots_of shown')) back f;
-      first = subst (λ (v : Held). AreFirst v.limits.traces (located_events v.entries) starts'.starts) back first;
+          grows.used ∙ ap (λ n. n + length (spans_brought e.work)) k.used ∙ sym (span_count_push old.entries e) ∙ ap (λ (v : LimitedHistory). span_count v.entries) back;
+      follows = subst (λ (v : LimitedHistory). FollowsEvents v.limits.traces (located_events v.entries) shown'.newest (spots_of shown')) back f;
+      first = subst (λ (v : LimitedHistory). AreFirst v.limits.traces (located_events v.entries) starts'.starts) back first;
       counted = counted;
-      ranged = subst (λ (v : Held). IsRanged v.limits.traces (located_events v.entries) shown' starts') back ranged;
-      named = subst (λ (v : Held). IsNamed v index') back listed;
-      placed = subst (λ (v : Held). IsPlaced v reported') back placed;
+      ranged = subst (λ (v : LimitedHistory). IsRanged v.limits.traces (located_events v.entries) shown' starts') back ranged;
+      named = subst (λ (v : LimitedHistory). AreNamesOf v index') back listed;
+      placed = subst (λ (v : LimitedHistory). ArePlacesOf v reported') back placed;
     }
 
 -- the spans of an entry that may follow are within the limit
-spans_within : (held : Held) (e : Entry) → admission_by held e ≡ Ok Added → span_count held.entries + length (spans_brought e.work) ≤ held.limits.spans
+spans_within : (held : LimitedHistory) (e : Entry) → admission_by held e ≡ Ok Added → span_count held.entries + length (spans_brought e.work) ≤ held.limits.spans
 spans_within held e may =
     let follows : MayFollow held.limits held.entries e = subst (IsSaid held.limits held.entries e) may (admission_says held.limits held.entries e) in
     follows.spans
 
 -- they can be counted
-pub spans_fit : (held : Held) (e : Entry) → admission_by held e ≡ Ok Added → length (spans_brought e.work) < 2 ^ 32
+pub spans_fit : (held : LimitedHistory) (e : Entry) → admission_by held e ≡ Ok Added → length (spans_brought e.work) < 2 ^ 32
 spans_fit held e may = omega (arith, spans_within held e may, held.limits.within)
 
 -- they have room
-pub kept_room : (held : Held) (e : Entry) (shown : Assembled) (starts : Starts) (index : Names) (reported : Reported)
+pub kept_room : (held : LimitedHistory) (e : Entry) (shown : Assembled) (starts : Starts) (index : KeptNames) (reported : ServicePlacesValue)
     → IsStoreKept held shown starts index reported
     → admission_by held e ≡ Ok Added → shown.used + length (spans_brought e.work) ≤ shown.room
 kept_room held e shown starts index reported k may = omega (arith, k.room, k.used, spans_within held e may)
 
 -- nor are there more arrivals with them than the spans that there may be
-pub arrivals_fit : (held now : Held) (e : Entry) (h : List Entry) (room : ℕ) → now ≡ followed_by held e → IsLegal now.limits now.entries → h ≡ now.entries
+pub arrivals_fit : (held now : LimitedHistory) (e : Entry) (h : List Entry) (room : ℕ) → now ≡ followed_by held e → IsLegal now.limits now.entries → h ≡ now.entries
     → room ≡ held.limits.spans → length (arrivals h) ≤ room
 arrivals_fit held now e h room appended legal same is =
-    omega (arith, length-arrivals h ∙ ap span_count same, legal.spans, ap (λ (v : Held). v.limits.spans) appended, is)
+    omega (arith, length-arrivals h ∙ ap span_count same, legal.spans, ap (λ (v : LimitedHistory). v.limits.spans) appended, is)
 
 -- the ring is within the current limit
-pub kept_within : (held : Held) (shown : Assembled) (starts : Starts) (index : Names) (reported : Reported) → IsStoreKept held shown starts index reported
-    → IsWithin shown.newest
+pub kept_within : (held : LimitedHistory) (shown : Assembled) (starts : Starts) (index : KeptNames) (reported : ServicePlacesValue) → IsStoreKept held shown starts index reported
+    → IsRingWithin shown.newest
 kept_within held shown starts index reported k = follows_within held.limits.traces (located_events held.entries) shown.newest (spots_of shown) k.follows
 
 -- ---- the indexes obey the limits of the entries
-pub kept_spots : (held : Held) (shown : Assembled) (starts : Starts) (index : Names) (reported : Reported) → IsStoreKept held shown starts index reported
+pub kept_spots : (held : LimitedHistory) (shown : Assembled) (starts : Starts) (index : KeptNames) (reported : ServicePlacesValue) → IsStoreKept held shown starts index reported
     → (t : TraceId) → spots_of shown t ≡ shown_spots held.limits.traces (located_events held.entries) t
 kept_spots held shown starts index reported k t = k.follows.spots t
 
-pub kept_ring : (held : Held) (shown : Assembled) (starts : Starts) (index : Names) (reported : Reported) → IsStoreKept held shown starts index reported
+pub kept_ring : (held : LimitedHistory) (shown : Assembled) (starts : Starts) (index : KeptNames) (reported : ServicePlacesValue) → IsStoreKept held shown starts index reported
     → shown.newest.ids ≡ ring held.limits.traces (events held.entries)
 kept_ring held shown starts index reported k = k.follows.ring ∙ ap (ring held.limits.traces) (events-located held.entries)
 
 -- the traces of the ring are those that are shown
-pub kept_traces : (held : Held) (shown : Assembled) (starts : Starts) (index : Names) (reported : Reported) → IsStoreKept held shown starts index reported
+pub kept_traces : (held : LimitedHistory) (shown : Assembled) (starts : Starts) (index : KeptNames) (reported : ServicePlacesValue) → IsStoreKept held shown starts index reported
     → map (spans_of_trace held.limits.traces (events held.entries)) shown.newest.ids ≡ traces held.limits.traces (events held.entries)
 kept_traces held shown starts index reported k =
     ap (map (spans_of_trace held.limits.traces (events held.entries))) (kept_ring held shown starts index reported k)
 
 -- a search finds among the spots of some traces what it finds among all, if it does so among these traces
-pub found_kept : (q : Find) (held : Held) (shown : Assembled) (starts : Starts) (index : Names) (reported : Reported)
+pub found_kept : (q : Find) (held : LimitedHistory) (shown : Assembled) (starts : Starts) (index : KeptNames) (reported : ServicePlacesValue)
     → IsStoreKept held shown starts index reported
     → (ids : List TraceId) (spots : List (List Spot)) → spots ≡ map (spots_of shown) ids
     → found_in q (map (spans_of_trace held.limits.traces (events held.entries)) ids)

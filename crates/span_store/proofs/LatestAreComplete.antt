@@ -9,20 +9,20 @@ use Rattle.std.proofs.lemmas.Simd.{map-map}
 use Rattle.jaeger_model.specs.declared.ids.TraceId.{TraceId}
 use Rattle.jaeger_model.specs.declared.placed.Placed.{Placed}
 use Rattle.trace_model.specs.declared.query.Find.{Find}
-use Rattle.trace_model.specs.Held.{Held}
+use Rattle.trace_model.specs.LimitedHistories.{LimitedHistory}
 use Rattle.trace_model.specs.Histories.{events}
 use Rattle.trace_model.specs.Searching.{cut, first_start, found_in, matches, matching, ranked_by_start, traces, StartsFall}
-use Rattle.trace_model.specs.Showing.{ring, spans_of_trace}
-use Rattle.trace_model.proofs.Falling.{NoneLater, ranked-falls}
-use Rattle.trace_model.proofs.Ranking.{ranked-filter}
+use Rattle.trace_model.specs.ShownSpans.{ring, spans_of_trace}
+use Rattle.trace_model.proofs.FallingStarts.{NoneLater, ranked-falls}
+use Rattle.trace_model.proofs.RankedLists.{ranked-filter}
 use Rattle.trace_assembly.specs.declared.spot.Spot.{Spot}
-use Rattle.trace_assembly.specs.Rows.{Assembled, spots_of}
+use Rattle.trace_assembly.specs.AssembledRows.{Assembled, spots_of}
 use Rattle.trace_assembly.proofs.Places.{events-located}
-use Rattle.trace_ring.specs.Starting.{Starts}
-use Rattle.service_index.specs.NamesKept.{Kept as Names}
-use Rattle.service_index.specs.Reported.{Reported}
-use Rattle.journal_traces.specs.Standing.{spans_named, traces_named}
-use Rattle.span_store.specs.Kept.{IsStoreKept}
+use Rattle.trace_ring.specs.FirstStarts.{Starts}
+use Rattle.service_index.specs.KeptNames.{KeptNames}
+use Rattle.service_index.specs.ServicePlaces.{ServicePlacesValue}
+use Rattle.journal_traces.specs.SpansAtSpots.{spans_named, traces_named}
+use Rattle.span_store.specs.StoreIndexes.{IsStoreKept}
 use Rattle.span_store.proofs.RingFollowsEvents.{trace_stands}
 use Rattle.span_store.proofs.IndexesAreKept.{found_kept, kept_ring, kept_spots}
 
@@ -97,7 +97,7 @@ module _ (q : Find) (time : ℤ) where
 
 -- ---- of a store
 -- the stored starts are those of the traces of the ring
-pub kept_first : (held : Held) (shown : Assembled) (starts : Starts) (index : Names) (reported : Reported) → IsStoreKept held shown starts index reported
+pub kept_first : (held : LimitedHistory) (shown : Assembled) (starts : Starts) (index : KeptNames) (reported : ServicePlacesValue) → IsStoreKept held shown starts index reported
     → starts.starts ≡ map (λ t. first_start (spans_of_trace held.limits.traces (events held.entries) t)) shown.newest.ids
 kept_first held shown starts index reported k =
     let n = held.limits.traces in
@@ -105,13 +105,13 @@ kept_first held shown starts index reported k =
     ∙ map-map first_start (spans_of_trace n (events held.entries)) (ring n (events held.entries))
     ∙ ap (map (λ t. first_start (spans_of_trace n (events held.entries) t))) (sym (kept_ring held shown starts index reported k))
 
-pub as_many : (held : Held) (shown : Assembled) (starts : Starts) (index : Names) (reported : Reported) → IsStoreKept held shown starts index reported
+pub as_many : (held : LimitedHistory) (shown : Assembled) (starts : Starts) (index : KeptNames) (reported : ServicePlacesValue) → IsStoreKept held shown starts index reported
     → length starts.starts ≡ length shown.newest.ids
 as_many held shown starts index reported k =
     let f : TraceId → ℤ = λ t. first_start (spans_of_trace held.limits.traces (events held.entries) t) in
     ap (λ (l : List ℤ). length l) (kept_first held shown starts index reported k) ∙ length-map shown.newest.ids f
 
-pub found_latest : (q : Find) (held : Held) (shown : Assembled) (starts : Starts) (index : Names) (reported : Reported)
+pub found_latest : (q : Find) (held : LimitedHistory) (shown : Assembled) (starts : Starts) (index : KeptNames) (reported : ServicePlacesValue)
     → IsStoreKept held shown starts index reported → (time : ℤ) (spots : List (List Spot))
     → spots ≡ map (spots_of shown) (filter (λ t. int_lt time (first_start (spans_of_trace held.limits.traces (events held.entries) t))) shown.newest.ids)
     → 0 < q.limit → length (found_in q (traces_named held.entries spots)) ≡ q.limit

@@ -5,6 +5,6 @@ pub mod LatestAreComplete
 pub mod IndexesAreKept
 pub mod CandidatesAreComplete
 pub mod SharedProcesses
-pub mod CollectedAnswers
+pub mod FoundAmongCandidates
 pub mod RangesFollowEvents
 pub mod WindowIsComplete

@@ -5,17 +5,17 @@ use Rattle.std.proofs.Math.Bool.{or-true}
 use Rattle.jaeger_model.specs.declared.ids.TraceId.{TraceId}
 use Rattle.jaeger_model.specs.Parents.{same_trace}
 use Rattle.trace_model.specs.Rings.{holds, newest}
-use Rattle.trace_model.proofs.Traces.{same_is, same_self}
+use Rattle.trace_model.proofs.ShownOfTrace.{same_is, same_self}
 use Rattle.trace_assembly.specs.declared.spot.Spot.{Spot}
-use Rattle.trace_assembly.specs.Rows.{Assembled, spots_of, without_spots}
-use Rattle.trace_assembly.specs.Located.{without_left}
+use Rattle.trace_assembly.specs.AssembledRows.{Assembled, spots_of, without_spots}
+use Rattle.trace_assembly.specs.LocatedSpans.{without_evicted}
 
 -- some of the oldest traces have left, and their spots are removed
 pub record IsLowering (m : ℕ) (before after : Assembled) : Type 0 where
   pub limit : after.newest.limit ≡ m
   pub same_newest : newest m after.newest.ids ≡ newest m before.newest.ids
   pub within : (t : TraceId) → holds after.newest.ids t ≡ true → holds before.newest.ids t ≡ true
-  pub spots : (t : TraceId) → spots_of after t ≡ without_left before.newest.ids after.newest.ids (spots_of before) t
+  pub spots : (t : TraceId) → spots_of after t ≡ without_evicted before.newest.ids after.newest.ids (spots_of before) t
   pub used : after.used ≡ before.used
   pub room : after.room ≡ before.room
 
@@ -28,7 +28,7 @@ newest_tail (suc m) x r some more =
 
 -- one more leaves
 one_left : (first r : List TraceId) (gone : TraceId) (spots : TraceId → List Spot) (t : TraceId) → holds r gone ≡ false → holds first gone ≡ true
-    → without_spots gone (without_left first (gone ∷ r) spots) t ≡ without_left first r spots t
+    → without_spots gone (without_evicted first (gone ∷ r) spots) t ≡ without_evicted first r spots t
 one_left first r gone spots t out old =
     elim (same_trace t gone) as (λ s. same_trace t gone ≡ s
     → (if s then [] else (if holds first t && not (s || holds r t) then [] else spots t)) ≡ (if holds first t && not (holds r t) then [] else spots t)) [
@@ -54,7 +54,7 @@ lowering_more m before now next gone h limit ids some many out spots used room =
       within = λ t held. h.within t (ap (λ r. holds r t) ids ∙ ap (λ b. same_trace t gone || b) held ∙ or-true (same_trace t gone));
       spots = λ t.
           spots t
-          ∙ (λ i. without_spots gone (λ u. (h.spots u ∙ ap (λ r. without_left first r (spots_of before) u) ids) i) t)
+          ∙ (λ i. without_spots gone (λ u. (h.spots u ∙ ap (λ r. without_evicted first r (spots_of before) u) ids) i) t)
           ∙ one_left first left gone (spots_of before) t out old;
       used = used ∙ h.used;
       room = room ∙ h.room;

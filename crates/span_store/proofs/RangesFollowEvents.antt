@@ -14,23 +14,23 @@ use Rattle.trace_model.specs.declared.entry.Entry.{Entry}
 use Rattle.trace_model.specs.declared.entry.Work.TheVariants as brings
 use Rattle.trace_model.specs.Events.{Event, came, limited}
 use Rattle.trace_model.specs.Rings.{holds, newest}
-use Rattle.trace_model.specs.Showing.{trace_of, ring, of_trace, spans_of_trace}
+use Rattle.trace_model.specs.ShownSpans.{trace_of, ring, of_trace, spans_of_trace}
 use Rattle.trace_model.proofs.Lists.{each_append}
-use Rattle.trace_model.proofs.Traces.{same_is, spans_gone, spans_limited, spans_push}
+use Rattle.trace_model.proofs.ShownOfTrace.{same_is, spans_gone, spans_limited, spans_push}
 use Rattle.trace_ring.specs.declared.ring.Evicted.{Evicted}
-use Rattle.trace_ring.specs.Windows.{NoneTwice, evicted_trace, opened_by}
+use Rattle.trace_ring.specs.RingValues.{NoneTwice, evicted_trace, opened_by}
 use Rattle.trace_assembly.specs.declared.spot.Spot.{Spot}
-use Rattle.trace_assembly.specs.Rows.{Assembled}
-use Rattle.trace_assembly.specs.Located.{located_by, located_events, located_upto, events_in, shown_spots}
-use Rattle.trace_assembly.proofs.Feeding.{events-push}
+use Rattle.trace_assembly.specs.AssembledRows.{Assembled}
+use Rattle.trace_assembly.specs.LocatedSpans.{located_by, located_events, located_upto, events_in, shown_spots}
+use Rattle.trace_assembly.proofs.SpotEvents.{events-push}
 use Rattle.trace_assembly.proofs.Places.{events-located, located_push_law, upto_none, upto_all}
 use Rattle.trace_ring.specs.declared.first_starts.ranges.Range.{Range}
-use Rattle.trace_ring.specs.Starting.{Starts}
+use Rattle.trace_ring.specs.FirstStarts.{Starts}
 use Rattle.trace_ring.specs.StartRanges.{IsIn, IsWider, range_at}
-use Rattle.journal_traces.specs.Ranged.{AreRanged, StartsIn}
-use Rattle.journal_traces.specs.Standing.{trace_named}
+use Rattle.journal_traces.specs.TraceRanges.{AreRanged, StartsIn}
+use Rattle.journal_traces.specs.SpansAtSpots.{trace_named}
 use Rattle.journal_traces.proofs.TraceMarks.{held}
-use Rattle.span_store.specs.Opening.{IsRanged}
+use Rattle.span_store.specs.ShownStarts.{IsRanged}
 use Rattle.span_store.proofs.RingFollowsEvents.{trace_stands}
 
 -- ---- wider ranges

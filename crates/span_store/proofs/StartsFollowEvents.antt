@@ -12,24 +12,24 @@ use Rattle.jaeger_model.specs.declared.placed.Placed.{Placed}
 use Rattle.jaeger_model.specs.declared.batch.Batch.{Batch}
 use Rattle.jaeger_model.specs.declared.span.Span.{Span}
 use Rattle.jaeger_model.specs.Parents.{same_trace, placed, needs_no_reference, parent_reference}
-use Rattle.journal_traces.proofs.Spots.{no_id}
+use Rattle.journal_traces.proofs.SpansAtSpots.{no_id}
 use Rattle.trace_model.specs.declared.entry.Entry.{Entry}
 use Rattle.trace_model.specs.declared.entry.Work.TheVariants as brings
 use Rattle.trace_model.specs.Events.{Event, came, limited}
 use Rattle.trace_model.specs.Rings.{holds, newest}
 use Rattle.trace_model.specs.Searching.{first_start, traces}
-use Rattle.trace_model.specs.Showing.{trace_of, ring, limit_after, of_trace, spans_of_trace}
+use Rattle.trace_model.specs.ShownSpans.{trace_of, ring, limit_after, of_trace, spans_of_trace}
 use Rattle.trace_model.proofs.Lists.{map_agree}
-use Rattle.trace_model.proofs.Shows.{ring_came, ring_limited}
-use Rattle.trace_model.proofs.Traces.{same_is, same_self, spans_push, opened_alone, old_or_own, has_spans, spans_limited}
+use Rattle.trace_model.proofs.ShownByEvents.{ring_came, ring_limited}
+use Rattle.trace_model.proofs.ShownOfTrace.{same_is, same_self, spans_push, opened_alone, old_or_own, has_spans, spans_limited}
 use Rattle.trace_ring.specs.declared.ring.Evicted.{Evicted}
-use Rattle.trace_ring.specs.Windows.{opened_by, evicted_trace}
+use Rattle.trace_ring.specs.RingValues.{opened_by, evicted_trace}
 use Rattle.trace_assembly.specs.declared.spot.Spot.{Spot}
-use Rattle.trace_assembly.specs.Located.{located_events, located_by, events_in}
-use Rattle.trace_assembly.proofs.Feeding.{events-push}
+use Rattle.trace_assembly.specs.LocatedSpans.{located_events, located_by, events_in}
+use Rattle.trace_assembly.proofs.SpotEvents.{events-push}
 use Rattle.trace_assembly.proofs.Places.{located_push_law, upto_none, upto_all}
-use Rattle.trace_assembly.specs.Located.{located_upto}
-use Rattle.span_store.specs.Opening.{AreFirst, first_with}
+use Rattle.trace_assembly.specs.LocatedSpans.{located_upto}
+use Rattle.span_store.specs.ShownStarts.{AreFirst, first_with}
 
 -- functions that agree on the traces of a ring have the same results on them
 agree : (f g : TraceId → ℤ) (r : List TraceId) → ((t : TraceId) → holds r t ≡ true → f t ≡ g t) → map f r ≡ map g r

@@ -6,21 +6,21 @@ use Rattle.std.proofs.lemmas.Bool.{false≢true, and_parts, true_from_ne_false}
 use Rattle.std.proofs.lemmas.Int.{ints}
 use Rattle.jaeger_model.specs.declared.placed.Placed.{Placed}
 use Rattle.trace_model.specs.declared.query.Find.{Find}
-use Rattle.trace_model.specs.Held.{Held}
+use Rattle.trace_model.specs.LimitedHistories.{LimitedHistory}
 use Rattle.trace_model.specs.Histories.{events}
 use Rattle.trace_model.specs.Searching.{at_least, at_most, bound, cut, first_start, found_in, has_tag, is_named, is_timed, matches, matching, ranked_by_start}
 use Rattle.trace_model.specs.Searching.{traces}
 use Rattle.trace_assembly.specs.declared.spot.Spot.{Spot}
-use Rattle.trace_assembly.specs.Rows.{Assembled, spots_of}
+use Rattle.trace_assembly.specs.AssembledRows.{Assembled, spots_of}
 use Rattle.trace_assembly.proofs.Lists.{map_filter}
 use Rattle.trace_ring.specs.declared.first_starts.ranges.Range.{Range}
-use Rattle.trace_ring.specs.Starting.{Starts}
+use Rattle.trace_ring.specs.FirstStarts.{Starts}
 use Rattle.trace_ring.specs.StartRanges.{IsIn, begins_before, ends_after, range_at, reaches}
-use Rattle.service_index.specs.NamesKept.{Kept as Names}
-use Rattle.service_index.specs.Reported.{Reported}
-use Rattle.journal_traces.specs.Ranged.{FailsOutside, StartsIn, search_window}
-use Rattle.journal_traces.specs.Standing.{spans_named, traces_named}
-use Rattle.span_store.specs.Kept.{IsStoreKept}
+use Rattle.service_index.specs.KeptNames.{KeptNames}
+use Rattle.service_index.specs.ServicePlaces.{ServicePlacesValue}
+use Rattle.journal_traces.specs.TraceRanges.{FailsOutside, StartsIn, search_window}
+use Rattle.journal_traces.specs.SpansAtSpots.{spans_named, traces_named}
+use Rattle.span_store.specs.StoreIndexes.{IsStoreKept}
 use Rattle.span_store.proofs.IndexesAreKept.{found_kept, kept_spots}
 use Rattle.span_store.proofs.RangesFollowEvents.{named_ranged}
 
@@ -57,7 +57,7 @@ none_match q r [] none all = refl
 none_match q r (p ∷ ps) none all = ap (λ b. b || list_any (matches q) ps) (no_match q r p none all.0) ∙ none_match q r ps none all.1
 
 -- ---- of a store
-module _ (q : Find) (held : Held) (shown : Assembled) (starts : Starts) (index : Names) (reported : Reported)
+module _ (q : Find) (held : LimitedHistory) (shown : Assembled) (starts : Starts) (index : KeptNames) (reported : ServicePlacesValue)
     (k : IsStoreKept held shown starts index reported) where
   -- a span at the spots matches
   abbrev pub is_hit : List Spot → Bool

@@ -1,5 +1,5 @@
-pub mod Opening
-pub mod Kept
+pub mod ShownStarts
+pub mod StoreIndexes
 pub mod NextEntry
-pub mod Collecting
-pub mod Found
+pub mod CollectedAnswers
+pub mod FoundAnswers

@@ -7,15 +7,15 @@ ghost use Rattle.jaeger_model.specs.declared.placed.Placed.{Placed as PlacedValu
 ghost use Rattle.trace_model.specs.declared.entry.Entry.{Entry as EntryValue};
 ghost use Rattle.trace_model.specs.Events.{Event, came};
 ghost use Rattle.trace_model.specs.Rings.{newest};
-ghost use Rattle.trace_model.specs.Showing.{trace_of};
-ghost use Rattle.trace_model.specs.Works.{spans_brought};
+ghost use Rattle.trace_model.specs.ShownSpans.{trace_of};
+ghost use Rattle.trace_model.specs.EntryWork.{spans_brought};
 ghost use Rattle.trace_assembly.specs.declared.spot.Spot.{Spot as SpotValue};
-ghost use Rattle.trace_assembly.specs.Rows.{spots_of};
-ghost use Rattle.trace_assembly.specs.Located.{located_events, located_upto, without_left};
+ghost use Rattle.trace_assembly.specs.AssembledRows.{spots_of};
+ghost use Rattle.trace_assembly.specs.LocatedSpans.{located_events, located_upto, without_evicted};
 ghost use Rattle.trace_ring.specs.StartRanges.{IsWider, range_at};
-ghost use Rattle.journal_traces.specs.Ranged.{AreRanged};
-ghost use Rattle.span_store.specs.Kept.{Follows, IsWithin};
-ghost use Rattle.span_store.specs.Opening.{AreFirst, IsCounted, IsRanged, first_with};
+ghost use Rattle.journal_traces.specs.TraceRanges.{AreRanged};
+ghost use Rattle.span_store.specs.StoreIndexes.{FollowsEvents, IsRingWithin};
+ghost use Rattle.span_store.specs.ShownStarts.{AreFirst, IsCounted, IsRanged, first_with};
 
 use jaeger_model::{Batch, Span};
 use trace_assembly::{Assembly, Spot};
@@ -37,16 +37,16 @@ fn add_opened(starts: &mut FirstStarts, opened: bool, start: i64)
     }
 }
 
-/// Drops the start of the trace that left, if one did.
-fn drop_left(starts: &mut FirstStarts, left: Option<Evicted>)
+/// Drops the start of the evicted trace, if there is one.
+fn drop_evicted(starts: &mut FirstStarts, evicted: Option<Evicted>)
     ensures starts { starts.new.starts ≡
-        (if is_some left then drop 1 starts.old.starts else starts.old.starts) }
+        (if is_some evicted then drop 1 starts.old.starts else starts.old.starts) }
     ensures used { starts.new.used ≡ starts.old.used }
     ensures room { starts.new.room ≡ starts.old.room }
     ensures ranges { 0 < length starts.old.starts → (k : ℕ) → range_at starts.new k ≡
-        range_at starts.old (if is_some left then k + 1 else k) }
+        range_at starts.old (if is_some evicted then k + 1 else k) }
 {
-    if left.is_some() {
+    if evicted.is_some() {
         starts.drop_oldest();
     }
 }
@@ -61,13 +61,13 @@ fn add_span(
     span: &Span,
     spot: Spot,
 ) -> u32
-    requires within { IsWithin shown.old.newest }
+    requires within { IsRingWithin shown.old.newest }
     requires room { shown.old.used < shown.old.room }
     requires counted { IsCounted shown.old starts.old }
-    ensures within { IsWithin shown.new.newest }
+    ensures within { IsRingWithin shown.new.newest }
     ensures follows { (n : ℕ) (es : List (Event (SpotValue × PlacedValue))) (p : PlacedValue) →
-        Follows n es shown.old.newest (spots_of shown.old) → trace_of p ≡ span.now.trace →
-        Follows n (es ++ came (spot, p) ∷ []) shown.new.newest (spots_of shown.new) }
+        FollowsEvents n es shown.old.newest (spots_of shown.old) → trace_of p ≡ span.now.trace →
+        FollowsEvents n (es ++ came (spot, p) ∷ []) shown.new.newest (spots_of shown.new) }
     ensures room { shown.new.room ≡ shown.old.room }
     ensures used { shown.new.used ≡ shown.old.used + 1 }
     ensures row { position (same_trace span.now.trace) shown.new.newest.seen ≡ Some result }
@@ -77,14 +77,14 @@ fn add_span(
         shown.new.newest.ids }
     ensures counted { IsCounted shown.new starts.new }
     ensures ranged { (n : ℕ) (es : List (Event (SpotValue × PlacedValue))) (p : PlacedValue) →
-        Follows n es shown.old.newest (spots_of shown.old) →
+        FollowsEvents n es shown.old.newest (spots_of shown.old) →
         IsRanged n es shown.old starts.old →
         trace_of p ≡ span.now.trace → p.span.start ≡ span.now.start →
         IsRanged n (es ++ came (spot, p) ∷ []) shown.new starts.new }
 {
     let arrived = shown.arrive_with_guess(row, span.trace, spot);
     add_opened(starts, arrived.opened, span.start);
-    drop_left(starts, arrived.left);
+    drop_evicted(starts, arrived.evicted);
     // For the prover: `len`'s clause `once` is used below.
     let _once = shown.ring().len();
     starts.widen(arrived.place, span.start);
@@ -94,23 +94,23 @@ fn add_span(
 /// Adds the spans of the batch of the entry at the place, for which there is room. A span of the same trace as the
 /// one before it needs no lookup.
 fn add_batch(batch: &Batch, place: u64, shown: &mut Assembly, starts: &mut FirstStarts)
-    requires within { IsWithin shown.old.newest }
+    requires within { IsRingWithin shown.old.newest }
     requires fits { length batch.now.spans < 2 ^ 32 }
     requires room { shown.old.used + length batch.now.spans ≤ shown.old.room }
     requires counted { IsCounted shown.old starts.old }
     ensures follows { (n : ℕ) (h : List EntryValue) → place ≡ length h + 1 →
-        Follows n (located_events h) shown.old.newest (spots_of shown.old) →
-        Follows n (located_upto h batch.now (length batch.now.spans)) shown.new.newest
+        FollowsEvents n (located_events h) shown.old.newest (spots_of shown.old) →
+        FollowsEvents n (located_upto h batch.now (length batch.now.spans)) shown.new.newest
         (spots_of shown.new) }
     ensures room { shown.new.room ≡ shown.old.room }
     ensures used { shown.new.used ≡ shown.old.used + length batch.now.spans }
     ensures first { (n : ℕ) (h : List EntryValue) → place ≡ length h + 1 →
-        Follows n (located_events h) shown.old.newest (spots_of shown.old) →
+        FollowsEvents n (located_events h) shown.old.newest (spots_of shown.old) →
         AreFirst n (located_events h) starts.old.starts →
         AreFirst n (located_upto h batch.now (length batch.now.spans)) starts.new.starts }
     ensures counted { IsCounted shown.new starts.new }
     ensures ranged { (n : ℕ) (h : List EntryValue) → place ≡ length h + 1 →
-        Follows n (located_events h) shown.old.newest (spots_of shown.old) →
+        FollowsEvents n (located_events h) shown.old.newest (spots_of shown.old) →
         IsRanged n (located_events h) shown.old starts.old →
         IsRanged n (located_upto h batch.now (length batch.now.spans)) shown.new starts.new }
 {
@@ -129,7 +129,7 @@ fn apply_limit(shown: &mut Assembly, starts: &mut FirstStarts, limit: u32)
     ensures limit { shown.new.newest.limit ≡ limit }
     ensures ids { shown.new.newest.ids ≡ newest limit shown.old.newest.ids }
     ensures spots { (t : TraceIdValue) → spots_of shown.new t ≡
-        without_left shown.old.newest.ids shown.new.newest.ids (spots_of shown.old) t }
+        without_evicted shown.old.newest.ids shown.new.newest.ids (spots_of shown.old) t }
     ensures used { shown.new.used ≡ shown.old.used }
     ensures room { shown.new.room ≡ shown.old.room }
     ensures starts { (first : TraceIdValue → ℤ) →
@@ -143,29 +143,30 @@ fn apply_limit(shown: &mut Assembly, starts: &mut FirstStarts, limit: u32)
         AreRanged starts.new shown.new.newest.ids spans }
 {
     shown.set_limit(limit);
-    while let Some(_gone) = shown.drop_oldest() {
+    while let Some(_evicted) = shown.drop_oldest() {
         starts.drop_oldest();
     }
 }
 
 /// Applies the entry at the place: the spans of a batch, for which there is room, or a limit.
 pub(crate) fn apply_entry(entry: &Entry, place: u64, shown: &mut Assembly, starts: &mut FirstStarts)
-    requires within { IsWithin shown.old.newest }
+    requires within { IsRingWithin shown.old.newest }
     requires fits { length (spans_brought entry.now.work) < 2 ^ 32 }
     requires room { shown.old.used + length (spans_brought entry.now.work) ≤ shown.old.room }
     requires counted { IsCounted shown.old starts.old }
     ensures follows { (n : ℕ) (h : List EntryValue) → place ≡ length h + 1 →
-        Follows n (located_events h) shown.old.newest (spots_of shown.old) →
-        Follows n (located_events (h ++ entry.now ∷ [])) shown.new.newest (spots_of shown.new) }
+        FollowsEvents n (located_events h) shown.old.newest (spots_of shown.old) →
+        FollowsEvents n (located_events (h ++ entry.now ∷ [])) shown.new.newest
+        (spots_of shown.new) }
     ensures room { shown.new.room ≡ shown.old.room }
     ensures used { shown.new.used ≡ shown.old.used + length (spans_brought entry.now.work) }
     ensures first { (n : ℕ) (h : List EntryValue) → place ≡ length h + 1 →
-        Follows n (located_events h) shown.old.newest (spots_of shown.old) →
+        FollowsEvents n (located_events h) shown.old.newest (spots_of shown.old) →
         AreFirst n (located_events h) starts.old.starts →
         AreFirst n (located_events (h ++ entry.now ∷ [])) starts.new.starts }
     ensures counted { IsCounted shown.new starts.new }
     ensures ranged { (n : ℕ) (h : List EntryValue) → place ≡ length h + 1 →
-        Follows n (located_events h) shown.old.newest (spots_of shown.old) →
+        FollowsEvents n (located_events h) shown.old.newest (spots_of shown.old) →
         IsRanged n (located_events h) shown.old starts.old →
         IsRanged n (located_events (h ++ entry.now ∷ [])) shown.new starts.new }
 {

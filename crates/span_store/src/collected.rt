@@ -5,11 +5,11 @@ ghost use Rattle.trace_model.specs.Names.{operation_cmp, is_asked_kind};
 ghost use Rattle.trace_model.specs.declared.answer.Answer.TheVariants as say;
 ghost use Rattle.trace_model.specs.declared.refusal.Refusal.TheVariants.{NoMemory};
 ghost use Rattle.span_store.specs.declared.collected.Form.TheVariants as collected;
-ghost use Rattle.span_store.specs.Collecting.{form_answer};
+ghost use Rattle.span_store.specs.CollectedAnswers.{form_answer};
 
 use crate::found_traces::FoundTraces;
 use crate::tag_search::TagSearch;
-use crate::window_calls::WindowCalls;
+use crate::window_links::WindowLinks;
 use jaeger_model::{Seq, Text};
 use service_index::{TakenOperation, sorted_names, sorted_operations, sorted_texts};
 use std::alloc::{AllocError, Global};
@@ -33,8 +33,8 @@ pub(crate) enum Form<'q> {
     Tags(TagSearch<'q>),
     /// The traces that a search without tags found.
     Found(FoundTraces),
-    /// The traces of a window, for a query of their calls.
-    Calls(WindowCalls),
+    /// The traces of a window, for a query of their links.
+    Links(WindowLinks),
 }
 
 /// What a store has to provide to answer a query: numbers, and shared entries. The slow work is done after the
@@ -47,7 +47,7 @@ pub struct Collected<'q> {
 
 impl<'q> Model for Collected<'q> {
     ghost use Rattle.trace_model.specs.declared.answer.Answer.{Answer};
-    ghost use Rattle.span_store.specs.Collecting.{form_answer};
+    ghost use Rattle.span_store.specs.CollectedAnswers.{form_answer};
 
     ghost Value = { Answer };
 
@@ -129,7 +129,7 @@ impl<'q> Collected<'q> {
             Form::Operations(operations, kind) => Ok(answer_operations(alloc, operations, kind)?),
             Form::Tags(search) => Ok(search.answer(alloc)?),
             Form::Found(traces) => Ok(traces.answer(alloc)?),
-            Form::Calls(calls) => Ok(calls.answer(alloc)?),
+            Form::Links(links) => Ok(links.answer(alloc)?),
         }
     }
 }

@@ -2,8 +2,8 @@
 
 ghost use Rattle.std.specs.Prelude.{◌≡◌, ◌<◌, ◌^◌, ◌++◌, ◌∷◌, [], IfOk, OnOk, length, map, slice_index_or};
 ghost use Rattle.trace_model.specs.Searching.{found_in, ids_of};
-ghost use Rattle.journal_traces.specs.Looked.{traces_of, query_of};
-ghost use Rattle.journal_traces.specs.Taking.{placed_taken, AreNumberedByPlace};
+ghost use Rattle.journal_traces.specs.CandidateTraces.{traces_of, query_of};
+ghost use Rattle.journal_traces.specs.TakenTraces.{placed_taken, AreNumberedByPlace};
 
 use jaeger_model::TraceId;
 use journal_traces::{Candidates, TakenTraces, take_trace};

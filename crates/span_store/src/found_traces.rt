@@ -2,7 +2,7 @@
 ghost use Rattle.std.specs.Prelude.{◌≡◌, IfOk, map};
 ghost use Rattle.trace_model.specs.Adjusting.{adjusted};
 ghost use Rattle.trace_model.specs.declared.answer.Answer.TheVariants as say;
-ghost use Rattle.journal_traces.specs.Taking.{placed_taken, ShareByNumber};
+ghost use Rattle.journal_traces.specs.TakenTraces.{placed_taken, ShareByNumber};
 
 use jaeger_model::Seq;
 use journal_traces::{TakenTraces, keep_all};
@@ -23,7 +23,7 @@ impl Model for FoundTraces {
     ghost use Rattle.trace_model.specs.Adjusting.{adjusted};
     ghost use Rattle.trace_model.specs.declared.answer.Answer.{Answer};
     ghost use Rattle.trace_model.specs.declared.answer.Answer.TheVariants as say;
-    ghost use Rattle.journal_traces.specs.Taking.{placed_taken, ShareByNumber};
+    ghost use Rattle.journal_traces.specs.TakenTraces.{placed_taken, ShareByNumber};
 
     ghost Value = { Answer };
 

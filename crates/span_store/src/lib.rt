@@ -8,7 +8,7 @@
 //! * `arrange`: what one more entry changes in what is shown.
 //! * `collected`: what the answer to a query needs of a store.
 //! * `finding`: searches over traces in the journal.
-//! * `found_traces`, `tag_search`, `window_calls`: what a search found or may find, and traces whose calls are
+//! * `found_traces`, `tag_search`, `window_links`: what a search found or may find, and traces whose links are
 //!   requested, collected from the store.
 //! * `store`: the [`SpanStore`].
 //! * `store/search_plan`: which traces a search considers.
@@ -22,7 +22,7 @@ mod found_traces;
 mod replaying;
 mod store;
 mod tag_search;
-mod window_calls;
+mod window_links;
 
 pub use collected::Collected;
 pub use replaying::{replay, replayed_answer};

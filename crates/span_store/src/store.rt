@@ -4,18 +4,18 @@ ghost use Rattle.trace_model.specs.declared.query.Query.TheVariants as ask;
 ghost use Rattle.trace_model.specs.declared.refusal.Refusal.TheVariants.{NoMemory};
 ghost use Rattle.trace_model.specs.Answers.{answer};
 ghost use Rattle.trace_model.specs.Histories.{IsLegal, events};
-ghost use Rattle.trace_model.specs.Linking.{links};
+ghost use Rattle.trace_model.specs.ServiceLinks.{links};
 ghost use Rattle.trace_model.specs.Searching.{traces};
-ghost use Rattle.trace_model.specs.Showing.{ring};
+ghost use Rattle.trace_model.specs.ShownSpans.{ring};
 ghost use Rattle.trace_model.specs.declared.admission.Admission.TheVariants.{Added};
 ghost use Rattle.trace_model.specs.Refusals.{followed_by, with_admitted};
 ghost use Rattle.arrival_journal.specs.Journals.{admission_by, place_by};
-ghost use Rattle.trace_assembly.specs.Located.{located_events, shown_spots};
-ghost use Rattle.call_links.specs.Seen.{links_in, AreNumbered};
-ghost use Rattle.journal_traces.specs.Taking.{placed_taken};
-ghost use Rattle.service_index.specs.Reported.{group_of, places_of};
-ghost use Rattle.span_store.specs.Collecting.{form_answer};
-ghost use Rattle.span_store.specs.Kept.{IsNamed, IsPlaced};
+ghost use Rattle.trace_assembly.specs.LocatedSpans.{located_events, shown_spots};
+ghost use Rattle.call_links.specs.NumberedCalls.{links_in, AreServicesNumbered};
+ghost use Rattle.journal_traces.specs.TakenTraces.{placed_taken};
+ghost use Rattle.service_index.specs.ServicePlaces.{service_number_of, places_of};
+ghost use Rattle.span_store.specs.CollectedAnswers.{form_answer};
+ghost use Rattle.span_store.specs.StoreIndexes.{AreNamesOf, ArePlacesOf};
 ghost use Rattle.span_store.specs.NextEntry.{next_entry};
 
 mod search_plan;
@@ -25,7 +25,7 @@ use crate::collected::{Collected, Form};
 use crate::finding;
 use crate::found_traces::FoundTraces;
 use crate::tag_search::TagSearch;
-use crate::window_calls::WindowCalls;
+use crate::window_links::WindowLinks;
 use arrival_journal::{Journal, Record};
 use find_traces::PreparedSearch;
 use jaeger_model::{Batch, Seq, Text, TraceId};
@@ -59,11 +59,11 @@ pub struct SpanStore {
 }
 
 impl Model for SpanStore {
-    ghost use Rattle.trace_model.specs.Held.{Held};
-    ghost use Rattle.service_index.specs.Reported.{group_of};
-    ghost use Rattle.span_store.specs.Kept.{IsStoreKept};
+    ghost use Rattle.trace_model.specs.LimitedHistories.{LimitedHistory};
+    ghost use Rattle.service_index.specs.ServicePlaces.{service_number_of};
+    ghost use Rattle.span_store.specs.StoreIndexes.{IsStoreKept};
 
-    ghost Value = { Held };
+    ghost Value = { LimitedHistory };
 
     ghost view = { λ s. s.journal.held };
 
@@ -76,8 +76,8 @@ fn room_for_names(
     keys: RandomState,
     limits: Limits,
 ) -> Result<(ArrivalNames, ServicePlaces), AllocError>
-    ensures named { IfOk result (λ r. IsNamed (record { limits = limits; entries = [] }) r.0) }
-    ensures placed { IfOk result (λ r. IsPlaced (record { limits = limits; entries = [] }) r.1) }
+    ensures named { IfOk result (λ r. AreNamesOf (record { limits = limits; entries = [] }) r.0) }
+    ensures placed { IfOk result (λ r. ArePlacesOf (record { limits = limits; entries = [] }) r.1) }
 {
     let names = ArrivalNames::with_room(alloc, keys, limits.batches, limits.spans)?;
     let reported = ServicePlaces::with_room(alloc, keys, limits.batches)?;
@@ -252,7 +252,7 @@ impl SpanStore {
             Query::Links {
                 end_ms,
                 lookback_ms,
-            } => Form::Calls(self.links(*end_ms, *lookback_ms)?),
+            } => Form::Links(self.links(*end_ms, *lookback_ms)?),
         };
         Ok(Collected::new(self.alloc, form))
     }
@@ -294,10 +294,10 @@ impl SpanStore {
 
     /// Returns the number of the search's service; none if no entry is of it.
     fn service_number(&self, query: &Find) -> Option<u32>
-        ensures { result ≡ group_of self.now.entries query.now.service }
+        ensures { result ≡ service_number_of self.now.entries query.now.service }
     {
         self.reported
-            .group_of(self.journal.entries(), query.service.as_str())
+            .service_number_of(self.journal.entries(), query.service.as_str())
     }
 
     /// Returns the places of the entries of the search's service, the newest first.
@@ -396,7 +396,7 @@ impl SpanStore {
     fn traces_within(&self, end_ms: i64, lookback_ms: i64) -> Result<WindowTraces, AllocError>
         ensures links { IfOk result (λ taken. links_in (map placed_taken taken) ≡
             links end_ms lookback_ms (traces self.now.limits.traces (events self.now.entries))) }
-        ensures numbered { IfOk result (λ taken. AreNumbered taken) }
+        ensures numbered { IfOk result (λ taken. AreServicesNumbered taken) }
     {
         // For the prover: `len`'s clause `legal` is used below.
         let _legal = self.journal.len();
@@ -413,13 +413,13 @@ impl SpanStore {
         Ok(taken)
     }
 
-    /// Collects the calls between services in a window of time.
-    fn links(&self, end_ms: i64, lookback_ms: i64) -> Result<WindowCalls, AllocError>
+    /// Collects the links between services in a window of time.
+    fn links(&self, end_ms: i64, lookback_ms: i64) -> Result<WindowLinks, AllocError>
         ensures { IfOk result (λ c. c ≡ answer self.now.limits self.now.entries
             (ask.Links end_ms lookback_ms)) }
     {
         let taken = self.traces_within(end_ms, lookback_ms)?;
-        Ok(WindowCalls::new(taken))
+        Ok(WindowLinks::new(taken))
     }
 
     /// Returns a trace by its id.

@@ -1,7 +1,7 @@
 //! A search by tags, after its candidates were collected from the store.
 ghost use Rattle.std.specs.Prelude.{◌≡◌, IfOk};
-ghost use Rattle.journal_traces.specs.Spotted.{traces_spotted};
-ghost use Rattle.span_store.specs.Found.{found_answer};
+ghost use Rattle.journal_traces.specs.TagCandidates.{traces_spotted};
+ghost use Rattle.span_store.specs.FoundAnswers.{found_answer};
 
 use find_traces::PreparedSearch;
 use jaeger_model::Seq;
@@ -22,8 +22,8 @@ pub(crate) struct TagSearch<'q> {
 
 impl<'q> Model for TagSearch<'q> {
     ghost use Rattle.trace_model.specs.declared.answer.Answer.{Answer};
-    ghost use Rattle.journal_traces.specs.Spotted.{traces_spotted};
-    ghost use Rattle.span_store.specs.Found.{found_answer};
+    ghost use Rattle.journal_traces.specs.TagCandidates.{traces_spotted};
+    ghost use Rattle.span_store.specs.FoundAnswers.{found_answer};
 
     ghost Value = { Answer };
 

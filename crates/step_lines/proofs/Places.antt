@@ -12,7 +12,7 @@ use Rattle.trace_model.specs.declared.query.Query.{Query}
 use Rattle.query_http.specs.declared.fault.Parameter.{Parameter}
 use Rattle.query_http.specs.declared.paths.Endpoint.{Endpoint}
 use Rattle.query_http.specs.declared.paths.Endpoint.TheVariants.{Traces, Trace, Services, OperationNames, Operations, Dependencies}
-use Rattle.query_http.specs.Answering.{AsksEndpoint}
+use Rattle.query_http.specs.ReadResults.{AsksEndpoint}
 use Rattle.query_http.specs.Paths.{IsPart, IsPath, IsNoPath}
 use Rattle.query_http.specs.Queries.{path_of}
 use Rattle.query_http.proofs.PathLaws.{one_endpoint}

@@ -1,6 +1,6 @@
 pub mod Words
 pub mod Targets
 pub mod Steps
-pub mod Reading
+pub mod ReadResults
 pub mod FaultTexts
 pub mod OutcomeLines

@@ -1,6 +1,6 @@
 //! The batch of a hexadecimal text.
 ghost use Rattle.step_lines.specs.Steps.{as_batch};
-ghost use Rattle.step_lines.specs.Reading.{Reads};
+ghost use Rattle.step_lines.specs.ReadResults.{ReadsStep};
 ghost use Rattle.batch_codec.specs.HexSpelling.{batch_in};
 
 use crate::fault::StepFault;
@@ -11,7 +11,7 @@ use std::alloc::Global;
 
 /// Reads the batch of a hexadecimal text.
 pub(crate) fn read_batch(alloc: Global, text: &[u8]) -> Result<Batch, Stop>
-    ensures { Reads (λ b. b) result (as_batch (batch_in text.now)) }
+    ensures { ReadsStep (λ b. b) result (as_batch (batch_in text.now)) }
 {
     match decode_hex(alloc, text)? {
         Ok(batch) => Ok(batch),

@@ -3,7 +3,7 @@ ghost use Rattle.std.specs.Prelude.{◌≡◌, IfOk, map};
 ghost use Rattle.std.specs.List.{concat};
 ghost use Rattle.query_http.specs.Paths.{endpoint_rows};
 ghost use Rattle.step_lines.specs.Steps.{alone, if_any, put_of, one_number, read_of, step_by, step_of, step_in, two_numbers, two_words};
-ghost use Rattle.step_lines.specs.Reading.{Reads};
+ghost use Rattle.step_lines.specs.ReadResults.{ReadsStep};
 ghost use Rattle.step_lines.specs.Words.{words_of as words_in};
 
 use crate::batch::read_batch;
@@ -19,7 +19,7 @@ use std::alloc::{AllocError, Global};
 
 /// Joins the pieces of a text; an empty text is a bad step.
 fn joined(alloc: Global, pieces: &[&[u8]]) -> Result<Vec<u8>, Stop>
-    ensures { Reads (λ v. v.items) result (if_any (concat (map (λ w. w.now) pieces.now))) }
+    ensures { ReadsStep (λ v. v.items) result (if_any (concat (map (λ w. w.now) pieces.now))) }
 {
     let text = pieces.concat(alloc)?;
     if text.is_empty() {
@@ -31,7 +31,7 @@ fn joined(alloc: Global, pieces: &[&[u8]]) -> Result<Vec<u8>, Stop>
 /// Reads the `put` of a seat and a batch.
 #[tactic(auto, unfolding(crate::specs::Steps::put_by))]
 fn read_put(alloc: Global, words: &[&[u8]]) -> Result<Step, Stop>
-    ensures { Reads (λ s. s) result (put_of (map (λ w. w.now) words.now)) }
+    ensures { ReadsStep (λ s. s) result (put_of (map (λ w. w.now) words.now)) }
 {
     let [seat, hex @ ..] = words else {
         return Err(Stop::Fault(StepFault::BadStep));
@@ -65,7 +65,7 @@ fn read_reader(words: &[&[u8]]) -> Result<u32, StepFault>
 
 /// Returns two words, and no more.
 fn two_words<'l>(words: &[&'l [u8]]) -> Result<(&'l [u8], &'l [u8]), Stop>
-    ensures { Reads (λ p. (p.0.now, p.1.now)) result (two_words (map (λ w. w.now) words.now)) }
+    ensures { ReadsStep (λ p. (p.0.now, p.1.now)) result (two_words (map (λ w. w.now) words.now)) }
 {
     match words {
         [first, second] => Ok((first, second)),
@@ -76,7 +76,7 @@ fn two_words<'l>(words: &[&'l [u8]]) -> Result<(&'l [u8], &'l [u8]), Stop>
 /// Reads the numbers that are the only two words.
 #[tactic(auto, unfolding(crate::specs::Steps::two_numbers))]
 fn two_numbers(words: &[&[u8]]) -> Result<(u32, u32), Stop>
-    ensures { Reads (λ p. p) result (two_numbers (map (λ w. w.now) words.now)) }
+    ensures { ReadsStep (λ p. p) result (two_numbers (map (λ w. w.now) words.now)) }
 {
     let (first, second) = two_words(words)?;
     let first = read_number(first)?;
@@ -88,7 +88,7 @@ fn two_numbers(words: &[&[u8]]) -> Result<(u32, u32), Stop>
 #[tactic(auto, unfolding(crate::specs::Steps::read_of))]
 fn read_read(alloc: Global, router: &Router<Endpoint>, words: &[&[u8]]) -> Result<Step, Stop>
     requires { router.now ≡ endpoint_rows }
-    ensures { Reads (λ s. s) result (read_of (map (λ w. w.now) words.now)) }
+    ensures { ReadsStep (λ s. s) result (read_of (map (λ w. w.now) words.now)) }
 {
     let (reader, target) = two_words(words)?;
     let reader = read_number(reader)?;
@@ -105,7 +105,7 @@ fn read_by(
     words: &[&[u8]],
 ) -> Result<Step, Stop>
     requires { router.now ≡ endpoint_rows }
-    ensures { Reads (λ s. s) result (step_by verb (map (λ w. w.now) words.now)) }
+    ensures { ReadsStep (λ s. s) result (step_by verb (map (λ w. w.now) words.now)) }
 {
     match verb {
         Verb::Put => read_put(alloc, words),
@@ -134,7 +134,7 @@ fn read_by(
 /// Reads the step of a line's words.
 fn read_words(alloc: Global, router: &Router<Endpoint>, words: &[&[u8]]) -> Result<Step, Stop>
     requires { router.now ≡ endpoint_rows }
-    ensures { Reads (λ s. s) result (step_of (map (λ w. w.now) words.now)) }
+    ensures { ReadsStep (λ s. s) result (step_of (map (λ w. w.now) words.now)) }
 {
     let [first, words @ ..] = words else {
         return Err(Stop::Fault(StepFault::BadStep));

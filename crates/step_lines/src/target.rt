@@ -3,7 +3,7 @@ ghost use Rattle.std.specs.Prelude.{◌≡◌};
 ghost use Rattle.query_http.specs.Paths.{endpoint_rows};
 ghost use Rattle.step_lines.specs.Targets.{query_in};
 ghost use Rattle.step_lines.specs.Steps.{target_in};
-ghost use Rattle.step_lines.specs.Reading.{Reads};
+ghost use Rattle.step_lines.specs.ReadResults.{ReadsStep};
 
 use crate::fault::StepFault;
 use crate::stop::Stop;
@@ -14,7 +14,7 @@ use trace_model::Query;
 
 /// Returns the text of a target. It must not be empty; bytes that are no UTF-8 are a bad step.
 pub(crate) fn read_target(word: &[u8]) -> Result<&str, Stop>
-    ensures { Reads (λ t. t.now) result (target_in word.now) }
+    ensures { ReadsStep (λ t. t.now) result (target_in word.now) }
 {
     if word.is_empty() {
         return Err(Stop::Fault(StepFault::BadStep));
@@ -32,7 +32,7 @@ pub(crate) fn read_query(
     target: &str,
 ) -> Result<Query, Stop>
     requires { router.now ≡ endpoint_rows }
-    ensures { Reads (λ q. q) result (query_in target.now) }
+    ensures { ReadsStep (λ q. q) result (query_in target.now) }
 {
     match parse_query(alloc, router, target) {
         Ok(query) => Ok(query),

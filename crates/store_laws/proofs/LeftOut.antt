@@ -17,12 +17,12 @@ use Rattle.trace_model.specs.declared.refusal.Refusal.{Refusal}
 use Rattle.trace_model.specs.declared.refusal.Refusal.TheVariants.{JournalFull, Stale, Conflict}
 use Rattle.trace_model.specs.Histories.{last_number, span_count, IsLegal, AboveEach}
 use Rattle.trace_model.specs.Refusals.{has_room, admission, refusal_of}
-use Rattle.trace_model.specs.Resending.{resends, is_sent}
-use Rattle.trace_model.specs.Works.{spans_brought}
+use Rattle.trace_model.specs.ResentBatches.{resends, is_sent}
+use Rattle.trace_model.specs.EntryWork.{spans_brought}
 use Rattle.trace_model.proofs.Admissions.{IsSaid, MayFollow, IsInConflict, admission_says, admission_anew, follows_added, sent_nowhere}
 use Rattle.trace_model.proofs.Legality.{above_each, above_last, legal_front, rises_pushed, sent_once_pushed, span_count_push}
 use Rattle.trace_model.proofs.Lists.{split_at}
-use Rattle.trace_model.proofs.Resent.{alike}
+use Rattle.trace_model.proofs.ResentBatches.{alike}
 use Rattle.store_laws.proofs.LegalLists.{each_at}
 use Rattle.store_laws.proofs.SentOnce.{back_true, repeat_is_answered}
 use mathlib.Core.List.{IsPrefix}

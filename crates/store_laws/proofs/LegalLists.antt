@@ -6,7 +6,7 @@ use Rattle.trace_model.specs.declared.entry.Entry.{Entry}
 use Rattle.trace_model.specs.declared.limits.Limits.{Limits}
 use Rattle.trace_model.specs.declared.admission.Admission.TheVariants.{Added}
 use Rattle.trace_model.specs.Refusals.{admission}
-use Rattle.trace_model.specs.Works.{spans_brought}
+use Rattle.trace_model.specs.EntryWork.{spans_brought}
 use Rattle.trace_model.specs.Histories.{last_number, span_count, IsLegal, AboveEach, RisesAfter}
 use Rattle.trace_model.proofs.Admissions.{MayFollow, IsSaid, admission_says}
 use Rattle.trace_model.proofs.Legality.{last_is_added, rises_pushed, above_last, above_each, legal_push, rises_front, legal_front}

@@ -14,9 +14,9 @@ use Rattle.jaeger_model.specs.SameLaws.{same_trace-decides}
 use Rattle.trace_model.specs.Rings.{holds, newest, arrive, LimitedRing, ring_step}
 use Rattle.store_laws.specs.Subsequences.{IsSubsequence}
 use Rattle.trace_model.specs.Events.{Event, came, limited, without_limits}
-use Rattle.trace_model.specs.Showing.{trace_of, ring, limit_after, longer_prefixes, lasting_after, is_in_ring, shown, spans_of_trace, if_any, trace_found}
-use Rattle.trace_model.proofs.Shows.{by_pushes, ring_came, ring_limited}
-use Rattle.trace_model.proofs.Traces.{same_is, spans_gone, spans_limited, has_spans}
+use Rattle.trace_model.specs.ShownSpans.{trace_of, ring, limit_after, longer_prefixes, lasting_after, is_in_ring, shown, spans_of_trace, if_any, trace_found}
+use Rattle.trace_model.proofs.ShownByEvents.{by_pushes, ring_came, ring_limited}
+use Rattle.trace_model.proofs.ShownOfTrace.{same_is, spans_gone, spans_limited, has_spans}
 
 -- ---- the ring
 distinct_drop : (k : ℕ) (r : List TraceId) → IsDistinct same_trace r → IsDistinct same_trace (drop k r)

@@ -19,16 +19,16 @@ use Rattle.trace_model.specs.declared.limits.Limits.{Limits}
 use Rattle.trace_model.specs.declared.refusal.Refusal.{Refusal}
 use Rattle.trace_model.specs.declared.refusal.Refusal.TheVariants.{Conflict}
 use Rattle.trace_model.specs.Histories.{IsLegal}
-use Rattle.trace_model.specs.Resending.{resends, is_sent, SentOnceAfter, AnswersFor}
+use Rattle.trace_model.specs.ResentBatches.{resends, is_sent, SentOnceAfter, AnswersFor}
 use Rattle.trace_model.specs.Refusals.{admission, admitted_anew, with_admitted, history_after, history_of}
 use Rattle.trace_model.specs.WorkLaws.{same_work-decides}
-use Rattle.trace_model.specs.Works.{same_work}
+use Rattle.trace_model.specs.EntryWork.{same_work}
 use Rattle.trace_model.specs.Places.{entry_at}
 use Rattle.trace_model.proofs.Admissions.{none_passes, IsAnswered, IsSaid, admission_says, admission_repeated, admission_anew}
 use Rattle.trace_model.proofs.Legality.{legal_empty}
 use Rattle.trace_model.proofs.Lists.{split_at}
 use Rattle.trace_model.proofs.Prefixes.{prefix_self, prefix_trans}
-use Rattle.trace_model.proofs.Resent.{sent_as, as_sent, limit_not_sent, unnumbered_not_sent, nothing_sent, alike}
+use Rattle.trace_model.proofs.ResentBatches.{sent_as, as_sent, limit_not_sent, unnumbered_not_sent, nothing_sent, alike}
 use Rattle.store_laws.specs.Submits.{IsThereOnce}
 use Rattle.store_laws.proofs.LegalLists.{legal_snoc}
 use mathlib.Core.List.{IsPrefix}

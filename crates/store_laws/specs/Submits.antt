@@ -1,7 +1,7 @@
 -- What a history has of the submitted entries.
 use Rattle.std.specs.Prelude.{◌≡◌, false, List, ◌∷◌, ◌++◌}
 use Rattle.trace_model.specs.declared.entry.Entry.{Entry}
-use Rattle.trace_model.specs.Resending.{is_sent, AnswersFor}
+use Rattle.trace_model.specs.ResentBatches.{is_sent, AnswersFor}
 
 -- one entry of the list answers for this one, and no other has its batch
 pub record IsThereOnce (h : List Entry) (e : Entry) : Type 0 where

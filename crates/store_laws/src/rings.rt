@@ -7,8 +7,8 @@ ghost use Rattle.jaeger_model.specs.declared.placed.Placed.{Placed as PlacedValu
 ghost use Rattle.jaeger_model.specs.declared.ids.TraceId.{TraceId as TraceIdValue};
 ghost use Rattle.trace_model.specs.Rings.{arrive, holds, newest};
 ghost use Rattle.trace_model.specs.Events.{Event, came, limited, without_limits};
-ghost use Rattle.trace_model.specs.Limiting.{limits_none, comes_for};
-ghost use Rattle.trace_model.specs.Showing.{trace_of, ring, limit_after, shown, spans_of_trace, of_trace, trace_found};
+ghost use Rattle.trace_model.specs.LimitTerms.{limits_none, comes_for};
+ghost use Rattle.trace_model.specs.ShownSpans.{trace_of, ring, limit_after, shown, spans_of_trace, of_trace, trace_found};
 ghost use Rattle.store_laws.specs.Subsequences.{IsSubsequence};
 
 /// A late span does not renew its trace.
@@ -18,7 +18,7 @@ pub fn late_span_renews_nothing()
 {}
 
 /// A span of a trace that left the ring opens it again, with that span alone.
-#[tactic(auto, using(trace_model::proofs::Traces::opened_alone))]
+#[tactic(auto, using(trace_model::proofs::ShownOfTrace::opened_alone))]
 pub fn opened_anew_with_one_span()
     ensures { (n : ℕ) (es : List (Event PlacedValue)) (p : PlacedValue) →
         holds (ring n es) (trace_of p) ≡ false →
@@ -26,7 +26,7 @@ pub fn opened_anew_with_one_span()
 {}
 
 /// If no limit is set, every span that arrived is shown.
-#[tactic(auto, using(trace_model::proofs::Traces::shown_all))]
+#[tactic(auto, using(trace_model::proofs::ShownOfTrace::shown_all))]
 pub fn no_limit_keeps_all()
     ensures { (es : List (Event PlacedValue)) → list_all limits_none es ≡ true →
         shown 0 es ≡ without_limits es }
@@ -34,7 +34,7 @@ pub fn no_limit_keeps_all()
 
 /// After a span arrives, a trace keeps its spans and gains its own new one as long as it is in the ring; it loses
 /// all of them when it leaves.
-#[tactic(auto, using(trace_model::proofs::Traces::spans_push))]
+#[tactic(auto, using(trace_model::proofs::ShownOfTrace::spans_push))]
 pub fn spans_since_opened()
     ensures { (n : ℕ) (es : List (Event PlacedValue)) (p : PlacedValue) (t : TraceIdValue) →
         spans_of_trace n (es ++ came p ∷ []) t ≡
@@ -44,14 +44,14 @@ pub fn spans_since_opened()
 
 /// After a limit is set, the ring has that number of newest traces, in the same order; all of them if the limit is
 /// 0.
-#[tactic(auto, using(trace_model::proofs::Shows::ring_limited))]
+#[tactic(auto, using(trace_model::proofs::ShownByEvents::ring_limited))]
 pub fn newest_stay_at_a_limit()
     ensures { (n : ℕ) (es : List (Event PlacedValue)) (m : ℕ) →
         ring n (es ++ limited m ∷ []) ≡ newest m (ring n es) }
 {}
 
 /// After a limit is set, the traces that stay keep their shown spans, and the others have none.
-#[tactic(auto, using(trace_model::proofs::Traces::spans_limited))]
+#[tactic(auto, using(trace_model::proofs::ShownOfTrace::spans_limited))]
 pub fn spans_stay_at_a_limit()
     ensures { (n : ℕ) (es : List (Event PlacedValue)) (m : ℕ) (t : TraceIdValue) →
         spans_of_trace n (es ++ limited m ∷ []) t ≡
@@ -60,7 +60,7 @@ pub fn spans_stay_at_a_limit()
 
 /// A trace that left, or never arrived, is not in the ring before one of its spans arrives, whatever limits are
 /// set.
-#[tactic(auto, using(trace_model::proofs::Traces::stays_out))]
+#[tactic(auto, using(trace_model::proofs::ShownOfTrace::stays_out))]
 pub fn left_trace_stays_out()
     ensures { (n : ℕ) (es : List (Event PlacedValue)) (t : TraceIdValue)
         (more : List (Event PlacedValue)) → list_any (comes_for t) more ≡ false →
@@ -68,7 +68,7 @@ pub fn left_trace_stays_out()
 {}
 
 /// A trace that left shows no span before one of its spans arrives.
-#[tactic(auto, using(trace_model::proofs::Traces::none_shown))]
+#[tactic(auto, using(trace_model::proofs::ShownOfTrace::none_shown))]
 pub fn left_trace_shows_nothing()
     ensures { (n : ℕ) (es : List (Event PlacedValue)) (t : TraceIdValue)
         (more : List (Event PlacedValue)) → list_any (comes_for t) more ≡ false →
@@ -76,7 +76,7 @@ pub fn left_trace_shows_nothing()
 {}
 
 /// The current limit is the last one that was set, or that of the opening if none was.
-#[tactic(auto, using(trace_model::proofs::Shows::limit_came, trace_model::proofs::Shows::limit_limited))]
+#[tactic(auto, using(trace_model::proofs::ShownByEvents::limit_came, trace_model::proofs::ShownByEvents::limit_limited))]
 pub fn limit_in_force()
     ensures opening { (n : ℕ) → limit_after n [] ≡ n }
     ensures arrival { (n : ℕ) (es : List (Event PlacedValue)) (p : PlacedValue) →
@@ -109,7 +109,7 @@ pub fn ring_holds_each_once()
 {}
 
 /// With a limit, the ring is no longer than the current limit.
-#[tactic(auto, using(trace_model::proofs::Traces::ring_within))]
+#[tactic(auto, using(trace_model::proofs::ShownOfTrace::ring_within))]
 pub fn ring_within_limit()
     ensures { (n : ℕ) (es : List (Event PlacedValue)) → 0 < limit_after n es →
         length (ring n es) ≤ limit_after n es }

@@ -2,7 +2,7 @@
 use Rattle.std.proofs.Common.{◌≡◌, ℕ, ◌+◌, ◌≤◌, ◌<◌, true, List, [], length, take, drop, Option, nat_eq, refl, ◌∙◌, arith, length-take}
 use Rattle.std.specs.Prelude.{min}
 use Rattle.std.specs.Io.KnownBytes.{Consumes, IsAtEnd}
-use Rattle.text_lines.specs.Reading.{Feed, Fills}
+use Rattle.text_lines.specs.LineReads.{Feed, Fills}
 
 none_taken : (count : ℕ) (piece : List ℕ) → nat_eq count 0 ≡ true → take count piece ≡ []
 none_taken count piece e = let z : count ≡ 0 = search arith in rw z refl

@@ -1,8 +1,8 @@
 pub mod Feeds
 pub mod LineEnds
-pub mod Taking
+pub mod TakenLines
 pub mod Buffers
-pub mod Counting
-pub mod Progress
-pub mod Wholes
+pub mod ReadCounts
+pub mod HandledLines
+pub mod CompleteRuns
 pub mod LineResults

@@ -1,7 +1,7 @@
 -- Lines that are handled one after the other have the result of their function.
 use Rattle.std.proofs.Common.{◌≡◌, ℕ, ◌+◌, List, [], ◌∷◌, ◌++◌, refl, sym, ap, ◌∙◌, subst, append_assoc}
-use Rattle.text_lines.specs.Taking.{LineReply, Takes, TakesEach, joined}
-use Rattle.text_lines.specs.Results.{LineResult, result_of_lines}
+use Rattle.text_lines.specs.HandledLines.{LineReply, HandlesLine, TakesEach, joined}
+use Rattle.text_lines.specs.LineResults.{LineResult, result_of_lines}
 
 module _ {S : Type 0} (of_line : ℕ → S → List ℕ → LineResult S) where
   -- the reply to lines starts with the reply to the first of them
@@ -14,7 +14,7 @@ module _ {S : Type 0} (of_line : ℕ → S → List ℕ → LineResult S) where
       (r.0, ap (λ t. here.reply.text ++ t) r.1 ∙ sym (append_assoc here.reply.text (result_of_lines of_line (n + 1) here.held xs).reply.text r.0))
 
   -- if each line that is handled has the result of the function, however the state is represented
-  module _ {W : Type 0} (StandsFor : W → S → Type 0) (takes : Takes W)
+  module _ {W : Type 0} (StandsFor : W → S → Type 0) (takes : HandlesLine W)
       (each : (w : W) (n : ℕ) (line : List ℕ) (reply : LineReply) (v : W) → takes w n line reply v → (s : S) → StandsFor w s
       → StandsFor v (of_line n s line).held × (reply ≡ (of_line n s line).reply)) where
     pub lines_come_to : (w : W) (s : S) (n : ℕ) (lines : List (List ℕ)) (reply : LineReply) (v : W) → StandsFor w s → TakesEach takes w n lines reply v

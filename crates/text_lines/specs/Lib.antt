@@ -1,7 +1,7 @@
 pub mod Lines
-pub mod Reading
-pub mod Reads
+pub mod LineReads
+pub mod ReadCounts
 pub mod ExitStatuses
 pub mod RunErrors
-pub mod Taking
-pub mod Results
+pub mod HandledLines
+pub mod LineResults

@@ -1,8 +1,8 @@
 ghost use Rattle.std.specs.Prelude.{◌≡◌, [], false, IfErr, IfOk, OnOk};
 ghost use Rattle.session_devices.specs.Traffic.{traffic_of};
-ghost use Rattle.text_lines.specs.Reads.{LimitIsReads};
+ghost use Rattle.text_lines.specs.ReadCounts.{LimitIsReads};
 ghost use Rattle.text_lines.specs.RunErrors.{BothWork};
-ghost use Rattle.text_lines.specs.Taking.{AnswersAll, AnswersSome, TookAll, TookSome};
+ghost use Rattle.text_lines.specs.HandledLines.{AnswersAll, AnswersSome, TookAll, TookSome};
 
 use crate::handler::LineHandler;
 use crate::line_buffer::LineBuffer;

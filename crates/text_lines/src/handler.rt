@@ -1,5 +1,5 @@
 ghost use Rattle.std.specs.Prelude.{◌≡◌, ℕ, List, [], IfOk};
-ghost use Rattle.text_lines.specs.Taking.{LineReply};
+ghost use Rattle.text_lines.specs.HandledLines.{LineReply};
 
 use std::alloc::{AllocError, Global};
 

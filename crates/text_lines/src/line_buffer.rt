@@ -3,8 +3,8 @@ ghost use Rattle.std.specs.Prelude.{◌≡◌, ℕ, ◌≤◌, ◌<◌, ◌+◌,
 ghost use Rattle.std.specs.Prelude.{length};
 ghost use Rattle.std.specs.Io.KnownBytes.{Keeps};
 ghost use Rattle.text_lines.specs.Lines.{without_return};
-ghost use Rattle.text_lines.specs.Reading.{Feed, Fills, StopsReading, TakesLine, TakesNone};
-ghost use Rattle.text_lines.specs.Reads.{CountsReads};
+ghost use Rattle.text_lines.specs.LineReads.{Feed, Fills, StopsReading, TakesLine, TakesNone};
+ghost use Rattle.text_lines.specs.ReadCounts.{CountsReads};
 ghost use Rattle.text_lines.specs.RunErrors.{BothWork, Moves};
 
 use crate::output_buffer::OutputBuffer;

@@ -7,12 +7,12 @@ use Rattle.std.specs.Ordering.{int_eq}
 use Rattle.std.proofs.lemmas.Bool.{and_parts}
 use Rattle.std.proofs.lemmas.List.{take_more, length-take-le}
 use Rattle.jaeger_model.specs.declared.placed.Placed.{Placed}
-use Rattle.trace_model.specs.declared.answer.Shown.{Shown}
+use Rattle.trace_model.specs.declared.answer.AdjustedSpan.{AdjustedSpan}
 use Rattle.trace_model.specs.declared.clock.Clock.{Clock}
 use Rattle.trace_model.specs.Adjusting.{shifted, unadjusted, skew_adjusted, warned, past_limit, past_times, adjusted_by, all_fit, moved_placed}
-use Rattle.trace_adjust.specs.Lending.{placed_as, shifted_all}
-use Rattle.trace_adjust.specs.Settling.{first_at, delta_at, AreClocks}
-use Rattle.trace_adjust.proofs.Shifting.{lent_more}
+use Rattle.trace_adjust.specs.LentSpans.{placed_as, shifted_all}
+use Rattle.trace_adjust.specs.KnownClocks.{first_at, delta_at, AreClocks}
+use Rattle.trace_adjust.proofs.ShiftedSpans.{lent_more}
 
 pub one_longer : {X : Type 0} (xs ys : List X) (x : X) (n : ℕ) → length xs ≡ n → ys ≡ xs ++ x ∷ [] → length ys ≡ n + 1
 one_longer xs ys x n many put = omega (arith, many, ap length put, length-append xs (x ∷ []))
@@ -45,7 +45,7 @@ no_delta : (d : ℤ) (ds : List ℤ) → all_zero (d ∷ ds) ≡ true → (int_e
 no_delta d ds e = and_parts (int_eq d (pos 0)) (all_zero ds) e
 
 -- a delta that isn't 0
-abbrev shifted_else : ℕ → ℤ → Placed → Shown
+abbrev shifted_else : ℕ → ℤ → Placed → AdjustedSpan
 shifted_else m d p =
     if not (nat_le (nat_abs d) m) then warned p (past_limit d m)
     else if not (all_fit d p.span) then warned p (past_times d)

@@ -1,7 +1,7 @@
 pub mod Deltas
-pub mod Hosting
-pub mod Lent
+pub mod HostNumbers
+pub mod LentReferences
 pub mod Places
-pub mod Settled
-pub mod Shifting
-pub mod There
+pub mod KnownClocks
+pub mod ShiftedSpans
+pub mod ExistingSpans

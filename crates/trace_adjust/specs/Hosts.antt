@@ -6,7 +6,7 @@ use Rattle.jaeger_model.specs.declared.span.Span.{Span}
 use Rattle.jaeger_model.specs.Texts.{same_text}
 use Rattle.trace_model.specs.declared.clock.Clock.{Clock}
 use Rattle.trace_model.specs.Adjusting.{host_of, start_at, delta_between}
-use Rattle.trace_adjust.specs.Settling.{place_of, near_in, delta_in, AreRight}
+use Rattle.trace_adjust.specs.KnownClocks.{place_of, clock_near_in, delta_in, AreRight}
 use Rattle.trace_adjust.specs.declared.clock.HostClock.{HostClock}
 
 -- the hosts of the spans, after the empty one
@@ -18,8 +18,8 @@ abbrev pub number_in : List (List ℕ) → List ℕ → Option ℕ
 number_in hosts host = place_of (same_text host) hosts
 
 -- each span has the number of its host
-abbrev pub AreNumbers : List (List ℕ) → List Placed → List ℕ → Type 0
-AreNumbers hosts trace ns = map Some ns ≡ map (λ p. number_in hosts (host_of p)) trace
+abbrev pub AreHostNumbers : List (List ℕ) → List Placed → List ℕ → Type 0
+AreHostNumbers hosts trace ns = map Some ns ≡ map (λ p. number_in hosts (host_of p)) trace
 
 -- the numbers by the keys of processes, with one more stored for a key, if that is known
 abbrev pub kept_under : Option ℕ → ℕ → (ℕ → Option ℕ) → ℕ → Option ℕ
@@ -52,12 +52,12 @@ abbrev pub IsNumbered : List (List ℕ) → Option HostClock → Type 0
 IsNumbered hosts None = Unit {0}
 IsNumbered hosts (Some c) = IsNumber hosts c.host
 
-abbrev pub AreNumbered : List (List ℕ) → List (Option HostClock) → Type 0
-AreNumbered hosts cs = (k : ℕ) → IsNumbered hosts (get_or cs k None)
+abbrev pub AreHostsNumbered : List (List ℕ) → List (Option HostClock) → Type 0
+AreHostsNumbered hosts cs = (k : ℕ) → IsNumbered hosts (get_or cs k None)
 
 -- each clock that is set is the span's, and its host's number that of a host of the trace
 abbrev pub AreSet : ℕ → List Placed → List (Option HostClock) → Type 0
-AreSet max_skew trace cs = AreRight max_skew trace (all_hosted (hosts_of trace) cs) × AreNumbered (hosts_of trace) cs
+AreSet max_skew trace cs = AreRight max_skew trace (all_hosted (hosts_of trace) cs) × AreHostsNumbered (hosts_of trace) cs
 
 -- ---- the definitions of Adjusting and Settling, by numbers
 abbrev pub clock_by : ℕ → ℕ → ℤ → Span → HostClock
@@ -68,7 +68,7 @@ below_by max_skew c n s =
     if (n == 0) || not (n == c.host) then clock_by max_skew n (delta_between c.start c.duration s.start s.duration) s else clock_by max_skew c.host c.delta s
 
 abbrev pub near_by : ℕ → List (Option HostClock) → ℕ → Span → Option ℕ → Option HostClock
-near_by max_skew cs n s o = near_in (clock_by max_skew n (pos 0) s) (λ (above : HostClock). below_by max_skew above n s) cs o
+near_by max_skew cs n s o = clock_near_in (clock_by max_skew n (pos 0) s) (λ (above : HostClock). below_by max_skew above n s) cs o
 
 abbrev pub host_delta : HostClock → ℤ
 host_delta c = c.delta

@@ -1,5 +1,5 @@
 pub mod Hosts
-pub mod Lending
-pub mod Lent
-pub mod Settling
-pub mod Skewing
+pub mod LentSpans
+pub mod LentReferences
+pub mod KnownClocks
+pub mod TraceClocks

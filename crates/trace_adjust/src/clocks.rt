@@ -1,8 +1,8 @@
 //! The clock of each span of a trace.
 
 ghost use Rattle.std.specs.Prelude.{◌≡◌, ◌<◌, ◌+◌, ℕ, false, true, IfOk, None, map, length, get_or, cond};
-ghost use Rattle.trace_adjust.specs.Settling.{place_in, written, writes, unset_count, IsClosed, AreClosed, AreClocks};
-ghost use Rattle.trace_adjust.specs.Hosts.{hosts_of, all_hosted, near_by, AreNumbers, AreSet};
+ghost use Rattle.trace_adjust.specs.KnownClocks.{place_in, written, writes, unset_count, IsClosed, AreClosed, AreClocks};
+ghost use Rattle.trace_adjust.specs.Hosts.{hosts_of, all_hosted, near_by, AreHostNumbers, AreSet};
 
 use crate::clock::{HostClock, clock_below, root_clock};
 use crate::lent_placed::LentPlaced;
@@ -96,7 +96,7 @@ fn set_clock_at(
     max_skew: u64,
 ) -> bool
     requires parents { parents.now ≡ map (place_in trace.now) trace.now }
-    requires hosts { AreNumbers (hosts_of trace.now) trace.now hosts.now }
+    requires hosts { AreHostNumbers (hosts_of trace.now) trace.now hosts.now }
     requires set { AreSet max_skew trace.now clocks.old.items }
     requires within { place < length trace.now }
     ensures set { AreSet max_skew trace.now clocks.new.items }
@@ -125,7 +125,7 @@ fn set_all_clocks(
     max_skew: u64,
 ) -> bool
     requires parents { parents.now ≡ map (place_in trace.now) trace.now }
-    requires hosts { AreNumbers (hosts_of trace.now) trace.now hosts.now }
+    requires hosts { AreHostNumbers (hosts_of trace.now) trace.now hosts.now }
     requires set { AreSet max_skew trace.now clocks.old.items }
     ensures set { AreSet max_skew trace.now clocks.new.items }
     ensures closed { result ≡ false →
@@ -162,7 +162,7 @@ pub(crate) fn all_clocks(
     max_skew: u64,
 ) -> Result<Vec<Option<HostClock>>, AllocError>
     requires parents { parents.now ≡ map (place_in trace.now) trace.now }
-    requires hosts { AreNumbers (hosts_of trace.now) trace.now hosts.now }
+    requires hosts { AreHostNumbers (hosts_of trace.now) trace.now hosts.now }
     ensures { IfOk result (λ v. AreClocks max_skew trace.now
         (all_hosted (hosts_of trace.now) v.items)) }
 {

@@ -5,8 +5,8 @@ ghost use Rattle.std.specs.BTreeMap.{get};
 ghost use Rattle.std.specs.Option.{option_or};
 ghost use Rattle.std.specs.Ordering.{nat_cmp};
 ghost use Rattle.jaeger_model.specs.Texts.{same_text, text_cmp};
-ghost use Rattle.trace_model.specs.Sharing.{ShareProcesses};
-ghost use Rattle.trace_adjust.specs.Hosts.{AreNumbers, hosts_of, kept_under};
+ghost use Rattle.trace_model.specs.SharedProcesses.{ShareProcesses};
+ghost use Rattle.trace_adjust.specs.Hosts.{AreHostNumbers, hosts_of, kept_under};
 
 use crate::clock::NO_HOST;
 use crate::lent_placed::LentPlaced;
@@ -63,7 +63,7 @@ pub(crate) fn host_numbers(
 ) -> Result<Vec<usize>, AllocError>
     requires { ShareProcesses trace.now process_keys.now }
     ensures { IfOk result (λ v.
-        AreNumbers (hosts_of trace.now) trace.now v.items) }
+        AreHostNumbers (hosts_of trace.now) trace.now v.items) }
 {
     let mut numbers = BTreeMap::new(alloc);
     numbers.insert(Text::new(alloc), NO_HOST)?;

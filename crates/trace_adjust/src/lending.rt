@@ -5,10 +5,10 @@ ghost use Rattle.std.specs.List.{list_all};
 ghost use Rattle.std.specs.Ordering.{int_eq};
 ghost use Rattle.jaeger_model.specs.declared.placed.Placed.{Placed as PlacedValue};
 ghost use Rattle.trace_model.specs.Adjusting.{skew_adjusted, spans_of, with_parent_first, adjusted};
-ghost use Rattle.trace_model.specs.Keeping.{spans_there, kept_value, KeptShares};
-ghost use Rattle.trace_model.specs.Sharing.{ShareProcesses};
-ghost use Rattle.trace_adjust.specs.Lending.{AreThere, shifted_all, shown_by_deltas};
-ghost use Rattle.trace_adjust.specs.Skewing.{AreTraceClocks};
+ghost use Rattle.trace_model.specs.KeptTraces.{spans_there, kept_value, KeptShares};
+ghost use Rattle.trace_model.specs.SharedProcesses.{ShareProcesses};
+ghost use Rattle.trace_adjust.specs.LentSpans.{AreThere, shifted_all, shown_by_deltas};
+ghost use Rattle.trace_adjust.specs.TraceClocks.{AreTraceClocks};
 
 use crate::lent_placed::LentPlaced;
 use crate::lent_spans::LentSpans;

@@ -2,7 +2,7 @@
 
 ghost use Rattle.std.specs.Prelude.{◌≡◌, ◌==◌, ◌<◌, ◌+ℤ◌, length, slice_get, IsTrue, Some};
 ghost use Rattle.trace_model.specs.Adjusting.{fits, move_log};
-ghost use Rattle.trace_adjust.specs.Lending.{logs_by, lent_log, LogsCanMove};
+ghost use Rattle.trace_adjust.specs.LentSpans.{logs_by, lent_log, LogsCanMove};
 
 use jaeger_model::{Log, Tag};
 use span_steps::moved_by;
@@ -26,7 +26,7 @@ pub struct LentLogs<'a> {
 impl<'a> Model for LentLogs<'a> {
     ghost use Rattle.std.specs.Prelude.{List};
     ghost use Rattle.jaeger_model.specs.declared.span.Log.{Log};
-    ghost use Rattle.trace_adjust.specs.Lending.{logs_by, LogsCanMove};
+    ghost use Rattle.trace_adjust.specs.LentSpans.{logs_by, LogsCanMove};
 
     ghost Value = { List Log };
 

@@ -3,9 +3,9 @@
 ghost use Rattle.std.specs.Prelude.{◌≡◌, ◌+◌, ◌<◌, ◌∷◌, length, slice_get, Some, IfOk, swap};
 ghost use Rattle.jaeger_model.specs.Parents.{parent, parent_reference, with_parent};
 ghost use Rattle.trace_model.specs.Adjusting.{host_of, parent_first, start_at, with_parent_first};
-ghost use Rattle.trace_model.specs.Seeing.{placed_by_its_entry};
+ghost use Rattle.trace_model.specs.BorrowedSpans.{placed_by_its_entry};
 ghost use Rattle.span_steps.specs.Warnings.{warning_of, CanMove};
-ghost use Rattle.trace_adjust.specs.Lent.{referred, IsLent, IsReferred};
+ghost use Rattle.trace_adjust.specs.LentReferences.{referred, IsLent, IsReferred};
 
 use jaeger_model::{
     Log, Placed, Process, Seen, Span, SpanId, SpanRef, Text, needs_no_reference, parent_of,
@@ -37,7 +37,7 @@ pub(crate) struct LentPlaced<'a> {
 
 impl<'a> Model for LentPlaced<'a> {
     ghost use Rattle.jaeger_model.specs.declared.placed.Placed.{Placed};
-    ghost use Rattle.trace_adjust.specs.Lent.{lent_placed, IsReferred};
+    ghost use Rattle.trace_adjust.specs.LentReferences.{lent_placed, IsReferred};
 
     ghost Value = { Placed };
 

@@ -2,7 +2,7 @@
 
 ghost use Rattle.std.specs.Prelude.{◌≡◌, ◌<◌, length, slice_get, Some};
 ghost use Rattle.trace_model.specs.Adjusting.{shifted};
-ghost use Rattle.trace_adjust.specs.Lent.{IsLent};
+ghost use Rattle.trace_adjust.specs.LentReferences.{IsLent};
 ghost use Rattle.span_steps.specs.Warnings.{warning_texts};
 
 use crate::lent_logs::LentLogs;
@@ -20,10 +20,10 @@ pub struct LentSpan<'a> {
 }
 
 impl<'a> Model for LentSpan<'a> {
-    ghost use Rattle.trace_model.specs.declared.answer.Shown.{Shown};
+    ghost use Rattle.trace_model.specs.declared.answer.AdjustedSpan.{AdjustedSpan};
     ghost use Rattle.span_steps.specs.Warnings.{shown_by, CanMove};
 
-    ghost Value = { Shown };
+    ghost Value = { AdjustedSpan };
 
     ghost view = { λ l. shown_by l.warning l.placed };
 

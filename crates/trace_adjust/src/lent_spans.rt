@@ -1,8 +1,8 @@
 //! The spans of a trace of an answer as they are shown, borrowed one by one from their entries.
 
 ghost use Rattle.std.specs.Prelude.{◌≡◌, ◌<◌, pos, get_or, length, slice_get, Some, None, option_map};
-ghost use Rattle.trace_model.specs.Seeing.{placed_by_its_entry};
-ghost use Rattle.trace_adjust.specs.Lending.{placed_as, AreThere};
+ghost use Rattle.trace_model.specs.BorrowedSpans.{placed_by_its_entry};
+ghost use Rattle.trace_adjust.specs.LentSpans.{placed_as, AreThere};
 
 use crate::lent_placed::LentPlaced;
 use crate::lent_span::LentSpan;
@@ -25,10 +25,10 @@ pub struct LentSpans {
 
 impl Model for LentSpans {
     ghost use Rattle.std.specs.Prelude.{List};
-    ghost use Rattle.trace_model.specs.declared.answer.Shown.{Shown};
-    ghost use Rattle.trace_adjust.specs.Lending.{shown_spans, AreThere};
+    ghost use Rattle.trace_model.specs.declared.answer.AdjustedSpan.{AdjustedSpan};
+    ghost use Rattle.trace_adjust.specs.LentSpans.{shown_spans, AreThere};
 
-    ghost Value = { List Shown };
+    ghost Value = { List AdjustedSpan };
 
     ghost view = { λ l. shown_spans l.raw l.max_skew l.spans.items l.deltas.items };
 

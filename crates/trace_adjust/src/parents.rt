@@ -3,7 +3,7 @@
 ghost use Rattle.std.specs.Prelude.{◌≡◌, ℕ, IfOk, map};
 ghost use Rattle.std.specs.Ordering.{nat_cmp};
 ghost use Rattle.std.specs.BTreeMap.{get};
-ghost use Rattle.trace_adjust.specs.Settling.{first_at, parent_at, place_in};
+ghost use Rattle.trace_adjust.specs.KnownClocks.{first_at, parent_at, place_in};
 
 use crate::lent_placed::LentPlaced;
 use std::alloc::{AllocError, Global};

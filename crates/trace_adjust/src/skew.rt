@@ -4,10 +4,10 @@ ghost use Rattle.std.specs.Prelude.{◌≡◌, IfOk, None, OnOk, OnErr, get_or, 
 ghost use Rattle.std.specs.Ordering.{nat_cmp};
 ghost use Rattle.std.specs.BTreeMap.{get};
 ghost use Rattle.trace_model.specs.Adjusting.{with_parent_first, unadjusted, spans_of, shown_adjusted, adjusted};
-ghost use Rattle.trace_model.specs.Sharing.{ShareProcesses};
+ghost use Rattle.trace_model.specs.SharedProcesses.{ShareProcesses};
 ghost use Rattle.trace_adjust.specs.Hosts.{delta_by, host_delta};
-ghost use Rattle.trace_adjust.specs.Settling.{delta_or_none};
-ghost use Rattle.trace_adjust.specs.Skewing.{AreTraceClocks};
+ghost use Rattle.trace_adjust.specs.KnownClocks.{delta_or_none};
+ghost use Rattle.trace_adjust.specs.TraceClocks.{AreTraceClocks};
 
 use crate::clock::HostClock;
 use crate::clocks::all_clocks;
@@ -18,7 +18,7 @@ use jaeger_model::{Placed, SpanId};
 use span_steps::{shift, unadjusted, with_parent_first};
 use std::alloc::{AllocError, Global};
 use std::collections::BTreeMap;
-use trace_model::Shown;
+use trace_model::AdjustedSpan;
 
 /// The clocks of the spans of a trace, and the place of the first span with each id.
 #[derive(Drop)]
@@ -46,7 +46,10 @@ pub(crate) fn clocks_of(
 
 /// Borrows the spans unchanged.
 #[tactic(auto, using(std::proofs::lemmas::List::map_more))]
-fn all_unchanged<'a>(alloc: Global, trace: &'a [Shown]) -> Result<Vec<LentPlaced<'a>>, AllocError>
+fn all_unchanged<'a>(
+    alloc: Global,
+    trace: &'a [AdjustedSpan],
+) -> Result<Vec<LentPlaced<'a>>, AllocError>
     ensures { IfOk result (λ v. v.items ≡ spans_of trace.now) }
 {
     let mut lent = Vec::with_capacity(alloc, trace.len())?;
@@ -59,7 +62,7 @@ fn all_unchanged<'a>(alloc: Global, trace: &'a [Shown]) -> Result<Vec<LentPlaced
 /// Returns the clocks of spans that are copied.
 fn clocks_of_shown(
     alloc: Global,
-    trace: &[Shown],
+    trace: &[AdjustedSpan],
     process_keys: &[u64],
     max_skew: u64,
 ) -> Result<TraceClocks, AllocError>
@@ -110,7 +113,7 @@ impl TraceClocks {
 /// Moves the spans by their clocks. If memory runs out, the first of them are moved already.
 fn shift_all(
     alloc: Global,
-    trace: &mut [Shown],
+    trace: &mut [AdjustedSpan],
     clocks: &TraceClocks,
     max_skew: u64,
 ) -> Result<(), AllocError>
@@ -128,10 +131,10 @@ fn shift_all(
 /// Returns the spans moved by their clocks.
 fn all_shifted(
     alloc: Global,
-    mut spans: Vec<Shown>,
+    mut spans: Vec<AdjustedSpan>,
     process_keys: &[u64],
     max_skew: u64,
-) -> Result<Vec<Shown>, AllocError>
+) -> Result<Vec<AdjustedSpan>, AllocError>
     requires { ShareProcesses (spans_of spans.items) process_keys.now }
     ensures { IfOk result (λ v. v.items ≡ shown_adjusted max_skew spans.items) }
 {
@@ -140,16 +143,16 @@ fn all_shifted(
     Ok(spans)
 }
 
-fn copy_of(shown: &Shown) -> Result<Shown, AllocError>
+fn copy_of(shown: &AdjustedSpan) -> Result<AdjustedSpan, AllocError>
     ensures { IfOk result (λ copy. copy ≡ shown.now) }
 {
-    Ok(Shown {
+    Ok(AdjustedSpan {
         placed: shown.placed.clone()?,
         warnings: shown.warnings.clone()?,
     })
 }
 
-fn copies_of(alloc: Global, trace: &[Shown]) -> Result<Vec<Shown>, AllocError>
+fn copies_of(alloc: Global, trace: &[AdjustedSpan]) -> Result<Vec<AdjustedSpan>, AllocError>
     ensures { IfOk result (λ v. v.items ≡ trace.now) }
 {
     let mut copies = Vec::with_capacity(alloc, trace.len())?;
@@ -174,7 +177,7 @@ fn copies_of(alloc: Global, trace: &[Shown]) -> Result<Vec<Shown>, AllocError>
 /// when no more memory is needed.
 pub fn adjust_skew(
     alloc: Global,
-    trace: &mut [Shown],
+    trace: &mut [AdjustedSpan],
     process_keys: &[u64],
     max_skew: u64,
 ) -> Result<(), AllocError>
@@ -189,7 +192,7 @@ pub fn adjust_skew(
 
 /// Moves the reference to the parent to the front in each of the spans.
 #[tactic(auto, using(std::proofs::lemmas::List::map_push))]
-fn with_parents_first(alloc: Global, trace: Vec<Placed>) -> Result<Vec<Shown>, AllocError>
+fn with_parents_first(alloc: Global, trace: Vec<Placed>) -> Result<Vec<AdjustedSpan>, AllocError>
     ensures { IfOk result (λ v. v.items ≡ map unadjusted (map with_parent_first trace.items)) }
 {
     let mut shown = Vec::new(alloc);
@@ -212,7 +215,7 @@ pub fn adjusted(
     trace: Vec<Placed>,
     process_keys: &[u64],
     max_skew: u64,
-) -> Result<Vec<Shown>, AllocError>
+) -> Result<Vec<AdjustedSpan>, AllocError>
     requires { ShareProcesses trace.items process_keys.now }
     ensures { IfOk result (λ v. v.items ≡ adjusted max_skew trace.items) }
 {

@@ -14,14 +14,14 @@ use Rattle.trace_model.specs.declared.entry.Entry.{Entry}
 use Rattle.trace_model.specs.declared.entry.Work.{Work}
 use Rattle.trace_model.specs.declared.entry.Work.TheVariants as brings
 use Rattle.trace_model.specs.Events.{Event, came, limited, event_map, without_limits}
-use Rattle.trace_model.proofs.Arriving.{came_of}
+use Rattle.trace_model.proofs.ArrivedItems.{came_of}
 use Rattle.trace_model.proofs.Lists.{each_append}
 use Rattle.trace_model.specs.Histories.{arrivals, events}
-use Rattle.trace_model.specs.Works.{events_brought, placed_brought}
-use Rattle.trace_model.specs.Showing.{is_in_ring}
+use Rattle.trace_model.specs.EntryWork.{events_brought, placed_brought}
+use Rattle.trace_model.specs.ShownSpans.{is_in_ring}
 use Rattle.trace_assembly.specs.declared.spot.Spot.{Spot}
-use Rattle.trace_assembly.specs.Located.{located_in, located_by, located_from, located_events, span_at, spans_in, spots_in, events_in, located_trace, shown_in}
-use Rattle.trace_assembly.specs.Located.{own_of, located_upto}
+use Rattle.trace_assembly.specs.LocatedSpans.{located_in, located_by, located_from, located_events, span_at, spans_in, spots_in, events_in, located_trace, shown_in}
+use Rattle.trace_assembly.specs.LocatedSpans.{own_of, located_upto}
 use Rattle.trace_assembly.proofs.Lists.{OfCame, each_came, each_filter, each_lasting, each_without_limits, slice_get_middle}
 
 spans-located_in : (place index : ℕ) (ps : List Placed) → spans_in (located_in place index ps) ≡ ps

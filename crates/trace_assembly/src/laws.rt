@@ -6,12 +6,12 @@ ghost use Rattle.jaeger_model.specs.declared.ids.TraceId.{TraceId as TraceIdValu
 ghost use Rattle.trace_model.specs.declared.entry.Entry.{Entry};
 ghost use Rattle.trace_model.specs.Histories.{arrivals};
 ghost use Rattle.trace_model.specs.Rings.{holds};
-ghost use Rattle.trace_model.specs.Showing.{ring, spans_of_trace};
+ghost use Rattle.trace_model.specs.ShownSpans.{ring, spans_of_trace};
 ghost use Rattle.trace_model.specs.Events.{Event, came, limited, without_limits};
 ghost use Rattle.trace_model.specs.Histories.{events};
 ghost use Rattle.trace_assembly.specs.declared.spot.Spot.{Spot as SpotValue};
-ghost use Rattle.trace_assembly.specs.Located.{located_by, located_events, events_in, span_at, spots_in, shown_spots, with_event, without_left, after_arrival};
-ghost use Rattle.trace_assembly.specs.Located.{AreShown, ComesIn, Lowers};
+ghost use Rattle.trace_assembly.specs.LocatedSpans.{located_by, located_events, events_in, span_at, spots_in, shown_spots, with_event, without_evicted, after_arrival};
+ghost use Rattle.trace_assembly.specs.LocatedSpans.{AreShown, ComesIn, Lowers};
 
 /// The spans at the spots of a history, in order, are its arrivals.
 #[tactic(auto, using(crate::proofs::Places::spans_at_located_law))]
@@ -28,7 +28,7 @@ pub fn an_entry_adds_its_spans()
 {}
 
 /// After an event a trace in the ring keeps its spots and gains its own new one. Any other trace has none.
-#[tactic(auto, using(crate::proofs::Feeding::shown_spots_push_law))]
+#[tactic(auto, using(crate::proofs::SpotEvents::shown_spots_push_law))]
 pub fn spots_since_opened()
     ensures { (n : ℕ) (es : List (Event (SpotValue × PlacedValue)))
         (e : Event (SpotValue × PlacedValue)) (t : TraceIdValue) →
@@ -39,7 +39,7 @@ pub fn spots_since_opened()
 
 /// If the spots of each trace are those of its shown spans, they still are after the spots of the trace that leaves
 /// are removed and the new spot is added.
-#[tactic(auto, using(crate::proofs::Feeding::comes_in_law))]
+#[tactic(auto, using(crate::proofs::SpotEvents::comes_in_law))]
 pub fn fed_as_the_ring_says()
     ensures { (n limit : ℕ) (es : List (Event (SpotValue × PlacedValue)))
         (l : SpotValue × PlacedValue) (left : Option TraceIdValue) (old new : List TraceIdValue)
@@ -49,16 +49,16 @@ pub fn fed_as_the_ring_says()
 
 /// If the spots of each trace are those of its shown spans, they still are after the spots of the traces that leave
 /// at a limit are removed.
-#[tactic(auto, using(crate::proofs::Feeding::lowers_law))]
+#[tactic(auto, using(crate::proofs::SpotEvents::lowers_law))]
 pub fn lowered_as_the_ring_says()
     ensures { (n m : ℕ) (es : List (Event (SpotValue × PlacedValue)))
         (old new : List TraceIdValue) (spots : TraceIdValue → List SpotValue) →
         Lowers n m es old new → AreShown n es spots →
-        AreShown n (es ++ limited m ∷ []) (without_left old new spots) }
+        AreShown n (es ++ limited m ∷ []) (without_evicted old new spots) }
 {}
 
 /// The spans at a trace's shown spots are its shown spans, in the order of their arrival.
-#[tactic(auto, using(crate::proofs::Feeding::spans_at_shown_law))]
+#[tactic(auto, using(crate::proofs::SpotEvents::spans_at_shown_law))]
 pub fn shown_spots_name_the_shown_spans()
     ensures { (n : ℕ) (h : List Entry) (t : TraceIdValue) →
         map (span_at h) (shown_spots n (located_events h) t) ≡

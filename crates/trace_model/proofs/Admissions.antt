@@ -16,9 +16,9 @@ use Rattle.trace_model.specs.declared.limits.Limits.{Limits}
 use Rattle.trace_model.specs.declared.refusal.Refusal.{Refusal}
 use Rattle.trace_model.specs.declared.refusal.Refusal.TheVariants.{JournalFull, Stale, Conflict}
 use Rattle.trace_model.specs.WorkLaws.{same_work-decides}
-use Rattle.trace_model.specs.Works.{spans_brought, same_work}
+use Rattle.trace_model.specs.EntryWork.{spans_brought, same_work}
 use Rattle.trace_model.specs.Histories.{last_number, span_count}
-use Rattle.trace_model.specs.Resending.{resends, is_sent, sent_before}
+use Rattle.trace_model.specs.ResentBatches.{resends, is_sent, sent_before}
 use Rattle.trace_model.specs.Places.{entry_at}
 use Rattle.trace_model.specs.Refusals.{has_room, repeated, admitted_anew, admission}
 use Rattle.trace_model.proofs.Lists.{place_is_any, none_is}

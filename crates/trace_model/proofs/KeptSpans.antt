@@ -10,8 +10,8 @@ use Rattle.jaeger_model.specs.declared.span.Span.{Span}
 use Rattle.jaeger_model.specs.Parents.{placed}
 use Rattle.trace_model.specs.declared.entry.Work.{Work}
 use Rattle.trace_model.specs.declared.entry.Work.TheVariants as brings
-use Rattle.trace_model.specs.Works.{placed_brought, service_brought}
-use Rattle.trace_model.specs.Keeping.{spans_there}
+use Rattle.trace_model.specs.EntryWork.{placed_brought, service_brought}
+use Rattle.trace_model.specs.KeptTraces.{spans_there}
 
 there_last : (ks : List (Option Placed)) (p : Placed) → spans_there (ks ++ Some p ∷ []) ≡ spans_there ks ++ p ∷ []
 there_last [] p = refl

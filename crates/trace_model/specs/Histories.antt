@@ -3,9 +3,9 @@ use Rattle.std.specs.Prelude.{◌≡◌, ℕ, ◌<◌, ◌≤◌, List, [], ◌�
 use Rattle.jaeger_model.specs.declared.placed.Placed.{Placed}
 use Rattle.trace_model.specs.declared.entry.Entry.{Entry}
 use Rattle.trace_model.specs.Events.{Event}
-use Rattle.trace_model.specs.Works.{spans_brought, placed_brought, events_brought}
+use Rattle.trace_model.specs.EntryWork.{spans_brought, placed_brought, events_brought}
 use Rattle.trace_model.specs.declared.limits.Limits.{Limits}
-use Rattle.trace_model.specs.Resending.{SentOnceAfter}
+use Rattle.trace_model.specs.ResentBatches.{SentOnceAfter}
 
 -- the spans of all entries, in order
 abbrev pub arrivals : List Entry → List Placed

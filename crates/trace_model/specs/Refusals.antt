@@ -8,10 +8,10 @@ use Rattle.trace_model.specs.declared.entry.Entry.{Entry}
 use Rattle.trace_model.specs.declared.limits.Limits.{Limits}
 use Rattle.trace_model.specs.declared.refusal.Refusal.{Refusal}
 use Rattle.trace_model.specs.declared.refusal.Refusal.TheVariants.{JournalFull, Stale, Conflict}
-use Rattle.trace_model.specs.Works.{spans_brought, same_work}
+use Rattle.trace_model.specs.EntryWork.{spans_brought, same_work}
 use Rattle.trace_model.specs.Histories.{last_number, span_count}
-use Rattle.trace_model.specs.Resending.{sent_before}
-use Rattle.trace_model.specs.Held.{Held}
+use Rattle.trace_model.specs.ResentBatches.{sent_before}
+use Rattle.trace_model.specs.LimitedHistories.{LimitedHistory}
 
 -- one more entry, with its spans, passes no limit
 abbrev pub has_room : Limits → List Entry → Entry → Bool
@@ -41,11 +41,11 @@ abbrev pub refusal_of : Limits → List Entry → Entry → Option Refusal
 refusal_of limits h e = result_err (admission limits h e)
 
 -- the history with the entry at its end
-abbrev pub followed_by : Held → Entry → Held
+abbrev pub followed_by : LimitedHistory → Entry → LimitedHistory
 followed_by held e = record held { entries = held.entries ++ e ∷ [] }
 
 -- the history after the entry: longer by it if it was added, else unchanged
-abbrev pub with_admitted : Held → Entry → Result Admission Refusal → Held
+abbrev pub with_admitted : LimitedHistory → Entry → Result Admission Refusal → LimitedHistory
 with_admitted held e (Ok Added) = followed_by held e
 with_admitted held e (Ok (Resent place)) = held
 with_admitted held e (Err why) = held

@@ -3,7 +3,7 @@ use Rattle.std.specs.Prelude.{ℕ, List}
 use Rattle.std.specs.Arc.{arc_value}
 use Rattle.trace_model.specs.declared.service_name.NameForm.{NameForm}
 use Rattle.trace_model.specs.declared.service_name.NameForm.TheVariants as name
-use Rattle.trace_model.specs.Works.{service_brought}
+use Rattle.trace_model.specs.EntryWork.{service_brought}
 
 -- the bytes of a name
 abbrev pub name_value : NameForm → List ℕ

@@ -4,11 +4,11 @@ use Rattle.std.specs.Prelude.{◌≡◌, ◌==◌}
 use Rattle.std.specs.Bool.{Decides}
 use Rattle.std.proofs.Common.{ap}
 use Rattle.std.proofs.lemmas.Bool.Decides.{Decides-eqb, Decides-like}
-use Rattle.jaeger_model.specs.Same.{same_batch}
+use Rattle.jaeger_model.specs.Sameness.{same_batch}
 use Rattle.jaeger_model.specs.SameLaws.{same_batch-decides}
 use Rattle.trace_model.specs.declared.entry.Work.{Work}
 use Rattle.trace_model.specs.declared.entry.Work.TheVariants as brings
-use Rattle.trace_model.specs.Works.{same_work}
+use Rattle.trace_model.specs.EntryWork.{same_work}
 
 pub same_work-decides : (a b : Work) → Decides (same_work a b) (a ≡ b)
 same_work-decides (brings.Batch a) (brings.Batch b) = Decides-like (same_batch a b) (λ e. ap (λ x. brings.Batch x) e) (λ e. cc) (same_batch-decides a b)

@@ -12,7 +12,7 @@ ghost use Rattle.trace_model.specs.declared.limits.Limits.{Limits};
 ghost use Rattle.trace_model.specs.declared.query.Query.{Query as QueryValue};
 ghost use Rattle.trace_model.specs.declared.answer.Answer.{Answer as AnswerValue};
 ghost use Rattle.trace_model.specs.declared.refusal.Refusal.{Refusal as RefusalValue};
-ghost use Rattle.trace_model.specs.Knowing.{SubmitKnows, ReadKnows};
+ghost use Rattle.trace_model.specs.StoreKnowledge.{SubmitKnows, ReadKnows};
 
 use crate::answer::Answer;
 use crate::query::Query;

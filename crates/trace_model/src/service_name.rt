@@ -1,7 +1,7 @@
 //! The name of a service in an answer.
 ghost use Rattle.std.specs.Prelude.{◌≡◌, ◌==◌, IfOk};
 ghost use Rattle.std.specs.Arc.{arc_value};
-ghost use Rattle.trace_model.specs.Works.{service_brought};
+ghost use Rattle.trace_model.specs.EntryWork.{service_brought};
 
 use crate::entry::Entry;
 use jaeger_model::Text;

@@ -2,8 +2,8 @@
 ghost use Rattle.std.specs.Prelude.{◌≡◌, Some, slice_get, IfOk, IfSome, option_map};
 ghost use Rattle.std.specs.Option.{option_and_then};
 ghost use Rattle.std.specs.Arc.{arc_value};
-ghost use Rattle.trace_model.specs.Works.{placed_brought};
-ghost use Rattle.trace_model.specs.Seeing.{placed_by_its_entry};
+ghost use Rattle.trace_model.specs.EntryWork.{placed_brought};
+ghost use Rattle.trace_model.specs.BorrowedSpans.{placed_by_its_entry};
 
 use crate::answered_trace::{KeptSpan, reported_in};
 use crate::entry::Entry;
@@ -26,8 +26,8 @@ pub struct TakenSpan {
 impl Model for TakenSpan {
     ghost use Rattle.std.specs.Prelude.{slice_get, IsSome};
     ghost use Rattle.std.specs.Arc.{arc_value};
-    ghost use Rattle.trace_model.specs.Works.{placed_brought};
-    ghost use Rattle.trace_model.specs.Taking.{Taken};
+    ghost use Rattle.trace_model.specs.EntryWork.{placed_brought};
+    ghost use Rattle.trace_model.specs.TakenSpans.{Taken};
 
     ghost Value = { Taken };
 
@@ -71,7 +71,7 @@ impl TakenSpan {
     }
 
     /// Returns the span as it was reported: its parent need not be among its references. Allocates nothing.
-    pub fn seen(&self) -> Seen<'_>
+    pub fn reported(&self) -> Seen<'_>
         ensures { Some (placed_by_its_entry result) ≡ self.now.span }
     {
         let Some(batch) = self.entry.work.batch() else {

@@ -2,7 +2,7 @@
 use Rattle.std.specs.Prelude.{◌≡◌, ℕ, ℤ, pos, Bool, true, false, ◌&&◌, ◌+◌, ◌/◌, int_lt, get_or, Option, Some, None}
 use Rattle.trace_ring.specs.declared.first_starts.ranges.Range.{Range}
 use Rattle.trace_ring.specs.declared.first_starts.ranges.Window.{Window}
-use Rattle.trace_ring.specs.Starting.{Starts}
+use Rattle.trace_ring.specs.FirstStarts.{Starts}
 
 abbrev pub no_range : Range
 no_range = record { earliest = pos 0; latest = pos 0 }

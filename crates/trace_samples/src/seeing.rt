@@ -1,9 +1,9 @@
 ghost use Rattle.std.specs.Prelude.{◌≡◌, IfOk, map};
-ghost use Rattle.trace_model.specs.Seeing.{seen, seen_traces};
+ghost use Rattle.trace_model.specs.BorrowedSpans.{seen, seen_traces};
 
 use jaeger_model::{Placed, Seen};
 use std::alloc::{AllocError, Global};
-use trace_model::{AnsweredTrace, Shown, TraceForm};
+use trace_model::{AdjustedSpan, AnsweredTrace, TraceForm};
 
 /// Borrows the spans of a trace, in their order.
 ///
@@ -39,7 +39,7 @@ pub fn seen_traces(alloc: Global, traces: &[Vec<Placed>]) -> Result<Vec<Vec<Seen
 }
 
 /// Returns the spans of a trace that is copied already, as the plain store's are.
-pub fn made_spans(trace: &AnsweredTrace) -> &[Shown] {
+pub fn made_spans(trace: &AnsweredTrace) -> &[AdjustedSpan] {
     match trace.form() {
         TraceForm::Ready(made) => made.as_slice(),
         TraceForm::Kept(_) => &[],

@@ -1,3 +1,3 @@
-pub mod Endings
+pub mod ServerEnds
 pub mod SessionPieces
 pub mod Workers

@@ -3,19 +3,19 @@ use Rattle.std.proofs.Common.{◌≡◌, ℕ, List, ap, refl, Result, Ok, Err, i
 use mathlib.Core.List.{IsPrefix}
 use Rattle.trace_model.specs.declared.limits.Limits.{Limits}
 use Rattle.trace_model.proofs.Prefixes.{prefix_trans}
-use Rattle.trace_model.specs.Knowing.{Keeps}
+use Rattle.trace_model.specs.StoreKnowledge.{Keeps}
 use Rattle.http_session.specs.Pieces.{AsksOnce}
 use Rattle.http_session.specs.Sessions.{Step}
 use Rattle.http_session.specs.declared.verdict.Verdict.{Verdict}
 use Rattle.http_session.specs.declared.verdict.Verdict.TheVariants.{Submit, Ask, Reject}
 use Rattle.http_session.specs.declared.reply.Reply.{Reply}
 use Rattle.http_session.specs.declared.reply.Reply.TheVariants.{Accepted, Answered, Refused, Error, Malformed}
-use Rattle.intake.specs.LiveSharing.{LiveValue, LiveKnows, GoesOn, LiveSubmits, LiveReads}
+use Rattle.intake.specs.LiveStores.{LiveValue, LiveKnows, SeatGoesOn, LiveSubmits, LiveReads}
 use Rattle.intake.proofs.LiveSeats.{stays_same, submit_goes_on, read_goes_on}
-use Rattle.trace_server.specs.Underway.{live_store}
+use Rattle.trace_server.specs.WorkerConnections.{live_store}
 
 step_goes_on : (limits : Limits) (s : LiveValue) (v : Verdict) (r : Reply) (t : LiveValue) → Step (LiveSubmits limits) (LiveReads limits) s v r t
-    → GoesOn s.seat t.seat
+    → SeatGoesOn s.seat t.seat
 step_goes_on limits s (Submit b) Accepted t d = submit_goes_on limits s b (Ok d.0) t d.1
 step_goes_on limits s (Submit b) (Refused why) t d = submit_goes_on limits s b (Err why) t d
 step_goes_on limits s (Submit b) (Answered a) t d = absurd d
@@ -32,7 +32,7 @@ step_goes_on limits s (Reject m) (Answered a) t d = absurd d
 step_goes_on limits s (Reject m) (Refused why) t d = absurd d
 step_goes_on limits s (Reject m) (Malformed b) t d = absurd d
 
-pub asking_goes_on : (limits : Limits) (s t : LiveValue) → AsksOnce (live_store limits) s t → GoesOn s.seat t.seat
+pub asking_goes_on : (limits : Limits) (s t : LiveValue) → AsksOnce (live_store limits) s t → SeatGoesOn s.seat t.seat
 asking_goes_on limits s t (inl same) = stays_same s.seat t.seat (ap (λ (z : LiveValue). z.seat) same)
 asking_goes_on limits s t (inr does) = step_goes_on limits s does.0 does.1 t does.2
 

@@ -13,9 +13,9 @@ use Rattle.intake.specs.declared.account.Account.{Account}
 use Rattle.intake.specs.declared.queue.EndedSeat.{EndedSeat}
 use Rattle.intake.specs.Seats.{SeatValue}
 use Rattle.intake.specs.Books.{AllTaken, HasEnded, MovesFor, StillEnded, StaysTaken}
-use Rattle.intake.specs.LiveSharing.{GoesOn}
-use Rattle.trace_server.specs.Serving.{ClosesBooks}
-use Rattle.trace_server.specs.WorkerSeats.{AreNew, AreOpen, HasJudged, Moves, AreTaken}
+use Rattle.intake.specs.LiveStores.{SeatGoesOn}
+use Rattle.trace_server.specs.ServerRuns.{ClosesBooks}
+use Rattle.trace_server.specs.WorkerSeats.{AreNew, AreOpen, HasJudged, MovesJobs, AreSeatsTaken}
 
 -- ---- their work
 
@@ -31,14 +31,14 @@ each_given gives (j ∷ js) (x ∷ xs) len each =
       each_given gives js xs (omega (arith, len)) (λ i d lt. let next = each (suc i) d (omega (arith, lt)) in (next.0, (λ e. next.1 e), next.2)),
     )
 
-pub go_on : {J X : Type 0} (f : J → SeatValue) (g : X → SeatValue) (js : List J) (xs : List X) → AllZip (λ j x. GoesOn (f j) (g x)) js xs
-    → AllZip GoesOn (map f js) (map g xs)
+pub go_on : {J X : Type 0} (f : J → SeatValue) (g : X → SeatValue) (js : List J) (xs : List X) → AllZip (λ j x. SeatGoesOn (f j) (g x)) js xs
+    → AllZip SeatGoesOn (map f js) (map g xs)
 go_on f g [] [] each = tt
 go_on f g [] (x ∷ xs) each = absurd each
 go_on f g (j ∷ js) [] each = absurd each
 go_on f g (j ∷ js) (x ∷ xs) each = (each.0, go_on f g js xs each.1)
 
-pub numbers_stay : (ss ts : List SeatValue) → AllZip GoesOn ss ts → map (λ (s : SeatValue). s.seat) ts ≡ map (λ (s : SeatValue). s.seat) ss
+pub numbers_stay : (ss ts : List SeatValue) → AllZip SeatGoesOn ss ts → map (λ (s : SeatValue). s.seat) ts ≡ map (λ (s : SeatValue). s.seat) ss
 numbers_stay [] [] g = refl
 numbers_stay [] (t ∷ ts) g = absurd g
 numbers_stay (s ∷ ss) [] g = absurd g
@@ -46,15 +46,15 @@ numbers_stay (s ∷ ss) (t ∷ ts) g =
     let rest = numbers_stay ss ts g.1 in
     ap (λ (n : ℕ). n ∷ map (λ (z : SeatValue). z.seat) ts) g.0.seat_is ∙ ap (λ (l : List ℕ). s.seat ∷ l) rest
 
-pub open_still : (desk : TableId) (ss ts : List SeatValue) → AllZip GoesOn ss ts → AreOpen desk ss → AreOpen desk ts
+pub open_still : (desk : TableId) (ss ts : List SeatValue) → AllZip SeatGoesOn ss ts → AreOpen desk ss → AreOpen desk ts
 open_still desk [] [] g free = free
 open_still desk [] (t ∷ ts) g free = absurd g
 open_still desk (s ∷ ss) [] g free = absurd g
 open_still desk (s ∷ ss) (t ∷ ts) g free =
-    let P : SeatValue → Type 0 = λ z. (z.desk ≡ desk) × (z.hands_in ≡ true) in
+    let P : SeatValue → Type 0 = λ z. (z.desk ≡ desk) × (z.may_submit ≡ true) in
     let one : P s = free 0 s (omega arith) in
     let rest : AreOpen desk ss = (λ k d lt. free (suc k) d (omega (arith, lt))) in
-    All-cons P t ts (g.0.desk_is ∙ one.0, g.0.hands_in_is ∙ one.1) (open_still desk ss ts g.1 rest)
+    All-cons P t ts (g.0.desk_is ∙ one.0, g.0.may_submit_is ∙ one.1) (open_still desk ss ts g.1 rest)
 
 -- ---- taking them in
 
@@ -78,7 +78,7 @@ one_taken_in seats waiting fewer s ended ended' taken taken' h last still stays 
       (λ k d lt. let t = h.each k d lt in let o = get_or h.others k d in (still o.seat o.jobs t.0, stays o.seat o.jobs t.0 t.1));
 }
 
-pub moves_more : (s : ℕ) (js t0 l0 t1 l1 t2 l2 : List Entry) → Moves t0 l0 t1 l1 → MovesFor s js t1 l1 t2 l2 → Moves t0 l0 t2 l2
+pub moves_more : (s : ℕ) (js t0 l0 t1 l1 t2 l2 : List Entry) → MovesJobs t0 l0 t1 l1 → MovesFor s js t1 l1 t2 l2 → MovesJobs t0 l0 t2 l2
 moves_more s js t0 l0 t1 l1 t2 l2 a b = (
   a.0 ++ b.moved,
   b.taken_is ∙ (ap (λ z. z ++ b.moved) a.1 ∙ append_assoc t0 a.0 b.moved),
@@ -90,9 +90,9 @@ pub last_popped : {X : Type 0} (f : X → SeatValue) (old fewer : List X) (x : X
 last_popped f old fewer x s e is = ap (map f) e ∙ (map-append f fewer (x ∷ []) ∙ ap (λ (z : SeatValue). map f fewer ++ z ∷ []) (sym is))
 
 pub last_open : (desk : TableId) (old fewer : List SeatValue) (s : SeatValue) → old ≡ fewer ++ s ∷ [] → AreOpen desk old → AreOpen desk fewer × (s.desk ≡ desk)
-    × (s.hands_in ≡ true)
+    × (s.may_submit ≡ true)
 last_open desk old fewer s e free =
-    let P : SeatValue → Type 0 = λ z. (z.desk ≡ desk) × (z.hands_in ≡ true) in
+    let P : SeatValue → Type 0 = λ z. (z.desk ≡ desk) × (z.may_submit ≡ true) in
     let h = All-pop P old fewer (Some s) e free in
     (h.0, h.1.0, h.1.1)
 
@@ -110,14 +110,14 @@ new_open desk seats each = λ k d lt. let n = each k d lt in (n.0, n.1)
 
 pub books_closed : (limits : Limits) (lists : Lists) (seats : List SeatValue) (judged : List Entry) (accounts : List Account) (before taken left : List Entry)
     (a0 r0 a r l : ℕ)
-    → HasJudged limits judged accounts lists a0 r0 → a ≡ a0 → r ≡ r0 → before ≡ [] → Moves judged before taken left → AreTaken taken seats → l ≡ length left
+    → HasJudged limits judged accounts lists a0 r0 → a ≡ a0 → r ≡ r0 → before ≡ [] → MovesJobs judged before taken left → AreSeatsTaken taken seats → l ≡ length left
     → ClosesBooks limits lists seats a r l
 books_closed limits lists seats judged accounts before taken left a0 r0 a r l h aa rr none moves whole ls = record {
   judged_jobs = judged;
   accounts = accounts;
   unjudged_jobs = moves.0;
   ran = h.ran;
-  whole = subst (λ z. AreTaken z seats) moves.1 whole;
+  whole = subst (λ z. AreSeatsTaken z seats) moves.1 whole;
   acknowledged_is = aa ∙ h.acknowledged_is;
   refused_is = rr ∙ h.refused_is;
   left_is = ls ∙ ap length (moves.2 ∙ ap (λ z. z ++ moves.0) none);

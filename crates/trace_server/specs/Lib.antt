@@ -1,3 +1,3 @@
 pub mod WorkerSeats
-pub mod Serving
-pub mod Underway
+pub mod ServerRuns
+pub mod WorkerConnections

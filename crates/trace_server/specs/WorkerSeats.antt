@@ -8,16 +8,16 @@ use Rattle.intake.specs.declared.account.Account.{Account}
 use Rattle.intake.specs.Seats.{SeatValue}
 use Rattle.intake.specs.Books.{Ran, AllTaken}
 use Rattle.intake.specs.Books.{acknowledged as acknowledged_of, refused as refused_of}
-use Rattle.intake.specs.LiveSharing.{GoesOn}
+use Rattle.intake.specs.LiveStores.{SeatGoesOn}
 
 -- seats of this desk that may submit more
 abbrev pub AreOpen : TableId → List SeatValue → Type 0
-AreOpen desk seats = All (λ (s : SeatValue). (s.desk ≡ desk) × (s.hands_in ≡ true)) seats
+AreOpen desk seats = All (λ (s : SeatValue). (s.desk ≡ desk) × (s.may_submit ≡ true)) seats
 
 -- seats of this desk that have submitted nothing yet, and may
 abbrev pub AreNew : TableId → List SeatValue → Type 0
 AreNew desk seats =
-    All (λ (s : SeatValue). (s.desk ≡ desk) × (s.hands_in ≡ true) × (s.jobs ≡ [])) seats
+    All (λ (s : SeatValue). (s.desk ≡ desk) × (s.may_submit ≡ true) × (s.jobs ≡ [])) seats
 
 -- a clerk of an empty store judged all jobs that it took, which led to these lists, and the counts are those of its
 -- answers
@@ -34,10 +34,10 @@ pub record KeepsBooks {A : Type 0} (limits : Limits) (opened closed : TableId) (
   pub none_left : left ≡ []
 
 -- these jobs were taken, and all of them are left over
-abbrev pub Moves : List Entry → List Entry → List Entry → List Entry → Type 0
-Moves taken left taken' left' =
+abbrev pub MovesJobs : List Entry → List Entry → List Entry → List Entry → Type 0
+MovesJobs taken left taken' left' =
     (moved : List Entry) × (taken' ≡ taken ++ moved) × (left' ≡ left ++ moved)
 
 -- all jobs of the seats were taken
-abbrev pub AreTaken : List Entry → List SeatValue → Type 0
-AreTaken taken seats = All (λ (s : SeatValue). AllTaken s.seat s.jobs taken) seats
+abbrev pub AreSeatsTaken : List Entry → List SeatValue → Type 0
+AreSeatsTaken taken seats = All (λ (s : SeatValue). AllTaken s.seat s.jobs taken) seats

@@ -3,8 +3,8 @@
 ghost use Rattle.std.specs.Prelude.{◌≡◌, [], map, IfOk, OnOk};
 ghost use Rattle.std.specs.Arc.{arc_value};
 ghost use Rattle.intake.specs.Books.{Balances};
-ghost use Rattle.trace_server.specs.Serving.{ClosesBooks};
-ghost use Rattle.trace_server.specs.WorkerSeats.{AreOpen, AreTaken, HasJudged, Moves};
+ghost use Rattle.trace_server.specs.ServerRuns.{ClosesBooks};
+ghost use Rattle.trace_server.specs.WorkerSeats.{AreOpen, AreSeatsTaken, HasJudged, MovesJobs};
 
 use crate::worker::WorkerOutcome;
 use intake::{Books, Live};
@@ -33,9 +33,9 @@ fn take_all_in<N: StoreName, R: Wait>(
     ensures accounts { books.new.accounts ≡ books.old.accounts }
     ensures counts { (books.new.acknowledged ≡ books.old.acknowledged)
         × (books.new.refused ≡ books.old.refused) }
-    ensures moved { Moves books.old.inbox.taken (map arc_value books.old.left.items)
+    ensures moved { MovesJobs books.old.inbox.taken (map arc_value books.old.left.items)
         books.new.inbox.taken (map arc_value books.new.left.items) }
-    ensures whole { OnOk result (AreTaken books.new.inbox.taken
+    ensures whole { OnOk result (AreSeatsTaken books.new.inbox.taken
         (map (λ w. w.1.seat) workers.items)) }
 {
     let mut workers = workers;

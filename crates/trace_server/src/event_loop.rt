@@ -1,9 +1,9 @@
 //! A worker's event loop: waits for its connections, and gives each one that is ready a turn.
 
 ghost use Rattle.std.specs.Prelude.{◌≡◌, IfOk};
-ghost use Rattle.intake.specs.LiveSharing.{GoesOn};
-ghost use Rattle.open_connections.specs.Open.{IsEmpty, IsRest};
-ghost use Rattle.trace_server.specs.Underway.{AllUnderway};
+ghost use Rattle.intake.specs.LiveStores.{SeatGoesOn};
+ghost use Rattle.open_connections.specs.OpenConnections.{IsEmpty, IsRest};
+ghost use Rattle.trace_server.specs.WorkerConnections.{AllUnderway};
 
 use crate::acceptor::Acceptor;
 use crate::connection::{idle_limit, prepare};
@@ -228,7 +228,7 @@ impl EventLoop {
     )
         requires underway { AllUnderway N.limits store.old self.old.open }
         ensures underway { AllUnderway N.limits store.new self.new.open }
-        ensures goes_on { GoesOn store.old.seat store.new.seat }
+        ensures goes_on { SeatGoesOn store.old.seat store.new.seat }
     {
         match self.open.answer_next(rt, alloc, key, self.at, store) {
             ConnectionTurn::Open(progress) => self.keep(key, progress, has_ended),
@@ -247,7 +247,7 @@ impl EventLoop {
     )
         requires underway { AllUnderway N.limits store.old self.old.open }
         ensures underway { AllUnderway N.limits store.new self.new.open }
-        ensures goes_on { GoesOn store.old.seat store.new.seat }
+        ensures goes_on { SeatGoesOn store.old.seat store.new.seat }
     {
         match Source::of(event.token) {
             Source::Listener => {}
@@ -265,7 +265,7 @@ impl EventLoop {
     ) -> bool
         requires underway { AllUnderway N.limits store.old self.old.open }
         ensures underway { AllUnderway N.limits store.new self.new.open }
-        ensures goes_on { GoesOn store.old.seat store.new.seat }
+        ensures goes_on { SeatGoesOn store.old.seat store.new.seat }
     {
         let mut arrived = false;
         for index in 0..MAX_EVENTS {
@@ -287,7 +287,7 @@ impl EventLoop {
     )
         requires underway { AllUnderway N.limits store.old self.old.open }
         ensures underway { AllUnderway N.limits store.new self.new.open }
-        ensures goes_on { GoesOn store.old.seat store.new.seat }
+        ensures goes_on { SeatGoesOn store.old.seat store.new.seat }
     {
         let Some((key, has_ended)) = self.again.pop_front() else {
             return;
@@ -310,7 +310,7 @@ impl EventLoop {
     ) -> bool
         requires underway { AllUnderway N.limits store.old self.old.open }
         ensures underway { AllUnderway N.limits store.new self.new.open }
-        ensures goes_on { GoesOn store.old.seat store.new.seat }
+        ensures goes_on { SeatGoesOn store.old.seat store.new.seat }
     {
         let earlier = self.again.len();
         let arrived = self.serve_events(rt, alloc, store);
@@ -330,7 +330,7 @@ impl EventLoop {
     )
         requires underway { AllUnderway N.limits store.old self.old.open }
         ensures underway { AllUnderway N.limits store.new self.new.open }
-        ensures goes_on { GoesOn store.old.seat store.new.seat }
+        ensures goes_on { SeatGoesOn store.old.seat store.new.seat }
     {
         self.permits = self.permits.saturating_add(1);
         let Ok(receipt) = server.desk.vouch(rt) else {
@@ -446,7 +446,7 @@ impl EventLoop {
     )
         requires underway { AllUnderway N.limits store.old self.old.open }
         ensures underway { AllUnderway N.limits store.new self.new.open }
-        ensures goes_on { GoesOn store.old.seat store.new.seat }
+        ensures goes_on { SeatGoesOn store.old.seat store.new.seat }
     {
         if let Some(stream) = acceptor.next(rt, server, worker, self.open.len(), self.at.now) {
             self.open(rt, server, stream, store);
@@ -464,7 +464,7 @@ impl EventLoop {
     )
         requires underway { AllUnderway N.limits store.old self.old.open }
         ensures underway { AllUnderway N.limits store.new self.new.open }
-        ensures goes_on { GoesOn store.old.seat store.new.seat }
+        ensures goes_on { SeatGoesOn store.old.seat store.new.seat }
     {
         if self.serve_ready(rt, server.alloc, store) {
             acceptor.arrived();
@@ -486,7 +486,7 @@ impl EventLoop {
         store: &mut Gated<'_, N, G, R>,
     )
         requires underway { AllUnderway N.limits store.old self.old.open }
-        ensures goes_on { GoesOn store.old.seat store.new.seat }
+        ensures goes_on { SeatGoesOn store.old.seat store.new.seat }
     {
         for _ in rt.forever() {
             let accepts = acceptor.may_accept(server.quota);

@@ -38,7 +38,7 @@ pub(crate) struct Gated<'a, N: StoreName, G, R> {
 }
 
 impl<'a, N: StoreName, G, R> Model for Gated<'a, N, G, R> {
-    ghost use Rattle.intake.specs.LiveSharing.{LiveValue};
+    ghost use Rattle.intake.specs.LiveStores.{LiveValue};
 
     ghost Value = { LiveValue };
 
@@ -92,7 +92,7 @@ impl<'a, N: StoreName, G, R> Gated<'a, N, G, R> {
 }
 
 impl<'a, N: StoreName, G: Gate, R: Wait + Eprint> Backend<R> for Gated<'a, N, G, R> {
-    ghost use Rattle.intake.specs.LiveSharing.{LiveKnows, LiveSubmits, LiveReads};
+    ghost use Rattle.intake.specs.LiveStores.{LiveKnows, LiveSubmits, LiveReads};
     ghost use Rattle.intake.specs.LiveLaws.{submit_knows, read_knows};
 
     ghost limits = { λ s. N.limits };

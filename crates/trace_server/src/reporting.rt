@@ -4,7 +4,7 @@ ghost use Rattle.std.specs.Prelude.{◌≡◌, false, min, string_bytes, sum_by,
 ghost use Rattle.std.specs.List.{list_any};
 ghost use Rattle.session_devices.specs.Traffic.{traffic_of};
 ghost use Rattle.text_lines.specs.RunErrors.{WritesText};
-ghost use Rattle.trace_server.specs.Serving.{listening_line, served_line, books_line, last_lines, Ends, StopsIn};
+ghost use Rattle.trace_server.specs.ServerRuns.{listening_line, served_line, books_line, last_lines, Ends, StopsIn};
 
 use crate::ending::Totals;
 use crate::notices::{end_unwritten, end_with};

@@ -1,12 +1,12 @@
 //! Serving on a socket.
 
-ghost use Rattle.intake.specs.LiveSharing.{GoesOn};
+ghost use Rattle.intake.specs.LiveStores.{SeatGoesOn};
 ghost use Rattle.std.specs.List.{AllZip};
 ghost use Rattle.std.specs.Prelude.{◌≡◌, [], Some, false, map, IfOk};
 ghost use Rattle.read_side.specs.Keepers.{no_entries};
 ghost use Rattle.intake.specs.Turns.{IsNewClerk};
 ghost use Rattle.session_devices.specs.Traffic.{traffic_of};
-ghost use Rattle.trace_server.specs.Serving.{OneForEach, Reports, Serves};
+ghost use Rattle.trace_server.specs.ServerRuns.{OneForEach, Reports, RunsServer};
 ghost use Rattle.trace_server.specs.WorkerSeats.{AreNew, HasJudged};
 
 use crate::acceptor::lengthen_queue;
@@ -58,7 +58,7 @@ fn work_each<
     G: Gate + Sync,
     R: Threads + Wait + Clock + Eprint + Net<Stream = TcpStream, Listener = TcpListener> + Sync,
 >(rt: &R, server: &Server<'_, N, G>, lives: Vec<(u32, Live<N>)>) -> Outcomes<N>
-    ensures { IfOk result (λ v. AllZip GoesOn (map (λ p. p.1.seat) lives.items)
+    ensures { IfOk result (λ v. AllZip SeatGoesOn (map (λ p. p.1.seat) lives.items)
         (map (λ w. w.1.seat) v.items)) }
 {
     let outcomes = run_each(rt, server, lives);
@@ -73,7 +73,7 @@ fn work_counted<
     G: Gate + Sync,
     R: Threads + Wait + Clock + Eprint + Net<Stream = TcpStream, Listener = TcpListener> + Sync,
 >(rt: &R, server: &Server<'_, N, G>, lives: Vec<(u32, Live<N>)>) -> Outcomes<N>
-    ensures { IfOk result (λ v. AllZip GoesOn (map (λ p. p.1.seat) lives.items)
+    ensures { IfOk result (λ v. AllZip SeatGoesOn (map (λ p. p.1.seat) lives.items)
         (map (λ w. w.1.seat) v.items)) }
 {
     if server.periodic.is_off() {
@@ -84,7 +84,7 @@ fn work_counted<
         rt,
         || -> () { periodic.run(rt, notices) },
         || -> Outcomes<N>
-            ensures { IfOk result (λ v. AllZip GoesOn (map (λ p. p.1.seat) lives.items)
+            ensures { IfOk result (λ v. AllZip SeatGoesOn (map (λ p. p.1.seat) lives.items)
                 (map (λ w. w.1.seat) v.items)) }
         { work_each(rt, server, lives) },
     );
@@ -97,7 +97,7 @@ fn work_all<
     G: Gate + Sync,
     R: Threads + Wait + Clock + Eprint + Net<Stream = TcpStream, Listener = TcpListener> + Sync,
 >(rt: &R, server: &Server<'_, N, G>, lives: Vec<(u32, Live<N>)>) -> Outcomes<N>
-    ensures { IfOk result (λ v. AllZip GoesOn (map (λ p. p.1.seat) lives.items)
+    ensures { IfOk result (λ v. AllZip SeatGoesOn (map (λ p. p.1.seat) lives.items)
         (map (λ w. w.1.seat) v.items)) }
 {
     let outcomes = work_counted(rt, server, lives);
@@ -110,12 +110,13 @@ fn work_all<
 struct KeepSeats<N: StoreName>(Snapshot<Vec<(u32, Live<N>)>>);
 
 impl<N: StoreName> Promise<Outcomes<N>> for KeepSeats<N> {
-    ghost use Rattle.intake.specs.LiveSharing.{GoesOn};
+    ghost use Rattle.intake.specs.LiveStores.{SeatGoesOn};
     ghost use Rattle.std.specs.List.{AllZip};
     ghost use Rattle.std.specs.Prelude.{map, IfOk};
 
     ghost kept_by = { λ began ended. IfOk ended (λ v.
-        AllZip GoesOn (map (λ p. p.1.seat) began.0.value.items) (map (λ w. w.1.seat) v.items)) };
+        AllZip SeatGoesOn (map (λ p. p.1.seat) began.0.value.items)
+        (map (λ w. w.1.seat) v.items)) };
 }
 
 /// The clerk of an empty store, and the slot that holds its keeper. [`beside`] takes only work that is `Drop`, which a keeper
@@ -165,7 +166,7 @@ fn serve_sessions<
         result.0.acknowledged result.0.refused }
     ensures left { result.0.left.items ≡ [] }
     ensures desk { result.0.inbox.desk ≡ shared.clerk.desk }
-    ensures seats { IfOk result.1 (λ v. AllZip GoesOn (map (λ p. p.1.seat) shared.lives.items)
+    ensures seats { IfOk result.1 (λ v. AllZip SeatGoesOn (map (λ p. p.1.seat) shared.lives.items)
         (map (λ w. w.1.seat) v.items)) }
 {
     let SharedStore {
@@ -198,7 +199,7 @@ fn serve_sessions<
         rt,
         seats,
         || -> Outcomes<N>
-            ensures { IfOk result (λ v. AllZip GoesOn (map (λ p. p.1.seat) lives.items)
+            ensures { IfOk result (λ v. AllZip SeatGoesOn (map (λ p. p.1.seat) lives.items)
                 (map (λ w. w.1.seat) v.items)) }
         { work_all(rt, &server, lives) },
         work,
@@ -280,7 +281,7 @@ fn serve_named<
     requires book { name.seen.book ≡ N.book }
     requires limits { limits ≡ N.limits }
     requires output_works { W.has_failed output.old ≡ false }
-    ensures { Serves setup.now.config.now.options.host limits
+    ensures { RunsServer setup.now.config.now.options.host limits
         setup.now.config.now.options.workers
         (traffic_of W.contents W.has_failed output.old output.new) result }
 {
@@ -335,7 +336,7 @@ pub fn serve_with<
     output: &mut W,
 ) -> ExitStatus
     requires output_works { W.has_failed output.old ≡ false }
-    ensures { Serves config.now.options.host config.now.options.limits
+    ensures { RunsServer config.now.options.host config.now.options.limits
         config.now.options.workers
         (traffic_of W.contents W.has_failed output.old output.new) result }
 {

@@ -3,7 +3,7 @@
 ghost use Rattle.std.specs.Prelude.{◌≡◌, length, map, IfOk};
 ghost use Rattle.read_side.specs.Keepers.{no_entries};
 ghost use Rattle.intake.specs.Turns.{IsNewClerk};
-ghost use Rattle.trace_server.specs.Serving.{OneForEach};
+ghost use Rattle.trace_server.specs.ServerRuns.{OneForEach};
 ghost use Rattle.trace_server.specs.WorkerSeats.{AreNew};
 
 use crate::config::ServerConfig;

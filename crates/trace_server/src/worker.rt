@@ -1,6 +1,6 @@
 //! A worker, which serves many connections.
 
-ghost use Rattle.intake.specs.LiveSharing.{GoesOn};
+ghost use Rattle.intake.specs.LiveStores.{SeatGoesOn};
 
 use crate::acceptor::Acceptor;
 use crate::connection_quota::ConnectionQuota;
@@ -49,7 +49,7 @@ impl<'a, N: StoreName, G: Gate> Server<'a, N, G> {
         rt: &R,
         post: (u32, Live<N>),
     ) -> (WorkerOutcome, Live<N>)
-        ensures { GoesOn post.1.seat result.1.seat }
+        ensures { SeatGoesOn post.1.seat result.1.seat }
     {
         let (worker, live) = post;
         let mut event_loop = match EventLoop::new(rt, self.alloc, self.listener, self.idle) {
@@ -77,9 +77,9 @@ impl<
     G: Gate,
     R: Wait + Clock + Eprint + Net<Stream = TcpStream, Listener = TcpListener>,
 > Task<R, (u32, Live<N>), (WorkerOutcome, Live<N>)> for Server<'a, N, G> {
-    ghost use Rattle.intake.specs.LiveSharing.{GoesOn};
+    ghost use Rattle.intake.specs.LiveStores.{SeatGoesOn};
 
-    ghost gives = { λ argument end. GoesOn argument.1.seat end.1.seat };
+    ghost gives = { λ argument end. SeatGoesOn argument.1.seat end.1.seat };
 
     fn run(&self, rt: &R, argument: (u32, Live<N>)) -> (WorkerOutcome, Live<N>) {
         self.work(rt, argument)

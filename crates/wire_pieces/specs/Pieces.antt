@@ -47,10 +47,10 @@ Steps old new piece left (Ok o) = Comes old new piece left
 Steps old new piece left (Err e) = Refused old piece e
 
 -- A value takes at least one byte, and no call returns bytes to the piece.
-abbrev pub Takes : {A : Type 0} → List ℕ → List ℕ → Option A → Type 0
-Takes piece left None = length left ≤ length piece
-Takes piece left (Some x) = length left < length piece
+abbrev pub TakesBytes : {A : Type 0} → List ℕ → List ℕ → Option A → Type 0
+TakesBytes piece left None = length left ≤ length piece
+TakesBytes piece left (Some x) = length left < length piece
 
 abbrev pub OkTakes : {A : Type 0} → List ℕ → List ℕ → Result (Option A) PieceError → Type 0
-OkTakes piece left (Ok o) = Takes piece left o
+OkTakes piece left (Ok o) = TakesBytes piece left o
 OkTakes piece left (Err e) = Unit {0}

@@ -2,7 +2,7 @@ ghost use Rattle.std.specs.Prelude.{◌≡◌, true, false, List, ℕ, None, Ok,
 ghost use Rattle.thrift_binary.specs.declared.fault.WireError.TheVariants.{Truncated};
 ghost use Rattle.thrift_binary.specs.Reading.{field_at, list_at};
 ghost use Rattle.wire_pieces.specs.declared.fault.PieceError.TheVariants.{Memory};
-ghost use Rattle.wire_pieces.specs.Pieces.{Reaches, Continues, Takes, OkTakes};
+ghost use Rattle.wire_pieces.specs.Pieces.{Reaches, Continues, TakesBytes, OkTakes};
 ghost use Rattle.wire_pieces.specs.Numbers.{i16_from};
 ghost use Rattle.wire_pieces.specs.Heads.{IsTyped, head_of, id_from, head_from, typed_size_from, list_head};
 
@@ -27,7 +27,7 @@ pub enum Head {
 fn more_i16(bytes: &mut PartialBytes<2>, piece: &mut Cursor<'_>) -> Option<i16>
     ensures reads { Reaches Truncated (λ x. x) (i16_from bytes.old) (i16_from bytes.new)
         piece.old piece.new result }
-    ensures taken { Takes piece.old piece.new result }
+    ensures taken { TakesBytes piece.old piece.new result }
 {
     let whole = bytes.more(piece)?;
     Some(BigEndian::read_i16(&whole))

@@ -1,5 +1,5 @@
 ghost use Rattle.std.specs.Prelude.{◌≡◌, ◌<◌, ◌≤◌, List, ℕ, [], ◌∷◌, ◌++◌, length, take, MatchOption};
-ghost use Rattle.wire_pieces.specs.Pieces.{Takes};
+ghost use Rattle.wire_pieces.specs.Pieces.{TakesBytes};
 
 use std::marker::Model;
 use thrift_binary::Cursor;
@@ -62,7 +62,7 @@ impl<const N: usize> PartialBytes<N> {
         ensures parts { MatchOption result ((self.new ≡ self.old ++ piece.old) × (piece.new ≡ []))
             (λ g. (g ++ piece.new ≡ self.old ++ piece.old) × (self.new ≡ [])) }
         ensures size { MatchOption result (length self.new < N) (λ g. length g ≡ N) }
-        ensures taken { Takes piece.old piece.new result }
+        ensures taken { TakesBytes piece.old piece.new result }
     {
         if self.len() == 0 {
             if let Some(prefix) = piece.prefix(N) {
@@ -80,7 +80,7 @@ impl<const N: usize> PartialBytes<N> {
         ensures parts { MatchOption result ((self.new ≡ self.old ++ piece.old) × (piece.new ≡ []))
             (λ g. (g ++ piece.new ≡ self.old ++ piece.old) × (self.new ≡ [])) }
         ensures size { MatchOption result (length self.new < N) (λ g. length g ≡ N) }
-        ensures taken { Takes piece.old piece.new result }
+        ensures taken { TakesBytes piece.old piece.new result }
     {
         while let Some(byte) = piece.next() {
             if let Some(whole) = self.push(byte) {

@@ -1,7 +1,7 @@
 ghost use Rattle.std.specs.Prelude.{◌≡◌, ◌<◌};
 ghost use Rattle.thrift_binary.specs.Skipping.{past};
 ghost use Rattle.thrift_binary.specs.declared.fault.WireError.TheVariants.{Truncated};
-ghost use Rattle.wire_pieces.specs.Pieces.{Reaches, Takes};
+ghost use Rattle.wire_pieces.specs.Pieces.{Reaches, TakesBytes};
 
 use thrift_binary::Cursor;
 
@@ -24,7 +24,7 @@ impl SkippedBytes {
     pub(crate) fn more(&mut self, piece: &mut Cursor<'_>) -> Option<()>
         ensures reads { Reaches Truncated (λ x. x) (past self.old.left) (past self.new.left)
             piece.old piece.new result }
-        ensures taken { Takes piece.old piece.new result }
+        ensures taken { TakesBytes piece.old piece.new result }
     {
         let prefix = piece.at_most(self.left);
         if prefix.len() == self.left {

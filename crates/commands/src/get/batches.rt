@@ -1,7 +1,7 @@
 //! A store that reads a batch from each line.
 ghost use Rattle.std.specs.Prelude.{◌≡◌, ◌++◌, IfOk, OnOk, Some};
 ghost use Rattle.trace_model.specs.Refusals.{admission};
-ghost use Rattle.commands.specs.Judging.{admitted, is_written, judged_line, without_blanks};
+ghost use Rattle.commands.specs.JudgedLines.{admitted, is_written, judged_line, without_blanks};
 ghost use Rattle.span_store.specs.NextEntry.{next_entry};
 ghost use Rattle.commands.specs.GetRuns.{fault_line, nothing_held};
 
@@ -82,9 +82,9 @@ pub struct Batches {
 }
 
 impl Model for Batches {
-    ghost use Rattle.trace_model.specs.Held.{Held};
+    ghost use Rattle.trace_model.specs.LimitedHistories.{LimitedHistory};
 
-    ghost Value = { Held };
+    ghost Value = { LimitedHistory };
 
     ghost view = { λ s. s.store };
 }

@@ -12,7 +12,7 @@ use std::alloc::{AllocError, Global};
 use std::io::Write;
 use text_lines::{OutputBuffer, RunError, write_text};
 use trace_adjust::shown;
-use trace_model::{Answer, Query, Shown, ShownTrace};
+use trace_model::{AdjustedSpan, AdjustedTrace, Answer, Query};
 
 /// Writes the line of a span.
 fn write_span(reply: &mut Vec<u8>, placed: &Placed) -> Result<(), AllocError>
@@ -30,7 +30,11 @@ fn write_span(reply: &mut Vec<u8>, placed: &Placed) -> Result<(), AllocError>
 }
 
 /// Writes the lines of the spans.
-fn write_spans<W: Output>(alloc: Global, output: &mut W, spans: &[Shown]) -> Result<(), RunError>
+fn write_spans<W: Output>(
+    alloc: Global,
+    output: &mut W,
+    spans: &[AdjustedSpan],
+) -> Result<(), RunError>
     requires { W.has_failed output.old ≡ false }
     ensures { WritesText (traffic_of W.contents W.has_failed output.old output.new)
         (flat_map shown_line spans.now) result }
@@ -51,7 +55,7 @@ fn find_trace(
     alloc: Global,
     store: &SpanStore,
     trace: TraceId,
-) -> Result<Option<ShownTrace>, AllocError>
+) -> Result<Option<AdjustedTrace>, AllocError>
     ensures { IfOk result (λ found. found ≡
         option_map (map unadjusted) (found_in store.now trace)) }
 {

@@ -5,7 +5,7 @@ ghost use Rattle.trace_model.specs.declared.refusal.Refusal.TheVariants.{NoMemor
 ghost use Rattle.schedule_core.specs.declared.outcome.Outcome.TheVariants.{Refused};
 ghost use Rattle.schedule_core.specs.Machine.{new_machine};
 ghost use Rattle.step_lines.specs.OutcomeLines.{outcome_line};
-ghost use Rattle.commands.specs.Playing.{IsMade, MakesStep, step_fault_line};
+ghost use Rattle.commands.specs.PlayRuns.{IsMade, MakesStep, step_fault_line};
 
 use matchit::Router;
 use query_http::{Endpoint, endpoints};
@@ -112,7 +112,7 @@ impl Script {
 }
 
 impl LineHandler for Script {
-    ghost use Rattle.commands.specs.Playing.{TakesStep};
+    ghost use Rattle.commands.specs.PlayRuns.{TakesStep};
 
     ghost takes = { TakesStep };
 

@@ -5,7 +5,7 @@ ghost use Rattle.std.specs.Prelude.{◌≡◌, true, map, All, IfSome};
 ghost use Rattle.std.specs.Arc.{arc_value};
 ghost use Rattle.intake.specs.Books.{Balances};
 ghost use Rattle.intake.specs.Seats.{IsNewSeat};
-ghost use Rattle.intake_tests.specs.Seats.{AllMayHandIn, Stays};
+ghost use Rattle.intake_tests.specs.Seats.{AllMaySubmit, KeepsSeat};
 
 use crate::tests::fixture::{Fixture, batch, opened};
 use intake::{Books, Clerk, Desk, Seat, Ticket, Turn};
@@ -34,39 +34,39 @@ const PATIENCE: u64 = 10_000_000;
 
 /// A seat, and a ticket for each job that it submitted, the first one for number 1.
 #[derive(Drop)]
-struct Handed<N: StoreName> {
+struct Submitter<N: StoreName> {
     seat: Seat<N>,
     tickets: Vec<Ticket<N>>,
 }
 
 /// Tries at most `most` times to submit a batch, without waiting for an answer; the first time until there is room
 /// for it; fewer times if the desk is closed before. The first success is counted.
-fn hand_in<N: StoreName, R: Wait>(
+fn submit_batches<N: StoreName, R: Wait>(
     rt: &R,
     alloc: Global,
-    handed: &mut Handed<N>,
+    submitter: &mut Submitter<N>,
     most: u64,
     begun: &AtomicU64,
 )
-    ensures { Stays handed.old.seat handed.new.seat }
+    ensures { KeepsSeat submitter.old.seat submitter.new.seat }
 {
     let mut tries = 0u64;
     for id in 0..PATIENCE {
         if tries >= most {
             break;
         }
-        if handed.tickets.reserve(1).is_err() {
+        if submitter.tickets.reserve(1).is_err() {
             break;
         }
         let Ok(batch) = batch(alloc, id) else {
             break;
         };
-        match handed.seat.submit(rt, alloc, batch) {
+        match submitter.seat.submit(rt, alloc, batch) {
             Ok(ticket) => {
-                if handed.tickets.is_empty() {
+                if submitter.tickets.is_empty() {
                     begun.fetch_add(1, Ordering::SeqCst);
                 }
-                handed.tickets.push_reserved(ticket);
+                submitter.tickets.push_reserved(ticket);
             }
             Err((why, _batch)) => {
                 if why == Refusal::Closed {
@@ -75,7 +75,7 @@ fn hand_in<N: StoreName, R: Wait>(
                 yield_now();
             }
         }
-        if !handed.tickets.is_empty() {
+        if !submitter.tickets.is_empty() {
             tries = tries.saturating_add(1);
         }
     }
@@ -99,27 +99,27 @@ fn close_soon<N: StoreName>(desk: &Desk<N>, turns: u64, begun: &AtomicU64) {
 fn two_hand_in<N: StoreName + Send + Sync, R: Threads + Wait + Sync>(
     rt: &R,
     alloc: Global,
-    a: &mut Handed<N>,
-    b: &mut Handed<N>,
+    a: &mut Submitter<N>,
+    b: &mut Submitter<N>,
     begun: &AtomicU64,
 )
-    ensures a { Stays a.old.seat a.new.seat }
-    ensures b { Stays b.old.seat b.new.seat }
+    ensures a { KeepsSeat a.old.seat a.new.seat }
+    ensures b { KeepsSeat b.old.seat b.new.seat }
 {
     join_mut(
         rt,
-        &mut || hand_in(rt, alloc, a, MAX_TRIES, begun),
-        &mut || hand_in(rt, alloc, b, MAX_TRIES, begun),
+        &mut || submit_batches(rt, alloc, a, MAX_TRIES, begun),
+        &mut || submit_batches(rt, alloc, b, MAX_TRIES, begun),
     );
 }
 
 /// The four seats of a desk.
 #[derive(Drop)]
 struct Four<N: StoreName> {
-    a: Handed<N>,
-    b: Handed<N>,
-    c: Handed<N>,
-    d: Handed<N>,
+    a: Submitter<N>,
+    b: Submitter<N>,
+    c: Submitter<N>,
+    d: Submitter<N>,
 }
 
 /// The next seat of the clerk's desk.
@@ -132,18 +132,18 @@ fn next_seat<N: StoreName>(clerk: &Clerk<N>, seats: &mut Vec<Seat<N>>) -> Option
 }
 
 /// The seat, which has submitted nothing yet.
-fn unused_seat<N: StoreName>(alloc: Global, seat: Seat<N>) -> Handed<N>
+fn unused_seat<N: StoreName>(alloc: Global, seat: Seat<N>) -> Submitter<N>
     ensures { result.seat ≡ seat }
 {
     let tickets = Vec::new(alloc);
-    Handed { seat, tickets }
+    Submitter { seat, tickets }
 }
 
 /// The four seats of the clerk's desk.
 fn four_of<N: StoreName>(alloc: Global, clerk: &Clerk<N>, seats: Vec<Seat<N>>) -> Option<Four<N>>
     requires { All (IsNewSeat clerk.now.desk 8) seats.items }
     ensures { IfSome result (λ f.
-        AllMayHandIn clerk.now.desk f.a.seat f.b.seat f.c.seat f.d.seat) }
+        AllMaySubmit clerk.now.desk f.a.seat f.b.seat f.c.seat f.d.seat) }
 {
     let mut seats = seats;
     let d = next_seat(clerk, &mut seats)?;
@@ -165,10 +165,10 @@ fn four_hand_in<N: StoreName + Send + Sync, R: Threads + Wait + Sync>(
     four: &mut Four<N>,
     begun: &AtomicU64,
 )
-    ensures a { Stays four.old.a.seat four.new.a.seat }
-    ensures b { Stays four.old.b.seat four.new.b.seat }
-    ensures c { Stays four.old.c.seat four.new.c.seat }
-    ensures d { Stays four.old.d.seat four.new.d.seat }
+    ensures a { KeepsSeat four.old.a.seat four.new.a.seat }
+    ensures b { KeepsSeat four.old.b.seat four.new.b.seat }
+    ensures c { KeepsSeat four.old.c.seat four.new.c.seat }
+    ensures d { KeepsSeat four.old.d.seat four.new.d.seat }
 {
     let Four { a, b, c, d } = four;
     join_mut(
@@ -201,10 +201,10 @@ fn all_hand_in<N: StoreName + Send + Sync, R: Threads + Wait + Sync>(
     alloc: Global,
     floor: &mut Floor<N>,
 )
-    ensures a { Stays floor.old.four.a.seat floor.new.four.a.seat }
-    ensures b { Stays floor.old.four.b.seat floor.new.four.b.seat }
-    ensures c { Stays floor.old.four.c.seat floor.new.four.c.seat }
-    ensures d { Stays floor.old.four.d.seat floor.new.four.d.seat }
+    ensures a { KeepsSeat floor.old.four.a.seat floor.new.four.a.seat }
+    ensures b { KeepsSeat floor.old.four.b.seat floor.new.four.b.seat }
+    ensures c { KeepsSeat floor.old.four.c.seat floor.new.four.c.seat }
+    ensures d { KeepsSeat floor.old.four.d.seat floor.new.four.d.seat }
 {
     let Floor {
         four,
@@ -259,10 +259,10 @@ fn all_day<N: StoreName + Send + Sync, R: Threads + Wait + Sync>(
         IfSome office.new.books (λ l. l.inbox.desk ≡ k.desk)) }
     ensures books { IfSome office.new.books (λ l.
         Balances l.inbox.taken l.accounts (map arc_value l.left.items)) }
-    ensures a { Stays floor.old.four.a.seat floor.new.four.a.seat }
-    ensures b { Stays floor.old.four.b.seat floor.new.four.b.seat }
-    ensures c { Stays floor.old.four.c.seat floor.new.four.c.seat }
-    ensures d { Stays floor.old.four.d.seat floor.new.four.d.seat }
+    ensures a { KeepsSeat floor.old.four.a.seat floor.new.four.a.seat }
+    ensures b { KeepsSeat floor.old.four.b.seat floor.new.four.b.seat }
+    ensures c { KeepsSeat floor.old.four.c.seat floor.new.four.c.seat }
+    ensures d { KeepsSeat floor.old.four.d.seat floor.new.four.d.seat }
 {
     join_mut(
         rt,
@@ -276,7 +276,7 @@ fn take_in<N: StoreName, R: Wait>(rt: &R, books: &mut Books<N>, seat: &mut Seat<
     requires desk { books.old.inbox.desk ≡ seat.old.desk }
     requires books { Balances books.old.inbox.taken books.old.accounts
         (map arc_value books.old.left.items) }
-    requires seat { seat.old.hands_in ≡ true }
+    requires seat { seat.old.may_submit ≡ true }
     ensures desk { books.new.inbox.desk ≡ books.old.inbox.desk }
     ensures books { Balances books.new.inbox.taken books.new.accounts
         (map arc_value books.new.left.items) }
@@ -368,10 +368,10 @@ fn is_whole<N: StoreName, R: Wait>(
     rt: &R,
     alloc: Global,
     books: &Books<N>,
-    handed: Handed<N>,
+    submitter: Submitter<N>,
     answers: &mut Answers,
 ) -> bool {
-    let Handed { mut seat, tickets } = handed;
+    let Submitter { mut seat, tickets } = submitter;
     let mut number = 0u64;
     for ticket in tickets {
         number = number.saturating_add(1);
@@ -398,12 +398,12 @@ fn left_over<N: StoreName, R: Wait>(
     rt: &R,
     alloc: Global,
     books: Books<N>,
-    handed: Four<N>,
+    submitters: Four<N>,
 ) -> Option<Leftover>
     requires books { Balances books.inbox.taken books.accounts
         (map arc_value books.left.items) }
-    requires seats { AllMayHandIn books.inbox.desk handed.a.seat handed.b.seat
-        handed.c.seat handed.d.seat }
+    requires seats { AllMaySubmit books.inbox.desk submitters.a.seat submitters.b.seat
+        submitters.c.seat submitters.d.seat }
 {
     let mut books = books;
     let Four {
@@ -411,14 +411,14 @@ fn left_over<N: StoreName, R: Wait>(
         mut b,
         mut c,
         mut d,
-    } = handed;
+    } = submitters;
     take_in(rt, &mut books, &mut a.seat);
     take_in(rt, &mut books, &mut b.seat);
     take_in(rt, &mut books, &mut c.seat);
     take_in(rt, &mut books, &mut d.seat);
     let mut all = 0u64;
-    for handed in [&a, &b, &c, &d] {
-        all = all.saturating_add(handed.tickets.len() as u64);
+    for submitter in [&a, &b, &c, &d] {
+        all = all.saturating_add(submitter.tickets.len() as u64);
     }
     let left = books.left.len() as u64;
     let answered = books.acknowledged.saturating_add(books.refused);
@@ -444,7 +444,7 @@ fn left_over<N: StoreName, R: Wait>(
 /// Two seats submit five jobs. The clerk serves one; the desk is closed, and the clerk leaves: four are
 /// left. If memory ran out it may be fewer jobs.
 fn leaves<N: StoreName, R: Wait>(rt: &R, alloc: Global, opened: OpenDesk<N>) -> bool
-    requires seats { AllMayHandIn opened.clerk.desk opened.floor.four.a.seat
+    requires seats { AllMaySubmit opened.clerk.desk opened.floor.four.a.seat
         opened.floor.four.b.seat opened.floor.four.c.seat opened.floor.four.d.seat }
 {
     let OpenDesk {
@@ -458,14 +458,14 @@ fn leaves<N: StoreName, R: Wait>(rt: &R, alloc: Global, opened: OpenDesk<N>) -> 
         turns: _,
         begun,
     } = floor;
-    hand_in(rt, alloc, &mut four.a, 3, &begun);
-    hand_in(rt, alloc, &mut four.b, 2, &begun);
-    let handed = (four.a.tickets.len() as u64).saturating_add(four.b.tickets.len() as u64);
+    submit_batches(rt, alloc, &mut four.a, 3, &begun);
+    submit_batches(rt, alloc, &mut four.b, 2, &begun);
+    let submitted = (four.a.tickets.len() as u64).saturating_add(four.b.tickets.len() as u64);
     let served = matches!(clerk.turn(rt, &mut keeper), Ok(Turn::Served { .. }));
     desk.close();
     let books = clerk.leave(keeper);
     match left_over(rt, alloc, books, four) {
-        Some(left) => left.jobs == handed.saturating_sub(served as u64),
+        Some(left) => left.jobs == submitted.saturating_sub(served as u64),
         None => false,
     }
 }
@@ -484,7 +484,7 @@ fn races<N: StoreName + Send + Sync, R: Threads + Wait + Sync>(
     alloc: Global,
     opened: OpenDesk<N>,
 ) -> bool
-    requires seats { AllMayHandIn opened.clerk.desk opened.floor.four.a.seat
+    requires seats { AllMaySubmit opened.clerk.desk opened.floor.four.a.seat
         opened.floor.four.b.seat opened.floor.four.c.seat opened.floor.four.d.seat }
 {
     let OpenDesk {

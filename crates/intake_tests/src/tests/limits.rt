@@ -1,7 +1,7 @@
 //! A trace limit that a seat submits.
 
 use crate::tests::fixture::Fixture;
-use crate::tests::rows::hands_in;
+use crate::tests::rows::submit_span;
 use intake::{Clerk, Seat, Ticket, Turn};
 use jaeger_model::TraceId;
 use read_side::{Keeper, Pass, StoreName};
@@ -96,7 +96,7 @@ fn limit_after_two<N: StoreName, R: Wait>(
     seat: &mut Seat<N>,
     limit: TraceLimit,
 ) -> Result<Ticket<N>, Refusal> {
-    drop(hands_in(rt, alloc, seat, 1));
-    drop(hands_in(rt, alloc, seat, 2));
+    drop(submit_span(rt, alloc, seat, 1));
+    drop(submit_span(rt, alloc, seat, 2));
     seat.submit_limit(rt, alloc, limit)
 }

@@ -63,7 +63,7 @@ const JOBS: [Job; 7] = [
 
 /// The place and the receipt's front; or the refusal, if it comes with a list of the three entries that the store
 /// has room for.
-fn told<N: StoreName, R: Wait>(rt: &R, ticket: Ticket<N>) -> Result<(u64, u64), Refusal> {
+fn answer_of<N: StoreName, R: Wait>(rt: &R, ticket: Ticket<N>) -> Result<(u64, u64), Refusal> {
     match ticket.answer(rt) {
         Ok(ack) => {
             let said = (ack.place, ack.receipt.front());
@@ -99,7 +99,7 @@ fn answered<N: StoreName, R: Wait>(
     let answer = seat.submit(rt, alloc, batch);
     let served = matches!(clerk.turn(rt, keeper), Ok(Turn::Served { .. }));
     let said = match answer {
-        Ok(ticket) => told(rt, ticket),
+        Ok(ticket) => answer_of(rt, ticket),
         Err((why, batch)) => {
             drop(batch);
             Err(why)

@@ -115,7 +115,7 @@ fn limit_by_seat(rt: HostRuntime) -> Result<(), Fail> {
 }
 
 #[test]
-fn a_batch_handed_in_again(rt: HostRuntime) -> Result<(), Fail> {
+fn a_batch_submitted_again(rt: HostRuntime) -> Result<(), Fail> {
     assert!(rt; plays_small(&rt, rt.alloc(), Row::Resent)?);
     Ok(())
 }
@@ -124,7 +124,7 @@ fn a_batch_handed_in_again(rt: HostRuntime) -> Result<(), Fail> {
 pub(crate) type Answer<N> = Option<Result<Ticket<N>, (Refusal, Batch)>>;
 
 /// Submits a batch with this id. Returns None if memory ran out before.
-pub(crate) fn hands_in<N: StoreName, R: Wait>(
+pub(crate) fn submit_span<N: StoreName, R: Wait>(
     rt: &R,
     alloc: Global,
     seat: &mut Seat<N>,
@@ -212,7 +212,7 @@ const FOUR: [(u64, Result<u64, Refusal>); 4] = [
 /// Submits four batches, one after the other, each after the answer to the one before.
 fn four_answered<N: StoreName, R: Wait>(rt: &R, alloc: Global, seat: &mut Seat<N>) -> bool {
     for (id, wanted) in &FOUR {
-        if returned(rt, hands_in(rt, alloc, seat, *id)) != *wanted {
+        if returned(rt, submit_span(rt, alloc, seat, *id)) != *wanted {
             return false;
         }
     }
@@ -330,8 +330,8 @@ fn is_full<N: StoreName, R: Wait>(
     (seat, other): (&mut Seat<N>, &mut Seat<N>),
     (clerk, keeper): (&mut Clerk<N>, &mut Keeper<N>),
 ) -> bool {
-    let same = came_back(alloc, hands_in(rt, alloc, seat, 2), Refusal::Busy, 2);
-    let others = came_back(alloc, hands_in(rt, alloc, other, 3), Refusal::Busy, 3);
+    let same = came_back(alloc, submit_span(rt, alloc, seat, 2), Refusal::Busy, 2);
+    let others = came_back(alloc, submit_span(rt, alloc, other, 3), Refusal::Busy, 3);
     let turned = clerk.turn(rt, keeper) == Ok(Turn::Served { seat: 3, number: 1 });
     let idle = clerk.turn(rt, keeper) == Ok(Turn::Idle);
     same && others && turned && idle
@@ -344,7 +344,7 @@ fn is_closed<N: StoreName, R: Wait>(
     other: &mut Seat<N>,
     (clerk, keeper): (&mut Clerk<N>, &mut Keeper<N>),
 ) -> bool {
-    let late = hands_in(rt, alloc, other, 5);
+    let late = submit_span(rt, alloc, other, 5);
     let closed = came_back(alloc, late, Refusal::Closed, 5);
     let served = clerk.turn(rt, keeper) == Ok(Turn::Served { seat: 3, number: 2 });
     let ended = clerk.turn(rt, keeper) == Ok(Turn::Ended);
@@ -359,9 +359,9 @@ fn full_then_closed_at<N: StoreName, R: Wait>(
     (seat, other): (&mut Seat<N>, &mut Seat<N>),
     (clerk, keeper): (&mut Clerk<N>, &mut Keeper<N>),
 ) -> bool {
-    let first = hands_in(rt, alloc, seat, 1);
+    let first = submit_span(rt, alloc, seat, 1);
     let full = is_full(rt, alloc, (seat, other), (clerk, keeper));
-    let second = hands_in(rt, alloc, seat, 4);
+    let second = submit_span(rt, alloc, seat, 4);
     desk.close();
     let closed = is_closed(rt, alloc, other, (clerk, keeper));
     let places = (returned(rt, first), returned(rt, second));
@@ -400,7 +400,7 @@ fn clerk_gone<N: StoreName, R: Wait>(
     } = fixture;
     keeper.close(rt);
     let waiting = match seats.last_mut() {
-        Some(seat) => hands_in(rt, alloc, seat, 1),
+        Some(seat) => submit_span(rt, alloc, seat, 1),
         None => None,
     };
     if closed {
@@ -421,7 +421,7 @@ fn clerk_gone<N: StoreName, R: Wait>(
 
 /// 1 if the queue took the batch, 100 if the seat was refused because the queue was full.
 fn taken_or_full<N: StoreName, R: Wait>(rt: &R, alloc: Global, seat: &mut Seat<N>) -> u64 {
-    let answer = hands_in(rt, alloc, seat, 1);
+    let answer = submit_span(rt, alloc, seat, 1);
     let said = match &answer {
         Some(Ok(_)) => 1,
         Some(Err((Refusal::Busy, _))) => 100,

@@ -1,4 +1,4 @@
-use Rattle.pipe_session.proofs.Exactly.{exact}
+use Rattle.pipe_session.proofs.ExactRuns.{exact}
 use Rattle.pipe_session.proofs.pipe.Goals as goal
 
 pub returns-in-Ok-clause-ended : goal.returns-in-Ok-clause-ended

@@ -1,6 +1,6 @@
 ghost use Rattle.serde_json.specs.Written.{compact_text};
 ghost use Rattle.query_json.specs.Page.{Puts};
-ghost use Rattle.query_json.specs.Around.{head_text, tail_text};
+ghost use Rattle.query_json.specs.AnswerTexts.{head_text, tail_text};
 ghost use Rattle.query_json.specs.Trees.{error_tree};
 
 use super::Page;

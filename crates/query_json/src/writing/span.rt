@@ -4,10 +4,10 @@ ghost use Rattle.serde_json.specs.Data.{string};
 ghost use Rattle.serde_json.specs.Written.{compact_text};
 ghost use Rattle.jaeger_model.specs.declared.batch.Process.{Process as ProcessValue};
 ghost use Rattle.span_steps.specs.Warnings.{warning_text, warning_texts};
-ghost use Rattle.trace_adjust.specs.Lending.{lent_log};
+ghost use Rattle.trace_adjust.specs.LentSpans.{lent_log};
 ghost use Rattle.query_json.specs.Page.{Puts};
 ghost use Rattle.query_json.specs.Trees.{flags_number, log_tree, reference_tree, span_tree, warnings_tree};
-ghost use Rattle.query_json.specs.Writing.{process_place};
+ghost use Rattle.query_json.specs.TraceProcesses.{process_place};
 
 use super::values::write_tags;
 use super::{Page, WriteItems, WriteJson, write_list};

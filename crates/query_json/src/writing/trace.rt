@@ -3,14 +3,14 @@ ghost use Rattle.std.specs.List.{list_all};
 ghost use Rattle.serde_json.specs.Data.{string};
 ghost use Rattle.serde_json.specs.Written.{compact_text};
 ghost use Rattle.trace_model.specs.Adjusting.{spans_of};
-ghost use Rattle.trace_model.specs.Keeping.{kept_value, KeptShares};
-ghost use Rattle.trace_model.specs.Sharing.{ShareProcesses};
+ghost use Rattle.trace_model.specs.KeptTraces.{kept_value, KeptShares};
+ghost use Rattle.trace_model.specs.SharedProcesses.{ShareProcesses};
 ghost use Rattle.query_json.specs.LentTraces.{IsNumbered, IsWritable};
-ghost use Rattle.query_json.specs.Named.{AreNamed, first_named};
+ghost use Rattle.query_json.specs.NamedProcesses.{AreNamed, first_named};
 ghost use Rattle.query_json.specs.Page.{Puts};
 ghost use Rattle.query_json.specs.TracePieces.{close_text, item_spans, pieces_of, span_pieces, span_text_in, trace_pieces};
 ghost use Rattle.query_json.specs.Trees.{processes_of, trace_id_text, trace_tree};
-ghost use Rattle.query_json.specs.Writing.{process_place};
+ghost use Rattle.query_json.specs.TraceProcesses.{process_place};
 
 use super::processes::{NamedProcess, in_order, is_first_alone, write_process};
 use super::span::write_span;
@@ -20,7 +20,7 @@ use crate::tree::Tree;
 use std::alloc::{AllocError, Global};
 use std::snapshot::Snapshot;
 use trace_adjust::{LentSpans, lend};
-use trace_model::{AnsweredTrace, KeptTrace, ShownTrace, TraceForm};
+use trace_model::{AdjustedTrace, AnsweredTrace, KeptTrace, TraceForm};
 
 /// Writes the id of a trace, that of its first span.
 fn write_id(out: &mut Page, spans: &LentSpans)
@@ -227,12 +227,12 @@ fn write_piece_of_one(out: &mut Page, spans: &LentSpans, piece: usize)
 /// A trace with spans of its own, as the text of its tree. Only contracts read the spans.
 #[derive(Drop)]
 pub(crate) struct MadeTrace {
-    spans: Snapshot<ShownTrace>,
+    spans: Snapshot<AdjustedTrace>,
     text: String,
 }
 
 impl MadeTrace {
-    fn new(alloc: Global, made: &ShownTrace) -> Result<MadeTrace, AllocError>
+    fn new(alloc: Global, made: &AdjustedTrace) -> Result<MadeTrace, AllocError>
         ensures spans { IfOk result (λ t. t.spans.value ≡ made.now) }
         ensures text { IfOk result (λ t.
             string_bytes t.text ≡ compact_text (trace_tree made.now)) }

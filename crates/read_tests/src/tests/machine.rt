@@ -1,4 +1,4 @@
-ghost use Rattle.read_side.specs.Holding.{IsInside};
+ghost use Rattle.read_side.specs.HeldPasses.{IsInside};
 
 use crate::tests::answers::shown;
 use crate::tests::entries::{batch_under, limit_under};
@@ -48,7 +48,7 @@ fn question(alloc: Global, before: u64) -> Result<Query, AllocError> {
 }
 
 /// The step by which a seat submits the work with the number.
-fn hand_in(alloc: Global, number: u64) -> Result<Step, Fail> {
+fn submit_step(alloc: Global, number: u64) -> Result<Step, Fail> {
     let seat = 0;
     match limit_under(number) {
         Some(limit) => Ok(Step::Limit {
@@ -83,7 +83,7 @@ fn ask(alloc: Global, steps: &mut Vec<Step>, reader: u32, before: u64) -> Result
 fn add_steps(alloc: Global, steps: &mut Vec<Step>, before: u64) -> Result<(), Fail> {
     let number = before.saturating_add(1);
     steps.push(Step::Enter { reader: 6 })?;
-    steps.push(hand_in(alloc, number)?)?;
+    steps.push(submit_step(alloc, number)?)?;
     steps.push(Step::Take)?;
     ask(alloc, steps, 6, before)?;
     visit(alloc, steps, 5, before)?;

@@ -4,12 +4,12 @@ ghost use Rattle.jaeger_model.specs.Texts.{text_cmp, sorted_set};
 ghost use Rattle.trace_model.specs.declared.entry.Entry.{Entry as EntryValue};
 ghost use Rattle.trace_model.specs.Histories.{arrivals, before_last};
 ghost use Rattle.trace_model.specs.Names.{services};
-ghost use Rattle.service_index.specs.Listing.{listed_cmp};
+ghost use Rattle.service_index.specs.ListedNames.{listed_cmp};
 ghost use Rattle.service_index.specs.Indexes.{listing_by, owners, operations_at, IsIndexed};
-ghost use Rattle.service_index.specs.Probes.{AreNumbers};
-ghost use Rattle.service_index.specs.Reported.{ArePlacesKept};
-ghost use Rattle.arrival_journal.specs.Kinds.{kinds_in};
-ghost use Rattle.service_index.specs.NamesKept.{AreNamesKept, names_of, reports, reports_service, reports_operation, AreOperations};
+ghost use Rattle.service_index.specs.Probes.{AreNumbersBelow};
+ghost use Rattle.service_index.specs.ServicePlaces.{ArePlacesKept};
+ghost use Rattle.arrival_journal.specs.KindTexts.{kinds_in};
+ghost use Rattle.service_index.specs.KeptNames.{AreNamesKept, names_of, reports, reports_service, reports_operation, AreOperations};
 
 use crate::arrival_names::numbers::{ArrivalNumbers, Arrivals};
 use crate::arrival_names::taken_operation::TakenOperation;
@@ -32,9 +32,9 @@ pub struct ArrivalNames {
 }
 
 impl Model for ArrivalNames {
-    ghost use Rattle.service_index.specs.NamesKept.{Kept};
+    ghost use Rattle.service_index.specs.KeptNames.{KeptNames};
 
-    ghost Value = { Kept };
+    ghost Value = { KeptNames };
 
     ghost view = { λ n. record { numbers = n.numbers; index = n.index } };
 }
@@ -165,15 +165,27 @@ impl ArrivalNames {
             (arrivals (map arc_value entries.now)) }
     {
         let arrivals = self.numbers.arrivals(entries, reported);
-        let Some(group) = arrivals.group_of(service) else {
+        let Some(service_number) = arrivals.service_number_of(service) else {
             return false;
         };
-        let plain = self.index.knows_in(&arrivals, group, operation, "");
-        let client = self.index.knows_in(&arrivals, group, operation, "client");
-        let server = self.index.knows_in(&arrivals, group, operation, "server");
-        let producer = self.index.knows_in(&arrivals, group, operation, "producer");
-        let consumer = self.index.knows_in(&arrivals, group, operation, "consumer");
-        let internal = self.index.knows_in(&arrivals, group, operation, "internal");
+        let plain = self
+            .index
+            .knows_in(&arrivals, service_number, operation, "");
+        let client = self
+            .index
+            .knows_in(&arrivals, service_number, operation, "client");
+        let server = self
+            .index
+            .knows_in(&arrivals, service_number, operation, "server");
+        let producer = self
+            .index
+            .knows_in(&arrivals, service_number, operation, "producer");
+        let consumer = self
+            .index
+            .knows_in(&arrivals, service_number, operation, "consumer");
+        let internal = self
+            .index
+            .knows_in(&arrivals, service_number, operation, "internal");
         // For the prover: `|` has no branches, and `||` would have one for each kind.
         plain | client | server | producer | consumer | internal
     }
@@ -185,7 +197,7 @@ fn services_of(
     arrivals: &Arrivals<'_>,
     numbers: &[u32],
 ) -> Result<Vec<ServiceName>, AllocError>
-    requires { AreNumbers (names_of arrivals.now).count numbers.now }
+    requires { AreNumbersBelow (names_of arrivals.now).count numbers.now }
     ensures { IfOk result (λ v. v.items ≡ owners (names_of arrivals.now) numbers.now) }
 {
     let mut services = Vec::with_capacity(alloc, numbers.len())?;
@@ -201,7 +213,7 @@ fn operations_of(
     arrivals: &Arrivals<'_>,
     numbers: &[u32],
 ) -> Result<Vec<TakenOperation>, AllocError>
-    requires { AreNumbers (names_of arrivals.now).count numbers.now }
+    requires { AreNumbersBelow (names_of arrivals.now).count numbers.now }
     ensures { IfOk result (λ v. v.items ≡ operations_at (names_of arrivals.now) numbers.now) }
 {
     let mut operations = Vec::with_capacity(alloc, numbers.len())?;

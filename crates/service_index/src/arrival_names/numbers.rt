@@ -3,12 +3,12 @@ ghost use Rattle.std.specs.Arc.{arc_value};
 ghost use Rattle.jaeger_model.specs.declared.placed.Placed.{Placed};
 ghost use Rattle.trace_model.specs.declared.entry.Entry.{Entry as EntryValue};
 ghost use Rattle.trace_model.specs.Histories.{arrivals, before_last};
-ghost use Rattle.trace_model.specs.Seeing.{seen};
+ghost use Rattle.trace_model.specs.BorrowedSpans.{seen};
 ghost use Rattle.jaeger_model.specs.Tags.{kind_of};
-ghost use Rattle.service_index.specs.Reported.{ArePlacesKept};
+ghost use Rattle.service_index.specs.ServicePlaces.{ArePlacesKept};
 ghost use Rattle.service_index.specs.ArrivalNumbers.{AreOf, IsAt};
-ghost use Rattle.arrival_journal.specs.Kinds.{kind_text, first_kinds, kinds_in};
-ghost use Rattle.service_index.specs.NamesKept.{AreKinds, reported_at};
+ghost use Rattle.arrival_journal.specs.KindTexts.{kind_text, first_kinds, kinds_in};
+ghost use Rattle.service_index.specs.KeptNames.{AreKinds, reported_at};
 
 use crate::arrival_names::taken_operation::TakenOperation;
 use crate::service_places::ServicePlaces;
@@ -60,9 +60,9 @@ impl<'a> Model for Arrivals<'a> {
     ghost use Rattle.std.specs.Prelude.{List, map};
     ghost use Rattle.std.specs.Arc.{arc_value};
     ghost use Rattle.trace_model.specs.declared.entry.Entry.{Entry as EntryValue};
-    ghost use Rattle.service_index.specs.Reported.{ArePlacesKept};
+    ghost use Rattle.service_index.specs.ServicePlaces.{ArePlacesKept};
     ghost use Rattle.service_index.specs.ArrivalNumbers.{AreOf};
-    ghost use Rattle.service_index.specs.NamesKept.{AreKinds};
+    ghost use Rattle.service_index.specs.KeptNames.{AreKinds};
 
     ghost Value = { List EntryValue };
 
@@ -74,8 +74,8 @@ impl<'a> Model for Arrivals<'a> {
 }
 
 impl<'a> Texts for Arrivals<'a> {
-    ghost use Rattle.service_index.specs.NamesKept.{names_of};
-    ghost use Rattle.service_index.specs.ArrivalGroups.{names_grouped};
+    ghost use Rattle.service_index.specs.KeptNames.{names_of};
+    ghost use Rattle.service_index.specs.ArrivalServices.{names_numbered};
 
     ghost names = { names_of };
 
@@ -97,15 +97,15 @@ impl<'a> Texts for Arrivals<'a> {
         }
     }
 
-    fn group_at(&self, n: u32) -> u32 {
-        self.reported.group_at(self.entry_of[n as usize])
+    fn service_number_at(&self, n: u32) -> u32 {
+        self.reported.service_number_at(self.entry_of[n as usize])
     }
 
-    fn group_of(&self, service: &str) -> Option<u32> {
-        self.reported.group_of(self.entries, service)
+    fn service_number_of(&self, service: &str) -> Option<u32> {
+        self.reported.service_number_of(self.entries, service)
     }
 
-    ghost grouped = { names_grouped };
+    ghost services_numbered = { names_numbered };
 }
 
 impl<'a> Arrivals<'a> {

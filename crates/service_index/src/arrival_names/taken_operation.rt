@@ -1,7 +1,7 @@
 //! An operation of a service, whose name is in its entry.
 ghost use Rattle.std.specs.Prelude.{◌≡◌, IfOk};
 ghost use Rattle.std.specs.Arc.{arc_value};
-ghost use Rattle.arrival_journal.specs.Kinds.{kind_text};
+ghost use Rattle.arrival_journal.specs.KindTexts.{kind_text};
 ghost use Rattle.service_index.specs.TakenNames.{name_brought};
 
 use arrival_journal::Kind;
@@ -23,7 +23,7 @@ pub struct TakenOperation {
 impl Model for TakenOperation {
     ghost use Rattle.std.specs.Arc.{arc_value};
     ghost use Rattle.trace_model.specs.declared.answer.Operation.{Operation};
-    ghost use Rattle.arrival_journal.specs.Kinds.{kind_text};
+    ghost use Rattle.arrival_journal.specs.KindTexts.{kind_text};
     ghost use Rattle.service_index.specs.TakenNames.{name_brought};
 
     ghost Value = { Operation };

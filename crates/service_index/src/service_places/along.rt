@@ -13,7 +13,7 @@ pub struct Places<'a> {
 
 impl<'a> Model for Places<'a> {
     ghost use Rattle.std.specs.Prelude.{List, ℕ};
-    ghost use Rattle.service_index.specs.PlacesAlong.{along, IsBack};
+    ghost use Rattle.service_index.specs.PlaceChains.{along, IsBack};
 
     ghost Value = { List ℕ };
 

@@ -2,8 +2,8 @@ ghost use Rattle.std.specs.Prelude.{◌≡◌, ◌<◌, ◌≤◌, [], map, leng
 ghost use Rattle.std.specs.Arc.{arc_value};
 ghost use Rattle.service_index.specs.Probes.{row_of};
 ghost use Rattle.trace_model.specs.Histories.{before_last};
-ghost use Rattle.service_index.specs.Reported.{ArePlacesKept, places_of, group_of};
-ghost use Rattle.service_index.specs.Reported.{service_label, service_labels};
+ghost use Rattle.service_index.specs.ServicePlaces.{ArePlacesKept, places_of, service_number_of};
+ghost use Rattle.service_index.specs.ServicePlaces.{service_label, service_labels};
 
 use crate::links::RowLinks;
 use crate::name_table::NameTable;
@@ -25,18 +25,18 @@ pub struct ServicePlaces {
     /// The places of the entries, linked for each service.
     links: RowLinks,
     /// For each entry the number of its service.
-    groups: Vec<u32>,
+    service_numbers: Vec<u32>,
 }
 
 impl Model for ServicePlaces {
     ghost use Rattle.std.specs.Prelude.{◌≡◌, ◌≤◌, vec_capacity};
-    ghost use Rattle.service_index.specs.Reported.{Reported};
+    ghost use Rattle.service_index.specs.ServicePlaces.{ServicePlacesValue};
 
-    ghost Value = { Reported };
+    ghost Value = { ServicePlacesValue };
 
-    ghost view = { λ p. record { services = p.services; newest = p.links.newest; earlier = p.links.earlier; groups = p.groups.items; batches = p.batches } };
+    ghost view = { λ p. record { services = p.services; newest = p.links.newest; earlier = p.links.earlier; service_numbers = p.service_numbers.items; batches = p.batches } };
 
-    ghost invariant = { λ p. (p.links.room ≡ p.batches) × (p.batches ≤ vec_capacity p.groups) };
+    ghost invariant = { λ p. (p.links.room ≡ p.batches) × (p.batches ≤ vec_capacity p.service_numbers) };
 }
 
 impl ServicePlaces {
@@ -52,12 +52,12 @@ impl ServicePlaces {
     {
         let services = NameTable::with_room(alloc, keys, batches)?;
         let links = RowLinks::with_room(alloc, batches)?;
-        let groups = Vec::with_capacity(alloc, batches as usize)?;
+        let service_numbers = Vec::with_capacity(alloc, batches as usize)?;
         Ok(ServicePlaces {
             batches,
             services,
             links,
-            groups,
+            service_numbers,
         })
     }
 
@@ -71,7 +71,8 @@ impl ServicePlaces {
     {
         let before = (entries.len() - 1) as u32;
         let service = self.services.add(&Reporters { entries }, before) as usize;
-        self.groups.push_reserved(self.services.numbers()[service]);
+        self.service_numbers
+            .push_reserved(self.services.numbers()[service]);
         self.links.add_row(service);
     }
 
@@ -88,17 +89,17 @@ impl ServicePlaces {
     }
 
     /// Returns the number of the service of the entry that has `before` entries before it.
-    pub fn group_at(&self, before: u32) -> u32
-        requires { before < length self.now.groups }
-        ensures { result ≡ get_or self.now.groups before 0 }
+    pub fn service_number_at(&self, before: u32) -> u32
+        requires { before < length self.now.service_numbers }
+        ensures { result ≡ get_or self.now.service_numbers before 0 }
     {
-        self.groups[before as usize]
+        self.service_numbers[before as usize]
     }
 
     /// Returns the number of a service, or none if no entry is of it.
-    pub fn group_of(&self, entries: &[Arc<Entry>], service: &str) -> Option<u32>
+    pub fn service_number_of(&self, entries: &[Arc<Entry>], service: &str) -> Option<u32>
         requires { ArePlacesKept (map arc_value entries.now) self.now }
-        ensures { result ≡ group_of (map arc_value entries.now) service.now }
+        ensures { result ≡ service_number_of (map arc_value entries.now) service.now }
     {
         let numbers = self.services.numbers();
         let row = self.row_of(entries, service);

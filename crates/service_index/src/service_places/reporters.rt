@@ -1,17 +1,17 @@
 ghost use Rattle.std.specs.Prelude.{◌≡◌};
-ghost use Rattle.service_index.specs.Naming.{label_value};
-ghost use Rattle.service_index.specs.Reported.{service_label};
+ghost use Rattle.service_index.specs.Labels.{label_value};
+ghost use Rattle.service_index.specs.ServicePlaces.{service_label};
 
 use crate::labels::{Label, Labels};
 use std::sync::Arc;
 use trace_model::Entry;
 
-/// Returns a service as a label: all services are in one group.
+/// Returns a service as a label: all services are under number 0.
 pub(crate) fn service_label(service: &str) -> Label<'_>
     ensures { label_value result ≡ service_label service.now }
 {
     Label {
-        group: 0,
+        service_number: 0,
         name: service,
         kind: "",
     }
@@ -26,7 +26,7 @@ pub(crate) struct Reporters<'a> {
 impl<'a> Labels for Reporters<'a> {
     ghost use Rattle.std.specs.Prelude.{map};
     ghost use Rattle.std.specs.Arc.{arc_value};
-    ghost use Rattle.service_index.specs.Reported.{service_labels};
+    ghost use Rattle.service_index.specs.ServicePlaces.{service_labels};
 
     ghost labels = { λ r. service_labels (map arc_value r.entries.now) };
 

@@ -19,7 +19,7 @@ struct Refusing {
 }
 
 impl<T> Backend<T> for Refusing {
-    ghost use Rattle.session_tests.specs.Refusing.{KnowsNothing, Refuses, refused_submit, refused_read};
+    ghost use Rattle.session_tests.specs.RefusingStores.{KnowsNothing, Refuses, refused_submit, refused_read};
 
     ghost limits = { λ s. s.limits };
 

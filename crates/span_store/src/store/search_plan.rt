@@ -14,8 +14,8 @@ ghost use Rattle.std.specs.Prelude.{◌≡◌, ◌<◌, [], Some, IfOk, IfSome};
 ghost use Rattle.std.specs.Bool.{OnFalse, OnTrue};
 ghost use Rattle.trace_model.specs.Histories.{events};
 ghost use Rattle.trace_model.specs.Searching.{traces, found_in};
-ghost use Rattle.service_index.specs.Reported.{group_of};
-ghost use Rattle.span_store.specs.Found.{FindsTheSame};
+ghost use Rattle.service_index.specs.ServicePlaces.{service_number_of};
+ghost use Rattle.span_store.specs.FoundAnswers.{FindsTheSame};
 
 use super::SpanStore;
 use crate::finding;
@@ -100,7 +100,7 @@ impl SpanStore {
     /// Returns the number of the service of a search that has no other condition, if many entries are of it: most
     /// traces have a span of it then.
     fn common_service(&self, query: &Find) -> Option<u32>
-        ensures { IfSome result (λ n. Some n ≡ group_of self.now.entries query.now.service) }
+        ensures { IfSome result (λ n. Some n ≡ service_number_of self.now.entries query.now.service) }
     {
         if !is_by_service_alone(query) {
             return None;
@@ -113,7 +113,7 @@ impl SpanStore {
 
     /// Returns the spots of the shown traces of which entries of the service with this number brought a span.
     fn candidates_reported(&self, query: &Find, service: u32) -> Result<Vec<Spots<'_>>, AllocError>
-        requires { Some service ≡ group_of self.now.entries query.now.service }
+        requires { Some service ≡ service_number_of self.now.entries query.now.service }
         ensures { IfOk result (λ v. FindsTheSame self.now query.now v.items) }
     {
         // For the prover: `len`'s clause `legal` is used below.

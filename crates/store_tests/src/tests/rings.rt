@@ -29,7 +29,7 @@ fn gone(trace: u64, row: u32) -> Evicted {
 #[test]
 fn late_spans_renew_nothing(rt: HostRuntime) -> Result<(), Fail> {
     let mut ring = Ring::with_room(rt.alloc(), RandomState::new(&rt)?, 2, 4)?;
-    for (trace, opened, left, row, place) in [
+    for (trace, opened, evicted, row, place) in [
         (1, true, None, 0, 0),
         (2, true, None, 1, 1),
         (1, false, None, 0, 0),
@@ -41,7 +41,7 @@ fn late_spans_renew_nothing(rt: HostRuntime) -> Result<(), Fail> {
             arrived,
             Arrived {
                 opened,
-                left,
+                evicted,
                 row,
                 place
             },
@@ -62,7 +62,7 @@ fn keeps_all_without_a_limit(rt: HostRuntime) -> Result<(), Fail> {
     let first = arrive(&rt, &mut ring, id(7));
     let second = arrive(&rt, &mut ring, id(8));
     assert!(rt; first.opened && second.opened);
-    assert!(rt; first.left.is_none() && second.left.is_none());
+    assert!(rt; first.evicted.is_none() && second.evicted.is_none());
     assert!(rt; ring.holds(id(7)) && !ring.holds(TraceId { high: 7, low: 7 }));
     assert_eq!(rt; ring.len(), 2);
     assert_eq!(rt; ring.limit(), 0);
@@ -92,7 +92,7 @@ fn hidden_spots_stay_away(rt: HostRuntime) -> Result<(), Fail> {
     }
     assert!(rt; assembly.spots(id(1)).eq([spot(1), spot(3)]));
     let third = add(&rt, &mut assembly, id(3), 4);
-    assert_eq!(rt; third.left, Some(gone(1, 0)));
+    assert_eq!(rt; third.evicted, Some(gone(1, 0)));
     assert!(rt; assembly.spots(id(1)).is_empty());
     add(&rt, &mut assembly, id(1), 5);
     assert!(rt; assembly.spots(id(1)).eq([spot(5)]));
@@ -111,8 +111,8 @@ fn a_lower_limit_hides_the_oldest(rt: HostRuntime) -> Result<(), Fail> {
         add(&rt, &mut assembly, id(trace), place);
     }
     assembly.set_limit(1);
-    for left in [Some(gone(1, 0)), Some(gone(2, 1)), None] {
-        assert_eq!(rt; assembly.drop_oldest(), left);
+    for evicted in [Some(gone(1, 0)), Some(gone(2, 1)), None] {
+        assert_eq!(rt; assembly.drop_oldest(), evicted);
     }
     assert!(rt; assembly.spots(id(1)).is_empty() && assembly.spots(id(2)).is_empty());
     assert!(rt; assembly.spots(id(3)).eq([spot(3)]));

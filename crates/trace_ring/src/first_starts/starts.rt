@@ -1,5 +1,5 @@
 ghost use Rattle.std.specs.Prelude.{◌≡◌, ◌+◌, ◌<◌, ◌∷◌, ◌++◌, ℕ, [], length, drop, IfOk};
-ghost use Rattle.trace_ring.specs.Starting.{places_after};
+ghost use Rattle.trace_ring.specs.FirstStarts.{places_after};
 ghost use Rattle.trace_ring.specs.StartRanges.{IsIn, IsWider, range_at};
 
 use crate::first_starts::bounds::{BLOCK, is_later, raise};
@@ -24,7 +24,7 @@ pub struct FirstStarts {
 
 impl Model for FirstStarts {
     ghost use Rattle.std.specs.Prelude.{◌≡◌, ◌≤◌, ◌+◌, ◌/◌, length, drop, vec_capacity};
-    ghost use Rattle.trace_ring.specs.Starting.{Starts, IsBounded};
+    ghost use Rattle.trace_ring.specs.FirstStarts.{Starts, IsBounded};
 
     ghost Value = { Starts };
 

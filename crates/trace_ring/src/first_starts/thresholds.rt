@@ -19,7 +19,7 @@ struct BoundedBlock {
 }
 
 /// Returns the blocks, except for those whose traces all left.
-#[tactic(auto, using(crate::proofs::Blocks::no_block))]
+#[tactic(auto, using(crate::proofs::BlockCounts::no_block))]
 fn blocks_of(alloc: Global, starts: &FirstStarts) -> Result<BinaryHeap<BoundedBlock>, AllocError>
     ensures { IfOk result (λ blocks.
         length starts.now.starts ≤ starts_in starts.now.used (heap_items blocks)) }
@@ -91,7 +91,7 @@ impl FirstStarts {
     /// # Errors
     ///
     /// Out of memory, and nothing else.
-    #[tactic(auto, using(crate::proofs::Blocks::block_popped, crate::proofs::Blocks::all_popped))]
+    #[tactic(auto, using(crate::proofs::BlockCounts::block_popped, crate::proofs::BlockCounts::all_popped))]
     pub fn threshold(&self, alloc: Global, count: usize) -> Result<Option<i64>, AllocError>
         ensures { IfOk result (λ time. IfNone time (length self.now.starts ≤ count)) }
     {

@@ -2,8 +2,8 @@ use Rattle.std.proofs.Common.{◌∙◌, ap}
 use Rattle.std.proofs.lemmas.List.{take_all}
 use Rattle.std.specs.List.{fold}
 use Rattle.jaeger_model.specs.declared.span.Log.{Log}
-use Rattle.arrival_journal.specs.Tagging.{with_tag, fields_of}
-use Rattle.arrival_journal.proofs.Gaining.{tags_more}
+use Rattle.arrival_journal.specs.TagBits.{with_tag, fields_of}
+use Rattle.arrival_journal.proofs.MoreTagBits.{tags_more}
 use Rattle.arrival_journal.proofs.tagging.add_logs.Goals as goal
 
 pub loop-log-preserved : goal.loop-log-preserved

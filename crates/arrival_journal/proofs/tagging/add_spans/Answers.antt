@@ -2,8 +2,8 @@ use Rattle.std.proofs.Common.{◌∙◌, ap, sym, take, flat_map}
 use Rattle.std.proofs.lemmas.List.{take_all}
 use Rattle.std.proofs.lemmas.List.Sums.{fold-append}
 use Rattle.std.specs.List.{fold}
-use Rattle.arrival_journal.specs.Tagging.{with_tag, own_tags, fields_of}
-use Rattle.arrival_journal.proofs.Gaining.{tags_more}
+use Rattle.arrival_journal.specs.TagBits.{with_tag, own_tags, fields_of}
+use Rattle.arrival_journal.proofs.MoreTagBits.{tags_more}
 use Rattle.arrival_journal.proofs.tagging.add_spans.Goals as goal
 
 pub loop-span-preserved : goal.loop-span-preserved

@@ -1,6 +1,6 @@
 use Rattle.std.proofs.Common.{◌≡◌, take, flat_map}
 use Rattle.std.specs.List.{fold}
-use Rattle.arrival_journal.specs.Tagging.{with_tag, own_tags}
+use Rattle.arrival_journal.specs.TagBits.{with_tag, own_tags}
 use Rattle.arrival_journal.proofs.tagging.add_spans.Given as goal
 
 abbrev pub invariant-loop-span : goal.invariant-loop-span

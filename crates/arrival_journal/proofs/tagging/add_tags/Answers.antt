@@ -1,8 +1,8 @@
 use Rattle.std.proofs.Common.{◌∙◌, ap}
 use Rattle.std.proofs.lemmas.List.{take_all}
 use Rattle.std.specs.List.{fold}
-use Rattle.arrival_journal.specs.Tagging.{with_bit, with_tag}
-use Rattle.arrival_journal.proofs.Gaining.{tag_more}
+use Rattle.arrival_journal.specs.TagBits.{with_bit, with_tag}
+use Rattle.arrival_journal.proofs.MoreTagBits.{tag_more}
 use Rattle.arrival_journal.proofs.tagging.add_tags.Goals as goal
 
 pub loop-tag-preserved : goal.loop-tag-preserved

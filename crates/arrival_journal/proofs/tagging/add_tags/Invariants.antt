@@ -1,6 +1,6 @@
 use Rattle.std.proofs.Common.{◌≡◌, take}
 use Rattle.std.specs.List.{fold}
-use Rattle.arrival_journal.specs.Tagging.{with_tag}
+use Rattle.arrival_journal.specs.TagBits.{with_tag}
 use Rattle.arrival_journal.proofs.tagging.add_tags.Given as goal
 
 abbrev pub invariant-loop-tag : goal.invariant-loop-tag

@@ -2,7 +2,7 @@ use Rattle.std.proofs.Common.{◌∙◌, ap, sym, flat_map}
 use Rattle.std.proofs.lemmas.List.Sums.{fold-append}
 use Rattle.std.specs.List.{fold}
 use Rattle.jaeger_model.specs.declared.batch.Process.{Process}
-use Rattle.arrival_journal.specs.Tagging.{no_bits, with_tag, own_tags}
+use Rattle.arrival_journal.specs.TagBits.{no_bits, with_tag, own_tags}
 use Rattle.arrival_journal.proofs.tagging.bits_of.Goals as goal
 
 pub returns : goal.returns

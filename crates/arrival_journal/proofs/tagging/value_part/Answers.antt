@@ -4,7 +4,7 @@ use Rattle.jaeger_model.specs.declared.tag_value.ValueRef.{ValueRef}
 use Rattle.jaeger_model.specs.StoredValues.{borrowed_value}
 use Rattle.jaeger_model.specs.Tags.{tag_text}
 use Rattle.std.specs.Fmt.{signed_decimal}
-use Rattle.arrival_journal.specs.Tagging.{text_part}
+use Rattle.arrival_journal.specs.TagBits.{text_part}
 use Rattle.arrival_journal.proofs.Numbers.{shared, signed_begins}
 use Rattle.arrival_journal.proofs.tagging.value_part.Goals as goal
 

@@ -1,5 +1,5 @@
 use Rattle.std.proofs.Common.{◌≡◌, ◌++◌, ◌∙◌, List, ℕ, ap}
-use Rattle.batch_codec.specs.Canon.{canon}
+use Rattle.batch_codec.specs.CanonicalTexts.{canon}
 use Rattle.batch_codec.proofs.CanonSpelled.{batch_spelled, canon_decodes}
 use Rattle.batch_codec.proofs.writer.encode.Goals as goal
 

@@ -1,5 +1,5 @@
 use Rattle.batch_codec.specs.BatchReading.{decoded}
-use Rattle.batch_feeder.specs.Answers.{answers}
+use Rattle.batch_feeder.specs.FeederAnswers.{answers}
 use Rattle.batch_feeder.proofs.FedPieces.{pieces-end, pieces-refuse}
 use Rattle.batch_feeder.proofs.feeder.decode_pieces.Goals as goal
 

@@ -1,7 +1,7 @@
 use Rattle.std.proofs.Common.{◌≡◌, List, ℕ, ◌++◌, drop}
 use Rattle.std.specs.Prelude.{flat_map}
 use Rattle.batch_codec.specs.BatchReading.{decoded}
-use Rattle.batch_feeder.specs.Answers.{answers}
+use Rattle.batch_feeder.specs.FeederAnswers.{answers}
 use Rattle.batch_feeder.proofs.feeder.decode_pieces.Given as goal
 
 abbrev pub invariant-loop-piece : goal.invariant-loop-piece

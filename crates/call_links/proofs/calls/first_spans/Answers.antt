@@ -2,8 +2,8 @@ use Rattle.std.proofs.Common.{◌∙◌, sym, ap, rules}
 use Rattle.std.specs.Prelude.{option_map, is_some}
 use Rattle.std.specs.Ordering.{nat_cmp}
 use Rattle.std.specs.BTreeMap.{get}
-use Rattle.call_links.specs.Seen.{service_seen}
-use Rattle.call_links.proofs.Gathering.{services_entered, services_kept, put_back}
+use Rattle.call_links.specs.NumberedCalls.{service_seen}
+use Rattle.call_links.proofs.ServiceTables.{services_entered, services_kept, put_back}
 use Rattle.call_links.proofs.calls.first_spans.Goals as goal
 use Rattle.call_links.proofs.calls.first_spans.Goals.{in-Some+in_ok-insert, in_default}
 

@@ -2,7 +2,7 @@ use Rattle.std.proofs.Common.{◌≡◌, ℕ, take}
 use Rattle.std.specs.Prelude.{option_map}
 use Rattle.std.specs.Ordering.{nat_cmp}
 use Rattle.std.specs.BTreeMap.{get}
-use Rattle.call_links.specs.Seen.{service_seen, service_of}
+use Rattle.call_links.specs.NumberedCalls.{service_seen, service_of}
 use Rattle.call_links.proofs.calls.first_spans.Given as goal
 
 abbrev pub invariant-loop-span : goal.invariant-loop-span

@@ -4,8 +4,8 @@ use Rattle.std.proofs.lemmas.List.{map-id, map_push}
 use Rattle.std.proofs.lemmas.List.Sums.{fold_push}
 use Rattle.std.proofs.lemmas.Map.Iter.{iter_end}
 use Rattle.jaeger_model.specs.Texts.{text_cmp}
-use Rattle.call_links.specs.Ranks.{service_entry, name_entry, with_name, named}
-use Rattle.call_links.proofs.Ranking.{name_put}
+use Rattle.call_links.specs.ServiceRanks.{service_entry, name_entry, with_name, named}
+use Rattle.call_links.proofs.TalliesByName.{name_put}
 use Rattle.call_links.proofs.order.by_name.Goals as goal
 
 pub loop-number-preserved : goal.loop-number-preserved

@@ -1,5 +1,5 @@
 use Rattle.std.proofs.Common.{◌≡◌, map}
-use Rattle.call_links.specs.Ranks.{service_entry, name_entry, named}
+use Rattle.call_links.specs.ServiceRanks.{service_entry, name_entry, named}
 use Rattle.call_links.proofs.order.by_name.Given as goal
 
 abbrev pub invariant-loop-number : goal.invariant-loop-number

@@ -5,16 +5,16 @@ use Rattle.std.specs.Ordering.{nat_cmp}
 use Rattle.std.proofs.lemmas.List.{map-id, map_push}
 use Rattle.std.proofs.lemmas.List.Sums.{fold_push}
 use Rattle.std.proofs.lemmas.Map.Iter.{iter_end}
-use Rattle.call_links.specs.Tallies.{Texts, number_cmp, tally_seen, tallies_seen}
-use Rattle.call_links.specs.Ranks.{with_ranks, ranked}
-use Rattle.call_links.proofs.Counting.{tally_put}
+use Rattle.call_links.specs.LinkTallies.{PairTexts, number_cmp, tally_seen, tallies_seen}
+use Rattle.call_links.specs.ServiceRanks.{with_ranks, ranked}
+use Rattle.call_links.proofs.CountedCalls.{tally_put}
 use Rattle.call_links.proofs.order.by_ranks.Goals as goal
 
 pub loop-numbers-preserved : goal.loop-numbers-preserved
 loop-numbers-preserved c =
     let done = c.loop-numbers.yielded in
     let rank : ℕ → ℕ = λ n. unwrap_or (get nat_cmp c.args.ranks.now n) 0 in
-    let value : Texts × ℕ = (tally_seen (c.in-Some.numbers, c.in-Some.tally)).1 in
+    let value : PairTexts × ℕ = (tally_seen (c.in-Some.numbers, c.in-Some.tally)).1 in
     ap tallies_seen c.in_ok-insert.ensures.entries
     ∙ tally_put c.loop-numbers.ranked.entries (c.in_ok-caller.caller, c.in_ok-callee.callee) c.in-Some.tally
     ∙ (λ i. insert_entry number_cmp (c.loop-numbers.invariant i) (c.in_ok-caller.ensures i, c.in_ok-callee.ensures i) value)

@@ -2,8 +2,8 @@ use Rattle.std.proofs.Common.{◌≡◌, map}
 use Rattle.std.specs.Prelude.{unwrap_or}
 use Rattle.std.specs.Ordering.{nat_cmp}
 use Rattle.std.specs.BTreeMap.{get}
-use Rattle.call_links.specs.Tallies.{tally_seen, tallies_seen}
-use Rattle.call_links.specs.Ranks.{ranked}
+use Rattle.call_links.specs.LinkTallies.{tally_seen, tallies_seen}
+use Rattle.call_links.specs.ServiceRanks.{ranked}
 use Rattle.call_links.proofs.order.by_ranks.Given as goal
 
 abbrev pub invariant-loop-numbers : goal.invariant-loop-numbers

@@ -2,8 +2,8 @@ use Rattle.std.proofs.Common.{◌≡◌, ◌∙◌, sym, ap, map, rules}
 use Rattle.std.proofs.lemmas.List.{map-id}
 use Rattle.std.proofs.lemmas.Simd.{map-map}
 use Rattle.std.proofs.lemmas.Map.Iter.{iter_end}
-use Rattle.call_links.specs.Tallies.{tally_seen}
-use Rattle.call_links.specs.Ranks.{link_of}
+use Rattle.call_links.specs.LinkTallies.{tally_seen}
+use Rattle.call_links.specs.ServiceRanks.{link_of}
 use Rattle.call_links.proofs.order.linked.Goals as goal
 
 pub returns : goal.returns

@@ -1,6 +1,6 @@
 use Rattle.std.proofs.Common.{◌≡◌, map}
-use Rattle.call_links.specs.Tallies.{tally_seen}
-use Rattle.call_links.specs.Ranks.{link_of}
+use Rattle.call_links.specs.LinkTallies.{tally_seen}
+use Rattle.call_links.specs.ServiceRanks.{link_of}
 use Rattle.call_links.proofs.order.linked.Given as goal
 
 abbrev pub invariant-loop-tally : goal.invariant-loop-tally

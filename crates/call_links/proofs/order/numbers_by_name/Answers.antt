@@ -2,7 +2,7 @@ use Rattle.std.proofs.Common.{◌≡◌, ◌∙◌, sym, ap, map, rules, ℕ, Li
 use Rattle.std.proofs.lemmas.List.{map-id}
 use Rattle.std.proofs.lemmas.Simd.{map-map}
 use Rattle.std.proofs.lemmas.Map.Iter.{iter_end}
-use Rattle.call_links.specs.Ranks.{name_entry, named}
+use Rattle.call_links.specs.ServiceRanks.{name_entry, named}
 use Rattle.call_links.proofs.order.numbers_by_name.Goals as goal
 
 pub returns : goal.returns

@@ -1,5 +1,5 @@
 use Rattle.std.proofs.Common.{◌≡◌, map}
-use Rattle.call_links.specs.Ranks.{name_entry}
+use Rattle.call_links.specs.ServiceRanks.{name_entry}
 use Rattle.call_links.proofs.order.numbers_by_name.Given as goal
 
 abbrev pub invariant-loop-number : goal.invariant-loop-number

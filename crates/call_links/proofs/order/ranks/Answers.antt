@@ -1,7 +1,7 @@
 use Rattle.std.proofs.Common.{◌∙◌, refl, sym, ap, rules}
 use Rattle.std.specs.Ordering.{nat_cmp}
 use Rattle.std.specs.BTreeMap.{get}
-use Rattle.call_links.proofs.Ranking.{rank_entered, rank_kept}
+use Rattle.call_links.proofs.TalliesByName.{rank_entered, rank_kept}
 use Rattle.call_links.proofs.order.ranks.Goals as goal
 use Rattle.call_links.proofs.order.ranks.Goals.{then-not-contains_key+in_ok-insert, else-not-contains_key}
 

@@ -5,10 +5,10 @@ use Rattle.std.specs.Ordering.{nat_cmp}
 use Rattle.std.proofs.lemmas.List.{map_push}
 use Rattle.std.proofs.lemmas.List.Sums.{fold_push}
 use Rattle.std.proofs.lemmas.Map.Iter.{iter_end}
-use Rattle.call_links.specs.Seen.{text_in}
-use Rattle.call_links.specs.Tallies.{tally_seen, tallies_seen}
-use Rattle.call_links.specs.Ranks.{service_entry, with_services, services_met}
-use Rattle.call_links.proofs.Ranking.{service_put}
+use Rattle.call_links.specs.NumberedCalls.{text_in}
+use Rattle.call_links.specs.LinkTallies.{tally_seen, tallies_seen}
+use Rattle.call_links.specs.ServiceRanks.{service_entry, with_services, services_met}
+use Rattle.call_links.proofs.TalliesByName.{service_put}
 use Rattle.call_links.proofs.order.services_met.Goals as goal
 
 pub loop-numbers-preserved : goal.loop-numbers-preserved

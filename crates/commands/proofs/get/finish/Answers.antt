@@ -1,5 +1,5 @@
 use Rattle.std.proofs.lemmas.Result.{err_from_is_err_and}
-use Rattle.text_lines.proofs.Wholes.{stops_at_once}
+use Rattle.text_lines.proofs.CompleteRuns.{stops_at_once}
 use Rattle.commands.specs.GetRuns.{output_of}
 use Rattle.commands.proofs.get.finish.Goals as goal
 

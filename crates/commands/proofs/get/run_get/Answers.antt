@@ -1,5 +1,5 @@
 use Rattle.std.proofs.Common.{sym, ◌∙◌}
-use Rattle.text_lines.proofs.Counting.{status_is_reads}
+use Rattle.text_lines.proofs.ReadCounts.{status_is_reads}
 use Rattle.commands.proofs.ReadLimits.{get_never_failed}
 use Rattle.commands.proofs.get.run_get.Goals as goal
 

@@ -1,6 +1,6 @@
 use Rattle.std.proofs.Common.{false}
 use Rattle.std.proofs.lemmas.Result.{err_from_is_err_and}
-use Rattle.text_lines.proofs.Counting.{written_limit}
+use Rattle.text_lines.proofs.ReadCounts.{written_limit}
 use Rattle.commands.proofs.GetWholes.{finishes, stops_early, stops_late}
 use Rattle.commands.proofs.get.take_all.Goals as goal
 

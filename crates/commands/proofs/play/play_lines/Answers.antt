@@ -1,5 +1,5 @@
 use Rattle.std.proofs.Common.{inl, inr, sym, ◌∙◌}
-use Rattle.text_lines.proofs.Counting.{status_is_reads}
+use Rattle.text_lines.proofs.ReadCounts.{status_is_reads}
 use Rattle.commands.proofs.ReadLimits.{play_never_failed}
 use Rattle.commands.proofs.PlayWholes.{finishes, stops}
 use Rattle.commands.proofs.play.play_lines.Goals as goal

@@ -1,6 +1,6 @@
 use Rattle.std.proofs.Common.{inl, inr}
-use Rattle.text_lines.proofs.Wholes.{stops_at_once}
-use Rattle.commands.specs.Playing.{output_of}
+use Rattle.text_lines.proofs.CompleteRuns.{stops_at_once}
+use Rattle.commands.specs.PlayRuns.{output_of}
 use Rattle.commands.proofs.play.run_play.Goals as goal
 
 pub returns-in_default-clause-runs : goal.returns-in_default-clause-runs

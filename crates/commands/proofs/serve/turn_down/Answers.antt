@@ -1,5 +1,5 @@
 use Rattle.std.proofs.Common.{inr, [], refl}
-use Rattle.trace_server.proofs.Endings.{broken_off}
+use Rattle.trace_server.proofs.ServerEnds.{broken_off}
 use Rattle.commands.proofs.serve.turn_down.Goals as goal
 
 pub returns-in_default : goal.returns-in_default

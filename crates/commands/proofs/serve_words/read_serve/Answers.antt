@@ -1,7 +1,7 @@
 use Rattle.std.proofs.Common.{◌≡◌, IfErr, subst, sym}
 use Rattle.commands.specs.Words.{HasServeOptions, serve_app}
 use Rattle.text_lines.specs.declared.exit_status.ExitStatus.TheVariants.{Usage, OutOfMemory}
-use Rattle.commands.proofs.Accepting.{some_is_no_fault}
+use Rattle.commands.proofs.SubcommandWords.{some_is_no_fault}
 use Rattle.commands.proofs.serve_words.read_serve.Goals as goal
 
 pub returns-clause-accepted : goal.returns-clause-accepted

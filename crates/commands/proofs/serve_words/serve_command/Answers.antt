@@ -2,7 +2,7 @@ use Rattle.std.proofs.Common.{rules, ap, ◌≡◌, ◌∙◌, codes}
 use Rattle.std.proofs.lemmas.Result.{IfOk-weaker}
 use Rattle.clap.specs.Words.{app_of, new_app}
 use Rattle.commands.specs.Words.{with_limits, with_serving}
-use Rattle.commands.proofs.Accepting.{serve_is_simple}
+use Rattle.commands.proofs.SubcommandWords.{serve_is_simple}
 use Rattle.commands.proofs.serve_words.serve_command.Goals as goal
 
 pub returns : goal.returns

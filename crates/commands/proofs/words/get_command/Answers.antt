@@ -2,7 +2,7 @@ use Rattle.std.proofs.Common.{rules, ap, ap₂, ◌≡◌, ◌∙◌, codes}
 use Rattle.std.proofs.lemmas.Result.{IfOk-weaker}
 use Rattle.clap.specs.Words.{app_of, rule_of, new_app, with_rule}
 use Rattle.commands.specs.Words.{with_limits, required_rule}
-use Rattle.commands.proofs.Accepting.{get_is_simple}
+use Rattle.commands.proofs.SubcommandWords.{get_is_simple}
 use Rattle.commands.proofs.words.get_command.Goals as goal
 
 pub returns : goal.returns

@@ -1,11 +1,11 @@
 use Rattle.std.proofs.lemmas.Result.{err_from_is_err_and}
 use Rattle.std.proofs.Common.{rules, ◌≡◌, ◌∙◌, codes, map}
 use Rattle.commands.specs.Words.{TakesLimits, get_app, pipe_app, play_app, serve_app}
-use Rattle.commands.specs.Asked.{Reads, Takes, subcommand_of}
+use Rattle.commands.specs.CommandWords.{ReadsWords, TakesWords, subcommand_of}
 use Rattle.commands.specs.declared.words.Command.TheVariants.{Get, Pipe, Play, Serve}
 use Rattle.text_lines.specs.declared.exit_status.ExitStatus.TheVariants.{OutOfMemory}
-use Rattle.commands.proofs.Accepting.{of_get, of_pipe, of_play, of_serve}
-use Rattle.commands.proofs.Asking.{asked_for, asks_for}
+use Rattle.commands.proofs.SubcommandWords.{of_get, of_pipe, of_play, of_serve}
+use Rattle.commands.proofs.FirstWords.{asked_for, asks_for}
 use Rattle.commands.proofs.words.judge_words.Goals as goal
 
 pub returns-in_err-limits-clause-bad_trace : goal.returns-in_err-limits-clause-bad_trace
@@ -19,7 +19,7 @@ pub returns-in_err-limits-clause-accepted : goal.returns-in_err-limits-clause-ac
 returns-in_err-limits-clause-accepted g c command asks =
     let get : g.S.AsStr.text c.in-Some-first.name.now ≡ codes "get" = search rules in
     let behind = asked_for g.S.AsStr.text c.args.words.now c.in-Some.rest.now c.in-Some.field-0-0.now c.in-Some-first.name.now c.in-Some.ensures.cases.0
-    c.in-Some-first.ensures.value (subcommand_of command) (Takes command) asks in
+    c.in-Some-first.ensures.value (subcommand_of command) (TakesWords command) asks in
     let want : c.in_err-limits.field-0.0 ≡ OutOfMemory =
     of_get (map g.S.AsStr.text c.in-Some.rest.now) _ c.in_err-limits.ensures.accepted command (behind.0 ∙ get) behind.1 in
     search rules
@@ -28,13 +28,13 @@ pub returns-then-eq-clause-asked : goal.returns-then-eq-clause-asked
 returns-then-eq-clause-asked g c =
     let get : g.S.AsStr.text c.in-Some-first.name.now ≡ codes "get" = search rules in
     asks_for g.S.AsStr.text c.args.words.now c.in-Some.rest.now c.in-Some.field-0-0.now c.in-Some-first.name.now c.in-Some.ensures.cases.0
-    c.in-Some-first.ensures.value get_app (Reads (Get c.in_ok-limits.limits c.in_ok-limits.trace)) get c.in_ok-limits.ensures.asked
+    c.in-Some-first.ensures.value get_app (ReadsWords (Get c.in_ok-limits.limits c.in_ok-limits.trace)) get c.in_ok-limits.ensures.asked
 
 pub returns-in_err-limits-2-clause-accepted : goal.returns-in_err-limits-2-clause-accepted
 returns-in_err-limits-2-clause-accepted g c command asks =
     let pipe : g.S.AsStr.text c.in-Some-first.name.now ≡ codes "pipe" = search rules in
     let behind = asked_for g.S.AsStr.text c.args.words.now c.in-Some.rest.now c.in-Some.field-0-0.now c.in-Some-first.name.now c.in-Some.ensures.cases.0
-    c.in-Some-first.ensures.value (subcommand_of command) (Takes command) asks in
+    c.in-Some-first.ensures.value (subcommand_of command) (TakesWords command) asks in
     let p = err_from_is_err_and c.from_residual-in_err-limits-2.result c.from_residual-in_err-limits-2.ensures.1 in
     let want : c.in_err-limits-2.field-0.0 ≡ OutOfMemory =
     of_pipe (map g.S.AsStr.text c.in-Some.rest.now) _
@@ -45,13 +45,13 @@ pub returns-then-eq-2-clause-asked : goal.returns-then-eq-2-clause-asked
 returns-then-eq-2-clause-asked g c =
     let pipe : g.S.AsStr.text c.in-Some-first.name.now ≡ codes "pipe" = search rules in
     asks_for g.S.AsStr.text c.args.words.now c.in-Some.rest.now c.in-Some.field-0-0.now c.in-Some-first.name.now c.in-Some.ensures.cases.0
-    c.in-Some-first.ensures.value pipe_app (Reads (Pipe c.in_ok-limits-2.limits)) pipe (c.in_ok-limits-2.ensures.asked pipe_app c.pipe_command.ensures)
+    c.in-Some-first.ensures.value pipe_app (ReadsWords (Pipe c.in_ok-limits-2.limits)) pipe (c.in_ok-limits-2.ensures.asked pipe_app c.pipe_command.ensures)
 
 pub returns-in_err-limits-3-clause-accepted : goal.returns-in_err-limits-3-clause-accepted
 returns-in_err-limits-3-clause-accepted g c command asks =
     let play : g.S.AsStr.text c.in-Some-first.name.now ≡ codes "play" = search rules in
     let behind = asked_for g.S.AsStr.text c.args.words.now c.in-Some.rest.now c.in-Some.field-0-0.now c.in-Some-first.name.now c.in-Some.ensures.cases.0
-    c.in-Some-first.ensures.value (subcommand_of command) (Takes command) asks in
+    c.in-Some-first.ensures.value (subcommand_of command) (TakesWords command) asks in
     let p = err_from_is_err_and c.from_residual-in_err-limits-3.result c.from_residual-in_err-limits-3.ensures.1 in
     let want : c.in_err-limits-3.field-0.0 ≡ OutOfMemory =
     of_play (map g.S.AsStr.text c.in-Some.rest.now) _
@@ -62,13 +62,13 @@ pub returns-then-eq-3-clause-asked : goal.returns-then-eq-3-clause-asked
 returns-then-eq-3-clause-asked g c =
     let play : g.S.AsStr.text c.in-Some-first.name.now ≡ codes "play" = search rules in
     asks_for g.S.AsStr.text c.args.words.now c.in-Some.rest.now c.in-Some.field-0-0.now c.in-Some-first.name.now c.in-Some.ensures.cases.0
-    c.in-Some-first.ensures.value play_app (Reads (Play c.in_ok-limits-3.limits)) play (c.in_ok-limits-3.ensures.asked play_app c.play_command.ensures)
+    c.in-Some-first.ensures.value play_app (ReadsWords (Play c.in_ok-limits-3.limits)) play (c.in_ok-limits-3.ensures.asked play_app c.play_command.ensures)
 
 pub returns-in_err-options-clause-accepted : goal.returns-in_err-options-clause-accepted
 returns-in_err-options-clause-accepted g c command asks =
     let serve : g.S.AsStr.text c.in-Some-first.name.now ≡ codes "serve" = search rules in
     let behind = asked_for g.S.AsStr.text c.args.words.now c.in-Some.rest.now c.in-Some.field-0-0.now c.in-Some-first.name.now c.in-Some.ensures.cases.0
-    c.in-Some-first.ensures.value (subcommand_of command) (Takes command) asks in
+    c.in-Some-first.ensures.value (subcommand_of command) (TakesWords command) asks in
     let want : c.in_err-options.field-0.0 ≡ OutOfMemory =
     of_serve (map g.S.AsStr.text c.in-Some.rest.now) _ c.in_err-options.ensures.accepted command (behind.0 ∙ serve) behind.1 in
     search rules
@@ -77,4 +77,4 @@ pub returns-then-eq-4-clause-asked : goal.returns-then-eq-4-clause-asked
 returns-then-eq-4-clause-asked g c =
     let serve : g.S.AsStr.text c.in-Some-first.name.now ≡ codes "serve" = search rules in
     asks_for g.S.AsStr.text c.args.words.now c.in-Some.rest.now c.in-Some.field-0-0.now c.in-Some-first.name.now c.in-Some.ensures.cases.0
-    c.in-Some-first.ensures.value serve_app (Reads (Serve c.in_ok-options.options)) serve c.in_ok-options.ensures.asked
+    c.in-Some-first.ensures.value serve_app (ReadsWords (Serve c.in_ok-options.options)) serve c.in_ok-options.ensures.asked

@@ -1,5 +1,5 @@
 use Rattle.std.proofs.Common.{map}
-use Rattle.commands.proofs.Accepting.{takes_as}
+use Rattle.commands.proofs.SubcommandWords.{takes_as}
 use Rattle.commands.proofs.words.matches_of.Goals as goal
 
 pub returns-in-Err-clause-taken : goal.returns-in-Err-clause-taken

@@ -2,7 +2,7 @@ use Rattle.std.proofs.Common.{rules, ap, ◌≡◌, ◌∙◌, codes}
 use Rattle.std.proofs.lemmas.Result.{IfOk-weaker}
 use Rattle.clap.specs.Words.{app_of, new_app}
 use Rattle.commands.specs.Words.{with_limits}
-use Rattle.commands.proofs.Accepting.{play_is_simple}
+use Rattle.commands.proofs.SubcommandWords.{play_is_simple}
 use Rattle.commands.proofs.words.play_command.Goals as goal
 
 pub returns : goal.returns

@@ -2,7 +2,7 @@ use Rattle.std.proofs.Common.{◌∙◌, subst, sym}
 use Rattle.clap.specs.Words.{found_of, rows_of}
 use Rattle.commands.specs.Words.{HasLimits, HasTrace, get_app}
 use Rattle.text_lines.specs.declared.exit_status.ExitStatus.TheVariants.{Usage}
-use Rattle.commands.proofs.Accepting.{ok_is_some, some_is_ok}
+use Rattle.commands.proofs.SubcommandWords.{ok_is_some, some_is_ok}
 use Rattle.commands.proofs.Options.{trace_read, trace_there}
 use Rattle.commands.proofs.words.read_get.Goals as goal
 

@@ -1,7 +1,7 @@
 use Rattle.std.proofs.Common.{◌≡◌, IfErr, subst, sym}
 use Rattle.commands.specs.Words.{HasLimits}
 use Rattle.text_lines.specs.declared.exit_status.ExitStatus.TheVariants.{Usage, OutOfMemory}
-use Rattle.commands.proofs.Accepting.{some_is_no_fault}
+use Rattle.commands.proofs.SubcommandWords.{some_is_no_fault}
 use Rattle.commands.proofs.words.read_limits.Goals as goal
 
 pub returns-clause-accepted : goal.returns-clause-accepted

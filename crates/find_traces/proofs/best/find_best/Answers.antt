@@ -1,6 +1,6 @@
 use Rattle.std.proofs.Common.{rules, ◌≡◌, List, ℕ, subst, IfOk, heap_items}
 use Rattle.jaeger_model.specs.declared.placed.Placed.{Placed}
-use Rattle.find_traces.proofs.Lazy.{ranking_rises, ranking_moved, ranking_found}
+use Rattle.find_traces.proofs.RankingWalk.{ranking_rises, ranking_moved, ranking_found}
 use Rattle.find_traces.proofs.best.find_best.Goals as goal
 
 pub judge_popped-requires : goal.judge_popped-requires

@@ -1,4 +1,4 @@
-use Rattle.find_traces.proofs.Lazy.{ranking}
+use Rattle.find_traces.proofs.RankingWalk.{ranking}
 use Rattle.find_traces.proofs.best.find_best.Given as goal
 
 abbrev pub ghost-judge_popped : goal.ghost-judge_popped

@@ -5,8 +5,8 @@ use Rattle.find_traces.specs.declared.key.Key.{Key}
 use Rattle.trace_model.specs.declared.query.Find.{Find}
 use Rattle.find_traces.specs.Keys.{is_full, found_at, key_place, best_cmp, key_judged}
 use Rattle.find_traces.proofs.Order.{best_total, best_exact}
-use Rattle.find_traces.proofs.Walking.{answer, answer_none, answer_hit, answer_miss, answer_full}
-use Rattle.find_traces.proofs.Popped.{Next, leaves_all, leaves_nothing, popped}
+use Rattle.find_traces.proofs.WalkAnswers.{answer, answer_none, answer_hit, answer_miss, answer_full}
+use Rattle.find_traces.proofs.HeapOrder.{Next, leaves_all, leaves_nothing, popped}
 use Rattle.find_traces.proofs.best.judge_popped.Goals as goal
 use Rattle.find_traces.proofs.best.judge_popped.Goals.{in-Some+then-is_full, in_default}
 

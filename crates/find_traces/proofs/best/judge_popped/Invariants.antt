@@ -2,8 +2,8 @@ use Rattle.std.proofs.Common.{◌≡◌, List, ◌++◌, heap_items, heap_len}
 use Rattle.std.specs.BinaryHeap.{IsHeap}
 use Rattle.find_traces.specs.declared.key.Key.{Key}
 use Rattle.find_traces.specs.Keys.{key_place, key_cmp, best_cmp, key_judged}
-use Rattle.find_traces.proofs.Walking.{answer}
-use Rattle.find_traces.proofs.Popped.{Leaves}
+use Rattle.find_traces.proofs.WalkAnswers.{answer}
+use Rattle.find_traces.proofs.HeapOrder.{Leaves}
 use Rattle.find_traces.proofs.best.judge_popped.Given as goal
 
 abbrev pub invariant-loop-key : goal.invariant-loop-key

@@ -1,6 +1,6 @@
 use Rattle.std.proofs.Common.{◌∙◌, ◌||◌, ◌&&◌, ap}
-use Rattle.find_traces.specs.Wanting.{is_in, wants, has_pair}
-use Rattle.find_traces.proofs.Wanting.{log_more}
+use Rattle.find_traces.specs.RequestedPairs.{is_in, wants, has_pair}
+use Rattle.find_traces.proofs.RequestedPairs.{log_more}
 use Rattle.find_traces.proofs.judged_process.add_fields.Goals as goal
 
 pub loop-log-preserved : goal.loop-log-preserved

@@ -1,6 +1,6 @@
 use Rattle.std.proofs.Common.{◌≡◌, ◌||◌, ◌&&◌, ℕ, List, take}
-use Rattle.find_traces.specs.Wanting.{is_in, wants, has_pair}
-use Rattle.find_traces.proofs.Wanting.{fields_of}
+use Rattle.find_traces.specs.RequestedPairs.{is_in, wants, has_pair}
+use Rattle.find_traces.proofs.RequestedPairs.{fields_of}
 use Rattle.find_traces.proofs.judged_process.add_fields.Given as goal
 
 abbrev pub invariant-loop-log : goal.invariant-loop-log

@@ -1,6 +1,6 @@
 use Rattle.std.proofs.Common.{◌∙◌, ap, sym, true, cond}
-use Rattle.find_traces.specs.Wanting.{pair_of, same_pair, is_in}
-use Rattle.find_traces.proofs.Wanting.{met_put, met_same, asked_some, asked_none, wants_new, wants_old, wants_none}
+use Rattle.find_traces.specs.RequestedPairs.{pair_of, same_pair, is_in}
+use Rattle.find_traces.proofs.RequestedPairs.{met_put, met_same, asked_some, asked_none, wants_new, wants_old, wants_none}
 use Rattle.find_traces.proofs.judged_process.add_pair.Goals as goal
 
 pub returns-in_ok-insert : goal.returns-in_ok-insert

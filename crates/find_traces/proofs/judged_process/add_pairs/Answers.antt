@@ -1,7 +1,7 @@
 use Rattle.std.proofs.Common.{◌∙◌}
 use Rattle.jaeger_model.specs.Tags.{tag_text}
-use Rattle.find_traces.specs.Wanting.{pair_of}
-use Rattle.find_traces.proofs.Wanting.{met_same, tag_more, wants_none}
+use Rattle.find_traces.specs.RequestedPairs.{pair_of}
+use Rattle.find_traces.proofs.RequestedPairs.{met_same, tag_more, wants_none}
 use Rattle.find_traces.proofs.judged_process.add_pairs.Goals as goal
 use Rattle.find_traces.proofs.judged_process.add_pairs.Goals.{then-may_request_key+in_ok-add_pair, else-may_request_key}
 

@@ -1,5 +1,5 @@
 use Rattle.std.proofs.Common.{◌≡◌, ◌||◌, ◌&&◌, ℕ, List, take}
-use Rattle.find_traces.specs.Wanting.{is_in, wants, has_pair}
+use Rattle.find_traces.specs.RequestedPairs.{is_in, wants, has_pair}
 use Rattle.find_traces.proofs.judged_process.add_pairs.Given as goal
 
 abbrev pub invariant-loop-tag : goal.invariant-loop-tag

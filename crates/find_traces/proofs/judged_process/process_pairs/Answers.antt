@@ -1,7 +1,7 @@
 use Rattle.std.proofs.Common.{◌∙◌, ◌&&◌, ap, sym}
 use Rattle.std.specs.List.{list_any}
 use Rattle.std.proofs.lemmas.Bool.{OnTrue_at}
-use Rattle.find_traces.specs.Wanting.{same_pair, is_in, has_pair}
+use Rattle.find_traces.specs.RequestedPairs.{same_pair, is_in, has_pair}
 use Rattle.find_traces.proofs.judged_process.process_pairs.Goals as goal
 
 pub returns-then-has_no_pairs : goal.returns-then-has_no_pairs

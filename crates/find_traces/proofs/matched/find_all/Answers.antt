@@ -7,7 +7,7 @@ use Rattle.find_traces.specs.declared.key.Key.{Key}
 use Rattle.std.specs.declared.cmp.Reverse.{Reverse}
 use Rattle.find_traces.specs.Places.{hits, start_of}
 use Rattle.find_traces.specs.Keys.{reverse_key_of, reverse_key_place}
-use Rattle.find_traces.proofs.Sorting.{sorted_hits}
+use Rattle.find_traces.proofs.SortedTraces.{sorted_hits}
 use Rattle.find_traces.proofs.Found.{places_of_hits}
 use Rattle.find_traces.proofs.matched.find_all.Goals as goal
 

@@ -1,7 +1,7 @@
 use Rattle.std.proofs.Common.{◌∙◌, ap, bit_or}
 use Rattle.std.proofs.lemmas.List.{take_all}
-use Rattle.find_traces.specs.Wanting.{key_bits}
-use Rattle.find_traces.proofs.Wanting.{bits_put}
+use Rattle.find_traces.specs.RequestedPairs.{key_bits}
+use Rattle.find_traces.proofs.RequestedPairs.{bits_put}
 use Rattle.find_traces.proofs.prepared.key_bits.Goals as goal
 
 pub loop-pair-preserved : goal.loop-pair-preserved

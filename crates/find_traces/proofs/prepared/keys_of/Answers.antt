@@ -1,5 +1,5 @@
 use Rattle.std.proofs.Common.{rules}
-use Rattle.find_traces.proofs.Wanting.{text_laws, put_more}
+use Rattle.find_traces.proofs.RequestedPairs.{text_laws, put_more}
 use Rattle.find_traces.proofs.prepared.keys_of.Goals as goal
 
 pub loop-pair-preserved : goal.loop-pair-preserved

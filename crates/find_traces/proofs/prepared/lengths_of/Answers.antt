@@ -1,5 +1,5 @@
 use Rattle.std.proofs.Common.{length, rules}
-use Rattle.find_traces.proofs.Wanting.{length_laws, put_more}
+use Rattle.find_traces.proofs.RequestedPairs.{length_laws, put_more}
 use Rattle.find_traces.proofs.prepared.lengths_of.Goals as goal
 
 pub loop-pair-preserved : goal.loop-pair-preserved

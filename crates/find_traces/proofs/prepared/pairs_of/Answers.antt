@@ -1,4 +1,4 @@
-use Rattle.find_traces.proofs.Wanting.{pair_laws, put_more}
+use Rattle.find_traces.proofs.RequestedPairs.{pair_laws, put_more}
 use Rattle.find_traces.proofs.prepared.pairs_of.Goals as goal
 
 pub loop-pair-preserved : goal.loop-pair-preserved

@@ -1,6 +1,6 @@
 use Rattle.std.proofs.Common.{◌≡◌, ℕ, List, take}
 use Rattle.std.specs.List.{list_any}
-use Rattle.find_traces.specs.Wanting.{same_pair, is_in}
+use Rattle.find_traces.specs.RequestedPairs.{same_pair, is_in}
 use Rattle.find_traces.proofs.prepared.pairs_of.Given as goal
 
 abbrev pub invariant-loop-pair : goal.invariant-loop-pair

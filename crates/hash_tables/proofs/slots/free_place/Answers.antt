@@ -1,6 +1,6 @@
 use Rattle.std.proofs.Common.{subst, arith}
-use Rattle.hash_tables.specs.Leading.{AreTaken}
-use Rattle.hash_tables.proofs.Walking.{never_all}
+use Rattle.hash_tables.specs.RowPlaces.{AreTaken}
+use Rattle.hash_tables.proofs.PlaceWalks.{never_all}
 use Rattle.hash_tables.proofs.slots.free_place.Goals as goal
 
 pub unreachable-requires : goal.unreachable-requires

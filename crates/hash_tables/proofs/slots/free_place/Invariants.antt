@@ -1,5 +1,5 @@
 use Rattle.std.proofs.Common.{◌≡◌, ◌<◌, length}
-use Rattle.hash_tables.specs.Leading.{steps, AreTaken}
+use Rattle.hash_tables.specs.RowPlaces.{steps, AreTaken}
 use Rattle.hash_tables.proofs.slots.free_place.Given as goal
 
 abbrev pub invariant-loop-passed : goal.invariant-loop-passed

@@ -1,7 +1,7 @@
 use Rattle.std.proofs.Common.{◌+◌, ◌++◌, ◌∷◌, [], ℕ, length, subst, arith}
 use Rattle.std.proofs.Math.ListN.{set}
-use Rattle.hash_tables.specs.Leading.{steps, AreTaken, LeadsIn}
-use Rattle.hash_tables.proofs.Marking.{leads_more}
+use Rattle.hash_tables.specs.RowPlaces.{steps, AreTaken, LeadsIn}
+use Rattle.hash_tables.proofs.MarkedRows.{leads_more}
 use Rattle.hash_tables.proofs.slots.mark_row.Goals as goal
 
 pub returns-clause-leads : goal.returns-clause-leads

@@ -1,6 +1,6 @@
 use Rattle.std.proofs.Common.{◌≡◌, ◌<◌, length}
-use Rattle.hash_tables.specs.Leading.{steps, EachBefore}
-use Rattle.hash_tables.proofs.Walking.{IsPassed}
+use Rattle.hash_tables.specs.RowPlaces.{steps, EachBefore}
+use Rattle.hash_tables.proofs.PlaceWalks.{IsPassed}
 use Rattle.hash_tables.proofs.slots.walk.Given as goal
 
 abbrev pub invariant-loop-passed : goal.invariant-loop-passed

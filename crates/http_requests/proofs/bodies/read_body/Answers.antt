@@ -1,6 +1,6 @@
 use Rattle.std.proofs.Common.{◌∙◌, refl, sym}
 use Rattle.std.proofs.lemmas.Result.{err_from_is_err_and}
-use Rattle.http_requests.specs.Waiting.{source_of}
+use Rattle.http_requests.specs.AwaitedReads.{source_of}
 use Rattle.http_requests.proofs.Parts.{has_looked}
 use Rattle.http_requests.proofs.PartByPart.{begins_body, more_body, malformed_body, ended_body, body_read_on, body_stops_there}
 use Rattle.http_requests.proofs.bodies.read_body.Goals as goal

@@ -1,6 +1,6 @@
 use Rattle.std.proofs.Common.{◌≡◌}
-use Rattle.http_requests.specs.InParts.{HasLooked, TakesPart}
-use Rattle.http_requests.specs.Waiting.{source_of}
+use Rattle.http_requests.specs.PartialRequests.{HasLooked, TakesPart}
+use Rattle.http_requests.specs.AwaitedReads.{source_of}
 use Rattle.http_requests.proofs.bodies.read_body.Given as goal
 
 abbrev pub invariant-reads : goal.invariant-reads

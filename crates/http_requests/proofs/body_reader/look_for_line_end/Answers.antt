@@ -1,5 +1,5 @@
 use Rattle.std.proofs.Common.{sym, ◌∙◌}
-use Rattle.http_requests.proofs.Chunking.{awaits_line_end}
+use Rattle.http_requests.proofs.ChunkParts.{awaits_line_end}
 use Rattle.http_requests.proofs.body_reader.look_for_line_end.Goals as goal
 
 pub returns-then-may_begin_line_end : goal.returns-then-may_begin_line_end

@@ -1,4 +1,4 @@
-use Rattle.http_requests.proofs.Once.{head_once}
+use Rattle.http_requests.proofs.OneRequest.{head_once}
 use Rattle.http_requests.proofs.laws.a_head_is_read_in_one_way.Goals as goal
 
 pub returns : goal.returns

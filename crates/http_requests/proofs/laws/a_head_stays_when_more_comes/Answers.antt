@@ -1,4 +1,4 @@
-use Rattle.http_requests.proofs.Once.{head_stays}
+use Rattle.http_requests.proofs.OneRequest.{head_stays}
 use Rattle.http_requests.proofs.laws.a_head_stays_when_more_comes.Goals as goal
 
 pub returns : goal.returns

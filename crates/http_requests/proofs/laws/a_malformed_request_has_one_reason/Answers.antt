@@ -1,4 +1,4 @@
-use Rattle.http_requests.proofs.Once.{piece_one_bad_request}
+use Rattle.http_requests.proofs.OneRequest.{piece_one_bad_request}
 use Rattle.http_requests.proofs.laws.a_malformed_request_has_one_reason.Goals as goal
 
 pub returns : goal.returns

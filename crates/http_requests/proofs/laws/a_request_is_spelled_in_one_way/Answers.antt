@@ -1,4 +1,4 @@
-use Rattle.http_requests.proofs.Once.{request_once}
+use Rattle.http_requests.proofs.OneRequest.{request_once}
 use Rattle.http_requests.proofs.laws.a_request_is_spelled_in_one_way.Goals as goal
 
 pub returns : goal.returns

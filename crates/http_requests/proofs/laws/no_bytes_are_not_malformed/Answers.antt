@@ -1,4 +1,4 @@
-use Rattle.http_requests.proofs.Once.{nothing_is_no_bad_request}
+use Rattle.http_requests.proofs.OneRequest.{nothing_is_no_bad_request}
 use Rattle.http_requests.proofs.laws.no_bytes_are_not_malformed.Goals as goal
 
 pub returns : goal.returns

@@ -1,11 +1,11 @@
 use Rattle.std.proofs.Common.{◌∙◌, ℕ, ◌≤◌, length, take, refl, sym, subst, arith}
 use Rattle.http_requests.specs.Heads.{AwaitsHead}
-use Rattle.http_requests.specs.InParts.{HasSeen}
+use Rattle.http_requests.specs.PartialRequests.{HasSeen}
 use Rattle.http_requests.specs.LineLaws.{no_bytes_await}
-use Rattle.http_requests.specs.Waiting.{source_of}
+use Rattle.http_requests.specs.AwaitedReads.{source_of}
 use Rattle.http_requests.specs.declared.reading.HeadWait.{HeadWait}
 use Rattle.http_requests.proofs.Readings.{nothing_yet, reads_more, seen_stays, fits_still}
-use Rattle.http_requests.proofs.Wholes.{finds_head}
+use Rattle.http_requests.proofs.WholeRequests.{finds_head}
 use Rattle.http_requests.proofs.reading.next_head.Goals as goal
 
 pub reads-init : goal.reads-init

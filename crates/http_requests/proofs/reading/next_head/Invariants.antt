@@ -1,8 +1,8 @@
 use Rattle.std.proofs.Common.{◌≡◌}
 use Rattle.http_requests.specs.Heads.{AwaitsHead}
-use Rattle.http_requests.specs.InParts.{HasSeen}
-use Rattle.http_requests.specs.Waiting.{source_of}
-use Rattle.http_requests.specs.Receiving.{ReadsOnWhile}
+use Rattle.http_requests.specs.PartialRequests.{HasSeen}
+use Rattle.http_requests.specs.AwaitedReads.{source_of}
+use Rattle.http_requests.specs.ReceivedBytes.{ReadsOnWhile}
 use Rattle.http_requests.proofs.reading.next_head.Given as goal
 
 abbrev pub invariant-reads : goal.invariant-reads

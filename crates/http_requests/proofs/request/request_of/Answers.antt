@@ -1,8 +1,8 @@
 use Rattle.std.proofs.Common.{◌≡◌, ◌==◌, ◌||◌, map, length, take, drop, slice_range, sym, ap, ◌∙◌, arith, length-append}
 use Rattle.httparse.specs.Grammar.{print_request}
 use Rattle.httparse.specs.Spans.{header_bytes}
-use Rattle.http_requests.specs.Asked.{pairs_of, method_of, has_batch_type, closes_by, body_by}
-use Rattle.http_requests.proofs.Wholes.{target_is, same_asked}
+use Rattle.http_requests.specs.HeadContents.{pairs_of, method_of, has_batch_type, closes_by, body_by}
+use Rattle.http_requests.proofs.WholeRequests.{target_is, same_asked}
 use Rattle.http_requests.proofs.request.request_of.Goals as goal
 
 pub returns : goal.returns

@@ -1,6 +1,6 @@
-use Rattle.http_session.specs.Between.{store_of}
-use Rattle.http_session.proofs.Turns.{two_way}
-use Rattle.http_session.proofs.Piecewise.{begins_alone, can_begin}
+use Rattle.http_session.specs.SessionRuns.{store_of}
+use Rattle.http_session.proofs.SessionTurns.{two_way}
+use Rattle.http_session.proofs.SessionPieces.{begins_alone, can_begin}
 use Rattle.http_session.proofs.exchanges.run_session.Goals as goal
 
 pub requests-init : goal.requests-init

@@ -1,8 +1,8 @@
 use Rattle.std.proofs.Common.{◌≡◌, ◌*◌, ◌-◌, false}
 use Rattle.session_devices.specs.declared.limits.TheConstants.{MAX_READS}
 use Rattle.http_requests.specs.declared.room.TheConstants.{PIECE}
-use Rattle.http_session.specs.InOrder.{line_of}
-use Rattle.http_session.specs.Between.{store_of}
+use Rattle.http_session.specs.ResponseOrder.{line_of}
+use Rattle.http_session.specs.SessionRuns.{store_of}
 use Rattle.http_session.specs.Pieces.{Underway, CanContinue}
 use Rattle.http_session.proofs.exchanges.run_session.Given as goal
 

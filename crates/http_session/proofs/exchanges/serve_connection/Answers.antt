@@ -1,5 +1,5 @@
-use Rattle.http_session.proofs.Turns.{two_way, fails_to_begin}
-use Rattle.http_session.proofs.Points.{related_all}
+use Rattle.http_session.proofs.SessionTurns.{two_way, fails_to_begin}
+use Rattle.http_session.proofs.HistoryPoints.{related_all}
 use Rattle.http_session.proofs.exchanges.serve_connection.Goals as goal
 
 pub returns-in_default-clause-error : goal.returns-in_default-clause-error

@@ -1,5 +1,5 @@
 use Rattle.std.proofs.Common.{◌∙◌, ap, inl, inr}
-use Rattle.http_session.proofs.Awaiting.{reads_alone, acts_left}
+use Rattle.http_session.proofs.ConnectionSteps.{reads_alone, acts_left}
 use Rattle.http_session.proofs.exchanges.serve_joined.Goals as goal
 
 pub returns-in-Ok-clause-ended : goal.returns-in-Ok-clause-ended

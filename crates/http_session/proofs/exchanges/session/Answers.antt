@@ -1,5 +1,5 @@
 use Rattle.std.proofs.Common.{◌≡◌, rules, subst₂}
-use Rattle.http_session.specs.Between.{store_of, devices_of, EndsBetween, FailsBetween}
+use Rattle.http_session.specs.SessionRuns.{store_of, devices_of, EndsBetween, FailsBetween}
 use Rattle.http_session.proofs.exchanges.session.Goals as goal
 
 -- the connection began with the devices, and they are what it ended with

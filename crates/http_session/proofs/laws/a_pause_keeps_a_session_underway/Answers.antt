@@ -1,5 +1,5 @@
-use Rattle.http_session.specs.InOrder.{line_of}
-use Rattle.http_session.proofs.Piecewise.{promises_of, others_submit, others_read, others_go_on, others_forget_nothing}
+use Rattle.http_session.specs.ResponseOrder.{line_of}
+use Rattle.http_session.proofs.SessionPieces.{promises_of, others_submit, others_read, others_go_on, others_forget_nothing}
 use Rattle.http_session.proofs.laws.a_pause_keeps_a_session_underway.Goals as goal
 
 pub returns-clause-submits : goal.returns-clause-submits

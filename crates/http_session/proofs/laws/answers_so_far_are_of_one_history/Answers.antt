@@ -1,5 +1,5 @@
-use Rattle.http_session.specs.InOrder.{line_of}
-use Rattle.http_session.proofs.Piecewise.{promises_of, answers_of_one_history}
+use Rattle.http_session.specs.ResponseOrder.{line_of}
+use Rattle.http_session.proofs.SessionPieces.{promises_of, answers_of_one_history}
 use Rattle.http_session.proofs.laws.answers_so_far_are_of_one_history.Goals as goal
 
 pub returns : goal.returns

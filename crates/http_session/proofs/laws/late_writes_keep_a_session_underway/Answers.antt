@@ -1,6 +1,6 @@
-use Rattle.http_session.specs.InOrder.{line_of}
-use Rattle.http_session.proofs.Turns.{two_way}
-use Rattle.http_session.proofs.Piecewise.{promises_of, outlasts_writes}
+use Rattle.http_session.specs.ResponseOrder.{line_of}
+use Rattle.http_session.proofs.SessionTurns.{two_way}
+use Rattle.http_session.proofs.SessionPieces.{promises_of, outlasts_writes}
 use Rattle.http_session.proofs.laws.late_writes_keep_a_session_underway.Goals as goal
 
 pub returns : goal.returns

@@ -1,4 +1,4 @@
-use Rattle.http_session.proofs.Judging.{asks_query}
+use Rattle.http_session.proofs.HeadQuestions.{asks_query}
 use Rattle.http_session.proofs.question.question_of.Goals as goal
 
 pub returns-in-Ok-clause-asks : goal.returns-in-Ok-clause-asks

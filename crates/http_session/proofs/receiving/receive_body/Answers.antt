@@ -1,5 +1,5 @@
 use Rattle.std.proofs.Common.{refl, subst}
-use Rattle.http_session.specs.Incoming.{HasReceived}
+use Rattle.http_session.specs.IncomingRequests.{HasReceived}
 use Rattle.http_session.specs.declared.receiving.SessionStage.{SessionStage}
 use Rattle.http_session.specs.declared.receiving.SessionStage.TheVariants.{Body}
 use Rattle.http_session.proofs.IncomingParts.{receives_finished}

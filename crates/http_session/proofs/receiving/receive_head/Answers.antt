@@ -1,6 +1,6 @@
 use Rattle.std.proofs.Common.{take, sym, subst}
-use Rattle.http_requests.specs.Receiving.{ReadBuffer}
-use Rattle.http_session.specs.Incoming.{HasReceived, ReceivesOf}
+use Rattle.http_requests.specs.ReceivedBytes.{ReadBuffer}
+use Rattle.http_session.specs.IncomingRequests.{HasReceived, ReceivesOf}
 use Rattle.http_session.specs.declared.receiving.SessionStage.{SessionStage}
 use Rattle.http_session.proofs.IncomingParts.{begins_request, cut_back}
 use Rattle.http_session.proofs.receiving.receive_head.Goals as goal

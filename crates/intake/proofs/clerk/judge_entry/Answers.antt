@@ -1,5 +1,5 @@
 use Rattle.std.proofs.Common.{rules}
-use Rattle.intake.proofs.Denying.{turned-away}
+use Rattle.intake.proofs.TrueDenials.{turned-away}
 use Rattle.intake.proofs.clerk.judge_entry.Goals as goal
 
 pub returns-in_default-clause-denied : goal.returns-in_default-clause-denied

@@ -3,7 +3,7 @@ use Rattle.std.specs.Arc.{arc_value}
 use Rattle.std.specs.List.{range_with_len}
 use Rattle.crossbeam_queue.specs.Passes.{ruled_capacity}
 use Rattle.intake.proofs.Steps.{empty, seats}
-use Rattle.intake.proofs.Seating.{seated-on}
+use Rattle.intake.proofs.NewSeats.{seated-on}
 use Rattle.intake.proofs.opening.desk.Goals as goal
 
 pub ruled-requires-clause-rule : goal.ruled-requires-clause-rule

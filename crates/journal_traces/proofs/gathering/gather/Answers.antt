@@ -1,11 +1,11 @@
 use Rattle.std.proofs.Common.{◌≡◌, ◌∙◌, ◌++◌, ◌∷◌, [], sym, ap, Some, None, Option}
 use Rattle.jaeger_model.specs.declared.placed.Placed.{Placed}
-use Rattle.trace_model.specs.Keeping.{spans_there}
+use Rattle.trace_model.specs.KeptTraces.{spans_there}
 use Rattle.trace_model.proofs.KeptSpans.{one_more}
-use Rattle.trace_assembly.specs.Located.{span_at}
-use Rattle.journal_traces.specs.Standing.{spans_named}
+use Rattle.trace_assembly.specs.LocatedSpans.{span_at}
+use Rattle.journal_traces.specs.SpansAtSpots.{spans_named}
 use Rattle.journal_traces.proofs.Processes.{process_there, more_at}
-use Rattle.journal_traces.proofs.Spots.{named_some, named_none, named_end}
+use Rattle.journal_traces.proofs.SpansAtSpots.{named_some, named_none, named_end}
 use Rattle.journal_traces.proofs.StoredSpans.{not_kept, kept_there}
 use Rattle.journal_traces.proofs.gathering.gather.Goals as goal
 

@@ -2,9 +2,9 @@ use Rattle.std.proofs.Common.{◌≡◌, ◌≤◌, ◌<◌, ◌∙◌, ◌++◌
 use Rattle.std.specs.Prelude.{filter, int_lt}
 use Rattle.std.proofs.lemmas.Int.{to_z-of_z}
 use Rattle.std.proofs.lemmas.List.{take_all, take_more, map_push}
-use Rattle.trace_assembly.specs.Rows.{spots_of}
-use Rattle.journal_traces.proofs.Spots.{no_id}
-use Rattle.trace_ring.specs.Starting.{places_after}
+use Rattle.trace_assembly.specs.AssembledRows.{spots_of}
+use Rattle.journal_traces.proofs.SpansAtSpots.{no_id}
+use Rattle.trace_ring.specs.FirstStarts.{places_after}
 use Rattle.journal_traces.proofs.LateTraces.{placed, within}
 use Rattle.journal_traces.proofs.latest_candidates.spots_after.Goals as goal
 

@@ -1,6 +1,6 @@
 use Rattle.std.proofs.Common.{◌≡◌, map, take, get_or}
-use Rattle.journal_traces.proofs.Spots.{no_id}
-use Rattle.trace_assembly.specs.Rows.{spots_of}
+use Rattle.journal_traces.proofs.SpansAtSpots.{no_id}
+use Rattle.trace_assembly.specs.AssembledRows.{spots_of}
 use Rattle.journal_traces.proofs.latest_candidates.spots_after.Given as goal
 
 abbrev pub invariant-loop-place : goal.invariant-loop-place

@@ -1,6 +1,6 @@
 use Rattle.std.proofs.Common.{◌∙◌, take}
-use Rattle.arrival_journal.specs.Tagging.{tag_place, with_bit}
-use Rattle.journal_traces.specs.Pruned.{requested_bits}
+use Rattle.arrival_journal.specs.TagBits.{tag_place, with_bit}
+use Rattle.journal_traces.specs.SkippedEntries.{requested_bits}
 use Rattle.journal_traces.proofs.TagMasks.{mask_more}
 use Rattle.journal_traces.proofs.pruning.requested_bits.Goals as goal
 

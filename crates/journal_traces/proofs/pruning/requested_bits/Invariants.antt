@@ -1,5 +1,5 @@
 use Rattle.std.proofs.Common.{◌≡◌, take}
-use Rattle.journal_traces.specs.Pruned.{requested_bits}
+use Rattle.journal_traces.specs.SkippedEntries.{requested_bits}
 use Rattle.journal_traces.proofs.pruning.requested_bits.Given as goal
 
 abbrev pub invariant-loop-pair : goal.invariant-loop-pair

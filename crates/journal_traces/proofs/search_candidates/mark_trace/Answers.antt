@@ -1,5 +1,5 @@
 use Rattle.std.proofs.Common.{◌∙◌, sym, arith, ◌<◌, length}
-use Rattle.trace_ring.proofs.Ringing.{row_within}
+use Rattle.trace_ring.proofs.RingPlaces.{row_within}
 use Rattle.journal_traces.proofs.TraceMarks.{marked_put, marked_absent}
 use Rattle.journal_traces.proofs.search_candidates.mark_trace.Goals as goal
 

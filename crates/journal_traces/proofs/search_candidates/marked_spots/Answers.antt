@@ -1,8 +1,8 @@
 use Rattle.std.proofs.Common.{◌∙◌, ◌++◌, ◌∷◌, ◌<◌, [], false, sym, ap, length, arith}
-use Rattle.trace_ring.specs.Windows.{RingValue}
-use Rattle.trace_assembly.specs.Rows.{spots_of}
+use Rattle.trace_ring.specs.RingValues.{RingValue}
+use Rattle.trace_assembly.specs.AssembledRows.{spots_of}
 use Rattle.journal_traces.proofs.TraceMarks.{mark_read, picked, passed}
-use Rattle.journal_traces.proofs.Spots.{no_id}
+use Rattle.journal_traces.proofs.SpansAtSpots.{no_id}
 use Rattle.journal_traces.proofs.search_candidates.marked_spots.Goals as goal
 use Rattle.journal_traces.proofs.search_candidates.marked_spots.Goals.{then-marks-place+in_ok-push, else-marks-place}
 

@@ -1,7 +1,7 @@
 use Rattle.std.proofs.Common.{◌≡◌, Bool, map, take}
 use Rattle.std.specs.Prelude.{filter}
 use Rattle.jaeger_model.specs.declared.ids.TraceId.{TraceId}
-use Rattle.trace_assembly.specs.Rows.{spots_of}
+use Rattle.trace_assembly.specs.AssembledRows.{spots_of}
 use Rattle.journal_traces.proofs.search_candidates.marked_spots.Given as goal
 
 abbrev pub invariant-loop-place : goal.invariant-loop-place

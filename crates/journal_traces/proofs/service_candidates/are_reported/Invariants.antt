@@ -1,7 +1,7 @@
 use Rattle.std.proofs.Common.{◌≡◌}
-use Rattle.journal_traces.specs.Reporting.{are_reported}
+use Rattle.journal_traces.specs.ReportedSpots.{are_reported}
 use Rattle.journal_traces.proofs.service_candidates.are_reported.Given as goal
 
 abbrev pub invariant-loop-spot : goal.invariant-loop-spot
 invariant-loop-spot l =
-    are_reported l.journal.held.entries l.reported.groups l.service l.spot-iterator ≡ are_reported l.journal.held.entries l.reported.groups l.service l.fn.spots
+    are_reported l.journal.held.entries l.reported.service_numbers l.service l.spot-iterator ≡ are_reported l.journal.held.entries l.reported.service_numbers l.service l.fn.spots

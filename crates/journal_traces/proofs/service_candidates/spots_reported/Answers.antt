@@ -1,18 +1,18 @@
 use Rattle.std.proofs.Common.{◌≡◌, ◌∙◌, ◌++◌, ◌∷◌, ◌<◌, [], Bool, List, get_or, sym, ap, length, arith}
 use Rattle.jaeger_model.specs.declared.ids.TraceId.{TraceId}
-use Rattle.trace_ring.specs.Windows.{RingValue}
+use Rattle.trace_ring.specs.RingValues.{RingValue}
 use Rattle.trace_assembly.specs.declared.spot.Spot.{Spot}
-use Rattle.trace_assembly.specs.Rows.{spots_of}
-use Rattle.journal_traces.specs.Reporting.{are_reported}
+use Rattle.trace_assembly.specs.AssembledRows.{spots_of}
+use Rattle.journal_traces.specs.ReportedSpots.{are_reported}
 use Rattle.journal_traces.proofs.TraceMarks.{picked, passed}
-use Rattle.journal_traces.proofs.Spots.{no_id}
+use Rattle.journal_traces.proofs.SpansAtSpots.{no_id}
 use Rattle.journal_traces.proofs.service_candidates.spots_reported.Goals as goal
 use Rattle.journal_traces.proofs.service_candidates.spots_reported.Goals.{then-are_reported+in_ok-push, else-are_reported}
 
 pub loop-place-preserved : goal.loop-place-preserved
 loop-place-preserved c =
     let f = spots_of c.args.assembly.now in
-    let own : List Spot → Bool = are_reported c.args.journal.now.held.entries c.args.reported.now.groups c.args.service in
+    let own : List Spot → Bool = are_reported c.args.journal.now.held.entries c.args.reported.now.service_numbers c.args.service in
     let p : TraceId → Bool = λ t. own (f t) in
     let ids = c.args.assembly.now.newest.ids in
     let i = c.loop-place.place in

@@ -1,10 +1,10 @@
 use Rattle.std.proofs.Common.{◌≡◌, map, take}
 use Rattle.std.specs.Prelude.{filter}
-use Rattle.trace_assembly.specs.Rows.{spots_of}
-use Rattle.journal_traces.specs.Reporting.{are_reported}
+use Rattle.trace_assembly.specs.AssembledRows.{spots_of}
+use Rattle.journal_traces.specs.ReportedSpots.{are_reported}
 use Rattle.journal_traces.proofs.service_candidates.spots_reported.Given as goal
 
 abbrev pub invariant-loop-place : goal.invariant-loop-place
 invariant-loop-place l =
     l.found.items ≡ map (spots_of l.assembly)
-    (filter (λ t. are_reported l.journal.held.entries l.reported.groups l.service (spots_of l.assembly t)) (take l.place l.assembly.newest.ids))
+    (filter (λ t. are_reported l.journal.held.entries l.reported.service_numbers l.service (spots_of l.assembly t)) (take l.place l.assembly.newest.ids))

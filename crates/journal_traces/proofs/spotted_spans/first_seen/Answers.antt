@@ -1,7 +1,7 @@
 use Rattle.std.proofs.Common.{◌∙◌, sym, ap}
 use Rattle.std.specs.Prelude.{slice_get}
-use Rattle.journal_traces.specs.Standing.{spans_named}
-use Rattle.journal_traces.proofs.Spots.{first_none}
+use Rattle.journal_traces.specs.SpansAtSpots.{spans_named}
+use Rattle.journal_traces.proofs.SpansAtSpots.{first_none}
 use Rattle.journal_traces.proofs.spotted_spans.first_seen.Goals as goal
 
 pub loop-spot-preserved : goal.loop-spot-preserved

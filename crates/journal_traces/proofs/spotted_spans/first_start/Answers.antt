@@ -1,7 +1,7 @@
 use Rattle.std.proofs.Common.{rules, ◌≡◌, ◌∙◌}
 use Rattle.trace_model.specs.Searching.{first_start}
-use Rattle.journal_traces.specs.Standing.{spans_named}
-use Rattle.journal_traces.proofs.Spots.{first_starts, no_start}
+use Rattle.journal_traces.specs.SpansAtSpots.{spans_named}
+use Rattle.journal_traces.proofs.SpansAtSpots.{first_starts, no_start}
 use Rattle.journal_traces.proofs.spotted_spans.first_start.Goals as goal
 
 pub returns-in-Some : goal.returns-in-Some

@@ -2,9 +2,9 @@ use Rattle.std.proofs.Common.{◌≡◌, ◌∙◌, [], ◌∷◌, w64, sym, fal
 use Rattle.std.specs.List.{list_any}
 use Rattle.std.proofs.lemmas.Bool.{OnTrue_from, not-true}
 use Rattle.std.proofs.lemmas.Int.{to_z-of_z}
-use Rattle.trace_model.specs.Linking.{in_window}
-use Rattle.journal_traces.specs.Standing.{spans_named}
-use Rattle.journal_traces.proofs.Windows.{none_starts}
+use Rattle.trace_model.specs.ServiceLinks.{in_window}
+use Rattle.journal_traces.specs.SpansAtSpots.{spans_named}
+use Rattle.journal_traces.proofs.WindowBounds.{none_starts}
 use Rattle.journal_traces.proofs.spotted_spans.is_outside.Goals as goal
 
 pub returns-in-Some : goal.returns-in-Some

@@ -1,8 +1,8 @@
 use Rattle.std.proofs.Common.{◌∙◌, sym, ap, true, false}
 use Rattle.std.specs.List.{list_any}
 use Rattle.std.proofs.lemmas.List.{take_all}
-use Rattle.journal_traces.specs.Picked.{meets}
-use Rattle.journal_traces.proofs.Spotting.{none_yet, one_now, batch_met}
+use Rattle.journal_traces.specs.MatchingSpans.{meets}
+use Rattle.journal_traces.proofs.TracesAtSpots.{none_yet, one_now, batch_met}
 use Rattle.journal_traces.proofs.tag_candidates.is_batch_met.Goals as goal
 
 pub loop-span-preserved : goal.loop-span-preserved

@@ -1,7 +1,7 @@
 use Rattle.std.proofs.Common.{◌≡◌, false, take}
 use Rattle.std.specs.List.{list_any}
-use Rattle.journal_traces.specs.Meeting.{IsJudgedAs}
-use Rattle.journal_traces.specs.Picked.{meets}
+use Rattle.journal_traces.specs.ProcessConditions.{IsJudgedAs}
+use Rattle.journal_traces.specs.MatchingSpans.{meets}
 use Rattle.journal_traces.proofs.tag_candidates.is_batch_met.Given as goal
 
 abbrev pub invariant-loop-span : goal.invariant-loop-span

@@ -1,6 +1,6 @@
 use Rattle.std.proofs.Common.{map, drop}
-use Rattle.journal_traces.specs.Spotted.{spot_of, entries_shared, process_numbered}
-use Rattle.journal_traces.specs.Taking.{HasProcess}
+use Rattle.journal_traces.specs.TagCandidates.{spot_of, entries_shared, process_numbered}
+use Rattle.journal_traces.specs.TakenTraces.{HasProcess}
 use Rattle.journal_traces.proofs.TakingSpans.{IsTaking}
 use Rattle.journal_traces.proofs.tag_candidates.take_spots.Given as goal
 

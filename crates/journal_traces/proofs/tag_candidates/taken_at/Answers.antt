@@ -3,11 +3,11 @@ use Rattle.std.specs.Prelude.{slice_get}
 use Rattle.std.specs.Option.{option_copied, option_and_then}
 use Rattle.std.proofs.lemmas.Result.{IfOk-weaker}
 use Rattle.arrival_journal.proofs.Places.{lent_item}
-use Rattle.trace_model.specs.Taking.{Taken}
-use Rattle.trace_model.specs.Works.{placed_brought}
-use Rattle.trace_assembly.specs.Located.{span_at}
-use Rattle.journal_traces.specs.Spotted.{entries_shared, entry_shared, spot_of}
-use Rattle.journal_traces.proofs.Spotting.{there_shared, nothing_shared, numbered_result}
+use Rattle.trace_model.specs.TakenSpans.{Taken}
+use Rattle.trace_model.specs.EntryWork.{placed_brought}
+use Rattle.trace_assembly.specs.LocatedSpans.{span_at}
+use Rattle.journal_traces.specs.TagCandidates.{entries_shared, entry_shared, spot_of}
+use Rattle.journal_traces.proofs.TracesAtSpots.{there_shared, nothing_shared, numbered_result}
 use Rattle.journal_traces.proofs.tag_candidates.taken_at.Goals as goal
 
 pub returns-in-Some-clause-number : goal.returns-in-Some-clause-number

@@ -1,6 +1,6 @@
 use Rattle.std.proofs.Common.{◌∙◌, sym}
 use Rattle.trace_model.specs.Places.{entry_at}
-use Rattle.journal_traces.proofs.Spotting.{unoutlined}
+use Rattle.journal_traces.proofs.TracesAtSpots.{unoutlined}
 use Rattle.journal_traces.proofs.tag_taking.is_outlined.Goals as goal
 
 pub returns-in-Some : goal.returns-in-Some

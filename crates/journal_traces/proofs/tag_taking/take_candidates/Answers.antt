@@ -3,7 +3,7 @@ use Rattle.std.specs.Arc.{arc_value}
 use Rattle.std.proofs.lemmas.List.{length-map}
 use Rattle.trace_model.specs.declared.entry.Entry.{Entry}
 use Rattle.journal_traces.specs.Numbered.{AreNumbers}
-use Rattle.journal_traces.specs.Spotted.{Spotted, traces_spotted}
+use Rattle.journal_traces.specs.TagCandidates.{TagCandidatesValue, traces_spotted}
 use Rattle.journal_traces.proofs.Numbering.{none_known}
 use Rattle.journal_traces.proofs.tag_taking.take_candidates.Goals as goal
 
@@ -12,9 +12,9 @@ loop-trace-init c =
     let h = c.args.journal.now.held.entries in
     let long : length c.entries.result.now ≡ length h = sym (length-map c.entries.result.now arc_value) ∙ ap length c.entries.ensures in
     let none = c.in_ok-numbers.ensures ∙ ap (λ n. replicate n None) long in
-    let entries = ap (λ (s : Spotted). s.entries) c.new-taken.ensures in
+    let entries = ap (λ (s : TagCandidatesValue). s.entries) c.new-taken.ensures in
     record {
-      query = ap (λ (s : Spotted). s.query) c.new-taken.ensures;
+      query = ap (λ (s : TagCandidatesValue). s.query) c.new-taken.ensures;
       numbers = subst (λ (x : List Entry × List (Option ℕ)). AreNumbers h x.0 x.1) (λ i. (sym entries i, sym none i)) (none_known h);
       spans = ap traces_spotted c.new-taken.ensures;
     }

@@ -1,7 +1,7 @@
 use Rattle.std.proofs.Common.{◌≡◌, take}
 use Rattle.journal_traces.specs.Numbered.{AreNumbers}
-use Rattle.journal_traces.specs.Spotted.{traces_spotted}
-use Rattle.journal_traces.specs.Standing.{traces_named}
+use Rattle.journal_traces.specs.TagCandidates.{traces_spotted}
+use Rattle.journal_traces.specs.SpansAtSpots.{traces_named}
 use Rattle.journal_traces.proofs.tag_taking.take_candidates.Given as goal
 
 abbrev pub invariant-loop-trace : goal.invariant-loop-trace

@@ -2,7 +2,7 @@ use Rattle.std.proofs.Common.{◌∙◌, sym, subst, List}
 use Rattle.trace_model.specs.declared.entry.Entry.{Entry}
 use Rattle.trace_assembly.specs.declared.spot.Spot.{Spot}
 use Rattle.journal_traces.specs.Numbered.{AreNumbers}
-use Rattle.journal_traces.proofs.Spotting.{Anything, taking_added}
+use Rattle.journal_traces.proofs.TracesAtSpots.{Anything, taking_added}
 use Rattle.journal_traces.proofs.TakingSpans.{IsTaking, taking_none}
 use Rattle.journal_traces.proofs.tag_taking.take_spots.Goals as goal
 

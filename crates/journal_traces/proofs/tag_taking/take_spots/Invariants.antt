@@ -1,6 +1,6 @@
 use Rattle.std.proofs.Common.{◌≡◌}
 use Rattle.journal_traces.specs.Numbered.{AreNumbers}
-use Rattle.journal_traces.proofs.Spotting.{Anything}
+use Rattle.journal_traces.proofs.TracesAtSpots.{Anything}
 use Rattle.journal_traces.proofs.TakingSpans.{IsTaking}
 use Rattle.journal_traces.proofs.tag_taking.take_spots.Given as goal
 

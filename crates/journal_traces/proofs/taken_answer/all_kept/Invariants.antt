@@ -1,8 +1,8 @@
 use Rattle.std.proofs.Common.{◌≡◌, map, take, []}
 use Rattle.std.specs.Prelude.{slice_index_or}
 use Rattle.trace_model.specs.Adjusting.{adjusted}
-use Rattle.journal_traces.specs.Classes.{ShareByClass}
-use Rattle.journal_traces.specs.Taking.{placed_taken}
+use Rattle.journal_traces.specs.ProcessClasses.{ShareByClass}
+use Rattle.journal_traces.specs.TakenTraces.{placed_taken}
 use Rattle.journal_traces.proofs.taken_answer.all_kept.Given as goal
 
 abbrev pub invariant-loop-place : goal.invariant-loop-place

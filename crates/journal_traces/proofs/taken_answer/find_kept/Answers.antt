@@ -3,7 +3,7 @@ use Rattle.std.specs.Prelude.{slice_index_or}
 use Rattle.std.proofs.lemmas.Simd.{map-map}
 use Rattle.jaeger_model.specs.declared.placed.Placed.{Placed}
 use Rattle.trace_model.specs.Adjusting.{adjusted}
-use Rattle.journal_traces.specs.Taking.{placed_taken}
+use Rattle.journal_traces.specs.TakenTraces.{placed_taken}
 use Rattle.journal_traces.specs.TakenSearch.{traces_taken}
 use Rattle.journal_traces.proofs.taken_answer.find_kept.Goals as goal
 

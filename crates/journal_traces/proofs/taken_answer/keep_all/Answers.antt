@@ -2,8 +2,8 @@ use Rattle.std.proofs.Common.{◌∙◌, ◌<◌, ◌≤◌, ◌++◌, ◌∷◌
 use Rattle.std.proofs.lemmas.List.{length-map, map_push, take_all, take_more}
 use Rattle.jaeger_model.specs.declared.placed.Placed.{Placed}
 use Rattle.trace_model.specs.Adjusting.{adjusted}
-use Rattle.trace_model.specs.declared.answer.Shown.{Shown}
-use Rattle.journal_traces.specs.Taking.{placed_taken}
+use Rattle.trace_model.specs.declared.answer.AdjustedSpan.{AdjustedSpan}
+use Rattle.journal_traces.specs.TakenTraces.{placed_taken}
 use Rattle.journal_traces.proofs.taken_answer.keep_all.Goals as goal
 
 pub loop-place-init : goal.loop-place-init
@@ -17,7 +17,7 @@ loop-place-init c =
 pub loop-place-preserved : goal.loop-place-preserved
 loop-place-preserved c =
     let xs : List (List Placed) = map placed_taken c.args.traces.now in
-    let f : List Placed → List Shown = adjusted c.args.limits.max_skew in
+    let f : List Placed → List AdjustedSpan = adjusted c.args.limits.max_skew in
     let i = c.loop-place.place in
     let long = length-map c.args.traces.now placed_taken in
     let within : i < length xs = omega (arith, c.loop-place-test.true, c.count-place-end.ensures) in

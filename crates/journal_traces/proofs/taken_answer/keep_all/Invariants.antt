@@ -1,7 +1,7 @@
 use Rattle.std.proofs.Common.{◌≡◌, map, take}
 use Rattle.trace_model.specs.Adjusting.{adjusted}
-use Rattle.journal_traces.specs.Classes.{ShareByClass}
-use Rattle.journal_traces.specs.Taking.{placed_taken}
+use Rattle.journal_traces.specs.ProcessClasses.{ShareByClass}
+use Rattle.journal_traces.specs.TakenTraces.{placed_taken}
 use Rattle.journal_traces.proofs.taken_answer.keep_all.Given as goal
 
 abbrev pub invariant-loop-place : goal.invariant-loop-place

@@ -3,8 +3,8 @@ use Rattle.std.specs.Prelude.{is_some, Vec}
 use Rattle.std.specs.Global.{Global}
 use Rattle.jaeger_model.specs.declared.batch.Process.{Process}
 use Rattle.jaeger_model.specs.declared.placed.Placed.{Placed}
-use Rattle.journal_traces.specs.Classes.{Leads}
-use Rattle.journal_traces.specs.Taking.{HaveProcesses}
+use Rattle.journal_traces.specs.ProcessClasses.{Leads}
+use Rattle.journal_traces.specs.TakenTraces.{HaveProcesses}
 use Rattle.journal_traces.proofs.TakenSpans.{IsKeptUpto, has_process, kept_none, kept_more, kept_share}
 use Rattle.journal_traces.proofs.taken_answer.kept_trace.Goals as goal
 use Rattle.journal_traces.proofs.taken_answer.kept_trace.Goals.{then-is_there+in_ok-push+in_ok-push-2, else-is_there}

@@ -1,7 +1,7 @@
 use Rattle.std.proofs.Common.{ℕ, Option}
 use Rattle.jaeger_model.specs.declared.batch.Process.{Process}
-use Rattle.journal_traces.specs.Classes.{Leads}
-use Rattle.journal_traces.specs.Taking.{HaveProcesses}
+use Rattle.journal_traces.specs.ProcessClasses.{Leads}
+use Rattle.journal_traces.specs.TakenTraces.{HaveProcesses}
 use Rattle.journal_traces.proofs.TakenSpans.{IsKeptUpto}
 use Rattle.journal_traces.proofs.taken_answer.kept_trace.Given as goal
 

@@ -12,14 +12,14 @@ loop-span-preserved c =
     let le = c.loop-span-test.true in
     record {
       judged = λ process_of before all.
-          let there = process_seen process_of x c.seen.result c.process_key.result c.seen.ensures c.process_key.ensures
+          let there = process_seen process_of x c.reported.result c.process_key.result c.reported.ensures c.process_key.ensures
           (has_process xs i x le c.span-item.is process_of all) in
           c.in_ok-is_match.ensures.judged process_of (c.loop-span.invariant.judged process_of before all) there;
       none = λ process_of before all.
-          let there = process_seen process_of x c.seen.result c.process_key.result c.seen.ensures c.process_key.ensures
+          let there = process_seen process_of x c.reported.result c.process_key.result c.reported.ensures c.process_key.ensures
           (has_process xs i x le c.span-item.is process_of all) in
           let met = c.in_ok-is_match.ensures.found process_of (c.loop-span.invariant.judged process_of before all) there
-          ∙ match_seen q x c.seen.result c.seen.ensures in
+          ∙ match_seen q x c.reported.result c.reported.ensures in
           none_more xs i x le c.span-item.is (matches q) (c.loop-span.invariant.none process_of before all) (sym met ∙ c.if-is_match.false);
     }
 
@@ -30,8 +30,8 @@ returns-then-is_match-clause-found c = λ process_of before all.
     let i = c.loop-span.span-index in
     let x = c.span-item.result in
     let le = c.loop-span-test.true in
-    let there = process_seen process_of x c.seen.result c.process_key.result c.seen.ensures c.process_key.ensures
+    let there = process_seen process_of x c.reported.result c.process_key.result c.reported.ensures c.process_key.ensures
     (has_process xs i x le c.span-item.is process_of all) in
     let met = c.in_ok-is_match.ensures.found process_of (c.loop-span.invariant.judged process_of before all) there
-    ∙ match_seen q x c.seen.result c.seen.ensures in
+    ∙ match_seen q x c.reported.result c.reported.ensures in
     sym (one_here xs i x le c.span-item.is (matches q) (sym met ∙ c.if-is_match.true))

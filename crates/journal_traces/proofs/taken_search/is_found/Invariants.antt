@@ -2,7 +2,7 @@ use Rattle.std.proofs.Common.{◌≡◌, ℕ, Option, false, take}
 use Rattle.std.specs.List.{list_any}
 use Rattle.jaeger_model.specs.declared.batch.Process.{Process}
 use Rattle.trace_model.specs.Searching.{matches}
-use Rattle.journal_traces.specs.Taking.{placed_taken, HaveProcesses}
+use Rattle.journal_traces.specs.TakenTraces.{placed_taken, HaveProcesses}
 use Rattle.journal_traces.specs.TakenSearch.{AreJudged}
 use Rattle.journal_traces.proofs.taken_search.is_found.Given as goal
 

@@ -1,10 +1,10 @@
 use Rattle.std.proofs.Common.{◌∙◌, ◌≡◌, Option, sym, subst, ap}
 use Rattle.std.specs.Prelude.{IfSome}
 use Rattle.std.specs.Option.{option_and_then}
-use Rattle.trace_model.specs.Taking.{Taken}
-use Rattle.trace_assembly.specs.Located.{span_at}
-use Rattle.journal_traces.specs.Standing.{process_at}
-use Rattle.journal_traces.specs.Taking.{HasProcess}
+use Rattle.trace_model.specs.TakenSpans.{Taken}
+use Rattle.trace_assembly.specs.LocatedSpans.{span_at}
+use Rattle.journal_traces.specs.SpansAtSpots.{process_at}
+use Rattle.journal_traces.specs.TakenTraces.{HasProcess}
 use Rattle.journal_traces.proofs.TakingSpans.{taking_more}
 use Rattle.journal_traces.proofs.taking.take_trace.Goals as goal
 

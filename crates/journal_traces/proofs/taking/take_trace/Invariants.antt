@@ -1,5 +1,5 @@
-use Rattle.journal_traces.specs.Standing.{process_at}
-use Rattle.journal_traces.specs.Taking.{HasProcess}
+use Rattle.journal_traces.specs.SpansAtSpots.{process_at}
+use Rattle.journal_traces.specs.TakenTraces.{HasProcess}
 use Rattle.journal_traces.proofs.TakingSpans.{IsTaking}
 use Rattle.journal_traces.proofs.taking.take_trace.Given as goal
 

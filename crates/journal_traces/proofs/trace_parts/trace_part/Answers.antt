@@ -1,5 +1,5 @@
 use Rattle.std.proofs.Common.{◌∙◌, ap, sym, length, slice_index_or, slice_range, arith}
-use Rattle.journal_traces.proofs.Cuts.{no_cut, cut_got, bounds}
+use Rattle.journal_traces.proofs.TraceParts.{no_cut, cut_got, bounds}
 use Rattle.journal_traces.proofs.trace_parts.trace_part.Goals as goal
 
 pub returns-then-place-starts : goal.returns-then-place-starts

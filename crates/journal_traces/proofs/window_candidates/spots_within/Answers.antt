@@ -1,7 +1,7 @@
 use Rattle.std.proofs.Common.{◌<◌, ◌≤◌, ◌∙◌, ◌+◌, length, map, sym, ap, arith}
 use Rattle.std.specs.Prelude.{filter}
 use Rattle.std.proofs.lemmas.List.{take_all}
-use Rattle.trace_assembly.specs.Rows.{spots_of}
+use Rattle.trace_assembly.specs.AssembledRows.{spots_of}
 use Rattle.journal_traces.proofs.SkippedTraces.{spots_more, spots_skipped}
 use Rattle.journal_traces.proofs.window_candidates.spots_within.Goals as goal
 

@@ -1,8 +1,8 @@
 use Rattle.std.proofs.Common.{◌≡◌, ◌-◌, ◌≤◌, Bool, List, length, map, take}
 use Rattle.std.specs.Prelude.{filter}
 use Rattle.trace_assembly.specs.declared.spot.Spot.{Spot}
-use Rattle.trace_assembly.specs.Rows.{spots_of}
-use Rattle.journal_traces.specs.Ranged.{FailsOutside}
+use Rattle.trace_assembly.specs.AssembledRows.{spots_of}
+use Rattle.journal_traces.specs.TraceRanges.{FailsOutside}
 use Rattle.journal_traces.proofs.window_candidates.spots_within.Given as goal
 
 abbrev pub invariant-loop-place : goal.invariant-loop-place

@@ -2,13 +2,13 @@ use Rattle.std.proofs.Common.{◌≡◌, ◌<◌, List, Some, length, refl, subs
 use Rattle.std.specs.Arc.{arc_value}
 use Rattle.std.proofs.lemmas.List.{length-map}
 use Rattle.trace_model.specs.Places.{entry_at}
-use Rattle.trace_model.specs.Taking.{Taken}
-use Rattle.trace_assembly.specs.Located.{span_at}
+use Rattle.trace_model.specs.TakenSpans.{Taken}
+use Rattle.trace_assembly.specs.LocatedSpans.{span_at}
 use Rattle.journal_traces.specs.declared.taken_spot.TakenSpot.{TakenSpot}
-use Rattle.journal_traces.specs.Spotted.{AddsSpan}
-use Rattle.journal_traces.specs.Windowed.{ServedEntry, entry_seen, entries_seen, entries_in, traces_reported}
+use Rattle.journal_traces.specs.TagCandidates.{AddsSpan}
+use Rattle.journal_traces.specs.WindowTraces.{ServedEntry, entry_seen, entries_seen, entries_in, traces_reported}
 use Rattle.journal_traces.proofs.Numbering.{below_got}
-use Rattle.journal_traces.proofs.Windowing.{pushed_known, pushed_adds, placed_there}
+use Rattle.journal_traces.proofs.TracesOfWindows.{pushed_known, pushed_adds, placed_there}
 use Rattle.journal_traces.proofs.window_taking.take_spot.Goals as goal
 
 pub returns-in_ok-push_spot-clause-taken : goal.returns-in_ok-push_spot-clause-taken

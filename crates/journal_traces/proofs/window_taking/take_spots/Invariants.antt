@@ -1,10 +1,10 @@
-use Rattle.journal_traces.specs.Windowed.{traces_reported, AreWindowed}
-use Rattle.journal_traces.proofs.Spotting.{Anything}
+use Rattle.journal_traces.specs.WindowTraces.{traces_reported, AreWindowSpots}
+use Rattle.journal_traces.proofs.TracesAtSpots.{Anything}
 use Rattle.journal_traces.proofs.TakingSpans.{IsTaking}
 use Rattle.journal_traces.proofs.window_taking.take_spots.Given as goal
 
 abbrev pub invariant-loop-spot : goal.invariant-loop-spot
 invariant-loop-spot l = record {
-  taken : AreWindowed l.journal.held.entries l.taken l.numbers;
+  taken : AreWindowSpots l.journal.held.entries l.taken l.numbers;
   taking : IsTaking Anything l.journal.held.entries (traces_reported l.fn.taken) (traces_reported l.taken) l.spot-iterator l.fn.spots;
 }

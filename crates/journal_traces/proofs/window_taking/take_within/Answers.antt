@@ -6,18 +6,18 @@ use Rattle.std.proofs.lemmas.Int.{to_z-of_z}
 use Rattle.std.proofs.lemmas.List.{length-map, take_all}
 use Rattle.jaeger_model.specs.declared.ids.TraceId.{TraceId}
 use Rattle.jaeger_model.specs.declared.placed.Placed.{Placed}
-use Rattle.trace_model.specs.Linking.{in_window}
-use Rattle.trace_assembly.specs.Rows.{spots_of}
+use Rattle.trace_model.specs.ServiceLinks.{in_window}
+use Rattle.trace_assembly.specs.AssembledRows.{spots_of}
 use Rattle.journal_traces.specs.declared.window_traces.WindowSpots.{WindowSpots}
-use Rattle.journal_traces.specs.Cutting.{cut_at}
+use Rattle.journal_traces.specs.TraceParts.{cut_at}
 use Rattle.journal_traces.specs.Numbered.{AreNumbers}
-use Rattle.journal_traces.specs.Standing.{spans_named, trace_named, AreNumberedByService}
-use Rattle.journal_traces.specs.Taking.{placed_taken}
-use Rattle.journal_traces.specs.Windowed.{entries_seen, traces_reported, AreWindowed}
+use Rattle.journal_traces.specs.SpansAtSpots.{spans_named, trace_named, AreNumberedByService}
+use Rattle.journal_traces.specs.TakenTraces.{placed_taken}
+use Rattle.journal_traces.specs.WindowTraces.{entries_seen, traces_reported, AreWindowSpots}
 use Rattle.journal_traces.proofs.Numbering.{none_known}
 use Rattle.journal_traces.proofs.SkippedTraces.{skipped}
-use Rattle.journal_traces.proofs.Spots.{no_id, kept_more, left_out}
-use Rattle.journal_traces.proofs.Windowing.{new_known, new_traces, traces_numbered}
+use Rattle.journal_traces.proofs.SpansAtSpots.{no_id, kept_more, left_out}
+use Rattle.journal_traces.proofs.TracesOfWindows.{new_known, new_traces, traces_numbered}
 use Rattle.journal_traces.proofs.window_taking.take_within.Goals as goal
 use Rattle.journal_traces.proofs.window_taking.take_within.Goals.{then-reaches_window+in_ok-take_spots, else-reaches_window}
 
@@ -79,9 +79,9 @@ loop-place-preserved c =
       ]);
       taken = elim c.if-reaches_window.branch [
         | then-reaches_window+in_ok-take_spots v ↦
-            subst (λ (x : WindowSpots × List (Option ℕ)). AreWindowed h x.0 x.1) (λ i. (sym v.taken-is i, sym v.numbers-is i)) v.in_ok-take_spots.ensures.taken
+            subst (λ (x : WindowSpots × List (Option ℕ)). AreWindowSpots h x.0 x.1) (λ i. (sym v.taken-is i, sym v.numbers-is i)) v.in_ok-take_spots.ensures.taken
         | else-reaches_window v ↦
-            subst (λ (x : WindowSpots × List (Option ℕ)). AreWindowed h x.0 x.1) (λ i. (sym v.taken-is i, sym v.numbers-is i)) c.loop-place.invariant.taken
+            subst (λ (x : WindowSpots × List (Option ℕ)). AreWindowSpots h x.0 x.1) (λ i. (sym v.taken-is i, sym v.numbers-is i)) c.loop-place.invariant.taken
       ];
     }
 

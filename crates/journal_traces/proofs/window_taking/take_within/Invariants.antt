@@ -1,11 +1,11 @@
 use Rattle.std.proofs.Common.{◌≡◌, ◌-◌, ◌≤◌, length, map, take}
 use Rattle.std.specs.Prelude.{filter}
 use Rattle.std.specs.List.{list_any}
-use Rattle.trace_model.specs.Linking.{in_window}
-use Rattle.trace_assembly.specs.Rows.{spots_of}
-use Rattle.journal_traces.specs.Standing.{trace_named}
-use Rattle.journal_traces.specs.Taking.{placed_taken}
-use Rattle.journal_traces.specs.Windowed.{traces_reported, AreWindowed}
+use Rattle.trace_model.specs.ServiceLinks.{in_window}
+use Rattle.trace_assembly.specs.AssembledRows.{spots_of}
+use Rattle.journal_traces.specs.SpansAtSpots.{trace_named}
+use Rattle.journal_traces.specs.TakenTraces.{placed_taken}
+use Rattle.journal_traces.specs.WindowTraces.{traces_reported, AreWindowSpots}
 use Rattle.journal_traces.proofs.window_taking.take_within.Given as goal
 
 abbrev pub invariant-loop-place : goal.invariant-loop-place
@@ -14,7 +14,7 @@ invariant-loop-place l = record {
   within : map placed_taken (traces_reported l.taken)
       ≡ filter (list_any (in_window l.end_ms l.lookback_ms))
       (map (trace_named l.journal.held.entries (spots_of l.assembly)) (take l.place l.assembly.newest.ids));
-  taken : AreWindowed l.journal.held.entries l.taken l.numbers;
+  taken : AreWindowSpots l.journal.held.entries l.taken l.numbers;
 }
 
 abbrev pub decreases-loop-place : goal.decreases-loop-place

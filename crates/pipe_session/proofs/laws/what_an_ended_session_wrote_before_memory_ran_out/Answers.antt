@@ -1,4 +1,4 @@
-use Rattle.pipe_session.proofs.RanOut.{ended_before}
+use Rattle.pipe_session.proofs.OutOfMemory.{ended_before}
 use Rattle.pipe_session.proofs.laws.what_an_ended_session_wrote_before_memory_ran_out.Goals as goal
 
 pub returns : goal.returns

@@ -3,8 +3,8 @@ use Rattle.std.specs.Prelude.{fold}
 use Rattle.std.specs.List.{AllByRecursion}
 use Rattle.std.proofs.lemmas.List.{get_or_default}
 use Rattle.trace_model.proofs.Lists.{each_front, each_behind}
-use Rattle.plain_store.specs.Climbing.{next_clock, downward}
-use Rattle.plain_store.proofs.Climbing.{clock_pops}
+use Rattle.plain_store.specs.RootPaths.{next_clock, downward}
+use Rattle.plain_store.proofs.RootPaths.{clock_pops}
 use Rattle.plain_store.proofs.adjust.clock_down.Goals as goal
 
 pub loop-place-preserved : goal.loop-place-preserved

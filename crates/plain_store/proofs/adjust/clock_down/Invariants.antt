@@ -2,7 +2,7 @@ use Rattle.std.proofs.Common.{◌≡◌, ◌<◌, length, vec_len}
 use Rattle.std.specs.Prelude.{fold}
 use Rattle.std.specs.List.{AllByRecursion}
 use Rattle.jaeger_model.specs.declared.placed.Placed.{Placed}
-use Rattle.plain_store.specs.Climbing.{next_clock, downward, clock_down}
+use Rattle.plain_store.specs.RootPaths.{next_clock, downward, clock_down}
 use Rattle.plain_store.proofs.adjust.clock_down.Given as goal
 
 abbrev pub invariant-loop-place : goal.invariant-loop-place

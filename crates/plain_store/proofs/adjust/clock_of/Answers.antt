@@ -1,7 +1,7 @@
 use Rattle.std.proofs.Common.{ap, sym}
 use Rattle.std.specs.Prelude.{option_map}
 use Rattle.std.proofs.lemmas.Result.{IfOk-weaker}
-use Rattle.plain_store.proofs.Climbing.{up_and_down, no_way_up, way_is_within}
+use Rattle.plain_store.proofs.RootPaths.{up_and_down, no_way_up, way_is_within}
 use Rattle.plain_store.proofs.adjust.clock_of.Goals as goal
 
 pub clock_down-requires : goal.clock_down-requires

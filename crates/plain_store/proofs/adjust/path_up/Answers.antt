@@ -1,6 +1,6 @@
 use Rattle.std.proofs.Common.{length, rules}
-use Rattle.plain_store.specs.Climbing.{path}
-use Rattle.plain_store.proofs.Climbing.{path_more, path_ends, path_out}
+use Rattle.plain_store.specs.RootPaths.{path}
+use Rattle.plain_store.proofs.RootPaths.{path_more, path_ends, path_out}
 use Rattle.plain_store.proofs.adjust.path_up.Goals as goal
 
 pub loop-step-preserved : goal.loop-step-preserved

@@ -1,6 +1,6 @@
 use Rattle.std.proofs.Common.{◌≡◌, ◌-◌, ◌++◌, length}
 use Rattle.std.specs.Prelude.{option_map}
-use Rattle.plain_store.specs.Climbing.{path}
+use Rattle.plain_store.specs.RootPaths.{path}
 use Rattle.plain_store.proofs.adjust.path_up.Given as goal
 
 abbrev pub invariant-loop-step : goal.invariant-loop-step

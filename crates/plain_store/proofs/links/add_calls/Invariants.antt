@@ -1,6 +1,6 @@
 use Rattle.std.proofs.Common.{◌≡◌, ◌++◌, take}
 use Rattle.std.specs.List.{filter_map}
-use Rattle.trace_model.specs.Linking.{call_from, parent_in}
+use Rattle.trace_model.specs.ServiceLinks.{call_from, parent_in}
 use Rattle.plain_store.proofs.links.add_calls.Given as goal
 
 abbrev pub invariant-loop-placed : goal.invariant-loop-placed

@@ -1,8 +1,8 @@
 use Rattle.std.proofs.Common.{rules}
 use Rattle.std.specs.Int.{w64}
 use Rattle.std.proofs.lemmas.Int.{to_z-of_z}
-use Rattle.trace_model.specs.Linking.{calls_within}
-use Rattle.trace_model.proofs.Steps.{gathered_more, gathered_all}
+use Rattle.trace_model.specs.ServiceLinks.{calls_within}
+use Rattle.trace_model.proofs.LoopSteps.{gathered_more, gathered_all}
 use Rattle.plain_store.proofs.links.all_calls.Goals as goal
 
 pub loop-trace-preserved : goal.loop-trace-preserved

@@ -1,5 +1,5 @@
 use Rattle.std.proofs.Common.{◌≡◌, ◌++◌, drop}
-use Rattle.trace_model.specs.Linking.{calls}
+use Rattle.trace_model.specs.ServiceLinks.{calls}
 use Rattle.plain_store.proofs.links.all_calls.Given as goal
 
 -- the calls so far, followed by those of the remaining traces, are all calls

@@ -1,7 +1,7 @@
 use Rattle.std.proofs.Common.{◌≡◌, List, ℕ, take, map, count_by}
 use Rattle.jaeger_model.specs.Texts.{sorted_set}
 use Rattle.trace_model.specs.declared.answer.Link.{Link}
-use Rattle.trace_model.specs.Linking.{call_cmp, same_call}
+use Rattle.trace_model.specs.ServiceLinks.{call_cmp, same_call}
 use Rattle.plain_store.proofs.links.counted.Given as goal
 
 abbrev pub invariant-loop-caller : goal.invariant-loop-caller

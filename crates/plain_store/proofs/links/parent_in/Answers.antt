@@ -4,7 +4,7 @@ use Rattle.std.proofs.lemmas.Iterator.{YieldsList-from_slice}
 use Rattle.std.proofs.lemmas.Iterator.Search.{find_from_yields_List}
 use Rattle.jaeger_model.specs.declared.ids.SpanId.{SpanId}
 use Rattle.jaeger_model.specs.declared.placed.Placed.{Placed}
-use Rattle.trace_model.specs.Linking.{has_id}
+use Rattle.trace_model.specs.ServiceLinks.{has_id}
 use Rattle.plain_store.proofs.links.parent_in.Goals as goal
 
 abbrev found_by : List Placed → SpanId → Option Placed

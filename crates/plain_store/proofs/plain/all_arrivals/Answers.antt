@@ -1,7 +1,7 @@
 use Rattle.std.proofs.Common.{◌≡◌, ◌∙◌, ◌++◌, ◌∷◌, [], List, map, ap, sym}
 use Rattle.std.proofs.lemmas.List.{map_push, append-nil}
 use Rattle.trace_model.specs.Events.{without_limits}
-use Rattle.trace_model.proofs.Shows.{without_limits-append}
+use Rattle.trace_model.proofs.ShownByEvents.{without_limits-append}
 use Rattle.plain_store.specs.declared.showing.StoreEvent.{StoreEvent}
 use Rattle.plain_store.specs.Events.{event_of}
 use Rattle.plain_store.proofs.plain.all_arrivals.Goals as goal

@@ -1,8 +1,8 @@
 use Rattle.std.proofs.Common.{rules, ◌≡◌, ◌∙◌, ap, sym, map, length}
 use Rattle.std.specs.Arc.{arc_value}
 use Rattle.trace_model.specs.Histories.{events}
-use Rattle.trace_model.specs.Showing.{of_trace, shown}
-use Rattle.plain_store.proofs.Found.{none_if_empty, some_if_not_empty}
+use Rattle.trace_model.specs.ShownSpans.{of_trace, shown}
+use Rattle.plain_store.proofs.FoundAnswers.{none_if_empty, some_if_not_empty}
 use Rattle.plain_store.proofs.plain.get_trace.Goals as goal
 
 pub returns-then-is_empty : goal.returns-then-is_empty

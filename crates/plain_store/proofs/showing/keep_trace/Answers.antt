@@ -1,7 +1,7 @@
 use Rattle.std.proofs.Common.{rules}
 use Rattle.std.proofs.lemmas.Fn.{filter_same}
 use Rattle.jaeger_model.specs.Parents.{same_trace}
-use Rattle.trace_model.specs.Showing.{trace_of}
+use Rattle.trace_model.specs.ShownSpans.{trace_of}
 use Rattle.plain_store.proofs.showing.keep_trace.Goals as goal
 
 pub returns : goal.returns

@@ -1,5 +1,5 @@
 use Rattle.std.proofs.Common.{◌≡◌, map, take}
-use Rattle.trace_model.specs.Showing.{of_trace}
+use Rattle.trace_model.specs.ShownSpans.{of_trace}
 use Rattle.plain_store.proofs.showing.shown_traces.Given as goal
 
 abbrev pub invariant-loop-id : goal.invariant-loop-id

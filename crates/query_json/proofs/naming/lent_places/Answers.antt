@@ -3,11 +3,11 @@ use Rattle.std.specs.Prelude.{All}
 use Rattle.std.specs.Bool.{OnFalse, OnTrue}
 use Rattle.std.proofs.lemmas.List.{take_all}
 use Rattle.std.proofs.lemmas.Option.{get_or_from_slice_get}
-use Rattle.trace_model.specs.declared.answer.Shown.{Shown}
-use Rattle.query_json.specs.Numbering.{IsFirst, first_process}
-use Rattle.query_json.specs.Placing.{ComesNext, HasPlaces}
+use Rattle.trace_model.specs.declared.answer.AdjustedSpan.{AdjustedSpan}
+use Rattle.query_json.specs.ProcessNumbers.{IsFirst, first_process}
+use Rattle.query_json.specs.ProcessPlaces.{ComesNext, HasPlaces}
 use Rattle.query_json.specs.Trees.{processes_of}
-use Rattle.query_json.specs.Writing.{process_place}
+use Rattle.query_json.specs.TraceProcesses.{process_place}
 use Rattle.query_json.proofs.PlacesByKeys.{come_next}
 use Rattle.query_json.proofs.naming.lent_places.Goals as goal
 use Rattle.query_json.proofs.naming.lent_places.Goals.{then-not-branch+in_ok-add_new, else-not-branch}

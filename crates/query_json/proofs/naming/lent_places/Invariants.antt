@@ -1,4 +1,4 @@
-use Rattle.query_json.specs.Placing.{HasPlaces}
+use Rattle.query_json.specs.ProcessPlaces.{HasPlaces}
 use Rattle.query_json.proofs.naming.lent_places.Given as goal
 
 abbrev pub invariant-loop-index : goal.invariant-loop-index

@@ -1,7 +1,7 @@
 use Rattle.std.proofs.Common.{◌+◌, ◌++◌, ◌∷◌, ◌∙◌, [], ap, ap₂, sym, arith, length, length-append, map, string_bytes}
 use Rattle.std.proofs.lemmas.List.{map_push}
 use Rattle.std.proofs.lemmas.List.FromFn.{map-range_with_len_more}
-use Rattle.query_json.specs.Naming.{process_name}
+use Rattle.query_json.specs.ProcessNames.{process_name}
 use Rattle.query_json.proofs.naming.names.Goals as goal
 
 pub loop-place-preserved : goal.loop-place-preserved

@@ -1,5 +1,5 @@
 use Rattle.std.proofs.Common.{◌≡◌, length, map, string_bytes}
-use Rattle.query_json.specs.Writing.{process_names}
+use Rattle.query_json.specs.TraceProcesses.{process_names}
 use Rattle.query_json.proofs.naming.names.Given as goal
 
 abbrev pub invariant-loop-place : goal.invariant-loop-place

@@ -1,11 +1,11 @@
 use Rattle.std.proofs.Common.{◌≡◌, ◌+◌, ◌<◌, ◌∙◌, List, ap, get_or, length, map, rules, subst, sym, take}
 use Rattle.std.specs.Bool.{OnFalse, OnTrue}
 use Rattle.std.proofs.lemmas.List.{take_all}
-use Rattle.trace_model.specs.declared.answer.Shown.{Shown}
-use Rattle.query_json.specs.Numbering.{first_process}
-use Rattle.query_json.specs.Placing.{ComesNext, HasPlaces}
+use Rattle.trace_model.specs.declared.answer.AdjustedSpan.{AdjustedSpan}
+use Rattle.query_json.specs.ProcessNumbers.{first_process}
+use Rattle.query_json.specs.ProcessPlaces.{ComesNext, HasPlaces}
 use Rattle.query_json.specs.Trees.{processes_of}
-use Rattle.query_json.specs.Writing.{process_place}
+use Rattle.query_json.specs.TraceProcesses.{process_place}
 use Rattle.query_json.proofs.naming.places.Goals as goal
 use Rattle.query_json.proofs.naming.places.Goals.{then-not-branch+in_ok-add_new, else-not-branch}
 
@@ -18,8 +18,8 @@ loop-index-preserved c =
     let spans = c.args.trace.now in
     let s = c.shown-item.result in
     let slice : c.as_slice-shown-items.result.now ≡ spans = c.as_slice-shown-items.ensures in
-    let within : i < length spans = subst (λ (l : List Shown). i < length l) slice (search rules) in
-    let is : s ≡ get_or spans i s = subst (λ (l : List Shown). s ≡ get_or l i s) slice c.shown-item.is in
+    let within : i < length spans = subst (λ (l : List AdjustedSpan). i < length l) slice (search rules) in
+    let is : s ≡ get_or spans i s = subst (λ (l : List AdjustedSpan). s ≡ get_or l i s) slice c.shown-item.is in
     let keys = c.process_keys-keys.result.now in
     let next : ComesNext spans keys i s c.key_at-key.result =
     record { within = within; is = is; stands = c.key_at-key.ensures; shares = c.process_keys-keys.ensures } in

@@ -4,7 +4,7 @@ use Rattle.serde_json.specs.Data.{Data, null}
 use Rattle.serde_json.specs.Written.{compact_text}
 use Rattle.query_json.specs.Trees.{list}
 use Rattle.query_json.proofs.Pages.{◌▸◌, Going-over, Puts-is, list_begun}
-use Rattle.query_json.proofs.Walking.{Going-next}
+use Rattle.query_json.proofs.ListWalks.{Going-next}
 use Rattle.query_json.proofs.writing.write_list.Goals as goal
 
 pub loop-index-init : goal.loop-index-init

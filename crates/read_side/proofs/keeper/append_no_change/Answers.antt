@@ -1,6 +1,6 @@
 use Rattle.std.proofs.Common.{◌≡◌, ◌++◌, ◌∷◌, [], ap, sym, subst, ◌∙◌, drop, List, Option, ⊎_elim}
 use Rattle.read_side.specs.Copies.{Post, Follow, entries_of}
-use Rattle.read_side.proofs.Changing.{either-way, entries-nothing, follow-nothing}
+use Rattle.read_side.proofs.CopyChanges.{either-way, entries-nothing, follow-nothing}
 use Rattle.read_side.proofs.keeper.append_no_change.Goals as goal
 
 pub returns-clause-entries : goal.returns-clause-entries

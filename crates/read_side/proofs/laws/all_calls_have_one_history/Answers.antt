@@ -3,7 +3,7 @@ use Rattle.trace_model.specs.declared.entry.Entry.{Entry}
 use Rattle.trace_model.specs.Answers.{answer}
 use Rattle.trace_model.specs.Refusals.{refusal_of}
 use Rattle.trace_model.proofs.Prefixes.{prefix_length, take_whole}
-use Rattle.read_side.proofs.Once.{acknowledged_once}
+use Rattle.read_side.proofs.DistinctEntries.{acknowledged_once}
 use Rattle.read_side.proofs.laws.all_calls_have_one_history.Goals as goal
 
 pub returns-clause-answers : goal.returns-clause-answers

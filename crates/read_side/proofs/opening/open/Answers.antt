@@ -1,7 +1,7 @@
 use Rattle.std.proofs.Common.{rules, ◌≡◌, ◌∙◌, ◌+◌, ap, sym, subst, [], List}
 use Rattle.std.specs.List.{All}
 use Rattle.read_side.specs.Passes.{PassValue, new_pass}
-use Rattle.read_side.proofs.Steps.{admits, starts}
+use Rattle.read_side.proofs.CopySteps.{admits, starts}
 use Rattle.read_side.proofs.opening.open.Goals as goal
 use Rattle.std.proofs.lemmas.List.Elements.{All-push}
 

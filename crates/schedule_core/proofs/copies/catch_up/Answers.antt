@@ -4,7 +4,7 @@ use Rattle.std.proofs.lemmas.List.{take_rest}
 use Rattle.std.specs.Arc.{arc_value}
 use Rattle.trace_model.specs.declared.admission.Admission.TheVariants.{Added}
 use Rattle.trace_model.specs.Refusals.{admission}
-use Rattle.schedule_core.proofs.Following.{item_follows}
+use Rattle.schedule_core.proofs.LegalEntries.{item_follows}
 use Rattle.schedule_core.proofs.copies.catch_up.Goals as goal
 
 pub add-requires : goal.add-requires

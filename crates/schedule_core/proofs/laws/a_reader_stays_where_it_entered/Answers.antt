@@ -1,4 +1,4 @@
-use Rattle.schedule_core.proofs.Facts.{every_run}
+use Rattle.schedule_core.proofs.RunFacts.{every_run}
 use Rattle.schedule_core.proofs.laws.a_reader_stays_where_it_entered.Goals as goal
 
 pub returns : goal.returns

@@ -1,4 +1,4 @@
-use Rattle.schedule_core.proofs.Fitting.{accepted_legal}
+use Rattle.schedule_core.proofs.LegalMachines.{accepted_legal}
 use Rattle.schedule_core.proofs.laws.accepted_jobs_are_legal.Goals as goal
 
 pub returns : goal.returns

@@ -2,8 +2,8 @@ use Rattle.std.proofs.Common.{rules, ◌≡◌, ◌∙◌, [], ◌∷◌, ◌++�
 use Rattle.std.proofs.lemmas.List.{map-id}
 use Rattle.std.proofs.lemmas.Iterator.Adapters.{YieldsList-from_vec}
 use Rattle.std.proofs.lemmas.Iterator.Consumers.{YieldsList-end}
-use Rattle.schedule_core.specs.Worlds.{PlaysAs}
-use Rattle.schedule_core.proofs.Playing.{Ran, ran_nothing, ran_on}
+use Rattle.schedule_core.specs.BoundedMachines.{PlaysAs}
+use Rattle.schedule_core.proofs.BoundedSteps.{Ran, ran_nothing, ran_on}
 use Rattle.schedule_core.proofs.script.outcomes_of.Goals as goal
 
 pub loop-step-init : goal.loop-step-init

@@ -1,6 +1,6 @@
 use Rattle.std.specs.Prelude.{◌≡◌, ◌⊎◌, Some, None}
 use Rattle.schedule_core.specs.Machine.{Machine}
-use Rattle.schedule_core.proofs.Playing.{Ran}
+use Rattle.schedule_core.proofs.BoundedSteps.{Ran}
 use Rattle.schedule_core.proofs.script.outcomes_of.Given as goal
 
 abbrev pub invariant-loop-step : goal.invariant-loop-step

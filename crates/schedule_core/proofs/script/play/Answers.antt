@@ -1,6 +1,6 @@
 use Rattle.std.proofs.Common.{inl}
 use Rattle.std.proofs.lemmas.Result.{IfOk-weaker}
-use Rattle.schedule_core.proofs.Facts.{played_from}
+use Rattle.schedule_core.proofs.RunFacts.{played_from}
 use Rattle.schedule_core.proofs.script.play.Goals as goal
 
 pub returns : goal.returns

@@ -1,7 +1,7 @@
 use Rattle.std.proofs.Common.{◌≡◌, take}
 use Rattle.std.specs.List.{fold, flat_map}
 use Rattle.std.specs.Hash.DefaultHasher as sip
-use Rattle.sent_batches.specs.Hashing.{tag_fed}
+use Rattle.sent_batches.specs.BatchHashes.{tag_fed}
 use Rattle.sent_batches.proofs.hashing.feed_tags.Given as goal
 
 -- the tags so far are fed

@@ -2,16 +2,16 @@ use Rattle.std.proofs.Common.{ℕ, ◌∙◌, ◌-◌, ◌<◌, List, get_or, ap
 use Rattle.jaeger_model.specs.Texts.{sorted_set}
 use Rattle.std.proofs.lemmas.List.{length-map, map_push}
 use Rattle.trace_model.specs.Names.{operation_cmp}
-use Rattle.service_index.specs.Probes.{AreNumbers}
+use Rattle.service_index.specs.Probes.{AreNumbersBelow}
 use Rattle.service_index.specs.Indexes.{operations_at}
-use Rattle.service_index.proofs.Linking.{walk_start, walk_step}
-use Rattle.service_index.proofs.Probing.{no_numbers, numbers_more}
+use Rattle.service_index.proofs.LinkedOperations.{walk_start, walk_step}
+use Rattle.service_index.proofs.LabelProbes.{no_numbers, numbers_more}
 use Rattle.service_index.proofs.index.numbers_along.Goals as goal
 
 pub loop-at-init : goal.loop-at-init
 loop-at-init c = record {
   within = c.requires.within;
-  held = λ count all. subst (AreNumbers count) (sym c.new-along.ensures.items) (no_numbers count);
+  held = λ count all. subst (AreNumbersBelow count) (sym c.new-along.ensures.items) (no_numbers count);
   along =
       λ names chain s h. (
         h.own,
@@ -34,7 +34,7 @@ loop-at-preserved c =
     record {
       within = omega arith;
       held =
-          λ count all. subst (AreNumbers count) (sym c.in_ok-push.ensures.items)
+          λ count all. subst (AreNumbersBelow count) (sym c.in_ok-push.ensures.items)
           (numbers_more count known n (c.loop-at.invariant.held count all) (all.held row (omega arith)));
       along = λ names chain s h.
           let kept = c.loop-at.invariant.along names chain s h in

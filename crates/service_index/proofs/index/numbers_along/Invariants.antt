@@ -1,16 +1,16 @@
 use Rattle.std.proofs.Common.{◌≡◌, ℕ, ◌-◌, ◌<◌, ◌≤◌, List, [], map, length, get_or, drop}
 use Rattle.jaeger_model.specs.Texts.{sorted_set}
 use Rattle.trace_model.specs.Names.{operation_cmp}
-use Rattle.service_index.specs.Listing.{operations_of}
-use Rattle.service_index.specs.Naming.{Names}
-use Rattle.service_index.specs.Probes.{AreNumbers}
+use Rattle.service_index.specs.ListedNames.{operations_of}
+use Rattle.service_index.specs.Labels.{Names}
+use Rattle.service_index.specs.Probes.{AreNumbersBelow}
 use Rattle.service_index.specs.Indexes.{owners, operations_at, IsChain, IsNewest}
 use Rattle.service_index.proofs.index.numbers_along.Given as goal
 
 abbrev pub invariant-loop-at : goal.invariant-loop-at
 invariant-loop-at l = record {
   within : l.at ≤ length l.numbers;
-  held : (count : ℕ) → AreNumbers count l.numbers → AreNumbers count l.along.items;
+  held : (count : ℕ) → AreNumbersBelow count l.numbers → AreNumbersBelow count l.along.items;
   along : (names : Names) → IsChain (owners names l.numbers) l.earlier → (service : List ℕ)
       → IsNewest (owners names l.numbers) service l.newest (length l.numbers)
       → (0 < l.at → get_or (owners names l.numbers) (l.at - 1) [] ≡ service)

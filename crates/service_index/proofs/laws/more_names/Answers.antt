@@ -1,4 +1,4 @@
-use Rattle.service_index.proofs.Extending.{indexed_extends, listing_extends}
+use Rattle.service_index.proofs.MoreNames.{indexed_extends, listing_extends}
 use Rattle.service_index.proofs.laws.more_names.Goals as goal
 
 pub returns-clause-indexed : goal.returns-clause-indexed

@@ -1,6 +1,6 @@
 use Rattle.trace_model.proofs.NameLaws.{operation_total, operation_exact}
-use Rattle.service_index.proofs.Known.{same_operation_by_cmp}
-use Rattle.service_index.proofs.Ordering.{sorted_once}
+use Rattle.service_index.proofs.KnownNames.{same_operation_by_cmp}
+use Rattle.service_index.proofs.SortedLists.{sorted_once}
 use Rattle.service_index.proofs.operation_sets.sorted_operations.Goals as goal
 
 pub returns : goal.returns

@@ -1,6 +1,6 @@
 use Rattle.std.specs.Cmp.Lexicographic.{texts_ties}
 use Rattle.trace_model.proofs.NameLaws.{text_total, text_exact}
-use Rattle.service_index.proofs.Ordering.{sorted_once}
+use Rattle.service_index.proofs.SortedLists.{sorted_once}
 use Rattle.service_index.proofs.operation_sets.sorted_texts.Goals as goal
 
 pub returns : goal.returns

@@ -2,7 +2,7 @@ use Rattle.std.proofs.Common.{rules}
 use Rattle.std.specs.Int.{w128}
 use Rattle.std.proofs.lemmas.Int.{to_z-of_z}
 use Rattle.trace_model.specs.Adjusting.{move_log}
-use Rattle.trace_model.proofs.Steps.{written_more}
+use Rattle.trace_model.proofs.LoopSteps.{written_more}
 use Rattle.span_steps.proofs.clock.move_logs.Goals as goal
 
 pub loop-log-preserved : goal.loop-log-preserved

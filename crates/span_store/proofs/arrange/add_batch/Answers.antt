@@ -2,13 +2,13 @@ use Rattle.std.proofs.Common.{rules, refl, ◌≡◌, ◌+◌, ◌<◌, ◌≤�
 use Rattle.jaeger_model.specs.declared.span.Span.{Span}
 use Rattle.jaeger_model.specs.Parents.{placed}
 use Rattle.trace_model.specs.Events.{came}
-use Rattle.jaeger_model.proofs.Referred.{trace_stays}
-use Rattle.trace_assembly.specs.Rows.{spots_of}
-use Rattle.trace_assembly.specs.Located.{located_upto}
+use Rattle.jaeger_model.proofs.ParentReferences.{trace_stays}
+use Rattle.trace_assembly.specs.AssembledRows.{spots_of}
+use Rattle.trace_assembly.specs.LocatedSpans.{located_upto}
 use Rattle.trace_assembly.proofs.Places.{upto_more}
 use Rattle.trace_assembly.specs.declared.spot.Spot.{Spot as SpotValue}
-use Rattle.span_store.specs.Kept.{Follows}
-use Rattle.span_store.specs.Opening.{AreFirst, IsRanged}
+use Rattle.span_store.specs.StoreIndexes.{FollowsEvents}
+use Rattle.span_store.specs.ShownStarts.{AreFirst, IsRanged}
 use Rattle.span_store.proofs.StartsFollowEvents.{first_none, start_stays, starts_came}
 use Rattle.span_store.proofs.RingFollowsEvents.{upto_end, follows_none}
 use Rattle.span_store.proofs.RangesFollowEvents.{ranged_none}
@@ -45,14 +45,14 @@ loop-span-preserved c =
       index = ap (λ k. k + 1) c.loop-span.invariant.index;
       within = c.add_span-row.ensures.within;
       follows = λ n h at f.
-          subst (λ es. Follows n es c.add_span-row.new.shown.newest (spots_of c.add_span-row.new.shown))
+          subst (λ es. FollowsEvents n es c.add_span-row.new.shown.newest (spots_of c.add_span-row.new.shown))
           ((λ j. located_upto h b i ++ came (record { place = at j; index = c.loop-span.invariant.index j }, placed b s) ∷ [])
           ∙ sym (upto_more h b i s le (sym is)))
           (c.add_span-row.ensures.follows n (located_upto h b i) (placed b s) (c.loop-span.invariant.follows n h at f) (trace_stays s));
       first = λ n h at f first.
           let before = c.loop-span.invariant.follows n h at f in
           let spot : SpotValue = record { place = c.args.place; index = c.loop-span.index } in
-          let after : Follows n (located_upto h b i ++ came (spot, placed b s) ∷ []) c.add_span-row.new.shown.newest (spots_of c.add_span-row.new.shown) =
+          let after : FollowsEvents n (located_upto h b i ++ came (spot, placed b s) ∷ []) c.add_span-row.new.shown.newest (spots_of c.add_span-row.new.shown) =
           c.add_span-row.ensures.follows n (located_upto h b i) (placed b s) before (trace_stays s) in
           subst (λ es. AreFirst n es c.add_span-row.new.starts.starts)
           ((λ j. located_upto h b i ++ came (record { place = at j; index = c.loop-span.invariant.index j }, placed b s) ∷ [])
@@ -76,7 +76,7 @@ pub returns-clause-follows : goal.returns-clause-follows
 returns-clause-follows c = λ n h at f.
     let past : length c.args.batch.now.spans ≤ c.loop-span.span-index =
     subst (λ (ss : List Span). length ss ≤ c.loop-span.span-index) c.as_slice-span-items.ensures c.loop-span-test.false in
-    subst (λ es. Follows n es c.loop-span.shown.newest (spots_of c.loop-span.shown)) (upto_end h c.args.batch.now c.loop-span.span-index past)
+    subst (λ es. FollowsEvents n es c.loop-span.shown.newest (spots_of c.loop-span.shown)) (upto_end h c.args.batch.now c.loop-span.span-index past)
     (c.loop-span.invariant.follows n h at f)
 
 pub returns-clause-first : goal.returns-clause-first

@@ -1,9 +1,9 @@
 use Rattle.std.proofs.Common.{◌≡◌, ◌∙◌, ap}
 use Rattle.trace_model.specs.Rings.{newest}
-use Rattle.trace_assembly.specs.Rows.{spots_of}
+use Rattle.trace_assembly.specs.AssembledRows.{spots_of}
 use Rattle.span_store.proofs.RingFollowsEvents.{follows_batch, follows_limit}
-use Rattle.trace_assembly.specs.Located.{events_in, located_events}
-use Rattle.trace_model.specs.Showing.{spans_of_trace}
+use Rattle.trace_assembly.specs.LocatedSpans.{events_in, located_events}
+use Rattle.trace_model.specs.ShownSpans.{spans_of_trace}
 use Rattle.span_store.proofs.StartsFollowEvents.{first_batch, starts_limited}
 use Rattle.span_store.proofs.RangesFollowEvents.{ranged_batch, ranged_limited}
 use Rattle.span_store.proofs.arrange.apply_entry.Goals as goal

@@ -1,7 +1,7 @@
 use Rattle.std.proofs.Common.{◌∙◌, [], List, map, ap}
 use Rattle.std.specs.Prelude.{slice_index_or}
 use Rattle.jaeger_model.specs.declared.placed.Placed.{Placed}
-use Rattle.journal_traces.specs.Standing.{traces_named}
+use Rattle.journal_traces.specs.SpansAtSpots.{traces_named}
 use Rattle.span_store.proofs.finding.take_found.Goals as goal
 
 pub returns-clause-found : goal.returns-clause-found

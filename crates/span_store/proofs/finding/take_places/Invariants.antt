@@ -1,7 +1,7 @@
 use Rattle.std.proofs.Common.{◌≡◌, map, take, []}
 use Rattle.std.specs.Prelude.{slice_index_or}
-use Rattle.journal_traces.specs.Standing.{traces_named}
-use Rattle.journal_traces.specs.Taking.{placed_taken, AreNumberedByPlace}
+use Rattle.journal_traces.specs.SpansAtSpots.{traces_named}
+use Rattle.journal_traces.specs.TakenTraces.{placed_taken, AreNumberedByPlace}
 use Rattle.span_store.proofs.finding.take_places.Given as goal
 
 abbrev pub invariant-loop-place : goal.invariant-loop-place

@@ -1,7 +1,7 @@
 use Rattle.std.proofs.Common.{rules, inl, inr, ◌≡◌}
 use Rattle.std.proofs.lemmas.Result.{err_from_is_err_and}
 use Rattle.text_lines.specs.declared.run_error.RunError.TheVariants.{Device, Memory}
-use Rattle.text_lines.proofs.Progress.{all_answered, all_lost, some_answered, some_left}
+use Rattle.text_lines.proofs.HandledLines.{all_answered, all_lost, some_answered, some_left}
 use Rattle.text_lines.proofs.answering.answer_lines.Goals as goal
 
 pub returns-in_err-flush-in-Ok-clause-some : goal.returns-in_err-flush-in-Ok-clause-some

@@ -3,8 +3,8 @@ use Rattle.std.proofs.lemmas.Result.{err_from_is_err_and}
 use Rattle.text_lines.specs.declared.run_error.RunError.TheVariants.{Device, Memory}
 use Rattle.session_devices.specs.declared.limits.TheConstants.{MAX_READS}
 use Rattle.text_lines.proofs.Buffers.{moves_nothing}
-use Rattle.text_lines.proofs.Counting.{limit_is_reads, no_read, reads_on}
-use Rattle.text_lines.proofs.Progress.{begins, ends, goes_on, line_lost, stays, stops}
+use Rattle.text_lines.proofs.ReadCounts.{limit_is_reads, no_read, reads_on}
+use Rattle.text_lines.proofs.HandledLines.{begins, ends, goes_on, line_lost, stays, stops}
 use Rattle.text_lines.proofs.answering.take_lines.Goals as goal
 
 pub returns-in_err-lines-clause-some : goal.returns-in_err-lines-clause-some

@@ -1,8 +1,8 @@
 use Rattle.std.proofs.Common.{◌≡◌, false}
 use Rattle.session_devices.specs.declared.limits.TheConstants.{MAX_READS}
-use Rattle.text_lines.specs.Reading.{most_left}
-use Rattle.text_lines.specs.Reads.{CountsReads}
-use Rattle.text_lines.specs.Taking.{SoFar}
+use Rattle.text_lines.specs.LineReads.{most_left}
+use Rattle.text_lines.specs.ReadCounts.{CountsReads}
+use Rattle.text_lines.specs.HandledLines.{SoFar}
 use Rattle.text_lines.proofs.answering.take_lines.Given as goal
 
 abbrev pub invariant-lines : goal.invariant-lines

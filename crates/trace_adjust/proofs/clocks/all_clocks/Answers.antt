@@ -1,5 +1,5 @@
 use Rattle.trace_adjust.specs.Hosts.{hosts_of, all_hosted}
-use Rattle.trace_adjust.proofs.Settled.{all_known, none_set}
+use Rattle.trace_adjust.proofs.KnownClocks.{all_known, none_set}
 use Rattle.trace_adjust.proofs.clocks.all_clocks.Goals as goal
 
 pub returns-then-not-set_all_clocks : goal.returns-then-not-set_all_clocks

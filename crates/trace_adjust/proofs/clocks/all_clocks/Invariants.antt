@@ -1,4 +1,4 @@
-use Rattle.trace_adjust.specs.Settling.{unset_count}
+use Rattle.trace_adjust.specs.KnownClocks.{unset_count}
 use Rattle.trace_adjust.specs.Hosts.{AreSet}
 use Rattle.trace_adjust.proofs.clocks.all_clocks.Given as goal
 

@@ -1,7 +1,7 @@
 use Rattle.std.proofs.Common.{◌≡◌, ◌+◌, ◌≤◌, ◌∙◌, cond, sym, ap, arith}
 use Rattle.std.proofs.lemmas.Bool.{false≢true}
-use Rattle.trace_adjust.specs.Settling.{unset_count}
-use Rattle.trace_adjust.proofs.Settled.{closed_more}
+use Rattle.trace_adjust.specs.KnownClocks.{unset_count}
+use Rattle.trace_adjust.proofs.KnownClocks.{closed_more}
 use Rattle.trace_adjust.proofs.clocks.set_all_clocks.Goals as goal
 use Rattle.trace_adjust.proofs.clocks.set_all_clocks.Goals.{then-set_clock_at, else-set_clock_at}
 

@@ -1,5 +1,5 @@
 use Rattle.std.proofs.Common.{◌≡◌, ◌≤◌, ◌+◌, cond, false}
-use Rattle.trace_adjust.specs.Settling.{AreClosed, unset_count}
+use Rattle.trace_adjust.specs.KnownClocks.{AreClosed, unset_count}
 use Rattle.trace_adjust.specs.Hosts.{hosts_of, all_hosted, AreSet}
 use Rattle.trace_adjust.proofs.clocks.set_all_clocks.Given as goal
 

@@ -1,8 +1,8 @@
 use Rattle.std.proofs.Common.{◌∙◌, sym, ap}
 use Rattle.trace_model.specs.Adjusting.{host_of}
 use Rattle.trace_adjust.specs.Hosts.{hosts_of, number_in}
-use Rattle.trace_adjust.proofs.Hosting.{number_read}
-use Rattle.trace_adjust.proofs.Settled.{step_set, step_closed, step_fewer, parent_read}
+use Rattle.trace_adjust.proofs.HostNumbers.{number_read}
+use Rattle.trace_adjust.proofs.KnownClocks.{step_set, step_closed, step_fewer, parent_read}
 use Rattle.trace_adjust.proofs.clocks.set_clock_at.Goals as goal
 
 pub returns : goal.returns

@@ -6,9 +6,9 @@ use Rattle.std.specs.BTreeMap.{get}
 use Rattle.std.proofs.lemmas.List.{take_all}
 use Rattle.jaeger_model.specs.Texts.{same_text, text_cmp}
 use Rattle.trace_model.specs.Adjusting.{host_of}
-use Rattle.trace_adjust.specs.Hosts.{hosts_of, number_in, AreNumbers, AreKept}
-use Rattle.trace_adjust.proofs.Hosting.{table_more, numbers_more, kept_more, kept_put, own_number, key_read, fresh_is, number_again, number_stays}
-use Rattle.trace_adjust.proofs.Hosting.{number_given, table_given}
+use Rattle.trace_adjust.specs.Hosts.{hosts_of, number_in, AreHostNumbers, AreKept}
+use Rattle.trace_adjust.proofs.HostNumbers.{table_more, numbers_more, kept_more, kept_put, own_number, key_read, fresh_is, number_again, number_stays}
+use Rattle.trace_adjust.proofs.HostNumbers.{number_given, table_given}
 use Rattle.trace_adjust.proofs.hosts.host_numbers.Goals as goal
 use Rattle.trace_adjust.proofs.hosts.host_numbers.Goals.{in-Some, in-None+in_ok-host-in-None+in_ok-number-in-None+in_ok-keep_number-in-None}
 
@@ -67,5 +67,5 @@ loop-index-preserved c =
 
 pub returns : goal.returns
 returns c =
-    subst (λ ps. AreNumbers (hosts_of c.args.trace.now) ps c.loop-index.hosts.items) (take_all c.loop-index.index c.args.trace.now c.loop-index-test.false)
+    subst (λ ps. AreHostNumbers (hosts_of c.args.trace.now) ps c.loop-index.hosts.items) (take_all c.loop-index.index c.args.trace.now c.loop-index-test.false)
     c.loop-index.invariant.hosts

@@ -1,7 +1,7 @@
 use Rattle.std.proofs.Common.{rules, ◌≡◌, ℕ, None, Option}
 use Rattle.std.specs.BTreeMap.{get}
 use Rattle.jaeger_model.specs.Texts.{text_cmp}
-use Rattle.trace_adjust.proofs.Hosting.{entry_made}
+use Rattle.trace_adjust.proofs.HostNumbers.{entry_made}
 use Rattle.trace_adjust.proofs.hosts.number_of.Goals as goal
 
 pub returns-clause-numbers : goal.returns-clause-numbers

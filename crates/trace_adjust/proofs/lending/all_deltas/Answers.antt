@@ -7,10 +7,10 @@ use Rattle.std.proofs.lemmas.Int.{to_z-of_z}
 use Rattle.std.proofs.lemmas.List.{take_all}
 use Rattle.jaeger_model.specs.declared.ids.SpanId.{SpanId}
 use Rattle.trace_adjust.specs.Hosts.{hosts_of, all_hosted, delta_by}
-use Rattle.trace_adjust.specs.Lending.{shifted_all}
-use Rattle.trace_adjust.proofs.Hosting.{same_delta}
+use Rattle.trace_adjust.specs.LentSpans.{shifted_all}
+use Rattle.trace_adjust.proofs.HostNumbers.{same_delta}
 use Rattle.trace_adjust.proofs.Deltas.{delta_more, one_longer}
-use Rattle.trace_adjust.proofs.Shifting.{all_lent}
+use Rattle.trace_adjust.proofs.ShiftedSpans.{all_lent}
 use Rattle.trace_adjust.proofs.lending.all_deltas.Goals as goal
 
 pub loop-place-preserved : goal.loop-place-preserved

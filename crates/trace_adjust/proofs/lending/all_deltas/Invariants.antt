@@ -1,7 +1,7 @@
 use Rattle.std.proofs.Common.{◌≡◌, ℕ, length, take}
 use Rattle.trace_model.specs.Adjusting.{skew_adjusted}
-use Rattle.trace_adjust.specs.Lending.{shifted_all}
-use Rattle.trace_adjust.specs.Skewing.{AreTraceClocks}
+use Rattle.trace_adjust.specs.LentSpans.{shifted_all}
+use Rattle.trace_adjust.specs.TraceClocks.{AreTraceClocks}
 use Rattle.trace_adjust.proofs.lending.all_deltas.Given as goal
 
 abbrev pub invariant-loop-place : goal.invariant-loop-place

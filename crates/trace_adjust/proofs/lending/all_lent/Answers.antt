@@ -2,8 +2,8 @@ use Rattle.std.proofs.Common.{◌∙◌, ◌++◌, ◌∷◌, [], map, sym, ap, 
 use Rattle.std.specs.Prelude.{option_map}
 use Rattle.std.proofs.lemmas.List.{map_push}
 use Rattle.trace_model.specs.Adjusting.{with_parent_first}
-use Rattle.trace_model.specs.Keeping.{spans_there}
-use Rattle.trace_model.specs.Seeing.{placed_by_its_entry}
+use Rattle.trace_model.specs.KeptTraces.{spans_there}
+use Rattle.trace_model.specs.BorrowedSpans.{placed_by_its_entry}
 use Rattle.trace_model.proofs.KeptSpans.{some_next, none_next}
 use Rattle.trace_adjust.proofs.lending.all_lent.Goals as goal
 use Rattle.trace_adjust.proofs.lending.all_lent.Goals.{in-Some+in_ok-push, in_default}

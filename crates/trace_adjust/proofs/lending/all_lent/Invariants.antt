@@ -1,6 +1,6 @@
 use Rattle.std.proofs.Common.{◌≡◌, map, take}
 use Rattle.trace_model.specs.Adjusting.{with_parent_first}
-use Rattle.trace_model.specs.Keeping.{spans_there}
+use Rattle.trace_model.specs.KeptTraces.{spans_there}
 use Rattle.trace_adjust.proofs.lending.all_lent.Given as goal
 
 abbrev pub invariant-loop-span : goal.invariant-loop-span

@@ -1,7 +1,7 @@
 use Rattle.std.proofs.Common.{map, sym, subst}
 use Rattle.trace_model.specs.Adjusting.{with_parent_first}
-use Rattle.trace_model.specs.Keeping.{spans_there}
-use Rattle.trace_model.specs.Sharing.{ShareProcesses}
+use Rattle.trace_model.specs.KeptTraces.{spans_there}
+use Rattle.trace_model.specs.SharedProcesses.{ShareProcesses}
 use Rattle.trace_model.proofs.SharingShown.{lent_shares}
 use Rattle.trace_adjust.proofs.lending.deltas_of.Goals as goal
 

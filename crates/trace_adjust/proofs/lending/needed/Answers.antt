@@ -1,5 +1,5 @@
 use Rattle.std.proofs.Common.{◌∙◌, ap, sym}
-use Rattle.trace_adjust.specs.Lending.{shifted_all}
+use Rattle.trace_adjust.specs.LentSpans.{shifted_all}
 use Rattle.trace_adjust.proofs.Deltas.{all_zero, none_moves}
 use Rattle.trace_adjust.proofs.lending.needed.Goals as goal
 

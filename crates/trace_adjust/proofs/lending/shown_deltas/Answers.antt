@@ -1,7 +1,7 @@
 use Rattle.std.proofs.Common.{◌≡◌, ◌∙◌, IfOk, ap, false, map, subst, sym}
 use Rattle.trace_model.specs.Adjusting.{adjusted, shown_as, with_parent_first}
-use Rattle.trace_model.specs.Keeping.{kept_value, spans_there}
-use Rattle.trace_adjust.specs.Lending.{placed_as, shifted_all}
+use Rattle.trace_model.specs.KeptTraces.{kept_value, spans_there}
+use Rattle.trace_adjust.specs.LentSpans.{placed_as, shifted_all}
 use Rattle.trace_adjust.proofs.Deltas.{lent_raw}
 use Rattle.trace_adjust.proofs.lending.shown_deltas.Goals as goal
 

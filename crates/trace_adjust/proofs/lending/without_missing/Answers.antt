@@ -1,9 +1,9 @@
 use Rattle.std.proofs.Common.{◌≡◌, ◌∙◌, ap, rules, subst, sym}
 use Rattle.std.specs.Prelude.{filter, is_some}
 use Rattle.std.proofs.lemmas.Fn.{filter_same}
-use Rattle.trace_model.specs.Keeping.{spans_there}
-use Rattle.trace_adjust.specs.Lending.{AreThere}
-use Rattle.trace_adjust.proofs.There.{all_there, still_there}
+use Rattle.trace_model.specs.KeptTraces.{spans_there}
+use Rattle.trace_adjust.specs.LentSpans.{AreThere}
+use Rattle.trace_adjust.proofs.ExistingSpans.{all_there, still_there}
 use Rattle.trace_adjust.proofs.lending.without_missing.Goals as goal
 
 pub returns-clause-there : goal.returns-clause-there

@@ -1,4 +1,4 @@
-use Rattle.trace_adjust.proofs.Lent.{put_in_front}
+use Rattle.trace_adjust.proofs.LentReferences.{put_in_front}
 use Rattle.trace_adjust.proofs.lent_placed.parent_moved_first.Goals as goal
 
 pub returns-in-Some-clause-kept : goal.returns-in-Some-clause-kept

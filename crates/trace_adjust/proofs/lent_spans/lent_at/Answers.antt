@@ -1,8 +1,8 @@
 use Rattle.std.proofs.Common.{◌≡◌, ◌∙◌, ap, get_or, sym}
 use Rattle.std.specs.Prelude.{None, Some, option_map}
-use Rattle.trace_model.specs.Seeing.{placed_by_its_entry}
-use Rattle.trace_adjust.specs.Lending.{placed_as}
-use Rattle.trace_adjust.proofs.There.{never_none, there_at}
+use Rattle.trace_model.specs.BorrowedSpans.{placed_by_its_entry}
+use Rattle.trace_adjust.specs.LentSpans.{placed_as}
+use Rattle.trace_adjust.proofs.ExistingSpans.{never_none, there_at}
 use Rattle.trace_adjust.proofs.lent_spans.lent_at.Goals as goal
 
 pub unreachable-requires : goal.unreachable-requires

@@ -1,5 +1,5 @@
 use Rattle.std.proofs.Common.{◌≡◌, map, take}
-use Rattle.trace_adjust.specs.Settling.{place_in}
+use Rattle.trace_adjust.specs.KnownClocks.{place_in}
 use Rattle.trace_adjust.proofs.parents.parent_places.Given as goal
 
 abbrev pub invariant-loop-placed : goal.invariant-loop-placed

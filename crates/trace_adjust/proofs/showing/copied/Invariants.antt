@@ -1,5 +1,5 @@
 use Rattle.std.proofs.Common.{◌≡◌, take}
-use Rattle.trace_model.specs.Keeping.{spans_there}
+use Rattle.trace_model.specs.KeptTraces.{spans_there}
 use Rattle.trace_adjust.proofs.showing.copied.Given as goal
 
 abbrev pub invariant-loop-span : goal.invariant-loop-span

@@ -1,6 +1,6 @@
 use Rattle.std.proofs.Common.{◌∙◌, sym, subst}
 use Rattle.trace_model.specs.Adjusting.{spans_of}
-use Rattle.trace_model.specs.Sharing.{ShareProcesses}
+use Rattle.trace_model.specs.SharedProcesses.{ShareProcesses}
 use Rattle.trace_model.proofs.SharingShown.{adjusted_shares, unadjusted_shares}
 use Rattle.trace_adjust.proofs.showing.shown_as.Goals as goal
 

@@ -1,7 +1,7 @@
 use Rattle.std.proofs.Common.{◌≡◌, ◌∙◌, [], length, sym, ap, subst}
 use Rattle.trace_model.specs.Adjusting.{spans_of, shown_adjusted}
-use Rattle.trace_model.specs.Sharing.{ShareProcesses}
-use Rattle.trace_adjust.proofs.Shifting.{as_many_shown}
+use Rattle.trace_model.specs.SharedProcesses.{ShareProcesses}
+use Rattle.trace_adjust.proofs.ShiftedSpans.{as_many_shown}
 use Rattle.trace_adjust.proofs.skew.adjust_skew.Goals as goal
 
 pub all_shifted-requires : goal.all_shifted-requires

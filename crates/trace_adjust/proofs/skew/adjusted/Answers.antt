@@ -2,9 +2,9 @@ use Rattle.std.proofs.Common.{◌∙◌, sym, ap, subst}
 use Rattle.std.proofs.lemmas.Result.{IfOk-weaker}
 use Rattle.trace_model.specs.Adjusting.{spans_of, with_parent_first, shown_adjusted}
 use Rattle.std.specs.Prelude.{map}
-use Rattle.trace_model.specs.Sharing.{ShareProcesses}
+use Rattle.trace_model.specs.SharedProcesses.{ShareProcesses}
 use Rattle.trace_model.proofs.SharingShown.{first_shares}
-use Rattle.trace_adjust.proofs.Shifting.{fresh}
+use Rattle.trace_adjust.proofs.ShiftedSpans.{fresh}
 use Rattle.trace_adjust.proofs.skew.adjusted.Goals as goal
 
 pub all_shifted-requires : goal.all_shifted-requires

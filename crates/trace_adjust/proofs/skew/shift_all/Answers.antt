@@ -6,8 +6,8 @@ use mir.Val.{SFits}
 use Rattle.std.proofs.lemmas.Int.{to_z-of_z}
 use Rattle.trace_model.specs.Adjusting.{spans_of, said_after, shifted}
 use Rattle.trace_adjust.specs.Hosts.{hosts_of, all_hosted}
-use Rattle.trace_adjust.proofs.Hosting.{same_delta}
-use Rattle.trace_adjust.proofs.Shifting.{shifted_more, all_written}
+use Rattle.trace_adjust.proofs.HostNumbers.{same_delta}
+use Rattle.trace_adjust.proofs.ShiftedSpans.{shifted_more, all_written}
 use Rattle.trace_adjust.proofs.skew.shift_all.Goals as goal
 
 pub loop-place-preserved : goal.loop-place-preserved

@@ -1,14 +1,14 @@
 use Rattle.std.proofs.Common.{◌≡◌, length, map}
 use Rattle.std.specs.Arc.{arc_value}
 use Rattle.intake.specs.Books.{Balances}
-use Rattle.trace_server.specs.WorkerSeats.{AreOpen, Moves}
+use Rattle.trace_server.specs.WorkerSeats.{AreOpen, MovesJobs}
 use Rattle.trace_server.proofs.Workers.{SomeTakenIn}
 use Rattle.trace_server.proofs.ending.take_all_in.Given as goal
 
 abbrev pub invariant-loop-live : goal.invariant-loop-live
 invariant-loop-live g l = AreOpen l.books.inbox.desk (map (λ w. w.1.seat) l.workers.items)
     × Balances l.books.inbox.taken l.books.accounts (map arc_value l.books.left.items)
-    × Moves l.fn.books.inbox.taken (map arc_value l.fn.books.left.items) l.books.inbox.taken (map arc_value l.books.left.items)
+    × MovesJobs l.fn.books.inbox.taken (map arc_value l.fn.books.left.items) l.books.inbox.taken (map arc_value l.books.left.items)
     × SomeTakenIn (map (λ w. w.1.seat) l.fn.workers.items) (map (λ w. w.1.seat) l.workers.items) l.books.inbox.ended l.books.inbox.taken
     × (l.books.accounts ≡ l.fn.books.accounts) × (l.books.acknowledged ≡ l.fn.books.acknowledged) × (l.books.refused ≡ l.fn.books.refused)
 

@@ -1,5 +1,5 @@
-use Rattle.trace_server.specs.Serving.{served_line, books_line}
-use Rattle.trace_server.proofs.Endings.{said_both, said_some}
+use Rattle.trace_server.specs.ServerRuns.{served_line, books_line}
+use Rattle.trace_server.proofs.ServerEnds.{said_both, said_some}
 use Rattle.trace_server.proofs.reporting.write_end.Goals as goal
 
 pub returns-in-Ok : goal.returns-in-Ok

@@ -1,7 +1,7 @@
 use Rattle.std.proofs.Common.{inl, inr, map, subst, sym}
 use Rattle.trace_model.specs.declared.limits.Limits.{Limits}
-use Rattle.trace_server.specs.Serving.{Serves}
-use Rattle.trace_server.proofs.Endings.{reported, unheard}
+use Rattle.trace_server.specs.ServerRuns.{RunsServer}
+use Rattle.trace_server.proofs.ServerEnds.{reported, unheard}
 use Rattle.trace_server.proofs.serving.serve_named.Goals as goal
 
 pub returns-in-Err : goal.returns-in-Err
@@ -14,7 +14,7 @@ returns g c =
     let workers = c.args.setup.now.config.now.options.workers in
     let old = g.W.Output.contents c.args.output.now in
     let new = g.W.Output.contents c.serve_store.new.output in
-    subst (λ (l : Limits). Serves host l workers (record { before = old; after = new; failed = failed }) c.serve_store.result) (sym c.requires.limits)
+    subst (λ (l : Limits). RunsServer host l workers (record { before = old; after = new; failed = failed }) c.serve_store.result) (sym c.requires.limits)
     (reported host g.N.StoreName.limits workers c.in-Ok-open.shared.clerk.desk (map (λ p. p.1.seat) c.in-Ok-open.shared.lives.items)
     old _ new failed _ c.serve_store.result
     c.in-Ok-open.ensures.new c.in_default-write_listening.ensures.0 c.serve_store.ensures)

@@ -3,17 +3,17 @@ use Rattle.std.specs.List.{AllZip}
 use Rattle.std.proofs.lemmas.Result.{IfOk-weaker}
 use Rattle.std.proofs.lemmas.Option.{slice_get_read}
 use Rattle.intake.specs.Seats.{SeatValue}
-use Rattle.intake.specs.LiveSharing.{GoesOn}
+use Rattle.intake.specs.LiveStores.{SeatGoesOn}
 use Rattle.trace_server.proofs.serving.serve_sessions.Goals as goal
 
 pub beside-books-requires-clause-keeps : goal.beside-books-requires-clause-keeps
 beside-books-requires-clause-keeps g c κs within = λ given post.
     let same = ap (λ l. map (λ p. p.1.seat) l.items) c.of.ensures in
-    IfOk-weaker given _ _ (λ v each. subst (λ (ss : List SeatValue). AllZip GoesOn ss (map (λ w. w.1.seat) v.items)) (sym same) each) post
+    IfOk-weaker given _ _ (λ v each. subst (λ (ss : List SeatValue). AllZip SeatGoesOn ss (map (λ w. w.1.seat) v.items)) (sym same) each) post
 
 pub returns-in-Some-outcomes-clause-seats : goal.returns-in-Some-outcomes-clause-seats
 returns-in-Some-outcomes-clause-seats g c =
     let same = ap (λ l. map (λ p. p.1.seat) l.items) c.of.ensures in
-    let kept : IfOk c.in-Some-outcomes.outcomes (λ v. AllZip GoesOn (map (λ p. p.1.seat) c.of.result.value.items) (map (λ w. w.1.seat) v.items)) =
+    let kept : IfOk c.in-Some-outcomes.outcomes (λ v. AllZip SeatGoesOn (map (λ p. p.1.seat) c.of.result.value.items) (map (λ w. w.1.seat) v.items)) =
     search rules in
-    IfOk-weaker c.in-Some-outcomes.outcomes _ _ (λ v each. subst (λ (ss : List SeatValue). AllZip GoesOn ss (map (λ w. w.1.seat) v.items)) same each) kept
+    IfOk-weaker c.in-Some-outcomes.outcomes _ _ (λ v each. subst (λ (ss : List SeatValue). AllZip SeatGoesOn ss (map (λ w. w.1.seat) v.items)) same each) kept

@@ -1,6 +1,6 @@
 use Rattle.std.proofs.Common.{◌∙◌, inl, inr, map}
-use Rattle.trace_server.specs.Serving.{served_line}
-use Rattle.trace_server.proofs.Endings.{broken_off}
+use Rattle.trace_server.specs.ServerRuns.{served_line}
+use Rattle.trace_server.proofs.ServerEnds.{broken_off}
 use Rattle.trace_server.proofs.Workers.{new_open, open_at, open_still, numbers_stay}
 use Rattle.trace_server.proofs.serving.serve_store.Goals as goal
 use Rattle.std.proofs.lemmas.Result.{IfOk-at_ok}

@@ -1,7 +1,7 @@
 use Rattle.std.proofs.Common.{◌≡◌, ℕ, true, get_or, [], ◌∷◌, ◌++◌, length, length-append, map, List, Ok, ap, ◌∙◌, subst, sym, arith, rules}
 use Rattle.std.proofs.lemmas.List.{map_push, length-map, append_cancel_left}
 use Rattle.trace_model.specs.Histories.{before_last}
-use Rattle.sent_batches.specs.Sent.{has_number, work_hash}
+use Rattle.sent_batches.specs.SentIndex.{has_number, work_hash}
 use Rattle.trace_model.proofs.LastEntries.{before_last-push}
 use Rattle.std.specs.Global.{Global}
 use Rattle.trace_model.proofs.Admissions.{MayFollow, IsSaid, admission_says}
@@ -10,11 +10,11 @@ use Rattle.std.specs.Arc.{arc_value}
 use Rattle.trace_model.specs.declared.entry.Entry.{Entry}
 use Rattle.trace_model.specs.declared.admission.Admission.TheVariants.{Added}
 use Rattle.trace_model.specs.Refusals.{admission}
-use Rattle.sent_batches.specs.Sent.{IsSentKept}
-use Rattle.trace_model.specs.Works.{spans_brought}
+use Rattle.sent_batches.specs.SentIndex.{IsSentKept}
+use Rattle.trace_model.specs.EntryWork.{spans_brought}
 use Rattle.arrival_journal.specs.Journals.{Journaled, admission_by}
 use Rattle.arrival_journal.specs.Outlines.{outline_in, outlines_kept, with_outline}
-use Rattle.arrival_journal.proofs.Following.{kept_push}
+use Rattle.arrival_journal.proofs.AppendedEntries.{kept_push}
 use Rattle.arrival_journal.proofs.journal.Journal.append.Goals as goal
 
 pub invariant_of-self : goal.invariant_of-self

@@ -2,7 +2,7 @@ use Rattle.std.proofs.Common.{rules, ◌≡◌, ◌∙◌, sym, ap, map, List, S
 use Rattle.std.specs.Arc.{arc_value}
 use Rattle.std.specs.Global.{Global}
 use Rattle.trace_model.specs.declared.entry.Entry.{Entry}
-use Rattle.trace_model.specs.Resending.{sent_before}
+use Rattle.trace_model.specs.ResentBatches.{sent_before}
 use Rattle.trace_model.specs.Refusals.{repeated, admitted_anew}
 use Rattle.trace_model.proofs.Admissions.{admission_repeated, admission_anew}
 use Rattle.arrival_journal.specs.Journals.{Journaled}

@@ -7,7 +7,7 @@ use Rattle.trace_model.specs.declared.entry.Entry.{Entry}
 use Rattle.trace_model.specs.Places.{entry_at}
 use Rattle.arrival_journal.specs.Journals.{Journaled}
 use Rattle.arrival_journal.specs.Outlines.{outline_in, outline_of}
-use Rattle.arrival_journal.proofs.Following.{kept_at}
+use Rattle.arrival_journal.proofs.AppendedEntries.{kept_at}
 use Rattle.arrival_journal.proofs.Places.{lent_item}
 use Rattle.arrival_journal.proofs.journal.Journal.outline.Goals as goal
 

@@ -1,7 +1,7 @@
 use Rattle.std.proofs.Common.{◌∙◌, ap}
 use Rattle.std.proofs.lemmas.List.{take_all}
 use Rattle.arrival_journal.specs.Times.{times_of, times_with}
-use Rattle.arrival_journal.proofs.Widening.{widened}
+use Rattle.arrival_journal.proofs.MoreSpans.{widened}
 use Rattle.arrival_journal.proofs.times.Times.of.Goals as goal
 
 pub loop-span-preserved : goal.loop-span-preserved

@@ -7,7 +7,7 @@ use Rattle.batch_codec.specs.TagReading.{tag_at}
 use Rattle.batch_codec.specs.LogReading.{log_at}
 use Rattle.batch_codec.specs.ReferenceReading.{reference_at}
 use Rattle.batch_codec.specs.SpanReading.{take_span}
-use Rattle.batch_codec.proofs.Kept.{takes-kept, kept-no_longer}
+use Rattle.batch_codec.proofs.StoredFields.{takes-kept, kept-no_longer}
 use Rattle.batch_codec.proofs.span.SpanSlotsSlots.put.Goals as goal
 
 pub returns-in-15-eq6 : goal.returns-in-15-eq6

@@ -1,4 +1,4 @@
-use Rattle.batch_codec.specs.Canon.{front_text, span_fields, span_fits, canon_span}
+use Rattle.batch_codec.specs.CanonicalTexts.{front_text, span_fields, span_fits, canon_span}
 use Rattle.batch_codec.proofs.CanonTexts.{span_stop, ends}
 use Rattle.batch_codec.proofs.writer.SpanSpelled.write.Goals as goal
 

@@ -7,7 +7,7 @@ use Rattle.wire_pieces.proofs.FilledBytes.{signed-whole}
 use Rattle.batch_codec.specs.declared.fault.DecodeError.TheVariants.{Wire, BadEnum}
 use Rattle.batch_codec.specs.Decoding.{i32_at, wire}
 use Rattle.batch_codec.specs.ReferenceReading.{kind_at, kind_of_number}
-use Rattle.batch_feeder.specs.Continuing.{ended}
+use Rattle.batch_feeder.specs.ContinuedCalls.{ended}
 use Rattle.batch_feeder.proofs.enums.RefKindFixed4.of.Goals as goal
 
 pub returns-clause-spells : goal.returns-clause-spells

@@ -1,6 +1,6 @@
 use Rattle.std.proofs.Common.{arith, sym, ◌∙◌}
 use Rattle.std.proofs.lemmas.Result.{err_from_is_err_and}
-use Rattle.batch_feeder.specs.Answers.{answers}
+use Rattle.batch_feeder.specs.FeederAnswers.{answers}
 use Rattle.batch_feeder.proofs.FedPieces.{some-bytes, bytes-refuse, bytes-more, bytes-end}
 use Rattle.batch_feeder.proofs.feeder.Feeder.feed_bytes.Goals as goal
 

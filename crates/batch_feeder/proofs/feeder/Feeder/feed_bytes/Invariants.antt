@@ -1,7 +1,7 @@
 use Rattle.std.proofs.Common.{◌≡◌, ◌<◌, List, ℕ, [], ◌++◌, drop}
 use Rattle.batch_codec.specs.declared.fault.DecodeError.{DecodeError}
-use Rattle.batch_feeder.specs.Answers.{answers}
-use Rattle.batch_feeder.specs.Feeding.{HasNoFault, HasRefused}
+use Rattle.batch_feeder.specs.FeederAnswers.{answers}
+use Rattle.batch_feeder.specs.FeederResults.{HasNoFault, HasRefused}
 use Rattle.batch_feeder.proofs.feeder.Feeder.feed_bytes.Given as goal
 
 abbrev pub invariant-loop-byte : goal.invariant-loop-byte

@@ -1,4 +1,4 @@
-use Rattle.batch_feeder.specs.Answers.{answers}
+use Rattle.batch_feeder.specs.FeederAnswers.{answers}
 use Rattle.batch_feeder.proofs.WaitingBytes.{feeds-then, feeds-plain}
 use Rattle.batch_feeder.proofs.feeder.Feeder.feed_long.Goals as goal
 

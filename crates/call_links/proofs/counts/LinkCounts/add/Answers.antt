@@ -4,10 +4,10 @@ use Rattle.std.specs.Ordering.{nat_cmp}
 use Rattle.std.specs.BTreeMap.{get}
 use Rattle.std.proofs.lemmas.List.{take_all}
 use Rattle.std.proofs.lemmas.List.Sums.{fold_push}
-use Rattle.call_links.specs.Seen.{service_seen, numbered_call, call_by}
-use Rattle.call_links.specs.Tallies.{with_call}
+use Rattle.call_links.specs.NumberedCalls.{service_seen, numbered_call, call_by}
+use Rattle.call_links.specs.LinkTallies.{with_call}
 use Rattle.trace_model.proofs.Lists.{read_some, read_none}
-use Rattle.call_links.proofs.Gathering.{gathered_calls}
+use Rattle.call_links.proofs.ServiceTables.{gathered_calls}
 use Rattle.call_links.proofs.counts.LinkCounts.add.Goals as goal
 use Rattle.call_links.proofs.counts.LinkCounts.add.Goals.{in-Some+in_ok-count, in_default}
 

@@ -2,8 +2,8 @@ use Rattle.std.proofs.Common.{◌≡◌, take, fold}
 use Rattle.std.specs.Prelude.{option_map, filter_map}
 use Rattle.std.specs.Ordering.{nat_cmp}
 use Rattle.std.specs.BTreeMap.{get}
-use Rattle.call_links.specs.Seen.{service_seen, call_by}
-use Rattle.call_links.specs.Tallies.{with_call}
+use Rattle.call_links.specs.NumberedCalls.{service_seen, call_by}
+use Rattle.call_links.specs.LinkTallies.{with_call}
 use Rattle.call_links.proofs.counts.LinkCounts.add.Given as goal
 
 abbrev pub invariant-loop-span : goal.invariant-loop-span

@@ -1,6 +1,6 @@
 use Rattle.std.proofs.Common.{rules}
 use Rattle.std.proofs.lemmas.Fn.{filter_same}
-use Rattle.commands.specs.Judging.{is_written}
+use Rattle.commands.specs.JudgedLines.{is_written}
 use Rattle.commands.proofs.get.batches.drop_blanks.Goals as goal
 
 pub returns : goal.returns

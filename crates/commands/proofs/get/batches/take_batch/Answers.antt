@@ -1,8 +1,8 @@
 use Rattle.std.proofs.Common.{rules, ◌≡◌, ◌==◌, ◌∙◌, length, true, false, Ok, Err}
 use Rattle.std.proofs.lemmas.Result.{IfOk-weaker}
 use Rattle.batch_codec.specs.HexSpelling.{batch_in}
-use Rattle.commands.specs.Judging.{without_blanks}
-use Rattle.commands.proofs.Judgings.{line_skipped, line_refused, line_judged}
+use Rattle.commands.specs.JudgedLines.{without_blanks}
+use Rattle.commands.proofs.LineSteps.{line_skipped, line_refused, line_judged}
 use Rattle.commands.proofs.get.batches.take_batch.Goals as goal
 
 pub returns-then-is_empty : goal.returns-then-is_empty

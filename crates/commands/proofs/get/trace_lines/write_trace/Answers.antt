@@ -5,7 +5,7 @@ use Rattle.std.specs.Prelude.{option_map}
 use Rattle.text_lines.specs.RunErrors.{WritesSome}
 use Rattle.trace_model.specs.Adjusting.{unadjusted}
 use Rattle.commands.specs.GetRuns.{found_in}
-use Rattle.commands.proofs.Finding.{text_found, text_lost}
+use Rattle.commands.proofs.FoundLines.{text_found, text_lost}
 use Rattle.commands.proofs.get.trace_lines.write_trace.Goals as goal
 
 pub returns-in_ok-write_spans-in-Some-clause-lines : goal.returns-in_ok-write_spans-in-Some-clause-lines

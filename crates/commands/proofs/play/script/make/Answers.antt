@@ -1,4 +1,4 @@
-use Rattle.commands.proofs.PlayingLines.{is_made}
+use Rattle.commands.proofs.PlayLines.{is_made}
 use Rattle.commands.proofs.play.script.make.Goals as goal
 
 pub returns : goal.returns

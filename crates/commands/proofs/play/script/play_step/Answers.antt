@@ -1,5 +1,5 @@
 use Rattle.std.proofs.lemmas.Result.{on_ok_weaker}
-use Rattle.commands.proofs.PlayingLines.{made_and_said}
+use Rattle.commands.proofs.PlayLines.{made_and_said}
 use Rattle.commands.proofs.play.script.play_step.Goals as goal
 
 pub returns : goal.returns

@@ -2,8 +2,8 @@ use Rattle.std.proofs.Common.{◌∙◌, ap}
 use Rattle.std.specs.Prelude.{◌==◌}
 use Rattle.std.specs.List.{list_all}
 use Rattle.trace_model.specs.Searching.{has_tag}
-use Rattle.find_traces.specs.Wanting.{Beside}
-use Rattle.find_traces.proofs.Wanting.{all_asked, none_asked}
+use Rattle.find_traces.specs.RequestedPairs.{Beside}
+use Rattle.find_traces.proofs.RequestedPairs.{all_asked, none_asked}
 use Rattle.find_traces.proofs.judged_process.JudgedProcess.has_all_tags.Goals as goal
 
 pub returns-then-self-eq0 : goal.returns-then-self-eq0

@@ -1,5 +1,5 @@
 use Rattle.std.proofs.Common.{arith}
-use Rattle.find_traces.proofs.Wanting.{met_few}
+use Rattle.find_traces.proofs.RequestedPairs.{met_few}
 use Rattle.find_traces.proofs.judged_process.JudgedProcess.new.Goals as goal
 
 pub overflow_sub-left : goal.overflow_sub-left

@@ -1,7 +1,7 @@
 use Rattle.std.proofs.Common.{◌∙◌, ap}
 use Rattle.std.proofs.lemmas.Map.Made.{length-from_keys}
-use Rattle.find_traces.specs.Wanting.{requested_count}
-use Rattle.find_traces.proofs.Wanting.{pair_laws, distinct_pairs}
+use Rattle.find_traces.specs.RequestedPairs.{requested_count}
+use Rattle.find_traces.proofs.RequestedPairs.{pair_laws, distinct_pairs}
 use Rattle.find_traces.proofs.prepared.PreparedSearch.count.Goals as goal
 
 pub returns : goal.returns

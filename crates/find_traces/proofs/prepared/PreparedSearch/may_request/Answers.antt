@@ -1,8 +1,8 @@
 use Rattle.std.proofs.Common.{◌≡◌, ◌∙◌, ap, sym, ℕ, List, false, Bool, true, refl}
 use Rattle.std.specs.Bool.{OnFalse}
 use Rattle.jaeger_model.specs.Tags.{tag_text}
-use Rattle.find_traces.specs.Wanting.{asks, requests_length}
-use Rattle.find_traces.proofs.Wanting.{no_length, no_number}
+use Rattle.find_traces.specs.RequestedPairs.{asks, requests_length}
+use Rattle.find_traces.proofs.RequestedPairs.{no_length, no_number}
 use Rattle.find_traces.proofs.prepared.PreparedSearch.may_request.Goals as goal
 
 pub returns-in-Some : goal.returns-in-Some

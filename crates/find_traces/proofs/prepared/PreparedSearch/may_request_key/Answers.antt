@@ -2,8 +2,8 @@ use Rattle.std.proofs.Common.{◌≡◌, ◌∙◌, ap, sym, ℕ, List, false, B
 use Rattle.std.specs.Prelude.{◌%◌, ◌==◌}
 use Rattle.std.specs.Bool.{OnFalse}
 use Rattle.std.specs.Int.{bit_at}
-use Rattle.find_traces.specs.Wanting.{asks}
-use Rattle.find_traces.proofs.Wanting.{no_bit}
+use Rattle.find_traces.specs.RequestedPairs.{asks}
+use Rattle.find_traces.proofs.RequestedPairs.{no_bit}
 use Rattle.find_traces.proofs.prepared.PreparedSearch.may_request_key.Goals as goal
 
 pub returns : goal.returns

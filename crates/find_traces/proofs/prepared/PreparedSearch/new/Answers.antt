@@ -2,7 +2,7 @@ use Rattle.std.proofs.Common.{◌∙◌, ap, ℕ, List, length}
 use Rattle.std.specs.List.{list_any}
 use Rattle.std.specs.Ordering.{eq_by_cmp, nat_cmp}
 use Rattle.jaeger_model.specs.Texts.{text_cmp}
-use Rattle.find_traces.specs.Wanting.{same_pair, key_bits, may_be_number}
+use Rattle.find_traces.specs.RequestedPairs.{same_pair, key_bits, may_be_number}
 use Rattle.find_traces.proofs.prepared.PreparedSearch.new.Goals as goal
 
 pub invariant_of-result : goal.invariant_of-result

@@ -1,8 +1,8 @@
 use Rattle.std.proofs.Common.{◌∙◌, ap, sym, Some, None}
 use Rattle.std.specs.Prelude.{if◌then◌else◌}
 use Rattle.jaeger_model.specs.Tags.{tag_text}
-use Rattle.find_traces.specs.Wanting.{pair_of, if_requested}
-use Rattle.find_traces.proofs.Wanting.{no_key}
+use Rattle.find_traces.specs.RequestedPairs.{pair_of, if_requested}
+use Rattle.find_traces.proofs.RequestedPairs.{no_key}
 use Rattle.find_traces.proofs.prepared.PreparedSearch.requested_pair.Goals as goal
 
 pub returns-then-not-contains : goal.returns-then-not-contains

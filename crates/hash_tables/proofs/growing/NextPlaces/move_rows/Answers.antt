@@ -1,5 +1,5 @@
 use Rattle.std.proofs.Common.{◌≡◌, take, subst, arith}
-use Rattle.hash_tables.specs.Leading.{LeadsIn}
+use Rattle.hash_tables.specs.RowPlaces.{LeadsIn}
 use Rattle.hash_tables.proofs.growing.NextPlaces.move_rows.Goals as goal
 
 pub returns-clause-leads : goal.returns-clause-leads

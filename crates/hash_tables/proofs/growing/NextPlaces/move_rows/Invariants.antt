@@ -1,6 +1,6 @@
 use Rattle.std.proofs.Common.{◌≡◌, length, take}
 use Rattle.std.specs.Prelude.{vec_capacity}
-use Rattle.hash_tables.specs.Leading.{LeadsIn}
+use Rattle.hash_tables.specs.RowPlaces.{LeadsIn}
 use Rattle.hash_tables.proofs.growing.NextPlaces.move_rows.Given as goal
 
 abbrev pub invariant-loop-row : goal.invariant-loop-row

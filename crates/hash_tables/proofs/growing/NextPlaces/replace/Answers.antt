@@ -1,6 +1,6 @@
 use Rattle.std.proofs.Common.{List, ℕ, take, sym, subst, arith}
-use Rattle.hash_tables.specs.Leading.{LeadsIn}
-use Rattle.hash_tables.proofs.Marking.{leads_filled}
+use Rattle.hash_tables.specs.RowPlaces.{LeadsIn}
+use Rattle.hash_tables.proofs.MarkedRows.{leads_filled}
 use Rattle.hash_tables.proofs.growing.NextPlaces.replace.Goals as goal
 
 pub move_rows-requires-clause-leads : goal.move_rows-requires-clause-leads

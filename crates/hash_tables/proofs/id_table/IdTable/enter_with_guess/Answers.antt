@@ -3,11 +3,11 @@ use Rattle.std.specs.Prelude.{None, position}
 use Rattle.std.proofs.lemmas.List.{length-map, map_push}
 use Rattle.jaeger_model.specs.declared.ids.TraceId.{TraceId}
 use Rattle.jaeger_model.specs.Parents.{same_trace}
-use Rattle.hash_tables.specs.Leading.{Found, LeadsTo, AreOnce}
-use Rattle.hash_tables.proofs.Once.{once_more}
+use Rattle.hash_tables.specs.RowPlaces.{Found, LeadsTo, AreOnce}
+use Rattle.hash_tables.proofs.DistinctRows.{once_more}
 use Rattle.hash_tables.specs.IdRows.{Rows, no_id, id_at}
 use Rattle.hash_tables.specs.IdProbes.{hash_of, hashes_of}
-use Rattle.hash_tables.proofs.IdProbing.{found_at, absent_nowhere}
+use Rattle.hash_tables.proofs.IdProbes.{found_at, absent_nowhere}
 use Rattle.hash_tables.proofs.id_table.IdTable.enter_with_guess.Goals as goal
 
 pub returns-in-Some-clause-entered : goal.returns-in-Some-clause-entered

@@ -3,10 +3,10 @@ use Rattle.std.specs.Prelude.{position}
 use Rattle.std.proofs.lemmas.List.{length-map}
 use Rattle.jaeger_model.specs.declared.ids.TraceId.{TraceId}
 use Rattle.jaeger_model.specs.Parents.{same_trace}
-use Rattle.hash_tables.specs.Leading.{Found}
+use Rattle.hash_tables.specs.RowPlaces.{Found}
 use Rattle.hash_tables.specs.IdRows.{Rows, id_at}
 use Rattle.hash_tables.specs.IdProbes.{hash_of}
-use Rattle.hash_tables.proofs.IdProbing.{found_at}
+use Rattle.hash_tables.proofs.IdProbes.{found_at}
 use Rattle.hash_tables.proofs.id_table.IdTable.find.Goals as goal
 
 pub returns : goal.returns

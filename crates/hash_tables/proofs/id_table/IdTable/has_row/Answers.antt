@@ -4,7 +4,7 @@ use Rattle.std.proofs.lemmas.Bool.{OnTrue_from}
 use Rattle.std.proofs.lemmas.List.{get_or_read}
 use Rattle.jaeger_model.specs.Parents.{same_trace}
 use Rattle.hash_tables.specs.IdRows.{Rows, no_id}
-use Rattle.hash_tables.proofs.IdProbing.{same_is, position_some}
+use Rattle.hash_tables.proofs.IdProbes.{same_is, position_some}
 use Rattle.hash_tables.proofs.id_table.IdTable.has_row.Goals as goal
 
 pub returns-then-row-len : goal.returns-then-row-len

@@ -1,6 +1,6 @@
 use Rattle.std.proofs.Common.{◌≡◌, ◌≤◌, length, List, [], sym, subst, arith}
 use Rattle.jaeger_model.specs.declared.ids.TraceId.{TraceId}
-use Rattle.hash_tables.specs.Leading.{LeadsTo, AreOnce}
+use Rattle.hash_tables.specs.RowPlaces.{LeadsTo, AreOnce}
 use Rattle.hash_tables.specs.IdRows.{no_id}
 use Rattle.hash_tables.specs.IdProbes.{hashes_of}
 use Rattle.hash_tables.proofs.id_table.IdTable.with_room.Goals as goal

@@ -1,6 +1,6 @@
 use Rattle.std.proofs.Common.{◌≡◌, ◌∙◌, List, ℕ, length, ap, subst, sym, arith}
-use Rattle.hash_tables.specs.Leading.{Places, start_of, LeadsIn, Walked}
-use Rattle.hash_tables.proofs.Walking.{found_is}
+use Rattle.hash_tables.specs.RowPlaces.{Places, start_of, LeadsIn, Walked}
+use Rattle.hash_tables.proofs.PlaceWalks.{found_is}
 use Rattle.hash_tables.proofs.places.RowPlaces.find.Goals as goal
 
 pub returns : goal.returns

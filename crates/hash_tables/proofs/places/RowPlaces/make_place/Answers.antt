@@ -1,6 +1,6 @@
 use Rattle.std.proofs.Common.{length, sym, subst, arith}
 use Rattle.std.specs.Prelude.{vec_capacity}
-use Rattle.hash_tables.specs.Leading.{Places, LeadsTo}
+use Rattle.hash_tables.specs.RowPlaces.{Places, LeadsTo}
 use Rattle.hash_tables.proofs.Sizes.{next_holds, more_places, grown}
 use Rattle.hash_tables.proofs.places.RowPlaces.make_place.Goals as goal
 

@@ -1,7 +1,7 @@
 use Rattle.std.proofs.Common.{ap, length, arith}
 use Rattle.std.proofs.lemmas.List.{length-drop}
-use Rattle.http_requests.specs.Receiving.{ReadBuffer}
-use Rattle.http_requests.proofs.Chunking.{shorter}
+use Rattle.http_requests.specs.ReceivedBytes.{ReadBuffer}
+use Rattle.http_requests.proofs.ChunkParts.{shorter}
 use Rattle.http_requests.proofs.Parts.{data_taken, at_stage, data_then, some_put}
 use Rattle.http_requests.proofs.body_reader.BodyReader.take_data.Goals as goal
 

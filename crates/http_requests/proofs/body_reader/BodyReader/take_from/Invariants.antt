@@ -1,5 +1,5 @@
 use Rattle.std.proofs.Common.{length}
-use Rattle.http_requests.specs.InParts.{IsPart, HasLooked, TakesOn}
+use Rattle.http_requests.specs.PartialRequests.{IsPart, HasLooked, TakesOn}
 use Rattle.http_requests.proofs.body_reader.BodyReader.take_from.Given as goal
 
 abbrev pub invariant-steps : goal.invariant-steps

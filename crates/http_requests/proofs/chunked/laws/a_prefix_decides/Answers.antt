@@ -1,4 +1,4 @@
-use Rattle.http_requests.proofs.ChunkOnce.{reading_stays}
+use Rattle.http_requests.proofs.OneChunkedBody.{reading_stays}
 use Rattle.http_requests.proofs.chunked.laws.a_prefix_decides.Goals as goal
 
 pub returns : goal.returns

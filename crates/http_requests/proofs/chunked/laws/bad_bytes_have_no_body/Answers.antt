@@ -1,4 +1,4 @@
-use Rattle.http_requests.proofs.ChunkOnce.{bad_is_none}
+use Rattle.http_requests.proofs.OneChunkedBody.{bad_is_none}
 use Rattle.http_requests.proofs.chunked.laws.bad_bytes_have_no_body.Goals as goal
 
 pub returns : goal.returns

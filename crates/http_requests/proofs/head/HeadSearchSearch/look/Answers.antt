@@ -1,7 +1,7 @@
 use Rattle.std.proofs.Common.{length, arith}
 use Rattle.http_requests.proofs.Prefixes.{never_with_many, whole}
-use Rattle.http_requests.proofs.Ends.{awaits_head}
-use Rattle.http_requests.proofs.Found.{never_found}
+use Rattle.http_requests.proofs.HeadLines.{awaits_head}
+use Rattle.http_requests.proofs.NoHead.{never_found}
 use Rattle.http_requests.proofs.head.HeadSearchSearch.look.Goals as goal
 
 pub returns-in-Whole : goal.returns-in-Whole

@@ -4,7 +4,7 @@ use Rattle.std.specs.Vec.{with_items}
 use borrow.Rule.Slice.PartMut.{put_mid}
 use Rattle.http_requests.specs.declared.room.TheConstants.{PIECE}
 use Rattle.http_requests.proofs.Rooms.{grown, kept}
-use Rattle.http_requests.proofs.Awaiting.{any_err}
+use Rattle.http_requests.proofs.AwaitedReads.{any_err}
 use Rattle.http_requests.proofs.room.Room.read_from.Goals as goal
 
 pub returns-in_err-count-clause-same : goal.returns-in_err-count-clause-same

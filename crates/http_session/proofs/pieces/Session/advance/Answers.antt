@@ -1,6 +1,6 @@
-use Rattle.http_session.specs.InOrder.{line_of}
-use Rattle.http_session.proofs.Turns.{two_way}
-use Rattle.http_session.proofs.Piecewise.{promises_of, receives_nothing, stops_with, goes_on_then, goes_on_reading, read_continues, works_read}
+use Rattle.http_session.specs.ResponseOrder.{line_of}
+use Rattle.http_session.proofs.SessionTurns.{two_way}
+use Rattle.http_session.proofs.SessionPieces.{promises_of, receives_nothing, stops_with, goes_on_then, goes_on_reading, read_continues, works_read}
 use Rattle.http_session.proofs.pieces.Session.advance.Goals as goal
 
 pub returns-in-Err-read_more-clause-goes_on : goal.returns-in-Err-read_more-clause-goes_on

@@ -1,8 +1,8 @@
 use Rattle.std.proofs.Common.{refl, sym, ap, inl, inr}
-use Rattle.http_requests.specs.Receiving.{ReadBuffer}
-use Rattle.http_session.proofs.Turns.{two_way, works_said}
-use Rattle.http_session.proofs.Piecewise.{promises_of, receives_no_query, receives_end, parts, parts_not, answers_last, answers_not, answers_open}
-use Rattle.http_session.proofs.Piecewise.{still_continues, pauses, paused_continues, awaits_more}
+use Rattle.http_requests.specs.ReceivedBytes.{ReadBuffer}
+use Rattle.http_session.proofs.SessionTurns.{two_way, works_said}
+use Rattle.http_session.proofs.SessionPieces.{promises_of, receives_no_query, receives_end, parts, parts_not, answers_last, answers_not, answers_open}
+use Rattle.http_session.proofs.SessionPieces.{still_continues, pauses, paused_continues, awaits_more}
 use Rattle.http_session.proofs.pieces.Session.answer_held.Goals as goal
 
 pub returns-in-Err-clause-goes_on : goal.returns-in-Err-clause-goes_on

@@ -1,6 +1,6 @@
 use Rattle.std.proofs.Common.{◌∙◌, refl}
-use Rattle.http_session.specs.Between.{store_of}
-use Rattle.http_session.proofs.Piecewise.{goes_nowhere, goes_on_then, asks_from}
+use Rattle.http_session.specs.SessionRuns.{store_of}
+use Rattle.http_session.proofs.SessionPieces.{goes_nowhere, goes_on_then, asks_from}
 use Rattle.http_session.proofs.pieces.Session.answer_next.Goals as goal
 
 pub pauses-init : goal.pauses-init

@@ -1,6 +1,6 @@
 use Rattle.std.proofs.Common.{◌≡◌, false, None, Ok}
-use Rattle.http_session.specs.InOrder.{line_of}
-use Rattle.http_session.specs.Between.{store_of}
+use Rattle.http_session.specs.ResponseOrder.{line_of}
+use Rattle.http_session.specs.SessionRuns.{store_of}
 use Rattle.http_session.specs.Pieces.{CanContinue, GoesOn}
 use Rattle.http_session.proofs.pieces.Session.answer_next.Given as goal
 

@@ -1,5 +1,5 @@
 use Rattle.std.proofs.Common.{sym, subst}
-use Rattle.http_session.specs.Incoming.{Carries}
+use Rattle.http_session.specs.IncomingRequests.{Carries}
 use Rattle.http_session.specs.declared.receiving.BodySink.{BodySink}
 use Rattle.http_session.specs.declared.receiving.BodySink.TheVariants.{Batch}
 use Rattle.http_session.proofs.IncomingParts.{put_as, batch_carries}

@@ -3,8 +3,8 @@ use Rattle.std.specs.Arc.{arc_value}
 use Rattle.intake.specs.Queues.{AreWhole}
 use Rattle.intake.specs.Turns.{InboxValue}
 use Rattle.intake.specs.Books.{AllTaken, StaysTaken, is_job, has_job}
-use Rattle.intake.proofs.Ends.{emptied, finished}
-use Rattle.intake.proofs.Taking.{taken-already, moves-one, left-more, balances-more, still-not, stays}
+use Rattle.intake.proofs.EndedSeats.{emptied, finished}
+use Rattle.intake.proofs.TakenJobs.{taken-already, moves-one, left-more, balances-more, still-not, stays}
 use Rattle.intake.proofs.books.Books.take_in.Goals as goal
 
 pub returns-then-has_taken-clause-whole : goal.returns-then-has_taken-clause-whole

@@ -1,6 +1,6 @@
 use Rattle.std.proofs.Common.{rules, ◌∙◌, refl}
 use Rattle.intake.specs.Turns.{WasEmpty}
-use Rattle.intake.proofs.Runs.{ran-start, ran-on, still-empty, no-job-left}
+use Rattle.intake.proofs.JudgedRuns.{ran-start, ran-on, still-empty, no-job-left}
 use Rattle.intake.proofs.clerk.Clerk.run.Goals as goal
 
 pub loop-init : goal.loop-init

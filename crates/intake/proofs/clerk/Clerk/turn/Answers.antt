@@ -1,6 +1,6 @@
 use Rattle.std.proofs.Common.{rules}
 use Rattle.intake.specs.Turns.{account_of}
-use Rattle.intake.proofs.Accounting.{accounted-on}
+use Rattle.intake.proofs.ClerkAccounts.{accounted-on}
 use Rattle.intake.proofs.clerk.Clerk.turn.Goals as goal
 
 pub invariant_of-self-2 : goal.invariant_of-self-2

@@ -1,7 +1,7 @@
 use Rattle.std.proofs.Common.{◌≡◌, rules, subst}
 use Rattle.intake.specs.Denials.{IsDenied}
-use Rattle.intake.specs.LiveSharing.{IsTurnedDown}
-use Rattle.intake.proofs.LiveTurning.{turned_down}
+use Rattle.intake.specs.LiveStores.{IsTurnedDown}
+use Rattle.intake.proofs.LeftOutEntries.{turned_down}
 use Rattle.intake.proofs.live.Live.take_denial.Goals as goal
 
 pub returns-in-Some-clause-history : goal.returns-in-Some-clause-history

@@ -10,7 +10,7 @@ pub returns-in-Err-push_as-clause-reason : goal.returns-in-Err-push_as-clause-re
 returns-in-Err-push_as-clause-reason g c =
     let seat = c.args.self.now in
     let held = c.in-Err-push_as.ensures.rule.2 in
-    let may : seat.hands_in ≡ true = search rules in
+    let may : seat.may_submit ≡ true = search rules in
     let left : length seat.jobs < 2 ^ 64 - 1 = search rules in
     let room : length held.0 ≡ seat.capacity = search rules in
     let list : jobs_of seat.seat (held.2.0 ++ held.0) ≡ seat.jobs = search rules in

@@ -9,4 +9,4 @@ invariant-loop g l = (goal.iterator-loop g).can_next l.iterator' × (goal.iterat
     × (l.books.inbox.desk ≡ l.initial.books.inbox.desk)
     × (l.books.inbox.desk ≡ l.seat.desk)
     × Balances l.books.inbox.taken l.books.accounts (map arc_value l.books.left.items)
-    × ((l.seat.hands_in ≡ true) ⊎ HasEnded l.books.inbox.ended l.seat.seat l.seat.jobs)
+    × ((l.seat.may_submit ≡ true) ⊎ HasEnded l.books.inbox.ended l.seat.seat l.seat.jobs)

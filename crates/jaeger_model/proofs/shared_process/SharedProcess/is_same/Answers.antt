@@ -1,5 +1,5 @@
 use Rattle.std.proofs.lemmas.Bool.Decides.{Decides-at}
-use Rattle.jaeger_model.specs.Same.{same_process}
+use Rattle.jaeger_model.specs.Sameness.{same_process}
 use Rattle.jaeger_model.specs.SameLaws.{same_process-decides}
 use Rattle.jaeger_model.proofs.shared_process.SharedProcess.is_same.Goals as goal
 

@@ -1,7 +1,7 @@
 use Rattle.std.proofs.Common.{◌∙◌, ap}
 use Rattle.trace_model.specs.Searching.{first_id}
-use Rattle.journal_traces.specs.Standing.{spans_named}
-use Rattle.journal_traces.proofs.Spots.{trace_there}
+use Rattle.journal_traces.specs.SpansAtSpots.{spans_named}
+use Rattle.journal_traces.proofs.SpansAtSpots.{trace_there}
 use Rattle.journal_traces.proofs.candidates.CandidatesSearched.id_at.Goals as goal
 
 pub returns-in-Some : goal.returns-in-Some

@@ -5,9 +5,9 @@ use Rattle.trace_model.specs.declared.entry.Entry.{Entry}
 use Rattle.trace_model.specs.declared.query.Find.{Find}
 use Rattle.trace_model.specs.Searching.{matches}
 use Rattle.find_traces.specs.Places.{trace_at}
-use Rattle.journal_traces.specs.Looked.{traces_of}
-use Rattle.journal_traces.specs.Standing.{spans_named}
-use Rattle.journal_traces.proofs.Spots.{trace_there}
+use Rattle.journal_traces.specs.CandidateTraces.{traces_of}
+use Rattle.journal_traces.specs.SpansAtSpots.{spans_named}
+use Rattle.journal_traces.proofs.SpansAtSpots.{trace_there}
 use Rattle.journal_traces.proofs.candidates.CandidatesSearched.is_found_at.Goals as goal
 
 pub returns-in-Some-clause-found : goal.returns-in-Some-clause-found

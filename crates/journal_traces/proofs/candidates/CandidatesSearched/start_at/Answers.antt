@@ -1,8 +1,8 @@
 use Rattle.std.proofs.Common.{rules, ◌≡◌, ◌∙◌, ap}
 use Rattle.trace_model.specs.Searching.{first_start}
 use Rattle.find_traces.specs.Places.{trace_at}
-use Rattle.journal_traces.specs.Standing.{spans_named, traces_named}
-use Rattle.journal_traces.proofs.Spots.{trace_there}
+use Rattle.journal_traces.specs.SpansAtSpots.{spans_named, traces_named}
+use Rattle.journal_traces.proofs.SpansAtSpots.{trace_there}
 use Rattle.journal_traces.proofs.candidates.CandidatesSearched.start_at.Goals as goal
 
 pub returns-in-Some : goal.returns-in-Some

@@ -4,10 +4,10 @@ use Rattle.std.proofs.lemmas.Result.{IfOk-weaker}
 use Rattle.trace_model.specs.declared.entry.Entry.{Entry}
 use Rattle.trace_model.specs.declared.query.Find.{Find}
 use Rattle.trace_model.specs.Searching.{matches}
-use Rattle.trace_model.specs.Seeing.{seen}
-use Rattle.trace_assembly.specs.Located.{span_at}
-use Rattle.trace_model.specs.Seeing.{placed_by_its_entry}
-use Rattle.journal_traces.specs.Standing.{spans_named}
+use Rattle.trace_model.specs.BorrowedSpans.{seen}
+use Rattle.trace_assembly.specs.LocatedSpans.{span_at}
+use Rattle.trace_model.specs.BorrowedSpans.{placed_by_its_entry}
+use Rattle.journal_traces.specs.SpansAtSpots.{spans_named}
 use Rattle.journal_traces.proofs.ParentReferences.{matches-adopted}
 use Rattle.journal_traces.proofs.TraceMarks.{or_same}
 use Rattle.journal_traces.proofs.Processes.{process_there}

@@ -2,8 +2,8 @@ use Rattle.std.proofs.Common.{◌∙◌, List, sym, ap}
 use Rattle.jaeger_model.specs.Texts.{same_text}
 use Rattle.trace_model.specs.declared.entry.Entry.{Entry}
 use Rattle.trace_model.specs.declared.query.Find.{Find}
-use Rattle.journal_traces.specs.Standing.{process_at}
-use Rattle.journal_traces.proofs.RequestedService.{is_told}
+use Rattle.journal_traces.specs.SpansAtSpots.{process_at}
+use Rattle.journal_traces.proofs.RequestedService.{is_requested_service}
 use Rattle.journal_traces.proofs.judging.Judging.is_requested.Goals as goal
 
 pub returns : goal.returns
@@ -11,7 +11,7 @@ returns c = λ process there.
     let j = c.self.inside in
     let q = j.prepared.now in
     let h = j.journal.now.held.entries in
-    let groups = j.reported.now.groups in
+    let service_numbers = j.reported.now.service_numbers in
     let own = there ∙ sym (ap (λ (v : Find × List Entry). process_at v.1 c.args.place) c.self.view_is) in
-    c.is_of_service.ensures ∙ is_told q h groups j.service c.args.place process c.self.invariant own
+    c.is_of_service.ensures ∙ is_requested_service q h service_numbers j.service c.args.place process c.self.invariant own
     ∙ ap (λ (v : Find × List Entry). same_text v.0.service process.service) c.self.view_is

@@ -1,8 +1,8 @@
 use Rattle.std.proofs.Common.{◌≡◌, ◌∙◌, ℕ, Some, ap, sym, cond}
 use Rattle.std.specs.Prelude.{Option}
 use Rattle.jaeger_model.specs.ProcessOrderLaws.{process_ties}
-use Rattle.journal_traces.specs.Classes.{Leads, class_of_process}
-use Rattle.journal_traces.proofs.Classes.{process_put}
+use Rattle.journal_traces.specs.ProcessClasses.{Leads, class_of_process}
+use Rattle.journal_traces.proofs.KeyClasses.{process_put}
 use Rattle.journal_traces.proofs.process_classes.ProcessClasses.class_of_process.Goals as goal
 
 pub returns-in-Some-clause-class : goal.returns-in-Some-clause-class

@@ -1,8 +1,8 @@
 use Rattle.std.proofs.Common.{◌≡◌, ◌∙◌, ◌++◌, ◌∷◌, [], ap, subst, sym, length, arith}
 use Rattle.std.proofs.lemmas.List.{length-map}
-use Rattle.journal_traces.specs.Cutting.{cut_at, AreStarts}
-use Rattle.journal_traces.specs.Spotted.{Spotted, entries_shared, taken_spotted, trace_spotted}
-use Rattle.journal_traces.proofs.Cuts.{cut_begin, starts_begin}
+use Rattle.journal_traces.specs.TraceParts.{cut_at, AreStarts}
+use Rattle.journal_traces.specs.TagCandidates.{TagCandidatesValue, entries_shared, taken_spotted, trace_spotted}
+use Rattle.journal_traces.proofs.TraceParts.{cut_begin, starts_begin}
 use Rattle.journal_traces.proofs.tag_candidates.TagCandidates.begin.Goals as goal
 
 pub invariant_of-self-2 : goal.invariant_of-self-2
@@ -12,7 +12,7 @@ invariant_of-self-2 c =
     let put = c.in_ok-push.ensures.items ∙ ap (λ n. was.starts.items ++ n ∷ []) start in
     record {
       ordered = subst (AreStarts (length was.spots.items)) (sym put) (starts_begin (length was.spots.items) was.starts.items c.self.invariant.ordered);
-      told = c.self.invariant.told;
+      correct = c.self.invariant.correct;
       within = c.self.invariant.within;
     }
 
@@ -23,4 +23,4 @@ returns-clause-traces c =
     let xs = trace_spotted es was.spots.items in
     let start : c.len-start.result ≡ length was.spots.items = omega arith in
     let put = c.in_ok-push.ensures.items ∙ ap (λ n. was.starts.items ++ n ∷ []) (start ∙ sym (length-map was.spots.items (taken_spotted es))) in
-    ap (cut_at xs) put ∙ cut_begin xs was.starts.items ∙ ap (λ (s : Spotted). s.traces ++ [] ∷ []) c.self.view_is
+    ap (cut_at xs) put ∙ cut_begin xs was.starts.items ∙ ap (λ (s : TagCandidatesValue). s.traces ++ [] ∷ []) c.self.view_is

@@ -2,9 +2,9 @@ use Rattle.std.proofs.Common.{◌≡◌, ◌∙◌, ◌++◌, ◌∷◌, ◌+◌
 use Rattle.std.specs.List.{All}
 use Rattle.std.proofs.lemmas.List.{length-map, map_push}
 use Rattle.std.proofs.lemmas.List.Elements.{All-push}
-use Rattle.journal_traces.specs.Cutting.{cut_at, AreStarts}
-use Rattle.journal_traces.specs.Spotted.{Spotted, IsWithin, entry_shared, entries_shared, taken_spotted, trace_spotted}
-use Rattle.journal_traces.proofs.Cuts.{cut_push, starts_push}
+use Rattle.journal_traces.specs.TraceParts.{cut_at, AreStarts}
+use Rattle.journal_traces.specs.TagCandidates.{TagCandidatesValue, IsSpotWithin, entry_shared, entries_shared, taken_spotted, trace_spotted}
+use Rattle.journal_traces.proofs.TraceParts.{cut_push, starts_push}
 use Rattle.journal_traces.proofs.tag_candidates.TagCandidates.push.Goals as goal
 
 pub invariant_of-self-2 : goal.invariant_of-self-2
@@ -14,13 +14,13 @@ invariant_of-self-2 c =
     let more : length c.push.new.self.items ≡ length was.spots.items + 1 =
     ap length c.in_ok-push.ensures.items ∙ length-append was.spots.items (c.args.spot ∷ []) in
     let long : length c.args.self.now.entries ≡ count =
-    ap (λ (s : Spotted). length s.entries) (sym c.self.view_is) ∙ length-map was.entries.items entry_shared in
+    ap (λ (s : TagCandidatesValue). length s.entries) (sym c.self.view_is) ∙ length-map was.entries.items entry_shared in
     let own : c.args.spot.number < count = subst (λ n. c.args.spot.number < n) long c.requires in
     record {
       ordered = subst (λ n. AreStarts n was.starts.items) (sym more) (starts_push (length was.spots.items) was.starts.items c.self.invariant.ordered);
-      told = c.self.invariant.told;
+      correct = c.self.invariant.correct;
       within =
-          subst (All (IsWithin count)) (sym c.in_ok-push.ensures.items) (All-push (IsWithin count) was.spots.items c.args.spot c.self.invariant.within own);
+          subst (All (IsSpotWithin count)) (sym c.in_ok-push.ensures.items) (All-push (IsSpotWithin count) was.spots.items c.args.spot c.self.invariant.within own);
     }
 
 pub returns-clause-traces : goal.returns-clause-traces
@@ -33,5 +33,5 @@ returns-clause-traces c = λ ts t is.
     let ordered = subst (λ n. AreStarts n starts) (sym (length-map was.spots.items f)) c.self.invariant.ordered in
     ap (λ l. cut_at (trace_spotted es l) starts) c.in_ok-push.ensures.items
     ∙ ap (λ l. cut_at l starts) (map_push f was.spots.items c.args.spot)
-    ∙ cut_push xs (f c.args.spot) starts ordered ts t (ap (λ (s : Spotted). s.traces) c.self.view_is ∙ is)
-    ∙ ap (λ (s : Spotted). ts ++ (t ++ taken_spotted s.entries c.args.spot ∷ []) ∷ []) c.self.view_is
+    ∙ cut_push xs (f c.args.spot) starts ordered ts t (ap (λ (s : TagCandidatesValue). s.traces) c.self.view_is ∙ is)
+    ∙ ap (λ (s : TagCandidatesValue). ts ++ (t ++ taken_spotted s.entries c.args.spot ∷ []) ∷ []) c.self.view_is

@@ -1,8 +1,8 @@
 use Rattle.std.proofs.Common.{◌∙◌, [], ap, sym, subst, length}
 use Rattle.std.specs.Prelude.{slice_index_or}
-use Rattle.journal_traces.specs.Cutting.{cut_at, AreStarts}
-use Rattle.journal_traces.specs.Spotted.{Spotted, entries_shared, trace_spotted}
-use Rattle.journal_traces.proofs.Spotting.{part_spotted}
+use Rattle.journal_traces.specs.TraceParts.{cut_at, AreStarts}
+use Rattle.journal_traces.specs.TagCandidates.{TagCandidatesValue, entries_shared, trace_spotted}
+use Rattle.journal_traces.proofs.TracesAtSpots.{part_spotted}
 use Rattle.journal_traces.proofs.tag_candidates.TagCandidates.spots.Goals as goal
 
 pub trace_part-requires : goal.trace_part-requires
@@ -15,8 +15,8 @@ pub returns : goal.returns
 returns c =
     let was = c.self.inside in
     let es = entries_shared was.entries.items in
-    ap (λ (s : Spotted). trace_spotted s.entries c.trace_part.result.now) (sym c.self.view_is)
+    ap (λ (s : TagCandidatesValue). trace_spotted s.entries c.trace_part.result.now) (sym c.self.view_is)
     ∙ ap (trace_spotted es) (c.trace_part.ensures
     ∙ (λ i. slice_index_or (cut_at (c.deref.ensures.value i) (c.deref-2.ensures.value i)) c.args.place []))
     ∙ part_spotted es was.spots.items was.starts.items c.args.place
-    ∙ ap (λ (s : Spotted). slice_index_or s.traces c.args.place []) c.self.view_is
+    ∙ ap (λ (s : TagCandidatesValue). slice_index_or s.traces c.args.place []) c.self.view_is

@@ -5,19 +5,19 @@ use Rattle.std.proofs.lemmas.List.{length-map, take_all}
 use Rattle.jaeger_model.specs.declared.placed.Placed.{Placed}
 use Rattle.trace_model.specs.declared.entry.Entry.{Entry}
 use Rattle.trace_model.specs.Searching.{matches, matching}
-use Rattle.trace_model.specs.Taking.{Taken}
+use Rattle.trace_model.specs.TakenSpans.{Taken}
 use Rattle.journal_traces.specs.declared.tag_candidates.TakenEntry.{TakenEntry}
-use Rattle.journal_traces.specs.Spotted.{Spotted, AreNumbered, IsTellingOf, entries_shared, process_numbered, trace_spotted, traces_spotted, may_spots_meet}
-use Rattle.journal_traces.specs.Taking.{placed_taken, HaveProcesses}
-use Rattle.journal_traces.proofs.Cuts.{cuts}
+use Rattle.journal_traces.specs.TagCandidates.{TagCandidatesValue, AreNumberedByEntry, IsMatchFlagOf, entries_shared, process_numbered, trace_spotted, traces_spotted, may_spots_meet}
+use Rattle.journal_traces.specs.TakenTraces.{placed_taken, HaveProcesses}
+use Rattle.journal_traces.proofs.TraceParts.{cuts}
 use Rattle.journal_traces.proofs.TakenSpans.{placed_got}
-use Rattle.journal_traces.proofs.Spotting.{trace_kept, trace_passed, trace_unmet, matching_found, none_matching}
+use Rattle.journal_traces.proofs.TracesAtSpots.{trace_kept, trace_passed, trace_unmet, matching_found, none_matching}
 use Rattle.journal_traces.proofs.tag_candidates.TagCandidates.traces_that_may_meet.Goals as goal
 use Rattle.journal_traces.proofs.tag_candidates.TagCandidates.traces_that_may_meet.Goals.{then-may_spots_meet+in_ok-take_spots, else-may_spots_meet}
 
 pub loop-place-preserved : goal.loop-place-preserved
 loop-place-preserved c =
-    let v : Spotted = c.args.self.now in
+    let v : TagCandidatesValue = c.args.self.now in
     let q = c.args.prepared.now in
     let was = c.self.inside in
     let xs : List (List Placed) = traces_spotted v in
@@ -26,15 +26,15 @@ loop-place-preserved c =
     let t : List Placed = placed_taken (trace_spotted v.entries ss) in
     let old : List (List Taken) = c.loop-place.traces in
     let many : length v.traces ≡ length was.starts.items =
-    ap (λ (s : Spotted). length s.traces) (sym c.self.view_is) ∙ cuts (trace_spotted (entries_shared was.entries.items) was.spots.items) was.starts.items in
+    ap (λ (s : TagCandidatesValue). length s.traces) (sym c.self.view_is) ∙ cuts (trace_spotted (entries_shared was.entries.items) was.spots.items) was.starts.items in
     let le : k < length xs = omega (arith, many, length-map v.traces placed_taken, c.loop-place-test.true, c.len-place-end.ensures) in
     let is : t ≡ slice_index_or xs k [] = ap placed_taken c.spots-spots.ensures ∙ placed_got v.traces k in
-    let own : entries_shared was.entries.items ≡ v.entries = ap (λ (s : Spotted). s.entries) c.self.view_is in
+    let own : entries_shared was.entries.items ≡ v.entries = ap (λ (s : TagCandidatesValue). s.entries) c.self.view_is in
     elim c.if-may_spots_meet.branch [
       | then-may_spots_meet+in_ok-take_spots w ↦
           let here : entries_shared w.deref-then-may_spots_meet.result.now ≡ v.entries = ap entries_shared w.deref-then-may_spots_meet.ensures.value ∙ own in
           let new : List (List Taken) = w.take_spots.new.traces in
-          let numbered : List Entry → List (List Taken) → Type 0 = λ es ts. AreNumbered es ts in
+          let numbered : List Entry → List (List Taken) → Type 0 = λ es ts. AreNumberedByEntry es ts in
           let put : map placed_taken new ≡ map placed_taken old ++ t ∷ [] =
           w.in_ok-take_spots.ensures.spans ∙ ap (λ es. map placed_taken old ++ placed_taken (trace_spotted es ss) ∷ []) here in
           record {
@@ -52,7 +52,7 @@ loop-place-preserved c =
           let none : list_any (matches q) t ≡ false =
           ap (λ es. list_any (matches q) (placed_taken (trace_spotted es ss))) (sym here)
           ∙ trace_unmet q c.deref.result.now c.in_ok-flags.flags.items ss c.in_ok-flags.ensures unmet in
-          let numbered : List (List Taken) → Type 0 = λ ts. AreNumbered v.entries ts in
+          let numbered : List (List Taken) → Type 0 = λ ts. AreNumberedByEntry v.entries ts in
           record {
             matching =
                 ap (λ (l : List (List Taken)). matching q (map placed_taken l)) w.traces-is
@@ -63,12 +63,12 @@ loop-place-preserved c =
 
 pub returns-clause-found : goal.returns-clause-found
 returns-clause-found c =
-    let v : Spotted = c.args.self.now in
+    let v : TagCandidatesValue = c.args.self.now in
     let q = c.args.prepared.now in
     let was = c.self.inside in
     let xs : List (List Placed) = traces_spotted v in
     let many : length v.traces ≡ length was.starts.items =
-    ap (λ (s : Spotted). length s.traces) (sym c.self.view_is) ∙ cuts (trace_spotted (entries_shared was.entries.items) was.spots.items) was.starts.items in
+    ap (λ (s : TagCandidatesValue). length s.traces) (sym c.self.view_is) ∙ cuts (trace_spotted (entries_shared was.entries.items) was.spots.items) was.starts.items in
     let end : length xs ≤ c.loop-place.place = omega (arith, many, length-map v.traces placed_taken, c.loop-place-test.false, c.len-place-end.ensures) in
     matching_found q (map placed_taken c.loop-place.traces) xs (c.loop-place.invariant.matching ∙ ap (matching q) (take_all c.loop-place.place xs end))
 
@@ -77,12 +77,12 @@ returns-then-not-may_any_meet-clause-found c =
     let q = c.args.prepared.now in
     let was = c.self.inside in
     let flags = c.in_ok-flags.flags.items in
-    let told = subst (λ (ts : List TakenEntry). AllZip (IsTellingOf q) ts flags) c.deref.ensures.value c.in_ok-flags.ensures in
+    let correct = subst (λ (ts : List TakenEntry). AllZip (IsMatchFlagOf q) ts flags) c.deref.ensures.value c.in_ok-flags.ensures in
     let none = ap (list_any (λ b. b)) (sym c.deref-2.ensures.value) ∙ sym c.may_any_meet.ensures ∙ c.if-not-may_any_meet.true in
     matching_found q (map placed_taken c.new-traces.result) (traces_spotted c.args.self.now)
     (ap (λ (ts : List (List Taken)). matching q (map placed_taken ts)) c.new-traces.ensures
-    ∙ sym (none_matching q was.entries.items flags was.spots.items told none was.starts.items)
-    ∙ ap (λ (s : Spotted). matching q (traces_spotted s)) c.self.view_is)
+    ∙ sym (none_matching q was.entries.items flags was.spots.items correct none was.starts.items)
+    ∙ ap (λ (s : TagCandidatesValue). matching q (traces_spotted s)) c.self.view_is)
 
 pub returns-then-not-may_any_meet-clause-numbers : goal.returns-then-not-may_any_meet-clause-numbers
 returns-then-not-may_any_meet-clause-numbers c =

@@ -1,11 +1,11 @@
 use Rattle.std.proofs.Common.{◌≡◌, map, take}
 use Rattle.trace_model.specs.Searching.{matching}
-use Rattle.journal_traces.specs.Spotted.{AreNumbered, traces_spotted}
-use Rattle.journal_traces.specs.Taking.{placed_taken}
+use Rattle.journal_traces.specs.TagCandidates.{AreNumberedByEntry, traces_spotted}
+use Rattle.journal_traces.specs.TakenTraces.{placed_taken}
 use Rattle.journal_traces.proofs.tag_candidates.TagCandidates.traces_that_may_meet.Given as goal
 
 abbrev pub invariant-loop-place : goal.invariant-loop-place
 invariant-loop-place l = record {
   matching : matching l.prepared (map placed_taken l.traces) ≡ matching l.prepared (take l.place (traces_spotted l.self));
-  numbers : AreNumbered l.self.entries l.traces;
+  numbers : AreNumberedByEntry l.self.entries l.traces;
 }

@@ -1,7 +1,7 @@
 use Rattle.std.proofs.Common.{◌≡◌, ◌∙◌, ◌++◌, ◌∷◌, [], List, ap, subst, sym, length, arith}
-use Rattle.trace_model.specs.Taking.{Taken}
-use Rattle.journal_traces.specs.Cutting.{cut_at, AreStarts}
-use Rattle.journal_traces.proofs.Cuts.{cut_begin, starts_begin}
+use Rattle.trace_model.specs.TakenSpans.{Taken}
+use Rattle.journal_traces.specs.TraceParts.{cut_at, AreStarts}
+use Rattle.journal_traces.proofs.TraceParts.{cut_begin, starts_begin}
 use Rattle.journal_traces.proofs.taken.TakenTraces.begin.Goals as goal
 
 pub invariant_of-self-2 : goal.invariant_of-self-2

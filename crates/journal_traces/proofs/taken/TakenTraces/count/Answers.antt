@@ -1,6 +1,6 @@
 use Rattle.std.proofs.Common.{ap, List, length, arith}
-use Rattle.trace_model.specs.Taking.{Taken}
-use Rattle.journal_traces.proofs.Cuts.{cuts}
+use Rattle.trace_model.specs.TakenSpans.{Taken}
+use Rattle.journal_traces.proofs.TraceParts.{cuts}
 use Rattle.journal_traces.proofs.taken.TakenTraces.count.Goals as goal
 
 pub returns : goal.returns

@@ -1,6 +1,6 @@
 use Rattle.std.proofs.Common.{◌≡◌, ◌∙◌, ◌∷◌, ◌+◌, [], ap, subst, sym, length, length-append}
-use Rattle.journal_traces.specs.Cutting.{cut_at, AreStarts}
-use Rattle.journal_traces.proofs.Cuts.{cut_push, starts_push}
+use Rattle.journal_traces.specs.TraceParts.{cut_at, AreStarts}
+use Rattle.journal_traces.proofs.TraceParts.{cut_push, starts_push}
 use Rattle.journal_traces.proofs.taken.TakenTraces.push.Goals as goal
 
 pub invariant_of-self-2 : goal.invariant_of-self-2

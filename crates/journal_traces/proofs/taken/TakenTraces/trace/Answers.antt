@@ -1,7 +1,7 @@
 use Rattle.std.proofs.Common.{◌∙◌, [], List, ap, sym, subst, length}
 use Rattle.std.specs.Prelude.{slice_index_or}
-use Rattle.trace_model.specs.Taking.{Taken}
-use Rattle.journal_traces.specs.Cutting.{cut_at, AreStarts}
+use Rattle.trace_model.specs.TakenSpans.{Taken}
+use Rattle.journal_traces.specs.TraceParts.{cut_at, AreStarts}
 use Rattle.journal_traces.proofs.taken.TakenTraces.trace.Goals as goal
 
 pub trace_part-requires : goal.trace_part-requires

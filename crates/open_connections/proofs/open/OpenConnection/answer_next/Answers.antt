@@ -1,5 +1,5 @@
-use Rattle.http_session.proofs.Piecewise.{promises_of, outlasts_writes}
-use Rattle.open_connections.proofs.Keeping.{delivered, two_way_box}
+use Rattle.http_session.proofs.SessionPieces.{promises_of, outlasts_writes}
+use Rattle.open_connections.proofs.OpenConnections.{delivered, two_way_box}
 use Rattle.open_connections.proofs.open.OpenConnection.answer_next.Goals as goal
 
 pub returns-then-has_waiting-clause-comes : goal.returns-then-has_waiting-clause-comes

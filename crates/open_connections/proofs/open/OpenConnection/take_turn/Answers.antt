@@ -1,6 +1,6 @@
 use Rattle.std.proofs.Common.{refl, ◌∙◌}
 use Rattle.http_session.specs.declared.pieces.Progress.TheVariants.{Paused, Answered}
-use Rattle.open_connections.proofs.Keeping.{came_on, came_to_end, came_failed, come_open, moved_open}
+use Rattle.open_connections.proofs.OpenConnections.{came_on, came_to_end, came_failed, come_open, moved_open}
 use Rattle.open_connections.proofs.open.OpenConnection.take_turn.Goals as goal
 
 pub returns-in-Paused-clause-comes : goal.returns-in-Paused-clause-comes

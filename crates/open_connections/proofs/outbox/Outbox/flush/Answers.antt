@@ -1,5 +1,5 @@
 use Rattle.std.proofs.Common.{ap, sym, ◌∙◌}
-use Rattle.open_connections.specs.Boxes.{bytes_waiting}
+use Rattle.open_connections.specs.Outboxes.{bytes_waiting}
 use Rattle.open_connections.proofs.Deliveries.{flushed}
 use Rattle.open_connections.proofs.outbox.Outbox.flush.Goals as goal
 

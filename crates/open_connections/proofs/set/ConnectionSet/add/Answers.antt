@@ -1,6 +1,6 @@
 use Rattle.std.proofs.Common.{sym, subst, ap, ◌∙◌}
-use Rattle.open_connections.specs.Open.{AllOpen}
-use Rattle.open_connections.proofs.Keeping.{all_with_one, new_open}
+use Rattle.open_connections.specs.OpenConnections.{AllOpen}
+use Rattle.open_connections.proofs.OpenConnections.{all_with_one, new_open}
 use Rattle.open_connections.proofs.set.ConnectionSet.add.Goals as goal
 
 pub returns : goal.returns

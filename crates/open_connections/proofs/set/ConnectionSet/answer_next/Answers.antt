@@ -1,10 +1,10 @@
 use Rattle.std.proofs.Common.{◌≡◌, sym, ◌∙◌, ap, refl, subst, Some}
 use Rattle.std.specs.Option.{option_map}
 use Rattle.slab.specs.Slab.{get}
-use Rattle.http_session.proofs.Piecewise.{promises_of}
-use Rattle.open_connections.specs.Open.{AllOpen}
+use Rattle.http_session.proofs.SessionPieces.{promises_of}
+use Rattle.open_connections.specs.OpenConnections.{AllOpen}
 use Rattle.open_connections.specs.declared.open.OpenConnection.{OpenConnection}
-use Rattle.open_connections.proofs.Keeping.{all_open_still, rest_of_removed, rest_is_open, all_with_one, open_if_it_stays}
+use Rattle.open_connections.proofs.OpenConnections.{all_open_still, rest_of_removed, rest_is_open, all_with_one, open_if_it_stays}
 use Rattle.open_connections.proofs.set.ConnectionSet.answer_next.Goals as goal
 
 pub returns-then-not-is_open-clause-underway : goal.returns-then-not-is_open-clause-underway

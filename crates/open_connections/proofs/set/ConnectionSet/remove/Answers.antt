@@ -1,6 +1,6 @@
 use Rattle.std.proofs.Common.{subst}
-use Rattle.open_connections.specs.Open.{IsRest}
-use Rattle.open_connections.proofs.Keeping.{rest_of_removed}
+use Rattle.open_connections.specs.OpenConnections.{IsRest}
+use Rattle.open_connections.proofs.OpenConnections.{rest_of_removed}
 use Rattle.open_connections.proofs.set.ConnectionSet.remove.Goals as goal
 
 pub returns : goal.returns

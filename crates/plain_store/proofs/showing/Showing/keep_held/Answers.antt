@@ -1,7 +1,7 @@
 use Rattle.std.proofs.Common.{rules}
 use Rattle.std.proofs.lemmas.Fn.{filter_same}
 use Rattle.trace_model.specs.Rings.{holds}
-use Rattle.trace_model.specs.Showing.{trace_of}
+use Rattle.trace_model.specs.ShownSpans.{trace_of}
 use Rattle.plain_store.proofs.showing.Showing.keep_held.Goals as goal
 
 pub returns-clause-spans : goal.returns-clause-spans

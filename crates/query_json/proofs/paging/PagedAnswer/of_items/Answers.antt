@@ -1,6 +1,6 @@
 use Rattle.std.proofs.Common.{◌≡◌, ◌++◌, ◌∙◌, [], length, length-append, refl, ap, append-nil, append_assoc, arith, sym}
 use Rattle.std.proofs.lemmas.Result.{IfOk-weaker}
-use Rattle.query_json.specs.Paging.{part_of}
+use Rattle.query_json.specs.AnswerPages.{part_of}
 use Rattle.query_json.specs.Pieces.{item_pieces, runs_of}
 use Rattle.query_json.specs.Runs.{front_text, left_at, text_of}
 use Rattle.query_json.proofs.Pages.{◌▸◌}

@@ -1,6 +1,6 @@
 use Rattle.std.proofs.Common.{◌++◌, ◌∷◌, ◌∙◌, [], List, ap, sym, map, append_assoc, append-nil}
 use Rattle.query_json.specs.declared.writing.processes.NamedProcess.{NamedProcess}
-use Rattle.query_json.proofs.Named.{Entry}
+use Rattle.query_json.proofs.NamedProcesses.{Entry}
 use Rattle.query_json.proofs.writing.processes.in_its_order.Goals as goal
 
 pub loop-process-preserved : goal.loop-process-preserved

@@ -4,7 +4,7 @@ use Rattle.std.proofs.lemmas.Option.{get_or_from_slice_get}
 use Rattle.json.specs.Print.{quoted}
 use Rattle.serde_json.specs.Data.{null}
 use Rattle.serde_json.specs.Written.{compact_text}
-use Rattle.query_json.specs.Named.{name_of, process_tree_at, shown_process_tree}
+use Rattle.query_json.specs.NamedProcesses.{name_of, process_tree_at, shown_process_tree}
 use Rattle.query_json.specs.Trees.{process_tree}
 use Rattle.query_json.proofs.Pages.{◌▸◌, Puts-is}
 use Rattle.query_json.proofs.writing.processes.write_named.Goals as goal

@@ -5,7 +5,7 @@ use Rattle.serde_json.specs.Written.{compact_text}
 use Rattle.jaeger_model.specs.Ids.{span_text, trace_text}
 use Rattle.query_json.specs.Trees.{flags_number, list, log_tree, span_tree, tag_tree, warnings_tree}
 use Rattle.query_json.proofs.Numbers.{integer_text}
-use Rattle.query_json.specs.Writing.{process_place}
+use Rattle.query_json.specs.TraceProcesses.{process_place}
 use Rattle.query_json.proofs.Pages.{◌▸◌, Puts-is, put_tree-text}
 use Rattle.query_json.proofs.SpanTexts.{named_put}
 use Rattle.query_json.proofs.writing.span.write_span.Goals as goal

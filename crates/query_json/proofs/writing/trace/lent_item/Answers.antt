@@ -3,8 +3,8 @@ use Rattle.std.specs.List.{list_all}
 use Rattle.std.proofs.lemmas.Bool.{OnTrue_at}
 use Rattle.query_json.specs.declared.writing.trace.LentTrace.{LentTrace}
 use Rattle.query_json.specs.LentTraces.{IsNumbered}
-use Rattle.query_json.specs.Named.{first_named}
-use Rattle.query_json.proofs.Numbered.{numbered, one_numbered, zeros}
+use Rattle.query_json.specs.NamedProcesses.{first_named}
+use Rattle.query_json.proofs.ProcessPlaces.{numbered, one_numbered, zeros}
 use Rattle.query_json.proofs.writing.trace.lent_item.Goals as goal
 
 pub returns-then-are_zero-clause-writable : goal.returns-then-are_zero-clause-writable

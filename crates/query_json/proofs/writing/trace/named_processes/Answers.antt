@@ -2,8 +2,8 @@ use Rattle.std.proofs.Common.{◌≡◌, ◌∙◌, List, ap, map, subst, sym}
 use Rattle.std.specs.Prelude.{All}
 use Rattle.jaeger_model.specs.declared.batch.Process.{Process}
 use Rattle.query_json.specs.declared.naming.FirstSpan.{FirstSpan}
-use Rattle.query_json.specs.Named.{AreNamed}
-use Rattle.query_json.specs.Numbering.{IsFirst, first_process}
+use Rattle.query_json.specs.NamedProcesses.{AreNamed}
+use Rattle.query_json.specs.ProcessNumbers.{IsFirst, first_process}
 use Rattle.query_json.specs.Trees.{processes_of}
 use Rattle.query_json.proofs.writing.trace.named_processes.Goals as goal
 

@@ -1,5 +1,5 @@
 use Rattle.std.proofs.Common.{sym, ◌∙◌, ap, length}
-use Rattle.read_side.proofs.Adding.{adds_moves}
+use Rattle.read_side.proofs.LogSteps.{adds_moves}
 use Rattle.read_side.proofs.counted_log.CountedLog.try_add.Goals as goal
 
 pub compare_exchange-found-requires : goal.compare_exchange-found-requires

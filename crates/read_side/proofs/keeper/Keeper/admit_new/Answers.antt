@@ -1,7 +1,7 @@
 use Rattle.std.proofs.Common.{rules, ◌≡◌, ◌+◌, length}
 use Rattle.std.specs.Arc.{arc_value}
 use Rattle.read_side.specs.Keepers.{accepted, with_pending, all_published}
-use Rattle.read_side.proofs.Admitting.{added_stands}
+use Rattle.read_side.proofs.AdmittedPlaces.{added_stands}
 use Rattle.read_side.proofs.keeper.Keeper.admit_new.Goals as goal
 
 pub vouch-requires : goal.vouch-requires

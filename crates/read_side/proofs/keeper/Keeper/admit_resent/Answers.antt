@@ -5,7 +5,7 @@ use Rattle.trace_model.specs.declared.entry.Entry.{Entry}
 use Rattle.trace_model.specs.Places.{entry_at}
 use Rattle.read_side.specs.Keepers.{Lists, accepted}
 use Rattle.read_side.specs.Receipts.{StandsAt}
-use Rattle.read_side.proofs.Admitting.{entry_stands}
+use Rattle.read_side.proofs.AdmittedPlaces.{entry_stands}
 use Rattle.read_side.proofs.keeper.Keeper.admit_resent.Goals as goal
 use Rattle.read_side.proofs.keeper.Keeper.admit_resent.Goals.{else-has_pending-via-then-has_pending+else-not-publish, else-has_pending-via-else-has_pending}
 

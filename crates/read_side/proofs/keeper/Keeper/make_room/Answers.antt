@@ -1,5 +1,5 @@
 use Rattle.std.proofs.Common.{sym, ap, ◌∙◌, drop}
-use Rattle.read_side.proofs.Rooms.{has_writer, has_entries, follows}
+use Rattle.read_side.proofs.SpareChanges.{has_writer, has_entries, follows}
 use Rattle.read_side.proofs.keeper.Keeper.make_room.Goals as goal
 
 pub invariant_of-self : goal.invariant_of-self

@@ -4,7 +4,7 @@ use Rattle.schedule_core.specs.declared.readers.ReaderState.{ReaderState}
 use Rattle.schedule_core.specs.Machine.{Machine, by_reader, enters}
 use Rattle.schedule_core.specs.MachineStates.{IsState, machine_of}
 use Rattle.schedule_core.proofs.StateSteps.{after, state_set}
-use Rattle.schedule_core.proofs.Stepping.{entered_alike, stands_entered}
+use Rattle.schedule_core.proofs.ReaderSteps.{entered_alike, stands_entered}
 use Rattle.schedule_core.proofs.machine_state.MachineState.enter.Goals as goal
 
 pub invariant_of-self : goal.invariant_of-self

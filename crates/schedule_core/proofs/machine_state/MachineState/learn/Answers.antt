@@ -5,7 +5,7 @@ use Rattle.schedule_core.specs.declared.readers.ReaderState.{ReaderState}
 use Rattle.schedule_core.specs.Machine.{Machine, by_reader, front_of, learns, stays}
 use Rattle.schedule_core.specs.MachineStates.{machine_of}
 use Rattle.schedule_core.proofs.StateSteps.{after}
-use Rattle.schedule_core.proofs.Stepping.{learnt_alike}
+use Rattle.schedule_core.proofs.ReaderSteps.{learnt_alike}
 use Rattle.schedule_core.proofs.machine_state.MachineState.learn.Goals as goal
 
 pub returns : goal.returns

@@ -4,7 +4,7 @@ use Rattle.schedule_core.specs.declared.readers.ReaderState.{ReaderState}
 use Rattle.schedule_core.specs.Machine.{Machine, by_reader, leaves}
 use Rattle.schedule_core.specs.MachineStates.{machine_of}
 use Rattle.schedule_core.proofs.StateSteps.{after}
-use Rattle.schedule_core.proofs.Stepping.{left_alike}
+use Rattle.schedule_core.proofs.ReaderSteps.{left_alike}
 use Rattle.schedule_core.proofs.machine_state.MachineState.leave.Goals as goal
 
 pub returns : goal.returns

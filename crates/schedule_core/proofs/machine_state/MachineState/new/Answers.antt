@@ -1,6 +1,6 @@
 use Rattle.std.proofs.Common.{sym, subst, [], replicate}
-use Rattle.schedule_core.specs.Copied.{Copied}
-use Rattle.schedule_core.specs.Queued.{Queued}
+use Rattle.schedule_core.specs.CopiedLists.{Copied}
+use Rattle.schedule_core.specs.WaitingJobs.{Queued}
 use Rattle.schedule_core.specs.MachineStates.{IsState}
 use Rattle.schedule_core.proofs.StateSteps.{state_first}
 use Rattle.schedule_core.proofs.machine_state.MachineState.new.Goals as goal

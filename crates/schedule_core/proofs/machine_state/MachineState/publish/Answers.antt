@@ -2,7 +2,7 @@ use Rattle.std.proofs.Common.{◌≡◌, ◌∙◌, [], ◌∷◌, ◌++◌, len
 use Rattle.std.specs.List.{position}
 use Rattle.schedule_core.specs.declared.outcome.Outcome.TheVariants.{Held, Published}
 use Rattle.schedule_core.specs.Machine.{Machine, publishes}
-use Rattle.schedule_core.specs.Standing.{is_held}
+use Rattle.schedule_core.specs.ReaderStates.{is_held}
 use Rattle.schedule_core.specs.MachineStates.{IsState, machine_of}
 use Rattle.schedule_core.proofs.StateSteps.{after, held_alike, published_alike, state_kept, state_turned}
 use Rattle.schedule_core.proofs.machine_state.MachineState.publish.Goals as goal

@@ -5,11 +5,11 @@ use Rattle.std.specs.Option.{is_some}
 use Rattle.std.proofs.lemmas.List.{length-map}
 use Rattle.trace_model.specs.declared.entry.Entry.{Entry}
 use Rattle.trace_model.specs.Histories.{before_last}
-use Rattle.trace_model.specs.Works.{batch_brought}
-use Rattle.hash_tables.specs.Leading.{LeadsTo}
-use Rattle.sent_batches.specs.Hashing.{batch_hash}
-use Rattle.sent_batches.specs.Sent.{Sent, IsSentKept, AreAfterEntries, has_number, hash_after, numbered_from}
-use Rattle.sent_batches.proofs.Sending.{hash_is, limit_has_none, batch_has, brought_is, one_more, kept_same, kept_more, numbered_within}
+use Rattle.trace_model.specs.EntryWork.{batch_brought}
+use Rattle.hash_tables.specs.RowPlaces.{LeadsTo}
+use Rattle.sent_batches.specs.BatchHashes.{batch_hash}
+use Rattle.sent_batches.specs.SentIndex.{Sent, IsSentKept, AreAfterEntries, has_number, hash_after, numbered_from}
+use Rattle.sent_batches.proofs.SentIndex.{hash_is, limit_has_none, batch_has, brought_is, one_more, kept_same, kept_more, numbered_within}
 use Rattle.sent_batches.proofs.batches.SentBatches.add.Goals as goal
 
 pub returns-in_default-clause-kept : goal.returns-in_default-clause-kept

@@ -2,12 +2,12 @@ use Rattle.std.proofs.Common.{rules, ◌≡◌, ◌∙◌, ℕ, List, length, ge
 use Rattle.std.specs.Arc.{arc_value}
 use Rattle.std.specs.Option.{is_some}
 use Rattle.std.proofs.lemmas.List.{get_or-map, length-map, get_or_default}
-use Rattle.trace_model.specs.Resending.{resends}
-use Rattle.trace_model.specs.Works.{batch_brought}
-use Rattle.trace_model.proofs.Resent.{nothing_sent, unnumbered_not_sent}
-use Rattle.hash_tables.specs.Leading.{Found}
-use Rattle.sent_batches.specs.Sent.{Sent, has_number, hash_after, is_sent_after, AreAfterEntries, numbered_from}
-use Rattle.sent_batches.proofs.Sending.{hash_is, batch_has, nothing_resent, numbered_within, same_hash, found_some, found_none, brought_is}
+use Rattle.trace_model.specs.ResentBatches.{resends}
+use Rattle.trace_model.specs.EntryWork.{batch_brought}
+use Rattle.trace_model.proofs.ResentBatches.{nothing_sent, unnumbered_not_sent}
+use Rattle.hash_tables.specs.RowPlaces.{Found}
+use Rattle.sent_batches.specs.SentIndex.{Sent, has_number, hash_after, is_sent_after, AreAfterEntries, numbered_from}
+use Rattle.sent_batches.proofs.SentIndex.{hash_is, batch_has, nothing_resent, numbered_within, same_hash, found_some, found_none, brought_is}
 use Rattle.sent_batches.proofs.batches.SentBatches.find.Goals as goal
 
 pub returns-in_err-batch : goal.returns-in_err-batch

@@ -1,4 +1,4 @@
-use Rattle.service_index.proofs.Numbering.{length-arrivals}
+use Rattle.service_index.proofs.NumbersOfEntry.{length-arrivals}
 use Rattle.service_index.proofs.arrival_names.laws.arrivals_counted.Goals as goal
 
 pub returns : goal.returns

@@ -1,8 +1,8 @@
 use Rattle.std.proofs.Common.{◌≡◌, ◌≤◌, take}
 use Rattle.jaeger_model.specs.Texts.{sorted_set}
-use Rattle.service_index.specs.Listing.{listed_cmp}
+use Rattle.service_index.specs.ListedNames.{listed_cmp}
 use Rattle.service_index.specs.Indexes.{listing_by, IsIndexed}
-use Rattle.service_index.specs.NamesKept.{names_of, reports}
+use Rattle.service_index.specs.KeptNames.{names_of, reports}
 use Rattle.service_index.proofs.arrival_names.names.add_arrivals.Given as goal
 
 abbrev pub invariant-loop-n : goal.invariant-loop-n

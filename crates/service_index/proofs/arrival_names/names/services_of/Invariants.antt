@@ -1,6 +1,6 @@
 use Rattle.std.proofs.Common.{◌≡◌, take}
 use Rattle.service_index.specs.Indexes.{owners}
-use Rattle.service_index.specs.NamesKept.{names_of}
+use Rattle.service_index.specs.KeptNames.{names_of}
 use Rattle.service_index.proofs.arrival_names.names.services_of.Given as goal
 
 abbrev pub invariant-loop-n : goal.invariant-loop-n

@@ -1,8 +1,8 @@
 use Rattle.std.proofs.Common.{◌≡◌, nat_lt, length, ap, sym, subst, ◌∙◌}
 use Rattle.std.specs.List.{list_any}
-use Rattle.service_index.specs.Listing.{Listed, same_listed}
+use Rattle.service_index.specs.ListedNames.{Listed, same_listed}
 use Rattle.service_index.specs.Indexes.{Index, IsIndexed, listing_by}
-use Rattle.service_index.proofs.Linking.{name_known}
+use Rattle.service_index.proofs.LinkedOperations.{name_known}
 use Rattle.service_index.proofs.index.ServiceIndex.knows_in.Goals as goal
 
 pub returns : goal.returns
@@ -23,5 +23,5 @@ returns g c service is =
     let indexed : IsIndexed names index = subst (IsIndexed names) (sym c.self.view_is) c.requires in
     let rows : c.rows.result ≡ length index.operations.numbers = c.rows.ensures ∙ sized.earlier_rows in
     ap (λ n. nat_lt c.row_of-row.result n) rows ∙ ap (λ r. nat_lt r (length index.operations.numbers)) c.row_of-row.ensures
-    ∙ name_known names index l c.args.group indexed is
+    ∙ name_known names index l c.args.service_number indexed is
     ∙ ap (λ (i : Index). list_any (same_listed l) (listing_by names i)) c.self.view_is

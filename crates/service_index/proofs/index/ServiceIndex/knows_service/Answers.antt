@@ -1,6 +1,6 @@
 use Rattle.std.proofs.Common.{◌≡◌, nat_lt, length, ap, ◌∙◌}
 use Rattle.service_index.specs.Indexes.{Index}
-use Rattle.service_index.proofs.Linking.{service_known}
+use Rattle.service_index.proofs.LinkedOperations.{service_known}
 use Rattle.service_index.proofs.index.ServiceIndex.knows_service.Goals as goal
 
 pub returns : goal.returns

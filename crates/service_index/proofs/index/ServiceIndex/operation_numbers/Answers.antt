@@ -5,17 +5,17 @@ use Rattle.std.proofs.lemmas.Bool.{le-ltb}
 use Rattle.std.proofs.lemmas.Result.{IfOk-weaker}
 use Rattle.jaeger_model.specs.Texts.{sorted_set}
 use Rattle.trace_model.specs.Names.{operation_cmp}
-use Rattle.service_index.specs.Listing.{operations_of}
-use Rattle.service_index.specs.Naming.{Names}
-use Rattle.service_index.specs.Probes.{AreNumbers}
+use Rattle.service_index.specs.ListedNames.{operations_of}
+use Rattle.service_index.specs.Labels.{Names}
+use Rattle.service_index.specs.Probes.{AreNumbersBelow}
 use Rattle.service_index.specs.Indexes.{Index, listing_by, owners, operations_at, IsChain, IsNewest, LeadsBack}
-use Rattle.service_index.proofs.Linking.{service_known, operations_none, operations_are, newest_of, leads_back}
-use Rattle.service_index.proofs.Probing.{no_numbers}
+use Rattle.service_index.proofs.LinkedOperations.{service_known, operations_none, operations_are, newest_of, leads_back}
+use Rattle.service_index.proofs.LabelProbes.{no_numbers}
 use Rattle.service_index.proofs.index.ServiceIndex.operation_numbers.Goals as goal
 
 pub returns-then-row-services-clause-held : goal.returns-then-row-services-clause-held
 returns-then-row-services-clause-held g c =
-    subst (AreNumbers (g.T.Texts.names c.args.texts.now).count) (sym c.new.ensures.items) (no_numbers (g.T.Texts.names c.args.texts.now).count)
+    subst (AreNumbersBelow (g.T.Texts.names c.args.texts.now).count) (sym c.new.ensures.items) (no_numbers (g.T.Texts.names c.args.texts.now).count)
 
 pub returns-then-row-services-clause-operations : goal.returns-then-row-services-clause-operations
 returns-then-row-services-clause-operations g c =
@@ -42,9 +42,9 @@ pub returns-clause-held : goal.returns-clause-held
 returns-clause-held g c =
     let names = g.T.Texts.names c.args.texts.now in
     let numbers = c.numbers.ensures ∙ ap (λ (i : Index). i.operations.numbers) c.self.view_is in
-    let held = subst (AreNumbers names.count) (sym numbers) c.requires.operations.numbers in
-    IfOk-weaker c.numbers_along.result (λ (v : Vec ℕ Global). (count : ℕ) → AreNumbers count c.numbers.result.now → AreNumbers count v.items)
-    (λ (v : Vec ℕ Global). AreNumbers names.count v.items)
+    let held = subst (AreNumbersBelow names.count) (sym numbers) c.requires.operations.numbers in
+    IfOk-weaker c.numbers_along.result (λ (v : Vec ℕ Global). (count : ℕ) → AreNumbersBelow count c.numbers.result.now → AreNumbersBelow count v.items)
+    (λ (v : Vec ℕ Global). AreNumbersBelow names.count v.items)
     (λ v is. is names.count held) c.numbers_along.ensures.held
 
 pub returns-clause-operations : goal.returns-clause-operations

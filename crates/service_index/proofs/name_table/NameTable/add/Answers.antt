@@ -1,10 +1,10 @@
 use Rattle.std.proofs.Common.{◌≡◌, ◌∙◌, ◌<◌, ◌++◌, ◌∷◌, [], ℕ, List, length, map, ap, sym, subst, arith}
 use Rattle.std.proofs.lemmas.Bool.{OnTrue_at}
-use Rattle.hash_tables.specs.Leading.{LeadsTo, Found}
-use Rattle.service_index.specs.Naming.{label_value}
-use Rattle.service_index.specs.Probes.{Table, IsNamed, hash_of, hashes_of, row_of}
-use Rattle.service_index.proofs.Linking.{number_known}
-use Rattle.service_index.proofs.Probing.{is_label, same_hash, row_in, row_is, found_of, numbers_in, numbers_are, named_more}
+use Rattle.hash_tables.specs.RowPlaces.{LeadsTo, Found}
+use Rattle.service_index.specs.Labels.{label_value}
+use Rattle.service_index.specs.Probes.{Table, IsLabelTable, hash_of, hashes_of, row_of}
+use Rattle.service_index.proofs.LinkedOperations.{number_known}
+use Rattle.service_index.proofs.LabelProbes.{is_label, same_hash, row_in, row_is, found_of, numbers_in, numbers_are, named_more}
 use Rattle.service_index.proofs.name_table.NameTable.add.Goals as goal
 
 pub returns-then-has_row-clause-row : goal.returns-then-has_row-clause-row
@@ -71,7 +71,7 @@ returns-clause-leads g c =
     let labels = g.L.Labels.labels c.args.labels.now in
     let inside = c.self.inside in
     let t : Table = record { numbers = inside.numbers.items; room = inside.places.room; keys = inside.keys; slots = inside.places.slots } in
-    let leads : IsNamed labels t = subst (IsNamed labels) (sym c.self.view_is) c.requires.leads in
+    let leads : IsLabelTable labels t = subst (IsLabelTable labels) (sym c.self.view_is) c.requires.leads in
     let more = subst (λ (w : Table). length w.numbers < w.room) (sym c.self.view_is) c.requires.room in
     let f = found_of labels t.keys c.deref.result.now t.numbers _ (labels.at c.args.n)
     c.find.result c.deref.ensures.value c.label_at-label.ensures c.find.ensures in
@@ -81,7 +81,7 @@ returns-clause-leads g c =
     let marked = subst (λ (x : ℕ). LeadsTo (hashes_of t.keys (map labels.at t.numbers) ++ x ∷ []) slots) hash
     (subst (λ (xs : List ℕ). LeadsTo (hashes_of t.keys (map labels.at xs) ++ c.label_hash-hash.result ∷ []) slots)
     c.deref.ensures.value c.mark.ensures.leads) in
-    subst (λ (xs : List ℕ). IsNamed labels (record { numbers = xs; room = c.mark.new.self.room; keys = t.keys; slots = slots }))
+    subst (λ (xs : List ℕ). IsLabelTable labels (record { numbers = xs; room = c.mark.new.self.room; keys = t.keys; slots = slots }))
     (sym c.push_reserved.ensures.items)
-    (subst (λ (n : ℕ). IsNamed labels (record { numbers = t.numbers ++ c.args.n ∷ []; room = n; keys = t.keys; slots = slots })) (sym c.mark.ensures.room)
+    (subst (λ (n : ℕ). IsLabelTable labels (record { numbers = t.numbers ++ c.args.n ∷ []; room = n; keys = t.keys; slots = slots })) (sym c.mark.ensures.room)
     (named_more labels t c.args.n slots leads c.requires.held more none marked))

@@ -1,9 +1,9 @@
 use Rattle.std.proofs.Common.{◌≡◌, ◌∙◌, ◌<◌, ℕ, List, length, get_or, sym, ap, arith}
 use Rattle.std.specs.Prelude.{Some}
 use Rattle.std.proofs.lemmas.Bool.{OnTrue_from}
-use Rattle.service_index.specs.Naming.{label_value, same_label}
+use Rattle.service_index.specs.Labels.{label_value, same_label}
 use Rattle.service_index.specs.Probes.{row_of}
-use Rattle.service_index.proofs.Probing.{row_is}
+use Rattle.service_index.proofs.LabelProbes.{row_is}
 use Rattle.service_index.proofs.name_table.NameTable.has_row.Goals as goal
 
 pub returns-then-row-numbers : goal.returns-then-row-numbers

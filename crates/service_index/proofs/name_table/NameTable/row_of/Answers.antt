@@ -1,7 +1,7 @@
 use Rattle.std.proofs.Common.{◌≡◌, ◌∙◌, length, refl, ap, sym, arith}
-use Rattle.service_index.specs.Naming.{label_value}
+use Rattle.service_index.specs.Labels.{label_value}
 use Rattle.service_index.specs.Probes.{Table}
-use Rattle.service_index.proofs.Probing.{same_hash, row_in, row_is, found_of}
+use Rattle.service_index.proofs.LabelProbes.{same_hash, row_in, row_is, found_of}
 use Rattle.service_index.proofs.name_table.NameTable.row_of.Goals as goal
 
 pub find-requires-clause-hash : goal.find-requires-clause-hash

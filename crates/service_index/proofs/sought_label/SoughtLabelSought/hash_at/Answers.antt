@@ -1,6 +1,6 @@
 use Rattle.std.proofs.Common.{◌∙◌, ap, sym}
 use Rattle.service_index.specs.Probes.{hash_of}
-use Rattle.service_index.proofs.Probing.{hash_of_row}
+use Rattle.service_index.proofs.LabelProbes.{hash_of_row}
 use Rattle.service_index.proofs.sought_label.SoughtLabelSought.hash_at.Goals as goal
 
 pub returns : goal.returns

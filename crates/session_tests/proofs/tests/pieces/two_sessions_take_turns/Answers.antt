@@ -1,4 +1,4 @@
-use Rattle.http_session.proofs.Piecewise.{can_begin}
+use Rattle.http_session.proofs.SessionPieces.{can_begin}
 use Rattle.session_tests.proofs.tests.pieces.two_sessions_take_turns.Goals as goal
 
 pub answer_next-requires-clause-ready : goal.answer_next-requires-clause-ready

@@ -1,8 +1,8 @@
 use Rattle.std.proofs.Common.{◌≡◌, ◌++◌, false, Some}
-use Rattle.http_session.specs.Between.{store_of}
-use Rattle.http_session.specs.InOrder.{Line}
-use Rattle.open_connections.specs.Boxes.{box_line}
-use Rattle.open_connections.specs.Open.{AllOpen}
+use Rattle.http_session.specs.SessionRuns.{store_of}
+use Rattle.http_session.specs.ResponseOrder.{Line}
+use Rattle.open_connections.specs.Outboxes.{box_line}
+use Rattle.open_connections.specs.OpenConnections.{AllOpen}
 use Rattle.open_connections.specs.declared.outbox.Outbox.{Outbox}
 use Rattle.session_tests.specs.declared.tests.slow_readers.SlowClient.{SlowClient}
 use Rattle.session_tests.proofs.tests.slow_readers.serve_alone.Given as goal

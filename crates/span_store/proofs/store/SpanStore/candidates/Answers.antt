@@ -1,7 +1,7 @@
 use Rattle.std.proofs.Common.{◌∙◌, ap, sym}
 use Rattle.std.proofs.lemmas.Bool.{OnFalse_at}
 use Rattle.trace_model.specs.Searching.{found_in}
-use Rattle.journal_traces.specs.Standing.{traces_named}
+use Rattle.journal_traces.specs.SpansAtSpots.{traces_named}
 use Rattle.span_store.proofs.CandidatesAreComplete.{nothing_found}
 use Rattle.span_store.proofs.store.SpanStore.candidates.Goals as goal
 

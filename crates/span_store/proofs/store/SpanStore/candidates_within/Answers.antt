@@ -1,11 +1,11 @@
 use Rattle.std.proofs.Common.{◌≡◌, sym, subst, List}
 use Rattle.trace_assembly.specs.declared.spot.Spot.{Spot}
-use Rattle.trace_model.specs.Held.{Held}
+use Rattle.trace_model.specs.LimitedHistories.{LimitedHistory}
 use Rattle.trace_model.specs.Histories.{events}
 use Rattle.trace_model.specs.Searching.{found_in, traces}
 use Rattle.trace_ring.specs.declared.first_starts.ranges.Window.{Window}
-use Rattle.journal_traces.specs.Ranged.{FailsOutside}
-use Rattle.journal_traces.specs.Standing.{traces_named}
+use Rattle.journal_traces.specs.TraceRanges.{FailsOutside}
+use Rattle.journal_traces.specs.SpansAtSpots.{traces_named}
 use Rattle.span_store.proofs.WindowIsComplete.{found_within, is_hit, outside_fails}
 use Rattle.span_store.proofs.store.SpanStore.candidates_within.Goals as goal
 
@@ -23,4 +23,4 @@ returns c =
     (outside_fails q h was.shown was.starts was.names was.reported c.self.invariant) in
     let all : found_in q (traces_named h.entries spots) ≡ found_in q (traces h.limits.traces (events h.entries)) =
     found_within q h was.shown was.starts was.names was.reported c.self.invariant spots (c.in_ok-spots.ensures p fails) in
-    subst (λ (v : Held). found_in q (traces_named v.entries spots) ≡ found_in q (traces v.limits.traces (events v.entries))) c.self.view_is all
+    subst (λ (v : LimitedHistory). found_in q (traces_named v.entries spots) ≡ found_in q (traces v.limits.traces (events v.entries))) c.self.view_is all

@@ -1,16 +1,16 @@
 use Rattle.std.proofs.Common.{◌∙◌, List, ap}
 use Rattle.trace_assembly.specs.declared.spot.Spot.{Spot}
 use Rattle.trace_model.specs.declared.answer.Answer.TheVariants as say
-use Rattle.trace_model.specs.Held.{Held}
+use Rattle.trace_model.specs.LimitedHistories.{LimitedHistory}
 use Rattle.trace_model.specs.declared.query.Find.{Find}
 use Rattle.trace_model.specs.Searching.{found_in, ids_of}
-use Rattle.journal_traces.specs.Standing.{traces_named}
+use Rattle.journal_traces.specs.SpansAtSpots.{traces_named}
 use Rattle.span_store.proofs.store.SpanStore.found_ids.Goals as goal
 
 pub returns : goal.returns
 returns c =
     let q : Find = c.args.query.now in
-    let held : Held = c.args.self.now in
+    let held : LimitedHistory = c.args.self.now in
     let among = c.searched-traces.ensures in
     ap say.Ids (
     c.from_vec.ensures ∙ c.in_ok-ids.ensures

@@ -5,17 +5,17 @@ use Rattle.trace_model.specs.declared.answer.Answer.TheVariants as say
 use Rattle.trace_model.specs.declared.limits.Limits.{Limits}
 use Rattle.trace_model.specs.declared.entry.Entry.{Entry}
 use Rattle.trace_model.specs.Adjusting.{adjusted}
-use Rattle.trace_model.specs.Held.{Held}
+use Rattle.trace_model.specs.LimitedHistories.{LimitedHistory}
 use Rattle.trace_model.specs.Histories.{events}
 use Rattle.trace_model.specs.declared.query.Find.{Find}
 use Rattle.trace_model.specs.Searching.{found_in, traces}
-use Rattle.journal_traces.specs.Standing.{process_at, traces_named}
-use Rattle.journal_traces.specs.Taking.{placed_taken}
+use Rattle.journal_traces.specs.SpansAtSpots.{process_at, traces_named}
+use Rattle.journal_traces.specs.TakenTraces.{placed_taken}
 use Rattle.span_store.proofs.store.SpanStore.found_traces.Goals as goal
 
 pub take_found-requires : goal.take_found-requires
 take_found-requires c =
-    let same = ap (length {A = Entry}) c.searched.ensures.entries ∙ sym (ap (λ (v : Held). length v.entries) c.self.view_is) in
+    let same = ap (length {A = Entry}) c.searched.ensures.entries ∙ sym (ap (λ (v : LimitedHistory). length v.entries) c.self.view_is) in
     omega (arith, same, c.self.invariant.placed.batches, c.self.invariant.placed.kept.fits, c.len-legal.ensures.legal.batches)
 
 pub new-traces-requires : goal.new-traces-requires
@@ -23,7 +23,7 @@ new-traces-requires c = record { process_of = process_at c.searched.result.journ
 
 pub returns : goal.returns
 returns c =
-    let held : Held = c.args.self.now in
+    let held : LimitedHistory = c.args.self.now in
     let q : Find = c.args.query.now in
     let among = c.searched.ensures in
     let found : map placed_taken c.in_ok-found.found ≡ found_in q (traces held.limits.traces (events held.entries)) =

@@ -3,11 +3,11 @@ use Rattle.std.proofs.lemmas.Bool.{OnTrue_at}
 use Rattle.jaeger_model.specs.declared.ids.TraceId.{TraceId}
 use Rattle.trace_assembly.specs.declared.spot.Spot.{Spot}
 use Rattle.trace_model.specs.declared.query.Find.{Find}
-use Rattle.trace_model.specs.Held.{Held}
+use Rattle.trace_model.specs.LimitedHistories.{LimitedHistory}
 use Rattle.trace_model.specs.Histories.{events}
 use Rattle.trace_model.specs.Searching.{first_start, found_in, traces}
-use Rattle.trace_model.specs.Showing.{spans_of_trace}
-use Rattle.journal_traces.specs.Standing.{traces_named}
+use Rattle.trace_model.specs.ShownSpans.{spans_of_trace}
+use Rattle.journal_traces.specs.SpansAtSpots.{traces_named}
 use Rattle.span_store.proofs.LatestAreComplete.{as_many, found_latest, kept_first}
 use Rattle.span_store.proofs.store.SpanStore.latest.Goals as goal
 
@@ -29,9 +29,9 @@ returns-then-is_full c =
     let count : length (found_in q (traces_named h.entries spots)) ≡ c.in_ok-found.found =
     sym (c.in_ok-found.ensures
     ∙ (λ i. length (found_in (searched.query i) (traces_named (searched.entries i) (searched.spots i))))
-    ∙ ap (λ (v : Held). length (found_in c.in_ok-prepared.prepared (traces_named v.entries c.deref.result.now))) (sym c.self.view_is)
+    ∙ ap (λ (v : LimitedHistory). length (found_in c.in_ok-prepared.prepared (traces_named v.entries c.deref.result.now))) (sym c.self.view_is)
     ∙ ap (λ (f : Find). length (found_in f (traces_named h.entries c.deref.result.now))) c.in_ok-prepared.ensures
     ∙ ap (λ (ss : List (List Spot)). length (found_in q (traces_named h.entries ss))) c.deref.ensures.value) in
     let all : found_in q (traces_named h.entries spots) ≡ found_in q (traces h.limits.traces (events h.entries)) =
     found_latest q h was.shown was.starts was.names was.reported c.self.invariant _ spots are full.0 (count ∙ full.1) in
-    subst (λ (v : Held). found_in q (traces_named v.entries spots) ≡ found_in q (traces v.limits.traces (events v.entries))) c.self.view_is all
+    subst (λ (v : LimitedHistory). found_in q (traces_named v.entries spots) ≡ found_in q (traces v.limits.traces (events v.entries))) c.self.view_is all

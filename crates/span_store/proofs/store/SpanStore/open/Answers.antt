@@ -1,13 +1,13 @@
 use Rattle.std.proofs.Common.{ℤ, List, length, sym, ap, subst, ◌∙◌, arith}
 use Rattle.jaeger_model.specs.declared.ids.TraceId.{TraceId}
-use Rattle.trace_model.specs.Held.{Held}
-use Rattle.span_store.specs.Kept.{IsStoreKept}
+use Rattle.trace_model.specs.LimitedHistories.{LimitedHistory}
+use Rattle.span_store.specs.StoreIndexes.{IsStoreKept}
 use Rattle.span_store.proofs.store.SpanStore.open.Goals as goal
 
 pub invariant_of-result : goal.invariant_of-result
 invariant_of-result c =
     let shown = c.in_ok-shown.ensures in
-    subst (λ (h : Held). IsStoreKept h c.in_ok-shown.shown c.in_ok-starts.starts c.in_ok-named.named.0 c.in_ok-named.named.1) (sym c.in_ok-journal.ensures) (record {
+    subst (λ (h : LimitedHistory). IsStoreKept h c.in_ok-shown.shown c.in_ok-starts.starts c.in_ok-named.named.0 c.in_ok-named.named.1) (sym c.in_ok-journal.ensures) (record {
       room = shown.room;
       used = shown.used;
       follows = record { limit = shown.limit; ring = shown.ids; spots = shown.spots };

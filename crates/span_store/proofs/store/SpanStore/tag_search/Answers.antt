@@ -2,21 +2,21 @@ use Rattle.std.proofs.Common.{◌≡◌, ◌∙◌, List, ap}
 use Rattle.jaeger_model.specs.declared.placed.Placed.{Placed}
 use Rattle.trace_assembly.specs.declared.spot.Spot.{Spot}
 use Rattle.trace_model.specs.declared.query.Find.{Find}
-use Rattle.trace_model.specs.Held.{Held}
+use Rattle.trace_model.specs.LimitedHistories.{LimitedHistory}
 use Rattle.trace_model.specs.Searching.{found_in}
-use Rattle.journal_traces.specs.Spotted.{traces_spotted}
-use Rattle.journal_traces.specs.Standing.{traces_named}
-use Rattle.span_store.specs.Found.{found_answer}
-use Rattle.span_store.proofs.CollectedAnswers.{found_is}
+use Rattle.journal_traces.specs.TagCandidates.{traces_spotted}
+use Rattle.journal_traces.specs.SpansAtSpots.{traces_named}
+use Rattle.span_store.specs.FoundAnswers.{found_answer}
+use Rattle.span_store.proofs.FoundAmongCandidates.{found_is}
 use Rattle.span_store.proofs.store.SpanStore.tag_search.Goals as goal
 
 pub returns : goal.returns
 returns c =
-    let held : Held = c.args.self.now in
+    let held : LimitedHistory = c.args.self.now in
     let q : Find = c.args.query.now in
     let ts : List (List Placed) = traces_spotted c.in_ok-traces.traces in
     let named : ts ≡ traces_named held.entries c.in_ok-spots.spots.items =
-    c.in_ok-traces.ensures.spans ∙ ap (λ (v : Held). traces_named v.entries c.deref.result.now) c.self.view_is
+    c.in_ok-traces.ensures.spans ∙ ap (λ (v : LimitedHistory). traces_named v.entries c.deref.result.now) c.self.view_is
     ∙ ap (λ (ss : List (List Spot)). traces_named held.entries ss) c.deref.ensures.value in
     c.new.ensures ∙ (λ i. found_answer (c.limits.ensures i) (c.in_ok-traces.ensures.query i) c.args.ids_alone ts)
     ∙ found_is held q c.args.ids_alone ts (ap (found_in q) named ∙ c.in_ok-spots.ensures)

@@ -1,12 +1,12 @@
 use Rattle.std.proofs.Common.{rules, ◌≡◌, ◌∙◌, ◌<◌, Some, None, ap, sym, subst, length}
 use Rattle.std.specs.Prelude.{option_map}
-use Rattle.trace_model.specs.Held.{Held}
+use Rattle.trace_model.specs.LimitedHistories.{LimitedHistory}
 use Rattle.trace_model.specs.declared.answer.Answer.TheVariants.{Trace}
 use Rattle.trace_model.specs.Adjusting.{shown_as}
 use Rattle.trace_model.specs.Histories.{events}
-use Rattle.trace_model.specs.Keeping.{spans_there}
-use Rattle.trace_model.specs.Showing.{spans_of_trace, trace_found}
-use Rattle.trace_assembly.specs.Rows.{spots_of}
+use Rattle.trace_model.specs.KeptTraces.{spans_there}
+use Rattle.trace_model.specs.ShownSpans.{spans_of_trace, trace_found}
+use Rattle.trace_assembly.specs.AssembledRows.{spots_of}
 use Rattle.span_store.proofs.SharedProcesses.{share_processes}
 use Rattle.span_store.proofs.RingFollowsEvents.{spots_name, none_found, some_found}
 use Rattle.span_store.proofs.store.SpanStore.trace.Goals as goal
@@ -18,7 +18,7 @@ returns-then-is_empty c =
     let none : length spots ≡ 0 = search rules in
     let named = spots_name held.limits.traces held.entries c.self.inside.shown.newest (spots_of c.self.inside.shown)
     c.args.id spots c.self.invariant.follows c.spots-spots.ensures in
-    subst (λ (v : Held). Trace None ≡ Trace (option_map (shown_as v.limits c.args.raw) (trace_found v.limits.traces (events v.entries) c.args.id)))
+    subst (λ (v : LimitedHistory). Trace None ≡ Trace (option_map (shown_as v.limits c.args.raw) (trace_found v.limits.traces (events v.entries) c.args.id)))
     c.self.view_is
     (ap Trace (none_found (shown_as held.limits c.args.raw) held.entries spots (spans_of_trace held.limits.traces (events held.entries) c.args.id) named none))
 
@@ -33,8 +33,8 @@ returns c =
     let form = c.in_ok-trace.ensures.form in
     let shown : c.kept.result ≡ shown_as held.limits c.args.raw there =
     c.kept.ensures ∙ (λ i. shown_as (form.0 i) (form.1 i) there)
-    ∙ ap (λ l. shown_as l c.args.raw there) (c.limits.ensures ∙ ap (λ (v : Held). v.limits) (sym c.self.view_is)) in
-    subst (λ (v : Held). Trace (Some c.kept.result)
+    ∙ ap (λ l. shown_as l c.args.raw there) (c.limits.ensures ∙ ap (λ (v : LimitedHistory). v.limits) (sym c.self.view_is)) in
+    subst (λ (v : LimitedHistory). Trace (Some c.kept.result)
     ≡ Trace (option_map (shown_as v.limits c.args.raw) (trace_found v.limits.traces (events v.entries) c.args.id))) c.self.view_is
     (ap Trace (some_found (shown_as held.limits c.args.raw) held.entries spots (spans_of_trace held.limits.traces (events held.entries) c.args.id)
     there c.kept.result named c.in_ok-trace.ensures.spans some shown))

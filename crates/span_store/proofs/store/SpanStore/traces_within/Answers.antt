@@ -1,18 +1,18 @@
 use Rattle.std.proofs.Common.{◌≡◌, ◌∙◌, ap, arith, subst, map, filter, w64}
 use Rattle.std.proofs.lemmas.Int.{to_z-of_z}
 use Rattle.std.specs.List.{list_any}
-use Rattle.trace_model.specs.Held.{Held}
+use Rattle.trace_model.specs.LimitedHistories.{LimitedHistory}
 use Rattle.trace_model.specs.Histories.{events}
-use Rattle.trace_model.specs.Linking.{in_window, links}
+use Rattle.trace_model.specs.ServiceLinks.{in_window, links}
 use Rattle.trace_model.specs.Searching.{traces}
-use Rattle.trace_assembly.specs.Rows.{spots_of}
-use Rattle.service_index.specs.Reported.{service_at, group_in}
-use Rattle.call_links.specs.Seen.{links_in}
-use Rattle.journal_traces.specs.Standing.{trace_named}
-use Rattle.journal_traces.specs.Taking.{placed_taken}
+use Rattle.trace_assembly.specs.AssembledRows.{spots_of}
+use Rattle.service_index.specs.ServicePlaces.{service_at, service_number_in}
+use Rattle.call_links.specs.NumberedCalls.{links_in}
+use Rattle.journal_traces.specs.SpansAtSpots.{trace_named}
+use Rattle.journal_traces.specs.TakenTraces.{placed_taken}
 use Rattle.span_store.proofs.RingFollowsEvents.{trace_stands}
 use Rattle.span_store.proofs.IndexesAreKept.{kept_spots, kept_traces}
-use Rattle.journal_traces.proofs.Spots.{links_chosen}
+use Rattle.journal_traces.proofs.SpansAtSpots.{links_chosen}
 use Rattle.span_store.proofs.RangesFollowEvents.{named_ranged}
 use Rattle.span_store.proofs.store.SpanStore.traces_within.Goals as goal
 
@@ -33,18 +33,18 @@ returns-clause-links c =
     ap links_in seen ∙ links_chosen end_ms lookback_ms (map (trace_named h.entries spots) was.shown.newest.ids)
     ∙ ap (links end_ms lookback_ms)
     ((λ i. map (λ t. stands t i) was.shown.newest.ids) ∙ kept_traces h was.shown was.starts was.names was.reported c.self.invariant) in
-    subst (λ (v : Held). links_in (map placed_taken taken) ≡ links end_ms lookback_ms (traces v.limits.traces (events v.entries))) c.self.view_is all
+    subst (λ (v : LimitedHistory). links_in (map placed_taken taken) ≡ links end_ms lookback_ms (traces v.limits.traces (events v.entries))) c.self.view_is all
 
 pub returns-clause-numbered : goal.returns-clause-numbered
 returns-clause-numbered c =
     let h = c.self.inside.journal.held.entries in
-    (service_at h, (group_in h, c.in_ok-taken.ensures.numbered))
+    (service_at h, (service_number_in h, c.in_ok-taken.ensures.numbered))
 
 pub take_within-requires-clause-few : goal.take_within-requires-clause-few
 take_within-requires-clause-few c = omega (arith, c.self.invariant.placed.batches, c.self.invariant.placed.kept.fits, c.len-legal.ensures.legal.batches)
 
 pub take_within-requires-clause-numbers : goal.take_within-requires-clause-numbers
-take_within-requires-clause-numbers c = c.self.invariant.placed.kept.grouped
+take_within-requires-clause-numbers c = c.self.invariant.placed.kept.services_numbered
 
 pub take_within-requires-clause-as_many : goal.take_within-requires-clause-as_many
 take_within-requires-clause-as_many c = c.self.invariant.counted.as_many

@@ -4,10 +4,10 @@ use Rattle.trace_model.specs.Adjusting.{adjusted}
 use Rattle.trace_model.specs.declared.answer.Answer.TheVariants as say
 use Rattle.trace_model.specs.declared.query.Find.{Find}
 use Rattle.trace_model.specs.Searching.{found_in, ids_of}
-use Rattle.trace_model.specs.Taking.{Taken}
-use Rattle.journal_traces.specs.Spotted.{traces_spotted}
+use Rattle.trace_model.specs.TakenSpans.{Taken}
+use Rattle.journal_traces.specs.TagCandidates.{traces_spotted}
 use Rattle.journal_traces.specs.TakenSearch.{traces_taken, query_taken}
-use Rattle.span_store.specs.Found.{found_answer}
+use Rattle.span_store.specs.FoundAnswers.{found_answer}
 use Rattle.span_store.proofs.tag_search.TagSearch.answer.Goals as goal
 
 pub returns-then-self : goal.returns-then-self

@@ -1,7 +1,7 @@
 use Rattle.std.proofs.Common.{◌≡◌, ◌-◌, length, arith, ap}
 use Rattle.std.proofs.lemmas.List.{with_items_is}
-use Rattle.text_lines.specs.Reading.{Feed}
-use Rattle.text_lines.proofs.Counting.{one_read}
+use Rattle.text_lines.specs.LineReads.{Feed}
+use Rattle.text_lines.proofs.ReadCounts.{one_read}
 use Rattle.text_lines.proofs.Feeds.{fills}
 use Rattle.text_lines.proofs.line_buffer.LineBuffer.fill.Goals as goal
 

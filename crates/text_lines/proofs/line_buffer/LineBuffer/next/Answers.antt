@@ -1,7 +1,7 @@
 use Rattle.std.proofs.Common.{◌++◌, ◌≡◌, ◌==◌, take, length, rules, true, false}
-use Rattle.text_lines.proofs.Taking.{gathers_more, takes_line, ends, no_feed}
+use Rattle.text_lines.proofs.TakenLines.{gathers_more, takes_line, ends, no_feed}
 use Rattle.text_lines.proofs.Buffers.{moves_then}
-use Rattle.text_lines.proofs.Counting.{reads_on}
+use Rattle.text_lines.proofs.ReadCounts.{reads_on}
 use Rattle.text_lines.specs.Lines.{without_return, HasNoFeed}
 use Rattle.text_lines.proofs.line_buffer.LineBuffer.next.Goals as goal
 

@@ -1,6 +1,6 @@
 use Rattle.std.proofs.Common.{◌≡◌, false}
-use Rattle.text_lines.specs.Reading.{Gathers}
-use Rattle.text_lines.specs.Reads.{CountsReads}
+use Rattle.text_lines.specs.LineReads.{Gathers}
+use Rattle.text_lines.specs.ReadCounts.{CountsReads}
 use Rattle.text_lines.specs.RunErrors.{Moves}
 use Rattle.text_lines.proofs.line_buffer.LineBuffer.next.Given as goal
 

@@ -5,10 +5,10 @@ use mir.Val.{SFits}
 use Rattle.std.proofs.lemmas.Int.{to_z-of_z}
 use Rattle.std.proofs.lemmas.List.{length-map}
 use Rattle.trace_model.specs.Adjusting.{shifted}
-use Rattle.trace_model.specs.Keeping.{spans_there}
-use Rattle.trace_adjust.specs.Lending.{AreThere, placed_as}
+use Rattle.trace_model.specs.KeptTraces.{spans_there}
+use Rattle.trace_adjust.specs.LentSpans.{AreThere, placed_as}
 use Rattle.trace_adjust.proofs.Deltas.{length_shifted, shifted_at}
-use Rattle.trace_adjust.proofs.There.{lent_there, there_count}
+use Rattle.trace_adjust.proofs.ExistingSpans.{lent_there, there_count}
 use Rattle.trace_adjust.proofs.lent_spans.LentSpans.at.Goals as goal
 
 pub lent_at-placed-requires-clause-there : goal.lent_at-placed-requires-clause-there

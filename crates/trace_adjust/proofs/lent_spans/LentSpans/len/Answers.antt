@@ -1,9 +1,9 @@
 use Rattle.std.proofs.Common.{ap, arith, length, map}
 use Rattle.std.proofs.lemmas.List.{length-map}
-use Rattle.trace_model.specs.Keeping.{spans_there}
-use Rattle.trace_adjust.specs.Lending.{placed_as}
+use Rattle.trace_model.specs.KeptTraces.{spans_there}
+use Rattle.trace_adjust.specs.LentSpans.{placed_as}
 use Rattle.trace_adjust.proofs.Deltas.{length_shifted}
-use Rattle.trace_adjust.proofs.There.{there_count}
+use Rattle.trace_adjust.proofs.ExistingSpans.{there_count}
 use Rattle.trace_adjust.proofs.lent_spans.LentSpans.len.Goals as goal
 
 pub returns : goal.returns

@@ -1,8 +1,8 @@
 use Rattle.std.proofs.Common.{◌≡◌, ◌∙◌, sym, ap, arith, Some, None}
 use Rattle.std.specs.Prelude.{position}
 use Rattle.jaeger_model.specs.Parents.{same_trace}
-use Rattle.trace_assembly.specs.Rows.{Assembled, spots_in_row, spots_of}
-use Rattle.trace_ring.proofs.Ringing.{row_within}
+use Rattle.trace_assembly.specs.AssembledRows.{Assembled, spots_in_row, spots_of}
+use Rattle.trace_ring.proofs.RingPlaces.{row_within}
 use Rattle.trace_assembly.proofs.assembly.Assembly.spots_with_guess.Goals as goal
 
 pub spots-requires : goal.spots-requires

@@ -1,6 +1,6 @@
 use Rattle.std.proofs.lemmas.Bool.Decides.{Decides-at}
 use Rattle.trace_model.specs.WorkLaws.{same_work-decides}
-use Rattle.trace_model.specs.Works.{same_work}
+use Rattle.trace_model.specs.EntryWork.{same_work}
 use Rattle.trace_model.proofs.entry.Work.is_same.Goals as goal
 
 pub returns : goal.returns

@@ -1,8 +1,8 @@
 use Rattle.std.proofs.Common.{◌≡◌, ℕ, ◌-◌, ◌≤◌, length, drop, length-drop, subst, arith}
 use Rattle.std.specs.BinaryHeap.{heap_items}
 use Rattle.trace_ring.specs.BlockSizes.{starts_in}
-use Rattle.trace_ring.specs.Starting.{Starts}
-use Rattle.trace_ring.proofs.Blocks.{one_block_more, in_any_order}
+use Rattle.trace_ring.specs.FirstStarts.{Starts}
+use Rattle.trace_ring.proofs.BlockCounts.{one_block_more, in_any_order}
 use Rattle.trace_ring.proofs.first_starts.thresholds.blocks_of.Goals as goal
 
 pub loop-block-preserved : goal.loop-block-preserved

@@ -3,7 +3,7 @@ use Rattle.std.specs.Prelude.{slice_get}
 use Rattle.std.proofs.lemmas.List.{length-map}
 use Rattle.std.proofs.Math.Seq.{get_or-append_seam}
 use Rattle.std.proofs.lemmas.Option.{slice_get-get_or}
-use Rattle.trace_ring.specs.Windows.{RingValue}
+use Rattle.trace_ring.specs.RingValues.{RingValue}
 use Rattle.hash_tables.specs.IdRows.{id_at, no_id}
 use Rattle.trace_ring.proofs.ring.Ring.arrive_with_guess.Goals as goal
 use Rattle.trace_ring.proofs.ring.Ring.arrive_with_guess.Goals.{then-is_full, else-is_full}

@@ -6,9 +6,9 @@ use Rattle.jaeger_model.specs.Parents.{same_trace}
 use Rattle.hash_tables.specs.IdRows.{no_id, id_at}
 use Rattle.trace_model.specs.Rings.{holds}
 use Rattle.trace_model.proofs.Admissions.{none_passes}
-use Rattle.trace_ring.specs.Windows.{RingValue}
-use Rattle.trace_ring.specs.Numbers.{window, IsRing}
-use Rattle.trace_ring.proofs.Ringing.{row_is, first_seen, holds_some, window_more, ring_learned}
+use Rattle.trace_ring.specs.RingValues.{RingValue}
+use Rattle.trace_ring.specs.RingNumbers.{window, IsRing}
+use Rattle.trace_ring.proofs.RingPlaces.{row_is, first_seen, holds_some, window_more, ring_learned}
 use Rattle.trace_ring.proofs.ring.Ring.enter_with_guess.Goals as goal
 
 pub invariant_of-self-in-Added : goal.invariant_of-self-in-Added

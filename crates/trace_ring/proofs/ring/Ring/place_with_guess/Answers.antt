@@ -3,8 +3,8 @@ use Rattle.std.specs.Prelude.{position}
 use Rattle.jaeger_model.specs.declared.ids.TraceId.{TraceId}
 use Rattle.jaeger_model.specs.Parents.{same_trace}
 use Rattle.hash_tables.specs.IdRows.{id_at}
-use Rattle.trace_ring.specs.Windows.{RingValue}
-use Rattle.trace_ring.proofs.Ringing.{row_is, none_unseen}
+use Rattle.trace_ring.specs.RingValues.{RingValue}
+use Rattle.trace_ring.proofs.RingPlaces.{row_is, none_unseen}
 use Rattle.trace_ring.proofs.ring.Ring.place_with_guess.Goals as goal
 
 pub returns-in-Some : goal.returns-in-Some

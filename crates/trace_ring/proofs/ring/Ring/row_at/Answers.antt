@@ -3,9 +3,9 @@ use Rattle.std.specs.Prelude.{position}
 use Rattle.std.proofs.lemmas.List.{get_or_read}
 use Rattle.jaeger_model.specs.Parents.{same_trace}
 use Rattle.hash_tables.specs.IdRows.{id_at}
-use Rattle.trace_ring.specs.Windows.{RingValue}
-use Rattle.trace_ring.specs.Numbers.{window}
-use Rattle.trace_ring.proofs.Ringing.{length_window, window_at, first_seen}
+use Rattle.trace_ring.specs.RingValues.{RingValue}
+use Rattle.trace_ring.specs.RingNumbers.{window}
+use Rattle.trace_ring.proofs.RingPlaces.{length_window, window_at, first_seen}
 use Rattle.trace_ring.proofs.ring.Ring.row_at.Goals as goal
 
 pub returns-clause-first : goal.returns-clause-first

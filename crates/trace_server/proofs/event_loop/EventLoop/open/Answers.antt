@@ -1,8 +1,8 @@
-use Rattle.http_session.proofs.Piecewise.{promises_of}
+use Rattle.http_session.proofs.SessionPieces.{promises_of}
 use Rattle.intake.specs.LiveLaws.{submit_knows, read_knows}
-use Rattle.open_connections.specs.Open.{socket_line}
-use Rattle.open_connections.proofs.Keeping.{rest_is_open, all_open_later}
-use Rattle.trace_server.specs.Underway.{live_store}
+use Rattle.open_connections.specs.OpenConnections.{socket_line}
+use Rattle.open_connections.proofs.OpenConnections.{rest_is_open, all_open_later}
+use Rattle.trace_server.specs.WorkerConnections.{live_store}
 use Rattle.trace_server.proofs.SessionPieces.{learning_keeps}
 use Rattle.trace_server.proofs.event_loop.EventLoop.open.Goals as goal
 

@@ -1,7 +1,7 @@
 use Rattle.std.proofs.Common.{sym, subst}
-use Rattle.open_connections.specs.Open.{socket_line}
-use Rattle.open_connections.proofs.Keeping.{rest_is_open}
-use Rattle.trace_server.specs.Underway.{live_store, AllUnderway}
+use Rattle.open_connections.specs.OpenConnections.{socket_line}
+use Rattle.open_connections.proofs.OpenConnections.{rest_is_open}
+use Rattle.trace_server.specs.WorkerConnections.{live_store, AllUnderway}
 use Rattle.trace_server.proofs.SessionPieces.{asking_goes_on}
 use Rattle.trace_server.proofs.event_loop.EventLoop.serve.Goals as goal
 

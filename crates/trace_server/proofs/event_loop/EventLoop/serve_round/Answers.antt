@@ -1,7 +1,7 @@
 use Rattle.intake.proofs.LiveSeats.{goes_further}
-use Rattle.open_connections.specs.Open.{socket_line}
-use Rattle.open_connections.proofs.Keeping.{rest_is_open}
-use Rattle.trace_server.specs.Underway.{live_store}
+use Rattle.open_connections.specs.OpenConnections.{socket_line}
+use Rattle.open_connections.proofs.OpenConnections.{rest_is_open}
+use Rattle.trace_server.specs.WorkerConnections.{live_store}
 use Rattle.trace_server.proofs.event_loop.EventLoop.serve_round.Goals as goal
 
 pub returns-clause-underway : goal.returns-clause-underway

@@ -1,7 +1,7 @@
 use Rattle.std.proofs.Common.{rules, ◌≡◌, ◌==◌, length, true, false, Ok, Err, sym, ap, ◌∙◌, subst}
 use Rattle.step_lines.specs.Steps.{step_in}
-use Rattle.commands.specs.Playing.{MakesStep}
-use Rattle.commands.proofs.PlayingLines.{line_faulty, line_played, line_skipped}
+use Rattle.commands.specs.PlayRuns.{MakesStep}
+use Rattle.commands.proofs.PlayLines.{line_faulty, line_played, line_skipped}
 use Rattle.commands.proofs.play.script.ScriptLineHandler.handle_line.Goals as goal
 
 pub returns-then-is_empty : goal.returns-then-is_empty

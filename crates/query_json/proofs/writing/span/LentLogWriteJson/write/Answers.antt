@@ -1,6 +1,6 @@
 use Rattle.std.proofs.Common.{sym}
 use Rattle.json.specs.Print.{escape_byte}
-use Rattle.trace_adjust.specs.Lending.{lent_log}
+use Rattle.trace_adjust.specs.LentSpans.{lent_log}
 use Rattle.query_json.specs.Trees.{log_tree}
 use Rattle.query_json.proofs.Numbers.{integer_text}
 use Rattle.query_json.proofs.Pages.{◌▸◌, Puts-is, put_tree-text}

@@ -1,6 +1,6 @@
 use Rattle.std.proofs.Common.{◌≡◌, ◌<◌, ◌≤◌, ◌-◌, arith, length, map}
 use Rattle.std.proofs.lemmas.List.{length-map}
-use Rattle.query_json.specs.Named.{named_text}
+use Rattle.query_json.specs.NamedProcesses.{named_text}
 use Rattle.query_json.specs.TracePieces.{open_text, span_pieces}
 use Rattle.query_json.proofs.Pages.{◌▸◌, Puts-is}
 use Rattle.query_json.proofs.TracePieces.{piece_behind, piece_first, piece_listed}

@@ -3,7 +3,7 @@ use Rattle.std.proofs.lemmas.List.{get_or-map}
 use Rattle.std.proofs.lemmas.Option.{get_or_from_slice_get}
 use Rattle.query_json.specs.TracePieces.{span_text_in}
 use Rattle.query_json.specs.Trees.{processes_of}
-use Rattle.query_json.specs.Writing.{process_place}
+use Rattle.query_json.specs.TraceProcesses.{process_place}
 use Rattle.query_json.proofs.Pages.{Puts-is}
 use Rattle.query_json.proofs.writing.trace.NumberedSpans.write_span_at.Goals as goal
 

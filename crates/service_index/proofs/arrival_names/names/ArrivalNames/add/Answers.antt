@@ -3,13 +3,13 @@ use Rattle.std.specs.Arc.{arc_value}
 use Rattle.std.specs.Global.{Global}
 use Rattle.std.proofs.lemmas.List.{length-map}
 use Rattle.trace_model.specs.declared.entry.Entry.{Entry}
-use Rattle.service_index.specs.Listing.{listed_cmp}
+use Rattle.service_index.specs.ListedNames.{listed_cmp}
 use Rattle.service_index.specs.Indexes.{listing_by, IsIndexed}
-use Rattle.service_index.proofs.Extending.{indexed_extends}
+use Rattle.service_index.proofs.MoreNames.{indexed_extends}
 use Rattle.jaeger_model.specs.Texts.{sorted_set}
 use Rattle.trace_model.specs.Histories.{before_last}
-use Rattle.service_index.specs.NamesKept.{AreNamesKept, names_of, reports}
-use Rattle.service_index.proofs.ArrivalNaming.{extends_last, listed_before}
+use Rattle.service_index.specs.KeptNames.{AreNamesKept, names_of, reports}
+use Rattle.service_index.proofs.ArrivalReports.{extends_last, listed_before}
 use Rattle.service_index.proofs.arrival_names.names.ArrivalNames.add.Goals as goal
 
 pub add_arrivals-requires-clause-indexed : goal.add_arrivals-requires-clause-indexed

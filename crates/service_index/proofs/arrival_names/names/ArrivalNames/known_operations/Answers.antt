@@ -8,12 +8,12 @@ use Rattle.trace_model.specs.declared.entry.Entry.{Entry}
 use Rattle.trace_model.specs.declared.answer.Operation.{Operation}
 use Rattle.trace_model.specs.Histories.{arrivals}
 use Rattle.trace_model.specs.Names.{operation_cmp, is_asked_kind}
-use Rattle.service_index.specs.Listing.{Listed, listed_in, operations_of}
-use Rattle.service_index.specs.Listing.{names_of as sorted_names}
+use Rattle.service_index.specs.ListedNames.{Listed, listed_in, operations_of}
+use Rattle.service_index.specs.ListedNames.{names_of as sorted_names}
 use Rattle.service_index.specs.Indexes.{listing_by, own_operations, operations_at}
 use Rattle.service_index.proofs.Arrivals.{names_listed, operations_listed}
-use Rattle.service_index.proofs.Linking.{names_are}
-use Rattle.service_index.specs.NamesKept.{Kept, names_of, AreOperations}
+use Rattle.service_index.proofs.LinkedOperations.{names_are}
+use Rattle.service_index.specs.KeptNames.{KeptNames, names_of, AreOperations}
 use Rattle.service_index.proofs.arrival_names.names.ArrivalNames.known_operations.Goals as goal
 
 pub returns : goal.returns
@@ -26,7 +26,7 @@ returns c =
     let all : found c.as_str.result.now listing ≡ found s (listed_in (arrivals h)) =
     ap (λ t. found t listing) c.as_str.ensures.value
     ∙ ap (λ (x : List Entry). found s (listing_by (names_of x) c.self.inside.index)) c.arrivals-arrivals.ensures
-    ∙ ap (λ (v : Kept). found s (listing_by (names_of h) v.index)) c.self.view_is ∙ ap (found s) c.requires.kept.listed in
+    ∙ ap (λ (v : KeptNames). found s (listing_by (names_of h) v.index)) c.self.view_is ∙ ap (found s) c.requires.kept.listed in
     let listed : sorted_set operation_cmp (operations_at names c.deref.result.now) ≡ found s (listed_in (arrivals h)) =
     ap (λ (ns : List ℕ). sorted_set operation_cmp (operations_at names ns)) c.deref.ensures.value ∙ c.in_ok-numbers.ensures.operations ∙ all in
     IfOk-weaker c.operations_of.result (λ known. known.items ≡ operations_at names c.deref.result.now) (λ known. AreOperations s (arrivals h) known.items)

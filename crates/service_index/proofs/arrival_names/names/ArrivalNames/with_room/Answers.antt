@@ -1,6 +1,6 @@
 use Rattle.std.proofs.Common.{[], map, ap}
-use Rattle.arrival_journal.specs.Kinds.{kind_text}
-use Rattle.service_index.specs.NamesKept.{names_of}
+use Rattle.arrival_journal.specs.KindTexts.{kind_text}
+use Rattle.service_index.specs.KeptNames.{names_of}
 use Rattle.service_index.proofs.arrival_names.names.ArrivalNames.with_room.Goals as goal
 
 pub returns-clause-kept : goal.returns-clause-kept

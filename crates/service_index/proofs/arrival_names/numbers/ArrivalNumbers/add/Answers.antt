@@ -6,15 +6,15 @@ use Rattle.std.proofs.lemmas.List.{length-map, length-take-le}
 use Rattle.jaeger_model.specs.declared.span.Span.{Span}
 use Rattle.trace_model.specs.declared.entry.Entry.{Entry}
 use Rattle.jaeger_model.specs.Tags.{kind_of}
-use Rattle.trace_model.specs.Works.{spans_brought}
+use Rattle.trace_model.specs.EntryWork.{spans_brought}
 use Rattle.arrival_journal.specs.declared.kind.Kind.{Kind}
-use Rattle.arrival_journal.specs.Kinds.{kind_text, first_kinds}
-use Rattle.service_index.specs.NamesKept.{AreKinds}
+use Rattle.arrival_journal.specs.KindTexts.{kind_text, first_kinds}
+use Rattle.service_index.specs.KeptNames.{AreKinds}
 use Rattle.trace_model.specs.Histories.{before_last}
 use Rattle.trace_model.proofs.LastEntries.{last_entry}
 use Rattle.service_index.specs.ArrivalNumbers.{Numbered, AreOf}
-use Rattle.service_index.proofs.Numbering.{Filled, numbers_more}
-use Rattle.service_index.proofs.KindsKept.{kinds_more}
+use Rattle.service_index.proofs.NumbersOfEntry.{Filled, numbers_more}
+use Rattle.service_index.proofs.KeptKinds.{kinds_more}
 use Rattle.service_index.proofs.arrival_names.numbers.ArrivalNumbers.add.Goals as goal
 
 pub overflow_cast-len : goal.overflow_cast-len

@@ -1,5 +1,5 @@
 use Rattle.std.proofs.Common.{◌≡◌, ◌≤◌, vec_capacity}
-use Rattle.service_index.proofs.Numbering.{Filled}
+use Rattle.service_index.proofs.NumbersOfEntry.{Filled}
 use Rattle.service_index.proofs.arrival_names.numbers.ArrivalNumbers.add.Given as goal
 
 abbrev pub invariant-loop-span : goal.invariant-loop-span

@@ -3,9 +3,9 @@ use Rattle.std.specs.Arc.{arc_value}
 use Rattle.std.specs.Global.{Global}
 use Rattle.trace_model.specs.declared.entry.Entry.{Entry}
 use Rattle.trace_model.specs.Histories.{arrivals}
-use Rattle.service_index.specs.NamesKept.{reported_at}
-use Rattle.service_index.proofs.ArrivalNaming.{came_in, name_named, operation_is}
-use Rattle.service_index.proofs.KindsKept.{as_many_kinds, kind_is}
+use Rattle.service_index.specs.KeptNames.{reported_at}
+use Rattle.service_index.proofs.ArrivalReports.{came_in, name_named, operation_is}
+use Rattle.service_index.proofs.KeptKinds.{as_many_kinds, kind_is}
 use Rattle.service_index.proofs.arrival_names.numbers.Arrivals.operation_at.Goals as goal
 
 pub bounds-self-inside-n : goal.bounds-self-inside-n

@@ -4,10 +4,10 @@ use Rattle.std.specs.Global.{Global}
 use Rattle.trace_model.specs.declared.entry.Entry.{Entry}
 use Rattle.trace_model.specs.declared.entry.Work.TheVariants as brings
 use Rattle.trace_model.specs.Histories.{arrivals}
-use Rattle.service_index.specs.Listing.{Listed}
-use Rattle.service_index.specs.NamesKept.{reported_at}
-use Rattle.service_index.proofs.ArrivalNaming.{came_in, said}
-use Rattle.service_index.proofs.KindsKept.{as_many_kinds, kind_is}
+use Rattle.service_index.specs.ListedNames.{Listed}
+use Rattle.service_index.specs.KeptNames.{reported_at}
+use Rattle.service_index.proofs.ArrivalReports.{came_in, said}
+use Rattle.service_index.proofs.KeptKinds.{as_many_kinds, kind_is}
 use Rattle.service_index.proofs.arrival_names.numbers.ArrivalsTexts.name_at.Goals as goal
 
 pub bounds-as_slice-index : goal.bounds-as_slice-index

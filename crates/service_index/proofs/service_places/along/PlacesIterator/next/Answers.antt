@@ -1,6 +1,6 @@
 use Rattle.std.proofs.Common.{rules, ◌≡◌, ◌<◌, ◌-◌, ◌∷◌, sym, ap, ◌∙◌, arith, refl, get_or}
-use Rattle.service_index.specs.PlacesAlong.{along}
-use Rattle.service_index.proofs.Walking.{along_step}
+use Rattle.service_index.specs.PlaceChains.{along}
+use Rattle.service_index.proofs.PlaceChains.{along_step}
 use Rattle.service_index.proofs.service_places.along.PlacesIterator.next.Goals as goal
 
 pub returns-clause-steps : goal.returns-clause-steps

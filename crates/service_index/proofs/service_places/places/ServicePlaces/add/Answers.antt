@@ -5,23 +5,23 @@ use Rattle.std.proofs.lemmas.List.{length-map}
 use Rattle.trace_model.specs.declared.entry.Entry.{Entry}
 use Rattle.service_index.specs.Probes.{Table}
 use Rattle.service_index.specs.LinkedRows.{newest_with}
-use Rattle.service_index.proofs.Extending.{named_extends}
+use Rattle.service_index.proofs.MoreNames.{named_extends}
 use Rattle.trace_model.specs.Histories.{before_last}
-use Rattle.service_index.specs.Reported.{Reported, ArePlacesKept, service_labels}
+use Rattle.service_index.specs.ServicePlaces.{ServicePlacesValue, ArePlacesKept, service_labels}
 use Rattle.trace_model.proofs.LastEntries.{last_of}
-use Rattle.service_index.proofs.PlacesGrouping.{as_many_reporters}
-use Rattle.service_index.proofs.Following.{HasOneMore, last_number, extends_one, row_added, kept_more}
+use Rattle.service_index.proofs.ServiceNumbers.{as_many_reporters}
+use Rattle.service_index.proofs.OneMoreEntry.{HasOneMore, last_number, extends_one, row_added, kept_more}
 use Rattle.service_index.proofs.service_places.places.ServicePlaces.add.Goals as goal
 
-abbrev seen : Table → List ℕ → List ℕ → List ℕ → ℕ → Reported
-seen services newest earlier groups batches = record { services = services; newest = newest; earlier = earlier; groups = groups; batches = batches }
+abbrev seen : Table → List ℕ → List ℕ → List ℕ → ℕ → ServicePlacesValue
+seen services newest earlier service_numbers batches = record { services = services; newest = newest; earlier = earlier; service_numbers = service_numbers; batches = batches }
 
 pub add-service-requires-clause-leads : goal.add-service-requires-clause-leads
 add-service-requires-clause-leads c =
     let h : List Entry = map (arc_value {X = Entry} {Z = Global}) c.args.entries.now in
     let l : length h ≡ length c.args.entries.now = length-map c.args.entries.now (arc_value {X = Entry} {Z = Global}) in
     let last = last_of h (omega (arith, c.requires.some)) in
-    let old = seen c.self.inside.services c.self.inside.links.newest c.self.inside.links.earlier c.self.inside.groups.items c.self.inside.batches in
+    let old = seen c.self.inside.services c.self.inside.links.newest c.self.inside.links.earlier c.self.inside.service_numbers.items c.self.inside.batches in
     let kept : ArePlacesKept (before_last h) old = subst (ArePlacesKept (before_last h)) (sym c.self.view_is) c.requires.kept in
     named_extends (service_labels (before_last h)) (service_labels h) old.services (extends_one (before_last h) h last.0 last.1) kept.named
 
@@ -37,7 +37,7 @@ returns-clause-kept c =
     let h : List Entry = map (arc_value {X = Entry} {Z = Global}) c.args.entries.now in
     let l : length h ≡ length c.args.entries.now = length-map c.args.entries.now (arc_value {X = Entry} {Z = Global}) in
     let last = last_of h (omega (arith, c.requires.some)) in
-    let old = seen c.self.inside.services c.self.inside.links.newest c.self.inside.links.earlier c.self.inside.groups.items c.self.inside.batches in
+    let old = seen c.self.inside.services c.self.inside.links.newest c.self.inside.links.earlier c.self.inside.service_numbers.items c.self.inside.batches in
     let kept : ArePlacesKept (before_last h) old = subst (ArePlacesKept (before_last h)) (sym c.self.view_is) c.requires.kept in
     let n = length c.args.entries.now - 1 in
     let at = last_number (before_last h) h last.0 (length c.args.entries.now) last.1 l in

@@ -6,11 +6,11 @@ use Rattle.std.proofs.lemmas.List.{length-map, get_or_past}
 use Rattle.trace_model.specs.declared.entry.Entry.{Entry}
 use Rattle.service_index.specs.Probes.{row_of}
 use Rattle.service_index.specs.Indexes.{IsNewest}
-use Rattle.service_index.specs.PlacesAlong.{along}
-use Rattle.trace_model.specs.Works.{service_brought}
-use Rattle.service_index.specs.Reported.{Reported, ArePlacesKept, reporters, service_label, service_labels, places_upto}
-use Rattle.service_index.proofs.Walking.{walked}
-use Rattle.service_index.proofs.Following.{newest_own, newest_none, newest_rows}
+use Rattle.service_index.specs.PlaceChains.{along}
+use Rattle.trace_model.specs.EntryWork.{service_brought}
+use Rattle.service_index.specs.ServicePlaces.{ServicePlacesValue, ArePlacesKept, reporters, service_label, service_labels, places_upto}
+use Rattle.service_index.proofs.PlaceChains.{walked}
+use Rattle.service_index.proofs.OneMoreEntry.{newest_own, newest_none, newest_rows}
 use Rattle.service_index.proofs.service_places.places.ServicePlaces.places_of.Goals as goal
 
 pub returns : goal.returns
@@ -18,11 +18,11 @@ returns c =
     let h : List Entry = map (arc_value {X = Entry} {Z = Global}) c.args.entries.now in
     let was = c.self.inside in
     let s = c.args.service.now in
-    let old : Reported = record {
+    let old : ServicePlacesValue = record {
       services = was.services;
       newest = was.links.newest;
       earlier = was.links.earlier;
-      groups = was.groups.items;
+      service_numbers = was.service_numbers.items;
       batches =
           was.batches;
     } in
@@ -30,7 +30,7 @@ returns c =
     let rows = newest_rows h old kept in
     let r = c.row_of-row.result in
     let row : r ≡ row_of (service_labels h) old.services.numbers (service_label s) =
-    c.row_of-row.ensures ∙ ap (λ (v : Reported). row_of (service_labels h) v.services.numbers (service_label s)) (sym c.self.view_is) in
+    c.row_of-row.ensures ∙ ap (λ (v : ServicePlacesValue). row_of (service_labels h) v.services.numbers (service_label s)) (sym c.self.view_is) in
     let at = c.newest_row.result in
     let newest : IsNewest (reporters h) s at (length (reporters h)) = elim (cases_lt r (length old.services.numbers)) [
       | inl below ↦ newest_own h old s r at kept row below c.newest_row.ensures

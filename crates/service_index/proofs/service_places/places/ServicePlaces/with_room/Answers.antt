@@ -1,7 +1,7 @@
 use Rattle.std.proofs.Common.{◌≡◌, List, ℕ, [], map, length, refl, ap, sym, subst, arith}
 use Rattle.service_index.specs.Indexes.{IsLinked}
-use Rattle.service_index.proofs.Linking.{linked_empty}
-use Rattle.service_index.specs.Reported.{service_at, service_labels, AreGroups}
+use Rattle.service_index.proofs.LinkedOperations.{linked_empty}
+use Rattle.service_index.specs.ServicePlaces.{service_at, service_labels, AreServiceNumbers}
 use Rattle.service_index.proofs.service_places.places.ServicePlaces.with_room.Goals as goal
 
 pub returns-clause-kept : goal.returns-clause-kept
@@ -18,5 +18,5 @@ returns-clause-kept c =
           (subst (λ (x : List ℕ). IsLinked [] [] x c.in_ok-links.links.earlier) (sym c.in_ok-links.ensures.newest)
           (subst (λ (x : List ℕ). IsLinked [] [] [] x) (sym c.in_ok-links.ensures.earlier) linked_empty));
       first = λ r below. absurd (omega arith);
-      grouped = subst (AreGroups []) (sym c.in_ok-groups.ensures.items) (record { as_many = refl; each = λ n below. absurd (omega arith) });
+      services_numbered = subst (AreServiceNumbers []) (sym c.in_ok-service_numbers.ensures.items) (record { as_many = refl; each = λ n below. absurd (omega arith) });
     }

@@ -3,8 +3,8 @@ use Rattle.std.specs.Arc.{arc_value}
 use Rattle.std.specs.Global.{Global}
 use Rattle.std.proofs.lemmas.List.{length-map, get_or-map}
 use Rattle.trace_model.specs.declared.entry.Entry.{Entry}
-use Rattle.trace_model.specs.Works.{service_brought}
-use Rattle.service_index.specs.Reported.{service_label}
+use Rattle.trace_model.specs.EntryWork.{service_brought}
+use Rattle.service_index.specs.ServicePlaces.{service_label}
 use Rattle.service_index.proofs.service_places.reporters.ReportersLabels.label_at.Goals as goal
 
 pub returns : goal.returns

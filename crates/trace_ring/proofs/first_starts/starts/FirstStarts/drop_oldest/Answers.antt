@@ -1,6 +1,6 @@
 use Rattle.std.proofs.Common.{◌∙◌, ap, sym, drop}
 use Rattle.std.proofs.lemmas.List.{drop-drop}
-use Rattle.trace_ring.specs.Starting.{Starts}
+use Rattle.trace_ring.specs.FirstStarts.{Starts}
 use Rattle.trace_ring.proofs.first_starts.starts.FirstStarts.drop_oldest.Goals as goal
 
 pub returns-then-self-len-clause-starts : goal.returns-then-self-len-clause-starts

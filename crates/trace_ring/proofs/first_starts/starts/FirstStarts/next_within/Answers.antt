@@ -2,7 +2,7 @@ use Rattle.std.proofs.Common.{◌≡◌, ◌+◌, ◌/◌, ◌<◌, ◌∙◌, g
 use Rattle.std.proofs.lemmas.Bool.{cases_lt}
 use Rattle.std.proofs.lemmas.List.{get_or_read}
 use Rattle.trace_ring.specs.StartRanges.{no_range, reaches}
-use Rattle.trace_ring.proofs.Widening.{block_before}
+use Rattle.trace_ring.proofs.BlockRanges.{block_before}
 use Rattle.trace_ring.proofs.first_starts.starts.FirstStarts.next_within.Goals as goal
 
 pub loop-at-preserved : goal.loop-at-preserved

@@ -1,8 +1,8 @@
 use Rattle.std.proofs.Common.{◌≡◌, ℕ, ℤ, pos, ◌-◌, append_assoc, false, ◌+◌, ◌<◌, ◌∷◌, ◌++◌, [], length, get_or, drop, ◌/◌, ◌∙◌, sym, ap, arith, List, w64}
 use Rattle.std.proofs.Common.{to_z, of_z}
 use Rattle.std.specs.Prelude.{int_lt}
-use Rattle.trace_ring.specs.Starting.{places_from}
-use Rattle.trace_ring.proofs.Skipping.{block_miss, one_hit, one_miss}
+use Rattle.trace_ring.specs.FirstStarts.{places_from}
+use Rattle.trace_ring.proofs.SkippedStarts.{block_miss, one_hit, one_miss}
 use Rattle.trace_ring.proofs.first_starts.starts.FirstStarts.places_after.Goals as goal
 use Rattle.trace_ring.proofs.first_starts.starts.FirstStarts.places_after.Goals.{then-is_later+in_ok-push, else-is_later}
 

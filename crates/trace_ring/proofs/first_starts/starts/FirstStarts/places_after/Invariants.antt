@@ -1,5 +1,5 @@
 use Rattle.std.proofs.Common.{◌≡◌, ◌-◌, ◌≤◌, ◌++◌, length, drop}
-use Rattle.trace_ring.specs.Starting.{places_from, places_after}
+use Rattle.trace_ring.specs.FirstStarts.{places_from, places_after}
 use Rattle.trace_ring.proofs.first_starts.starts.FirstStarts.places_after.Given as goal
 
 abbrev pub invariant-loop-at : goal.invariant-loop-at

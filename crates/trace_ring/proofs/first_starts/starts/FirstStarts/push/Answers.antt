@@ -1,10 +1,10 @@
 use Rattle.std.proofs.Common.{◌≡◌, ℤ, pos, false, get_or, ◌+◌, ◌/◌, ◌∙◌, ◌<◌, sym, ap, subst, List, length, drop, arith, length-drop, w64, to_z, of_z}
 use Rattle.std.specs.Prelude.{int_lt, if◌then◌else◌, ◌==◌}
 use Rattle.std.proofs.lemmas.Int.{to_z-of_z}
-use Rattle.trace_ring.specs.Starting.{Starts, IsBounded}
+use Rattle.trace_ring.specs.FirstStarts.{Starts, IsBounded}
 use Rattle.trace_ring.specs.StartRanges.{IsIn, IsWider, no_range, range_at}
-use Rattle.trace_ring.proofs.Bounding.{bounded_more}
-use Rattle.trace_ring.proofs.Widening.{block_known, blocks_more}
+use Rattle.trace_ring.proofs.BlockBounds.{bounded_more}
+use Rattle.trace_ring.proofs.BlockRanges.{block_known, blocks_more}
 use Rattle.trace_ring.proofs.first_starts.starts.FirstStarts.push.Goals as goal
 
 pub raise-requires-clause-room : goal.raise-requires-clause-room

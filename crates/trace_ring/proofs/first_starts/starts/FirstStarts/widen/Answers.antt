@@ -1,7 +1,7 @@
 use Rattle.std.proofs.Common.{◌+◌, ◌/◌, ◌<◌, get_or, sym, subst, length, drop}
-use Rattle.trace_ring.specs.Starting.{Starts}
+use Rattle.trace_ring.specs.FirstStarts.{Starts}
 use Rattle.trace_ring.specs.StartRanges.{IsWider, no_range, range_at}
-use Rattle.trace_ring.proofs.Widening.{block_known}
+use Rattle.trace_ring.proofs.BlockRanges.{block_known}
 use Rattle.trace_ring.proofs.first_starts.starts.FirstStarts.widen.Goals as goal
 
 pub returns-clause-none_narrows : goal.returns-clause-none_narrows

@@ -1,0 +1,20 @@
+-- What `serve` writes.
+use Rattle.std.specs.Prelude.{◌≡◌, ℕ, ◌⊎◌, false, List}
+use Rattle.std.specs.Io.KnownBytes.{Appends}
+use Rattle.session_devices.specs.Traffic.{Traffic}
+use Rattle.serve_options.specs.declared.host.Host.{Host}
+use Rattle.trace_model.specs.declared.limits.Limits.{Limits}
+use Rattle.text_lines.specs.declared.exit_status.ExitStatus.{ExitStatus}
+use Rattle.text_lines.specs.declared.exit_status.ExitStatus.TheVariants.{DeviceFailed}
+use Rattle.trace_server.specs.ServerRuns.{RunsServer, StopsIn}
+
+-- the address can't be used, and a line says so; or a prefix of the line was written, because the output failed or memory
+-- ran out
+abbrev pub TurnsDown : Traffic → ExitStatus → Type 0
+TurnsDown output status =
+    (line : List ℕ)
+    × (((status ≡ DeviceFailed) × Appends output.before output.after line × (output.failed ≡ false)) ⊎ StopsIn output line status)
+
+-- the server serves, or the address can't be used
+abbrev pub ServesOrNot : Host → Limits → ℕ → Traffic → ExitStatus → Type 0
+ServesOrNot host limits workers output status = RunsServer host limits workers output status ⊎ TurnsDown output status

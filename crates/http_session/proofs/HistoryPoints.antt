@@ -1,0 +1,116 @@
+-- A run over a store that keeps its promise is related to one growing history.
+use Rattle.std.proofs.Common.{◌≡◌, ℕ, List, [], ◌∷◌, ◌++◌, All, Option, Some, None, IfSome, MatchOption, Result, Ok, Err, refl, sym, ap, ◌∙◌, subst}
+use Rattle.std.proofs.Common.{append_assoc}
+use Rattle.std.proofs.lemmas.List.Elements.{All-weaker, All-cons, All-nil}
+use Rattle.jaeger_model.specs.declared.batch.Batch.{Batch}
+use Rattle.trace_model.specs.declared.limits.Limits.{Limits}
+use Rattle.trace_model.specs.declared.query.Query.{Query}
+use Rattle.trace_model.specs.declared.answer.Answer.{Answer}
+use Rattle.trace_model.specs.declared.refusal.Refusal.{Refusal}
+use Rattle.trace_model.specs.Histories.{IsLegal}
+use Rattle.trace_model.specs.Answers.{answer}
+use Rattle.trace_model.specs.StoreKnowledge.{History, IsPrefixOf, HasAt, Keeps, Places, AnswersAt, SubmitKnows, ReadKnows}
+use Rattle.http_session.specs.Sessions.{Exchange, Submits, Reads, Step, Run}
+use Rattle.http_session.specs.HistoryPoints.{Seen, IsPoint, Gets, Related, nothing_seen}
+use Rattle.http_session.specs.declared.verdict.Verdict.{Verdict}
+use Rattle.http_session.specs.declared.verdict.Verdict.TheVariants.{Submit, Ask, Reject}
+use Rattle.http_session.specs.declared.reply.Reply.{Reply}
+use Rattle.http_session.specs.declared.reply.Reply.TheVariants.{Accepted, Answered, Refused, Error}
+
+-- a list that goes on from one that has the batch has it too
+still_has : (h long : History) (place : ℕ) (b : Batch) → HasAt h place b → IsPrefixOf h long → HasAt long place b
+still_has h long place b has goes = record {
+  before = has.before;
+  entry = has.entry;
+  after = has.after ++ goes.0;
+  work_is = has.work_is;
+  place_is = has.place_is;
+  whole = goes.1 ∙ ap (λ l. l ++ goes.0) has.whole ∙ append_assoc has.before (has.entry ∷ has.after) goes.0;
+}
+
+module _ {S : Type 0} (limits : S → Limits) (knows : S → History → Type 0) (submits : Submits S) (reads : Reads S)
+    (submit_knows : (s : S) (b : Batch) (r : Result ℕ Refusal) (t : S) → submits s b r t → SubmitKnows limits knows s b r t)
+    (read_knows : (s : S) (q : Query) (r : Result Answer Refusal) (t : S) → reads s q r t → ReadKnows limits knows s q r t) where
+  abbrev pub Placed : S → Batch × ℕ → Type 0
+  Placed s pair = (h : History) × HasAt h pair.1 pair.0 × knows s h
+
+  pub record Holds (under : Limits) (knew : History → Type 0) (s : S) (seen : Seen) : Type 0 where
+    pub same : limits s ≡ under
+    pub old : (h : History) → knew h → knows s h
+    pub last : IfSome seen.point (λ h. knows s h)
+    pub placed : All (Placed s) seen.accepted
+
+  last_kept : (s t : S) → Keeps limits knows s t → (o : Option History) → IfSome o (λ h. knows s h) → IfSome o (λ h. knows t h)
+  last_kept s t keeps None k = tt
+  last_kept s t keeps (Some h) k = keeps.knowledge h k
+
+  kept : (under : Limits) (knew : History → Type 0) (s t : S) (seen : Seen) → Holds under knew s seen → Keeps limits knows s t → Holds under knew t seen
+  kept under knew s t seen holds keeps = record {
+    same = keeps.same_limits ∙ holds.same;
+    old = λ h k. keeps.knowledge h (holds.old h k);
+    last = last_kept s t keeps seen.point holds.last;
+    placed = All-weaker (Placed s) (Placed t) (λ pair p. (p.0, p.1, keeps.knowledge p.0 p.2)) seen.accepted holds.placed;
+  }
+
+  behind : (knew : History → Type 0) (s : S) (o : Option History) (h : History) → ((l : History) → knew l → knows s l) → IfSome o (λ l. knows s l)
+      → ((l : History) → knows s l → IsPrefixOf l h)
+      → MatchOption o ((l : History) → knew l → IsPrefixOf l h) (λ before. IsPrefixOf before h)
+  behind knew s None h old last all = λ l k. all l (old l k)
+  behind knew s (Some before) h old last all = all before last
+
+  accepted : (under : Limits) (knew : History → Type 0) (s t : S) (seen : Seen) (b : Batch) (place : ℕ) → Holds under knew s seen → Keeps limits knows s t
+      → Places limits knows b place t
+      → Holds under knew t (record seen { accepted = (b, place) ∷ seen.accepted })
+  accepted under knew s t seen b place holds keeps places =
+      let now = kept under knew s t seen holds keeps in
+      record {
+        same = now.same;
+        old = now.old;
+        last = now.last;
+        placed = All-cons (Placed t) (b, place) seen.accepted (places.history, places.has, places.known) now.placed;
+      }
+
+  pointed : (under : Limits) (knew : History → Type 0) (s t : S) (seen : Seen) (q : Query) (a : Answer) → Holds under knew s seen → Keeps limits knows s t
+      → AnswersAt limits knows s q a t
+      → (next : Seen) × Gets knew under seen (Ask q) (Answered a) next × Holds under knew t next
+  pointed under knew s t seen q a holds keeps at =
+      let now = kept under knew s t seen holds keeps in
+      let h = at.history in
+      let next : Seen = record seen { point = Some h } in
+      let point : IsPoint knew under seen h = record {
+        legal = subst (λ (l : Limits). IsLegal l h) now.same at.legal;
+        behind = behind knew s seen.point h holds.old holds.last at.behind;
+        has =
+            All-weaker (Placed s) (λ (pair : Batch × ℕ). HasAt h pair.1 pair.0)
+            (λ pair p. still_has p.0 h pair.1 pair.0 p.1 (at.behind p.0 p.2)) seen.accepted holds.placed;
+      } in
+      let determined : a ≡ answer under h q = at.answer_is ∙ ap (λ (l : Limits). answer l h q) now.same in
+      (next, (h, point, determined, refl), record { same = now.same; old = now.old; last = at.known; placed = now.placed })
+
+  goes : (under : Limits) (knew : History → Type 0) (s t : S) (seen : Seen) (verdict : Verdict) (reply : Reply) → Holds under knew s seen
+      → Step submits reads s verdict reply t
+      → (next : Seen) × Gets knew under seen verdict reply next × Holds under knew t next
+  goes under knew s t seen (Submit b) Accepted holds step =
+      let (keeps, places) = submit_knows s b (Ok step.0) t step.1 in
+      (record seen { accepted = (b, step.0) ∷ seen.accepted }, (step.0, refl), accepted under knew s t seen b step.0 holds keeps places)
+  goes under knew s t seen (Submit b) (Refused r) holds step = (seen, refl, kept under knew s t seen holds (submit_knows s b (Err r) t step))
+  goes under knew s t seen (Ask q) (Answered a) holds step =
+      let (keeps, at) = read_knows s q (Ok a) t step in
+      pointed under knew s t seen q a holds keeps at
+  goes under knew s t seen (Ask q) (Refused r) holds step = (seen, refl, kept under knew s t seen holds (read_knows s q (Err r) t step))
+  goes under knew s t seen (Reject error) (Error said) holds step = (seen, (step.0, refl), subst (λ (x : S). Holds under knew x seen) (sym step.1) holds)
+  goes under knew s t seen _ _ holds step = absurd step
+
+  related : (under : Limits) (knew : History → Type 0) (s t : S) (seen : Seen) (xs : List Exchange) → Holds under knew s seen → Run submits reads s xs t
+      → Related knew under seen xs
+  related under knew s t seen [] holds run = tt
+  related under knew s t seen (x ∷ xs) holds run =
+      let on = goes under knew s run.0 seen x.verdict x.reply holds run.1 in
+      (on.0, on.1, related under knew run.0 t on.0 xs on.2 run.2)
+
+  begin : (s : S) → Holds (limits s) (λ h. knows s h) s nothing_seen
+  begin s = record { same = refl; old = λ h k. k; last = tt; placed = All-nil (Placed s) }
+
+  -- from the start, when nothing was seen
+  pub related_all : (s t : S) (xs : List Exchange) → Run submits reads s xs t → Related (λ h. knows s h) (limits s) nothing_seen xs
+  related_all s t xs run = related (limits s) (λ h. knows s h) s t nothing_seen xs (begin s) run

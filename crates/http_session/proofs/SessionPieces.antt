@@ -1,0 +1,402 @@
+-- One piece of a session: what it has come to, wherever it began, and also where others used the store since the piece
+-- before.
+use Rattle.std.proofs.Common.{◌≡◌, ◌≢◌, ℕ, ◌+◌, ◌||◌, Bool, true, false, List, [], ◌++◌, length, take, Option, Some, None, Result, Ok, Err, refl, sym, ap, ◌∙◌}
+use Rattle.std.proofs.Common.{subst, arith, inl, inr, length-append}
+use Rattle.std.specs.Io.KnownBytes.{Appends, IsAtEnd}
+use Rattle.jaeger_model.specs.declared.batch.Batch.{Batch}
+use Rattle.trace_model.specs.declared.limits.Limits.{Limits}
+use Rattle.trace_model.specs.declared.query.Query.{Query}
+use Rattle.trace_model.specs.declared.answer.Answer.{Answer}
+use Rattle.trace_model.specs.declared.refusal.Refusal.{Refusal}
+use Rattle.trace_model.specs.StoreKnowledge.{History, Keeps, SubmitKnows, ReadKnows}
+use Rattle.http_requests.specs.declared.read_buffer.ReadError.{ReadError}
+use Rattle.http_requests.specs.declared.request.BadRequest.{BadRequest}
+use Rattle.http_requests.specs.declared.read_buffer.ReadError.TheVariants as why
+use Rattle.http_requests.specs.Requests.{AwaitsRequest}
+use Rattle.http_requests.specs.LineLaws.{no_bytes_await}
+use Rattle.http_requests.specs.ReceivedBytes.{ReadBuffer, ReadsOn, ReadsOnWhile, IsRead, ReadFails, StopsWhile, SameUnlessReading, put_back}
+use Rattle.http_requests.proofs.Readings.{nothing_yet, read_after, stops_reading}
+use Rattle.http_session.specs.Verdicts.{BeginsWithQuery}
+use Rattle.http_session.specs.IncomingRequests.{before_a_request, HasReceived, WaitsAfter, ReceivesOne, ReceivesEnd, ReceivesBadRequest, ReceivesPart, ReceivesNothing}
+use Rattle.http_session.specs.UnderwaySessions.{SoFar}
+use Rattle.http_session.specs.Replies.{closes, takes_no_memory, response_of}
+use Rattle.http_session.specs.Sessions.{Submits, Reads, Step, WritesResponse, cause_by}
+use Rattle.http_session.specs.ResponseOrder.{Line, IsTwoWay, EndsOver, FailsOver}
+use Rattle.http_session.specs.SessionRuns.{Store, store_of, EndsServed, FailsServed}
+use Rattle.http_session.specs.Pieces.{AsksOnce, AnswersSoFar, StaysUnderway, OutlastsWrites, ForgetsNothing, SubmitsSome, ReadsSome, no_requests_yet}
+use Rattle.http_session.specs.Pieces.{CanContinue, AwaitsMore, shared, Underway, ComesTo, UnderwayAmong, GoesOn}
+use Rattle.http_session.specs.declared.pieces.Session.{Session}
+use Rattle.http_session.specs.declared.receiving.SessionStage.{SessionStage}
+use Rattle.http_session.specs.declared.verdict.Verdict.{Verdict}
+use Rattle.http_session.specs.declared.verdict.Verdict.TheVariants.{Submit, Ask, Reject}
+use Rattle.http_session.specs.declared.reply.Reply.{Reply}
+use Rattle.http_session.specs.declared.reply.Reply.TheVariants.{Accepted, Answered, Refused, Error, Malformed}
+use Rattle.http_session.specs.declared.exchanges.Ended.{Ended}
+use Rattle.http_session.specs.declared.exchanges.SessionError.{SessionError}
+use Rattle.http_session.specs.declared.exchanges.SessionErrorKind.TheVariants.{Memory}
+use Rattle.http_session.specs.declared.exchanges.PartialWrite.{PartialWrite}
+use Rattle.http_session.proofs.HistoryPoints.{related_all}
+use Rattle.http_session.proofs.IncomingParts.{malformed_if, waits_for_request, looked_by, looked_still}
+use Rattle.http_session.proofs.SessionTurns.{begins, reads_on, stays, ends_clean, ends_malformed, fails_reading, fails_stopped, fails_malformed, works_received}
+use Rattle.http_session.proofs.AnsweredRequests.{fewer_left, answered_open, answered_last, answered_not}
+
+-- ---- what a store promises, and that it promises it also where others use it
+
+pub record Promises {S : Type 0} (store : Store S) : Type 0 where
+  pub submit_knows : (s : S) (b : Batch) (r : Result ℕ Refusal) (t : S) → store.submits s b r t → SubmitKnows store.limits store.knows s b r t
+  pub read_knows : (s : S) (q : Query) (r : Result Answer Refusal) (t : S) → store.reads s q r t → ReadKnows store.limits store.knows s q r t
+
+pub promises_of : {S : Type 0} {submits : Submits S} {reads : Reads S} {knows : S → History → Type 0} {limits : S → Limits}
+    → ((s : S) (b : Batch) (r : Result ℕ Refusal) (t : S) → submits s b r t → SubmitKnows limits knows s b r t)
+    → ((s : S) (q : Query) (r : Result Answer Refusal) (t : S) → reads s q r t → ReadKnows limits knows s q r t)
+    → Promises (store_of submits reads knows limits)
+promises_of submit_knows read_knows = record { submit_knows = submit_knows; read_knows = read_knows }
+
+module _ {S : Type 0} (store : Store S) where
+  pub keeps_all : (s : S) → Keeps store.limits store.knows s s
+  keeps_all s = record { same_limits = refl; knowledge = λ h k. k }
+
+  pub keeps_on : (s m t : S) → Keeps store.limits store.knows s m → Keeps store.limits store.knows m t → Keeps store.limits store.knows s t
+  keeps_on s m t one two = record { same_limits = two.same_limits ∙ one.same_limits; knowledge = λ h k. two.knowledge h (one.knowledge h k) }
+
+  -- a step that comes later
+  stepped : (m t u : S) (v : Verdict) (reply : Reply) → Keeps store.limits store.knows m t → Step store.submits store.reads t v reply u
+      → (n : S) × Step (shared store).submits (shared store).reads m v reply n × Keeps store.limits store.knows n u
+  stepped m t u (Submit b) Accepted keeps step = (u, (step.0, (t, keeps, step.1)), keeps_all u)
+  stepped m t u (Submit b) (Refused r) keeps step = (u, (t, keeps, step), keeps_all u)
+  stepped m t u (Ask q) (Answered a) keeps step = (u, (t, keeps, step), keeps_all u)
+  stepped m t u (Ask q) (Refused r) keeps step = (u, (t, keeps, step), keeps_all u)
+  stepped m t u (Reject error) (Error said) keeps step = (m, (step.0, refl), subst (λ (x : S). Keeps store.limits store.knows m x) (sym step.1) keeps)
+  stepped m t u _ _ keeps step = absurd step
+
+  module _ (promises : Promises store) where
+    later_submit_knows : (s : S) (b : Batch) (r : Result ℕ Refusal) (t : S) → (shared store).submits s b r t → SubmitKnows store.limits store.knows s b r t
+    later_submit_knows s b (Ok place) t later =
+        let known = promises.submit_knows later.0 b (Ok place) t later.2 in
+        (keeps_on s later.0 t later.1 known.0, known.1)
+    later_submit_knows s b (Err why) t later = keeps_on s later.0 t later.1 (promises.submit_knows later.0 b (Err why) t later.2)
+
+    later_read_knows : (s : S) (q : Query) (r : Result Answer Refusal) (t : S) → (shared store).reads s q r t → ReadKnows store.limits store.knows s q r t
+    later_read_knows s q (Ok a) t later =
+        let known = promises.read_knows later.0 q (Ok a) t later.2 in
+        let at = known.1 in (
+          keeps_on s later.0 t later.1 known.0,
+          record { history = at.history; legal = at.legal; behind = λ h k. at.behind h (later.1.knowledge h k); answer_is = at.answer_is; known = at.known },
+        )
+    later_read_knows s q (Err why) t later = keeps_on s later.0 t later.1 (promises.read_knows later.0 q (Err why) t later.2)
+
+    pub shared_promises : Promises (shared store)
+    shared_promises = record { submit_knows = later_submit_knows; read_knows = later_read_knows }
+
+    -- its answers are those of one growing history
+    pub ends_served : {C : Type 0} (line : Line C) (c0 c1 : C) (s t : S) (ended : Ended) → EndsOver store.submits store.reads line c0 c1 s t ended
+        → EndsServed store line c0 c1 s t ended
+    ends_served line c0 c1 s t ended over =
+        (over, related_all store.limits store.knows store.submits store.reads promises.submit_knows promises.read_knows s t _ over.0.run)
+
+    pub fails_served : {C : Type 0} (line : Line C) (c0 c1 : C) (s t : S) (error : SessionError) → FailsOver store.submits store.reads line c0 c1 s t error
+        → FailsServed store line c0 c1 s t error
+    fails_served line c0 c1 s t error over =
+        (over, related_all store.limits store.knows store.submits store.reads promises.submit_knows promises.read_knows s t _ over.0.run)
+
+-- ---- what one piece does
+
+module _ {S C : Type 0} (store : Store S) (promises : Promises store) (line : Line C) (two : IsTwoWay line) (c1 : C) (t : S) (old new : Session) where
+  -- the store isn't asked
+  unasked : (c2 : C) (result : Result (Option Ended) SessionError)
+      → ((other : Store S) → Promises other → (c0 : C) (s m : S) → Underway other line c0 c1 s m old → ComesTo other line c0 c2 s m new result)
+      → GoesOn store line c1 c2 t t old new result
+  unasked c2 result each = record {
+    alone = λ c0 s so. each store promises c0 s t so;
+    among = λ c0 s under. (under.0, each (shared store) (shared_promises store promises) c0 s under.0 under.1, under.2);
+  }
+
+  -- the store makes a step
+  asked : (c2 : C) (u : S) (v : Verdict) (reply : Reply) (result : Result (Option Ended) SessionError) → Step store.submits store.reads t v reply u
+      → ((other : Store S) → Promises other → (c0 : C) (s m n : S) → Step other.submits other.reads m v reply n → Underway other line c0 c1 s m old
+      → ComesTo other line c0 c2 s n new result)
+      → GoesOn store line c1 c2 t u old new result
+  asked c2 u v reply result step each = record {
+    alone = λ c0 s so. each store promises c0 s t u step so;
+    among = λ c0 s under.
+        let on = stepped store under.0 t u v reply under.2 step in
+        (on.0, each (shared store) (shared_promises store promises) c0 s under.0 on.0 on.1 under.1, on.2);
+  }
+
+  -- memory ran out for a query
+  pub receives_no_query : line.in_failed c1 ≡ false → line.out_failed c1 ≡ false
+      → ((text : List ℕ) → HasReceived old.stage text → BeginsWithQuery (text ++ old.received.held))
+      → GoesOn store line c1 c1 t t old new (Err (record { answered = old.answered; written = 0; cause = Memory }))
+  receives_no_query in_works out_works none =
+      unasked c1 (Err (record { answered = old.answered; written = 0; cause = Memory }))
+      (λ other kept c0 s m so.
+      let here = put_back so.text old.received in
+      let nothing : ReceivesNothing line.source c1 c1 (line.in_failed c1) here why.Memory =
+      inr (record { here = here; reads = nothing_yet line.source AwaitsRequest c1 here; query = none so.text so.incoming }) in
+      fails_served other kept line c0 c1 s m _
+      (fails_reading other.submits other.reads line two (Unit {0})
+      c0 c1 c1 s m here old.answered false why.Memory so.so_far nothing in_works refl out_works))
+
+  -- no more could be read
+  pub receives_nothing : (A : Type 0) (c2 : C) (before : Bool) (stop : ReadError)
+      → ((text : List ℕ) → HasReceived old.stage text → StopsWhile line.source AwaitsRequest c1 c2 (line.in_failed c2) (put_back text old.received) stop)
+      → SameUnlessReading {A = A} before (line.in_failed c2) (Err stop) → before ≡ false → line.out_failed c1 ≡ false
+      → GoesOn store line c1 c2 t t old new (Err (record { answered = old.answered; written = 0; cause = cause_by stop }))
+  receives_nothing A c2 before stop stops same was out =
+      unasked c2 (Err (record { answered = old.answered; written = 0; cause = cause_by stop }))
+      (λ other kept c0 s m so.
+      fails_served other kept line c0 c2 s m _
+      (fails_stopped other.submits other.reads line two A c0 c1 c2 s m (put_back so.text old.received) old.answered before stop so.so_far
+      (stops so.text so.incoming) same was out))
+
+  pub receives_end : (here : ReadBuffer) → ((text : List ℕ) → HasReceived old.stage text → ReceivesEnd (put_back text old.received) here)
+      → GoesOn store line c1 c1 t t old new (Ok (Some (record { answered = old.answered; clean = true })))
+  receives_end here found =
+      unasked c1 (Ok (Some (record { answered = old.answered; clean = true })))
+      (λ other kept c0 s m so.
+      let end = found so.text so.incoming in
+      let here_so = subst (λ (b : ReadBuffer). SoFar other.submits other.reads line c0 c1 s m b old.answered) end.same so.so_far in
+      ends_served other kept line c0 c1 s m _
+      (ends_clean other.submits other.reads line two c0 c1 s m here old.answered here_so (here_so.end end.ended, end.nothing)))
+
+  pub parts : (c2 : C) (here : ReadBuffer) (b : BadRequest)
+      → ((text : List ℕ) → HasReceived old.stage text → ReceivesBadRequest (put_back text old.received) here b)
+      → Appends (line.contents c1) (line.contents c2) (response_of (Malformed b) true) → line.takes c1 (response_of (Malformed b) true) c2
+      → GoesOn store line c1 c2 t t old new (Ok (Some (record { answered = old.answered + 1; clean = false })))
+  parts c2 here b found wrote took =
+      unasked c2 (Ok (Some (record { answered = old.answered + 1; clean = false })))
+      (λ other kept c0 s m so.
+      let bad_request = found so.text so.incoming in
+      let here_so = subst (λ (r : ReadBuffer). SoFar other.submits other.reads line c0 c1 s m r old.answered) bad_request.cut so.so_far in
+      ends_served other kept line c0 c2 s m _
+      (ends_malformed other.submits other.reads line two c0 c1 c2 s m _ old.answered b here_so (malformed_if _ _ b _ here_so.end bad_request.malformed)
+      wrote took))
+
+  pub parts_not : (c2 : C) (here : ReadBuffer) (b : BadRequest) (partial_write : PartialWrite)
+      → ((text : List ℕ) → HasReceived old.stage text → ReceivesBadRequest (put_back text old.received) here b)
+      → WritesResponse (line.contents c1) (line.contents c2) false (line.out_failed c2) (response_of (Malformed b) true) (Err partial_write)
+      → line.takes c1 (take partial_write.written (response_of (Malformed b) true)) c2 → line.in_failed c1 ≡ false
+      → GoesOn store line c1 c2 t t old new (Err (record { answered = old.answered; written = partial_write.written; cause = partial_write.cause }))
+  parts_not c2 here b partial_write found said took works =
+      unasked c2 (Err (record { answered = old.answered; written = partial_write.written; cause = partial_write.cause }))
+      (λ other kept c0 s m so.
+      let bad_request = found so.text so.incoming in
+      let here_so = subst (λ (r : ReadBuffer). SoFar other.submits other.reads line c0 c1 s m r old.answered) bad_request.cut so.so_far in
+      fails_served other kept line c0 c2 s m _
+      (fails_malformed other.submits other.reads line two c0 c1 c2 s m _ old.answered b partial_write here_so
+      (malformed_if _ _ b _ here_so.end bad_request.malformed) said took works))
+
+  module _ (c2 : C) (u : S) (here : ReadBuffer) (v : Verdict) (ask : Bool) (reply : Reply) (close : Bool)
+      (found : (text : List ℕ) → HasReceived old.stage text → ReceivesOne (put_back text old.received) here v ask)
+      (step : Step store.submits store.reads t v reply u) (close_is : close ≡ (ask || closes reply)) where
+    pub answers_last : Appends (line.contents c1) (line.contents c2) (response_of reply close) → line.takes c1 (response_of reply close) c2 → close ≡ true
+        → GoesOn store line c1 c2 t u old new (Ok (Some (record { answered = old.answered + 1; clean = false })))
+    answers_last wrote took leaves =
+        asked c2 u v reply (Ok (Some (record { answered = old.answered + 1; clean = false }))) step
+        (λ other kept c0 s m n one so.
+        ends_served other kept line c0 c2 s n _
+        (answered_last other.submits other.reads line two c0 c1 s m (put_back so.text old.received) here old.answered v ask so.so_far
+        (found so.text so.incoming) c2 n reply close one close_is wrote took leaves))
+
+    pub answers_not : (partial_write : PartialWrite)
+        → WritesResponse (line.contents c1) (line.contents c2) false (line.out_failed c2) (response_of reply close) (Err partial_write)
+        → line.takes c1 (take partial_write.written (response_of reply close)) c2 → line.in_failed c1 ≡ false
+        → (takes_no_memory reply ≡ true → partial_write.cause ≢ Memory)
+        → GoesOn store line c1 c2 t u old new (Err (record { answered = old.answered; written = partial_write.written; cause = partial_write.cause }))
+    answers_not partial_write said took works spared =
+        asked c2 u v reply (Err (record { answered = old.answered; written = partial_write.written; cause = partial_write.cause })) step
+        (λ other kept c0 s m n one so.
+        fails_served other kept line c0 c2 s n _
+        (answered_not other.submits other.reads line two c0 c1 s m (put_back so.text old.received) here old.answered v ask so.so_far (found so.text so.incoming)
+        c2 n reply close one close_is partial_write said took works spared))
+
+-- a response was written, and the session stays open
+module _ {S C : Type 0} (store : Store S) (promises : Promises store) (line : Line C) (two : IsTwoWay line) (c1 c2 : C) (t u : S) (old : Session)
+    (here : ReadBuffer) (v : Verdict) (ask : Bool) (reply : Reply)
+    (close : Bool) (found : (text : List ℕ) → HasReceived old.stage text → ReceivesOne (put_back text old.received) here v ask) where
+  pub answers_open : Step store.submits store.reads t v reply u → close ≡ (ask || closes reply)
+      → Appends (line.contents c1) (line.contents c2) (response_of reply close) → line.takes c1 (response_of reply close) c2 → close ≡ false
+      → GoesOn store line c1 c2 t u old (record { received = here; stage = before_a_request; answered = old.answered + 1 }) (Ok None)
+  answers_open step close_is wrote took stays =
+      asked store promises line two c1 t old (record { received = here; stage = before_a_request; answered = old.answered + 1 }) c2 u v reply (Ok None) step
+      (λ other kept c0 s m n one so. record {
+        text = [];
+        incoming = refl;
+        so_far =
+            answered_open other.submits other.reads line two c0 c1 s m (put_back so.text old.received) here old.answered v ask so.so_far
+            (found so.text so.incoming) c2 n reply close one close_is wrote took stays;
+      })
+
+  -- and it can be gone on with
+  pub still_continues : (bytes : List ℕ) → line.takes c1 bytes c2 → CanContinue (line.source.remaining c1) old
+      → CanContinue (line.source.remaining c2) (record { received = here; stage = before_a_request; answered = old.answered + 1 })
+  still_continues bytes took can =
+      let one = found can.text can.incoming in
+      record {
+        text = [];
+        incoming = refl;
+        looked = (omega arith, no_bytes_await);
+        end = λ e. subst IsAtEnd (sym (two.writes_leave c1 c2 bytes took).0) (can.end (ap (λ (b : ReadBuffer). b.ended) one.cut ∙ e));
+        most = omega (arith, can.most, fewer_left (put_back can.text old.received) here v ask one);
+      }
+
+-- ---- a pause inside a request
+
+module _ {S C : Type 0} (store : Store S) (promises : Promises store) (line : Line C) (two : IsTwoWay line) (c1 : C) (t : S) (old : Session) (here : ReadBuffer)
+    (stage : SessionStage)
+    (found : (text : List ℕ) → HasReceived old.stage text → ReceivesPart (put_back text old.received) here stage) where
+  abbrev paused : Session
+  paused = record { received = here; stage = stage; answered = old.answered }
+
+  pub pauses : GoesOn store line c1 c1 t t old paused (Ok None)
+  pauses = unasked store promises line two c1 t old paused c1 (Ok None)
+      (λ other kept c0 s m so.
+      let part = found so.text so.incoming in
+      record {
+        text = part.text;
+        incoming = part.incoming;
+        so_far = subst (λ (b : ReadBuffer). SoFar other.submits other.reads line c0 c1 s m b old.answered) part.cut so.so_far;
+      })
+
+  pub paused_continues : WaitsAfter stage here.held → CanContinue (line.source.remaining c1) old → CanContinue (line.source.remaining c1) paused
+  paused_continues waits can =
+      let part = found can.text can.incoming in
+      let held : length (can.text ++ old.received.held) ≡ length (part.text ++ here.held) = ap (λ (b : ReadBuffer). length b.held) part.cut in
+      let left : old.received.left ≡ here.left = ap (λ (b : ReadBuffer). b.left) part.cut in
+      record {
+        text = part.text;
+        incoming = part.incoming;
+        looked = looked_still stage here.held waits;
+        end = λ e. can.end (ap (λ (b : ReadBuffer). b.ended) part.cut ∙ e);
+        most = rw (sym held, sym left) can.most;
+      }
+
+pub awaits_more : (session : Session) → WaitsAfter session.stage session.received.held → session.received.ended ≡ false → AwaitsMore session
+awaits_more session waits open_still =
+    record { open_still = open_still; waits = waits; awaits = λ text incoming. waits_for_request session.stage text session.received.held incoming waits }
+
+-- ---- one read
+
+module _ {S C : Type 0} (store : Store S) (promises : Promises store) (line : Line C) (two : IsTwoWay line) (c1 c2 : C) (t : S) (old : Session)
+    (new : ReadBuffer) (awaits : AwaitsMore old)
+    (on : ReadsOn (line.source.remaining c1) (line.source.remaining c2) old.received new) (read : IsRead line.source.gives c1 c2 old.received new) where
+  abbrev with_more : Session
+  with_more = record old { received = new }
+
+  read_with : (text : List ℕ) → HasReceived old.stage text → ReadsOnWhile line.source AwaitsRequest c1 c2 (put_back text old.received) (put_back text new)
+  read_with text incoming =
+      read_after line.source AwaitsRequest c1 c1 c2 (put_back text old.received) old.received new text
+      (nothing_yet line.source AwaitsRequest c1 (put_back text old.received)) (awaits.awaits text incoming) on read
+
+  pub goes_on_reading : GoesOn store line c1 c2 t t old with_more (Ok None)
+  goes_on_reading = unasked store promises line two c1 t old with_more c2 (Ok None)
+      (λ other kept c0 s m so. record {
+        text = so.text;
+        incoming = so.incoming;
+        so_far =
+            reads_on other.submits other.reads line two c0 c1 c2 s m (put_back so.text old.received) (put_back so.text new) old.answered so.so_far
+            (read_with so.text so.incoming);
+      })
+
+  pub read_continues : CanContinue (line.source.remaining c1) old → CanContinue (line.source.remaining c2) with_more
+  read_continues can =
+      let held : length new.held ≡ length old.received.held + length on.more = ap length on.held ∙ length-append old.received.held on.more in
+      record {
+        text = can.text;
+        incoming = can.incoming;
+        looked = looked_by old.stage old.received.held new.held read.0 read.2 awaits.waits;
+        end = on.end can.end;
+        most = omega (arith, can.most, on.most, held, length-append can.text old.received.held, length-append can.text new.held);
+      }
+
+  -- the devices that worked work still
+  pub works_read : line.in_failed c2 ≡ line.in_failed c1 → (line.in_failed c1 ≡ false) × (line.out_failed c1 ≡ false) → (text : List ℕ)
+      → HasReceived old.stage text
+      → (line.in_failed c2 ≡ false) × (line.out_failed c2 ≡ false)
+  works_read same works text incoming = works_received line two c1 c2 (put_back text old.received) (put_back text new) (read_with text incoming) same works
+
+-- a read that gave nothing
+pub stops_with : {C : Type 0} (line : Line C) (c1 c2 : C) (old : Session) (stop : ReadError) → AwaitsMore old
+    → ReadFails line.source c1 c2 (line.in_failed c2) old.received stop
+    → (text : List ℕ) → HasReceived old.stage text → StopsWhile line.source AwaitsRequest c1 c2 (line.in_failed c2) (put_back text old.received) stop
+stops_with line c1 c2 old stop awaits last text incoming =
+    stops_reading line.source AwaitsRequest c1 c1 c2 (line.in_failed c2) (put_back text old.received) old.received text stop
+    (nothing_yet line.source AwaitsRequest c1 (put_back text old.received)) (awaits.awaits text incoming) last
+
+-- one piece and then another
+pub goes_on_then : {S C : Type 0} (store : Store S) (line : Line C) (c1 c2 c3 : C) (t u w : S) (old mid new : Session)
+    (result : Result (Option Ended) SessionError)
+    → GoesOn store line c1 c2 t u old mid (Ok None) → GoesOn store line c2 c3 u w mid new result → GoesOn store line c1 c3 t w old new result
+goes_on_then store line c1 c2 c3 t u w old mid new result first second =
+    record { alone = λ c0 s so. second.alone c0 s (first.alone c0 s so); among = λ c0 s under. second.among c0 s (first.among c0 s under) }
+
+-- ---- before the first piece
+
+pub can_begin : (input : Option (List ℕ)) → CanContinue input no_requests_yet
+can_begin input = record { text = []; incoming = refl; looked = (omega arith, no_bytes_await); end = λ e. absurd (cc e); most = omega arith }
+
+module _ {S C : Type 0} (store : Store S) (line : Line C) (two : IsTwoWay line) (c : C) (s : S) where
+  pub begins_alone : Underway store line c c s s no_requests_yet
+  begins_alone = record { text = []; incoming = refl; so_far = begins store.submits store.reads line two c s }
+
+  pub begins_among : UnderwayAmong store line c c s s no_requests_yet
+  begins_among = (s, record { text = []; incoming = refl; so_far = begins (shared store).submits (shared store).reads line two c s }, keeps_all store s)
+
+-- ---- in a pause
+
+module _ {S C : Type 0} (store : Store S) (promises : Promises store) (line : Line C) where
+  pub others_forget_nothing : StaysUnderway store line (ForgetsNothing store)
+  others_forget_nothing c0 c1 s t u session under keeps = (under.0, under.1, keeps_on store under.0 t u under.2 keeps)
+
+  submit_keeps : (t u : S) (b : Batch) (r : Result ℕ Refusal) → store.submits t b r u → Keeps store.limits store.knows t u
+  submit_keeps t u b (Ok place) step = (promises.submit_knows t b (Ok place) u step).0
+  submit_keeps t u b (Err why) step = promises.submit_knows t b (Err why) u step
+
+  read_keeps : (t u : S) (q : Query) (r : Result Answer Refusal) → store.reads t q r u → Keeps store.limits store.knows t u
+  read_keeps t u q (Ok a) step = (promises.read_knows t q (Ok a) u step).0
+  read_keeps t u q (Err why) step = promises.read_knows t q (Err why) u step
+
+  pub others_submit : StaysUnderway store line (SubmitsSome store)
+  others_submit c0 c1 s t u session under does = others_forget_nothing c0 c1 s t u session under (submit_keeps t u does.0 does.1 does.2)
+
+  pub others_read : StaysUnderway store line (ReadsSome store)
+  others_read c0 c1 s t u session under does = others_forget_nothing c0 c1 s t u session under (read_keeps t u does.0 does.1 does.2)
+
+  step_keeps : (t u : S) (v : Verdict) (reply : Reply) → Step store.submits store.reads t v reply u → Keeps store.limits store.knows t u
+  step_keeps t u (Submit b) Accepted step = submit_keeps t u b (Ok step.0) step.1
+  step_keeps t u (Submit b) (Refused r) step = submit_keeps t u b (Err r) step
+  step_keeps t u (Ask q) (Answered a) step = read_keeps t u q (Ok a) step
+  step_keeps t u (Ask q) (Refused r) step = read_keeps t u q (Err r) step
+  step_keeps t u (Reject error) (Error said) step = subst (λ (x : S). Keeps store.limits store.knows t x) (sym step.1) (keeps_all store t)
+  step_keeps t u _ _ step = absurd step
+
+  pub others_go_on : StaysUnderway store line (AsksOnce store)
+  others_go_on c0 c1 s t u session under (inl same) = subst (λ (x : S). UnderwayAmong store line c0 c1 s x session) (sym same) under
+  others_go_on c0 c1 s t u session under (inr does) = others_forget_nothing c0 c1 s t u session under (step_keeps t u does.0 does.1 does.2)
+
+  -- and when the connection has taken nothing
+  pub outlasts_writes : IsTwoWay line → OutlastsWrites store line
+  outlasts_writes two c0 c1 c2 s t session under took kept = (
+    under.0,
+    record {
+      text = under.1.text;
+      incoming = under.1.incoming;
+      so_far =
+          stays (shared store).submits (shared store).reads line two c0 c1 c2 s under.0 (put_back under.1.text session.received)
+          session.answered under.1.so_far took kept;
+    },
+    under.2,
+  )
+
+  pub answers_of_one_history : AnswersSoFar store line
+  answers_of_one_history c0 c1 s t session under =
+      let kept = shared_promises store promises in
+      related_all store.limits store.knows (shared store).submits
+      (shared store).reads kept.submit_knows kept.read_knows s under.0 under.1.so_far.opens under.1.so_far.run
+
+-- nothing was done yet
+pub goes_nowhere : {S C : Type 0} (store : Store S) (line : Line C) (c : C) (t : S) (session : Session) → GoesOn store line c c t t session session (Ok None)
+goes_nowhere store line c t session = record { alone = λ c0 s so. so; among = λ c0 s under. under }
+
+pub asks_from : {S : Type 0} (store : Store S) (s m t : S) → m ≡ s → AsksOnce store m t → AsksOnce store s t
+asks_from {S = S} store s m t same asks = subst (λ (x : S). AsksOnce store x t) same asks

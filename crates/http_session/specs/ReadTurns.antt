@@ -1,0 +1,29 @@
+-- A session reads only while the request that it answers next is awaited.
+use Rattle.std.specs.Prelude.{◌≡◌, ℕ, ◌⊎◌, Bool, List, [], ◌++◌, length}
+use Rattle.http_requests.specs.Requests.{AwaitsRequest}
+use Rattle.http_requests.specs.AwaitedReads.{Gives, Source, ReadsWhile, FailsToRead}
+use Rattle.http_session.specs.Sessions.{Exchange, texts}
+
+-- The bytes received are the first of these requests, and a rest in which the next one is awaited: the rest doesn't
+-- start with a complete request, and doesn't rule one out.
+pub record AwaitsNext (opens : List Exchange) (bytes : List ℕ) : Type 0 where
+  pub before : List Exchange
+  pub later : List Exchange
+  pub rest : List ℕ
+  pub opens_are : opens ≡ before ++ later
+  pub bytes_are : bytes ≡ texts before ++ rest
+  pub awaits : AwaitsRequest rest
+
+-- The bytes taken between two states of an input came by reads in order, and before each of them the next request was
+-- awaited, given the bytes received by then. The requests before it are among these, after which the session stays
+-- open. Nothing was read after any other request, such as one that closes the session or is still due.
+abbrev pub ReadsInTurn : {R : Type 0} → Gives R → R → R → List Exchange → List ℕ → Type 0
+ReadsInTurn gives s t opens taken = ReadsWhile gives (AwaitsNext opens) s t [] taken
+
+-- The same relation for a session that failed. The count is of the reads that returned bytes or found the end. One
+-- more, the last one, may have failed.
+pub record ReadsInTurnUpTo {R : Type 0} (source : Source R) (s t : R) (failed : Bool) (opens : List Exchange) (taken : List ℕ) (made : ℕ) : Type 0 where
+  pub before : R
+  pub reads : ReadsInTurn source.gives s before opens taken
+  pub count : length reads.pieces ≡ made
+  pub last : (t ≡ before) ⊎ FailsToRead source before t failed

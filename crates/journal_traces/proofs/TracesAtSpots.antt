@@ -1,0 +1,306 @@
+-- Traces that are collected by their spots among entries that are collected once each.
+use Rattle.std.proofs.Common.{◌≡◌, ℕ, zero, suc, ◌+◌, ◌-◌, ◌<◌, ◌≤◌, ◌≢◌, Bool, true, false, ◌||◌, ◌&&◌, cond, List, [], ◌∷◌, ◌++◌, map, length, take, drop}
+use Rattle.std.proofs.Common.{get_or, append_assoc, refl, sym, ap, subst, ◌∙◌, arith, Some, None, Option, ⊎_elim}
+use Rattle.std.specs.Prelude.{slice_get, slice_range, slice_index_or, slice_set, IfSome, IfOk, Result, Ok, Err, option_map}
+use Rattle.std.specs.List.{list_any, cons_option, All, AllZip}
+use Rattle.std.specs.Option.{option_and_then}
+use Rattle.std.proofs.Math.Seq.{drop-cons}
+use Rattle.std.proofs.lemmas.Bool.{false≢true, cases_eq, or_right}
+use Rattle.std.proofs.lemmas.List.{length-map}
+use Rattle.std.proofs.lemmas.List.{append-nil, take-map, drop-map, take_more, take-append-drop, drop_all, length-set, get_or-set_same, get_or-set_other}
+use Rattle.std.proofs.lemmas.List.Elements.{filter_map-append, filter-append}
+use Rattle.std.proofs.lemmas.List.Folds.{list_any-append}
+use Rattle.std.proofs.lemmas.Option.{slice_get-map}
+use Rattle.jaeger_model.specs.declared.batch.Batch.{Batch}
+use Rattle.jaeger_model.specs.declared.batch.Process.{Process}
+use Rattle.jaeger_model.specs.declared.span.Span.{Span}
+use Rattle.jaeger_model.specs.declared.placed.Placed.{Placed}
+use Rattle.jaeger_model.specs.Parents.{placed}
+use Rattle.jaeger_model.specs.Texts.{same_text}
+use Rattle.trace_model.specs.declared.entry.Entry.{Entry}
+use Rattle.trace_model.specs.declared.entry.Work.{Work}
+use Rattle.trace_model.specs.declared.entry.Work.TheVariants as brings
+use Rattle.trace_model.specs.declared.query.Find.{Find}
+use Rattle.trace_model.specs.Places.{entry_at}
+use Rattle.trace_model.specs.Searching.{matches, is_timed, has_tag, cut, ranked_by_start, first_start, matching, found_in}
+use Rattle.std.specs.List.{list_all}
+use Rattle.trace_model.specs.TakenSpans.{Taken}
+use Rattle.trace_model.specs.EntryWork.{batch_brought, placed_brought}
+use Rattle.arrival_journal.specs.declared.outline.Outline.{Outline}
+use Rattle.arrival_journal.specs.Outlines.{outline_in}
+use Rattle.trace_assembly.specs.declared.spot.Spot.{Spot}
+use Rattle.trace_assembly.specs.LocatedSpans.{span_at}
+use Rattle.journal_traces.specs.declared.tag_candidates.TakenEntry.{TakenEntry}
+use Rattle.journal_traces.specs.declared.taken_spot.TakenSpot.{TakenSpot}
+use Rattle.journal_traces.specs.TraceParts.{cut_at, next_start}
+use Rattle.journal_traces.specs.Told.{AreTold}
+use Rattle.journal_traces.specs.MatchingSpans.{meets, met, met_or_none}
+use Rattle.journal_traces.specs.SkippedEntries.{may_meet}
+use Rattle.journal_traces.specs.TagCandidates.{entry_shared, entries_shared, process_numbered, spot_of, taken_spotted, trace_spotted, is_entry_met, may_spot_meet}
+use Rattle.journal_traces.specs.TagCandidates.{may_spots_meet, IsMatchFlagOf, IsSpotWithin, AddsSpan}
+use Rattle.journal_traces.specs.ReportedSpots.{is_number}
+use Rattle.journal_traces.specs.SpansAtSpots.{process_at, spans_named}
+use Rattle.journal_traces.specs.TakenTraces.{placed_taken, HasProcess}
+use Rattle.journal_traces.proofs.Processes.{process_there}
+use Rattle.journal_traces.proofs.ParentReferences.{matches-adopted}
+use Rattle.journal_traces.proofs.OutlineBounds.{passed_there}
+use Rattle.journal_traces.proofs.TakingSpans.{IsTaking}
+use Rattle.journal_traces.proofs.RequestedService.{is_requested_service}
+
+-- ---- an entry of which no span can meet the search
+another : (q : Find) (b : Batch) (ss : List Span) → same_text q.service b.process.service ≡ false → list_any (matches q) (map (placed b) ss) ≡ false
+another q b [] e = refl
+another q b (s ∷ ss) e =
+    let bare : Placed = record { process = b.process; span = s } in
+    let asked : Bool = same_text q.operation [] || same_text q.operation s.operation in
+    let own : matches q (placed b s) ≡ false = matches-adopted q bare ∙ ap (λ c. ((c && asked) && is_timed q bare) && list_all (has_tag bare) q.tags) e in
+    λ i. own i || another q b ss e i
+
+unasked_work : (q : Find) (w : Work)
+    → ((p : Process) → Some p ≡ option_map (λ (b : Batch). b.process) (batch_brought w) → same_text q.service p.service ≡ false)
+    → list_any (matches q) (placed_brought w) ≡ false
+unasked_work q (brings.Batch b) f = another q b b.spans (f b.process refl)
+unasked_work q (brings.TraceLimit n) f = refl
+
+pub unasked : (q : Find) (h : List Entry) (service_numbers : List ℕ) (service : Option ℕ) (place : ℕ) (e : Entry) → AreTold q h service_numbers service
+    → Some e ≡ entry_at h place
+    → is_number service (get_or service_numbers (place - 1) 0) ≡ false → is_entry_met q e ≡ false
+unasked q h service_numbers service place e correct at none =
+    unasked_work q e.work (λ p is.
+    let there : Some p ≡ process_at h place =
+    is ∙ ap (λ (o : Option Entry). option_map (λ (b : Batch). b.process) (option_and_then (λ (x : Entry). batch_brought x.work) o)) at in
+    sym (is_requested_service q h service_numbers service place p correct there) ∙ none)
+
+none_met : (q : Find) (b : Batch) (ss : List Span) → met q b.process ss ≡ [] → list_any (matches q) (map (placed b) ss) ≡ false
+none_met q b [] e = refl
+none_met q b (s ∷ ss) e = by (none_met q b ss) (meets q b.process s) refl e
+  where
+    by : (met q b.process ss ≡ [] → list_any (matches q) (map (placed b) ss) ≡ false) → (c : Bool) → meets q b.process s ≡ c
+        → cond c (s ∷ met q b.process ss) (met q b.process ss) ≡ [] → list_any (matches q) (map (placed b) (s ∷ ss)) ≡ false
+    by later true is none = absurd (cc none)
+    by later false is none =
+        let own : matches q (placed b s) ≡ false = matches-adopted q (record { process = b.process; span = s }) ∙ is in
+        λ i. own i || later none i
+
+none_of : (q : Find) (w : Work) → met_or_none q (batch_brought w) ≡ [] → list_any (matches q) (placed_brought w) ≡ false
+none_of q (brings.Batch b) e = none_met q b b.spans e
+none_of q (brings.TraceLimit n) e = refl
+
+pub unoutlined : (q : Find) (e : Entry) (o : Option Entry) (ol : Outline) → Some e ≡ o → Some ol ≡ option_map outline_in o → may_meet q ol ≡ false
+    → is_entry_met q e ≡ false
+unoutlined q e o ol at is none =
+    none_of q e.work (ap (λ (x : Option Entry). met_or_none q (option_and_then (λ (y : Entry). batch_brought y.work) x)) at ∙ passed_there q o ol is none)
+
+-- ---- one more entry
+got_still : (es : List Entry) (x e : Entry) (n : ℕ) → n < length es → slice_get (es ++ x ∷ []) n ≡ slice_get es n
+got_still [] x e n le = absurd (omega arith)
+got_still (y ∷ es) x e zero le = refl
+got_still (y ∷ es) x e (suc n) le = got_still es x e n (omega arith)
+
+pub spotted_still : (es : List Entry) (x : Entry) (ss : List TakenSpot) → All (IsSpotWithin (length es)) ss → trace_spotted (es ++ x ∷ []) ss ≡ trace_spotted es ss
+spotted_still es x [] all = refl
+spotted_still es x (s ∷ ss) all =
+    let own : s.number < length es = all 0 s (omega arith) in
+    let same = got_still es x x s.number own in
+    let rest = spotted_still es x ss (λ j d le. all (suc j) d (omega arith)) in
+    λ i. record { span = option_and_then (λ (e : Entry). slice_get (placed_brought e.work) s.index) (same i); number = s.number } ∷ rest i
+
+pub within_still : (n m : ℕ) (ss : List TakenSpot) → n ≤ m → All (IsSpotWithin n) ss → All (IsSpotWithin m) ss
+within_still n m ss le all = λ j d below. let own : (get_or ss j d).number < n = all j d below in omega (arith, own, le)
+
+-- ---- the last trace gets one more span
+pub adds_none : (old : List (List Taken)) (o : Option Placed) → None ≡ o → AddsSpan o old old
+adds_none old o none = λ ts t is. ([], ap (λ p. cons_option p []) none, is ∙ ap (λ l. ts ++ l ∷ []) (sym (append-nil t)))
+
+pub adds_one : (old new : List (List Taken)) (x : Taken) (o : Option Placed) → x.span ≡ o
+    → ((ts : List (List Taken)) (t : List Taken) → old ≡ ts ++ t ∷ [] → new ≡ ts ++ (t ++ x ∷ []) ∷ []) → AddsSpan o old new
+adds_one old new x o at put = λ ts t is. (x ∷ [], ap (λ p. cons_option p []) at, put ts t is)
+
+joined : (o : Option Placed) (done rest : List Placed) → (done ++ cons_option o []) ++ rest ≡ done ++ cons_option o rest
+joined None done rest = ap (λ l. l ++ rest) (append-nil done)
+joined (Some p) done rest = append_assoc done (p ∷ []) rest
+
+abbrev pub Anything : Taken → Type 0
+Anything t = Unit {0}
+
+pub taking_added : (h : List Entry) (old now next : List (List Taken)) (s : Spot) (left rest all : List Spot) → left ≡ s ∷ rest
+    → AddsSpan (span_at h s) now next → IsTaking Anything h old now left all → IsTaking Anything h old next rest all
+taking_added h old now next s left rest all steps adds t =
+    let more = adds old t.last t.is in record {
+      last = t.last ++ more.0;
+      is = more.2;
+      spans =
+          ap (λ l. l ++ spans_named h rest) (filter_map-append (λ (y : Taken). y.span) t.last more.0 ∙ ap (λ l. placed_taken t.last ++ l) more.1)
+          ∙ joined (span_at h s) (placed_taken t.last) (spans_named h rest)
+          ∙ ap (λ l. placed_taken t.last ++ spans_named h l) (sym steps) ∙ t.spans;
+      numbers = λ j d le. tt;
+    }
+
+-- ---- a trace of whose entries none has a span that meets the search
+or_false : (a b : Bool) → (a || b) ≡ false → (a ≡ false) × (b ≡ false)
+or_false true b e = absurd (false≢true (sym e))
+or_false false b e = (refl, e)
+
+none_at : (w : Placed → Bool) (ps : List Placed) (i : ℕ) → list_any w ps ≡ false → list_any w (cons_option (slice_get ps i) []) ≡ false
+none_at w [] i e = refl
+none_at w (p ∷ ps) zero e = let own = or_false (w p) (list_any w ps) e in ap (λ b. b || false) own.0
+none_at w (p ∷ ps) (suc i) e = let own = or_false (w p) (list_any w ps) e in none_at w ps i own.1
+
+spot_unmet : (q : Find) (ts : List TakenEntry) (met : List Bool) (number index : ℕ) → AllZip (IsMatchFlagOf q) ts met → get_or met number false ≡ false
+    → list_any (matches q) (cons_option (option_and_then (λ (e : Entry). slice_get (placed_brought e.work) index) (slice_get (entries_shared ts) number)) [])
+    ≡ false
+spot_unmet q [] met number index correct e = refl
+spot_unmet q (x ∷ ts) [] number index correct e = absurd correct
+spot_unmet q (x ∷ ts) (b ∷ met) zero index correct e = none_at (matches q) (placed_brought (entry_shared x).work) index (correct.0 e)
+spot_unmet q (x ∷ ts) (b ∷ met) (suc number) index correct e = spot_unmet q ts met number index correct.1 e
+
+any_cons : (w : Placed → Bool) (o : Option Placed) (ps : List Placed) → list_any w (cons_option o []) ≡ false → list_any w ps ≡ false
+    → list_any w (cons_option o ps) ≡ false
+any_cons w None ps a b = b
+any_cons w (Some p) ps a b = let own = or_false (w p) false a in λ i. own.0 i || b i
+
+pub trace_unmet : (q : Find) (ts : List TakenEntry) (met : List Bool) (ss : List TakenSpot) → AllZip (IsMatchFlagOf q) ts met → may_spots_meet met ss ≡ false
+    → list_any (matches q) (placed_taken (trace_spotted (entries_shared ts) ss)) ≡ false
+trace_unmet q ts met [] correct e = refl
+trace_unmet q ts met (s ∷ ss) correct e =
+    let es = entries_shared ts in
+    let parts = or_false (may_spot_meet met s) (may_spots_meet met ss) e in
+    any_cons (matches q) (span_at es (spot_of s)) (placed_taken (trace_spotted es ss)) (spot_unmet q ts met s.number s.index correct parts.0)
+    (trace_unmet q ts met ss correct parts.1)
+
+-- ---- a part of the spots
+pub range_spotted : (es : List Entry) (ss : List TakenSpot) (a b : ℕ) → trace_spotted es (slice_range ss a b) ≡ slice_range (trace_spotted es ss) a b
+range_spotted es ss a b = let f = taken_spotted es in sym (ap (take (b - a)) (drop-map f a ss) ∙ take-map f (b - a) (drop a ss))
+
+pub part_spotted : (es : List Entry) (ss : List TakenSpot) (starts : List ℕ) (k : ℕ)
+    → trace_spotted es (slice_index_or (cut_at ss starts) k []) ≡ slice_index_or (cut_at (trace_spotted es ss) starts) k []
+part_spotted es ss [] k = refl
+part_spotted es ss (s ∷ starts) zero =
+    range_spotted es ss s (next_start (length ss) starts)
+    ∙ ap (λ n. slice_range (trace_spotted es ss) s (next_start n starts)) (sym (length-map ss (taken_spotted es)))
+part_spotted es ss (s ∷ starts) (suc k) = part_spotted es ss starts k
+
+-- ---- no entry has a span that meets the search
+unmet_at : (met : List Bool) (n : ℕ) → list_any (λ b. b) met ≡ false → get_or met n false ≡ false
+unmet_at [] n e = refl
+unmet_at (b ∷ met) zero e = (or_false b (list_any (λ x. x) met) e).0
+unmet_at (b ∷ met) (suc n) e = unmet_at met n (or_false b (list_any (λ x. x) met) e).1
+
+spots_unmet : (met : List Bool) (ss : List TakenSpot) → list_any (λ b. b) met ≡ false → may_spots_meet met ss ≡ false
+spots_unmet met [] e = refl
+spots_unmet met (s ∷ ss) e = λ i. unmet_at met s.number e i || spots_unmet met ss e i
+
+module _ (q : Find) (ts : List TakenEntry) (met : List Bool) (ss : List TakenSpot) (correct : AllZip (IsMatchFlagOf q) ts met)
+    (none : list_any (λ b. b) met ≡ false) where
+  abbrev spotted : List Taken
+  spotted = trace_spotted (entries_shared ts) ss
+
+  part_unmet : (a b : ℕ) → list_any (matches q) (placed_taken (slice_range spotted a b)) ≡ false
+  part_unmet a b =
+      let part = slice_range ss a b in
+      ap (λ l. list_any (matches q) (placed_taken l)) (sym (range_spotted (entries_shared ts) ss a b)) ∙ trace_unmet q ts met part correct (spots_unmet met part none)
+
+  pub none_matching : (starts : List ℕ) → matching q (map placed_taken (cut_at spotted starts)) ≡ []
+  none_matching [] = refl
+  none_matching (s ∷ starts) =
+      let rest = matching q (map placed_taken (cut_at spotted starts)) in
+      let end = next_start (length spotted) starts in
+      ap (λ b. cond b (placed_taken (slice_range spotted s end) ∷ rest) rest) (part_unmet s end) ∙ none_matching starts
+
+zip_push : {A B : Type 0} (R : A → B → Type 0) (xs : List A) (ys : List B) (x : A) (y : B) → AllZip R xs ys → R x y → AllZip R (xs ++ x ∷ []) (ys ++ y ∷ [])
+zip_push R [] [] x y all own = (own, tt)
+zip_push R [] (b ∷ ys) x y all own = absurd all
+zip_push R (a ∷ xs) [] x y all own = absurd all
+zip_push R (a ∷ xs) (b ∷ ys) x y all own = (all.0, zip_push R xs ys x y all.1 own)
+
+-- its flag is right for one more entry
+pub flags_more : (q : Find) (ts : List TakenEntry) (i : ℕ) (t : TakenEntry) (met next : List Bool) (b : Bool) → i < length ts → t ≡ get_or ts i t
+    → AllZip (IsMatchFlagOf q) (take i ts) met → IsMatchFlagOf q t b → next ≡ met ++ b ∷ []
+    → AllZip (IsMatchFlagOf q) (take (i + 1) ts) next
+flags_more q ts i t met next b le is before own put =
+    let more : take (i + 1) ts ≡ take i ts ++ t ∷ [] = take_more ts i t le ∙ ap (λ y. take i ts ++ y ∷ []) (sym is) in
+    let both = zip_push (IsMatchFlagOf q) (take i ts) met t b before own in
+    subst (AllZip (IsMatchFlagOf q) (take (i + 1) ts)) (sym put) (subst (λ l. AllZip (IsMatchFlagOf q) l (met ++ b ∷ [])) (sym more) both)
+
+-- ---- the remaining traces match as all do
+pub matching_found : (q : Find) (a b : List (List Placed)) → matching q a ≡ matching q b → found_in q a ≡ found_in q b
+matching_found q a b e = ap (λ ts. cut q.limit (ranked_by_start first_start ts)) e
+
+-- ---- spans of a batch, one by one
+meets_domain : (q : Find) (b : Batch) (ss : List Span) → list_any (meets q b.process) ss ≡ list_any (matches q) (map (placed b) ss)
+meets_domain q b [] = refl
+meets_domain q b (s ∷ ss) = let own = sym (matches-adopted q (record { process = b.process; span = s })) in λ i. own i || meets_domain q b ss i
+
+module _ {X : Type 0} (w : X → Bool) (xs : List X) (i : ℕ) (x : X) (le : i < length xs) (is : x ≡ get_or xs i x) where
+  any_more : list_any w (take (i + 1) xs) ≡ (list_any w (take i xs) || (w x || false))
+  any_more =
+      ap (list_any w) (take_more xs i x le) ∙ list_any-append w (take i xs) (get_or xs i x ∷ []) ∙ ap (λ y. list_any w (take i xs) || (w y || false)) (sym is)
+
+  pub none_yet : list_any w (take i xs) ≡ false → w x ≡ false → list_any w (take (i + 1) xs) ≡ false
+  none_yet before here = any_more ∙ (λ j. before j || (here j || false))
+
+  pub one_now : w x ≡ true → list_any w xs ≡ true
+  one_now here =
+      let front : list_any w (take (i + 1) xs) ≡ true =
+      any_more ∙ ap (λ b. list_any w (take i xs) || (b || false)) here ∙ or_right (list_any w (take i xs)) true refl in
+      ap (list_any w) (sym (take-append-drop (i + 1) xs)) ∙ list_any-append w (take (i + 1) xs) (drop (i + 1) xs)
+      ∙ ap (λ b. b || list_any w (drop (i + 1) xs)) front
+
+pub batch_met : (q : Find) (b : Batch) → list_any (meets q b.process) b.spans ≡ list_any (matches q) (map (placed b) b.spans)
+batch_met q b = meets_domain q b b.spans
+
+-- ---- what is collected at a spot
+pub there_shared : (ts : List TakenEntry) (s : TakenSpot) (t : TakenEntry) → Some t ≡ slice_get ts s.number
+    → slice_get (placed_brought (entry_shared t).work) s.index ≡ span_at (entries_shared ts) (spot_of s)
+there_shared ts s t at =
+    ap (λ (o : Option TakenEntry). option_and_then (λ (e : Entry). slice_get (placed_brought e.work) s.index) (option_map entry_shared o)) at
+    ∙ ap (option_and_then (λ (e : Entry). slice_get (placed_brought e.work) s.index)) (sym (slice_get-map entry_shared ts s.number))
+
+pub nothing_shared : (ts : List TakenEntry) (s : TakenSpot) → None ≡ slice_get ts s.number → None ≡ span_at (entries_shared ts) (spot_of s)
+nothing_shared ts s at =
+    ap (λ (o : Option TakenEntry). option_and_then (λ (e : Entry). slice_get (placed_brought e.work) s.index) (option_map entry_shared o)) at
+    ∙ ap (option_and_then (λ (e : Entry). slice_get (placed_brought e.work) s.index)) (sym (slice_get-map entry_shared ts s.number))
+
+pub numbered_spot : (es : List Entry) (s : TakenSpot) (taken : Option Taken) → option_and_then (λ (x : Taken). x.span) taken ≡ span_at es (spot_of s)
+    → IfSome taken (λ (x : Taken). x.number ≡ s.number) → IfSome taken (HasProcess (process_numbered es))
+numbered_spot es s None at number = tt
+numbered_spot es s (Some x) at number = by x.span at
+  where
+    by : (o : Option Placed) → o ≡ span_at es (spot_of s) → IfSome o (λ (p : Placed). Some p.process ≡ process_numbered es x.number)
+    by None e = tt
+    by (Some p) e = process_there es (spot_of s) p e ∙ ap (process_numbered es) (sym number)
+
+pub numbered_result : {E : Type 0} → (es : List Entry) (s : TakenSpot) (r : Result (Option Taken) E)
+    → IfOk r (λ t. option_and_then (λ (x : Taken). x.span) t ≡ span_at es (spot_of s)) → IfOk r (λ t. IfSome t (λ (x : Taken). x.number ≡ s.number))
+    → IfOk r (λ t. IfSome t (HasProcess (process_numbered es)))
+numbered_result es s (Ok t) at number = numbered_spot es s t at number
+numbered_result es s (Err e) at number = tt
+
+-- ---- the spots of a trace, one by one
+pub spots_left : (ss : List TakenSpot) (i : ℕ) (d : TakenSpot) → i < length ss
+    → map spot_of (drop i ss) ≡ spot_of (get_or ss i d) ∷ map spot_of (drop (i + 1) ss)
+spots_left ss i d le =
+    let one : i + 1 ≡ suc i = omega arith in
+    ap (map spot_of) (drop-cons ss i d le) ∙ ap (λ n. spot_of (get_or ss i d) ∷ map spot_of (drop n ss)) (sym one)
+
+pub no_spots_left : (ss : List TakenSpot) (i : ℕ) → length ss ≤ i → map spot_of (drop i ss) ≡ []
+no_spots_left ss i le = ap (map spot_of) (drop_all i ss le)
+
+pub spots_named : (es : List Entry) (ss : List TakenSpot) → spans_named es (map spot_of ss) ≡ placed_taken (trace_spotted es ss)
+spots_named es [] = refl
+spots_named es (s ∷ ss) = ap (cons_option (span_at es (spot_of s))) (spots_named es ss)
+
+-- ---- the traces, one by one
+module _ (q : Find) (done xs : List (List Placed)) (k : ℕ) (t : List Placed) (le : k < length xs) (before : matching q done ≡ matching q (take k xs))
+    (is : t ≡ slice_index_or xs k []) where
+  next_trace : matching q (take (k + 1) xs) ≡ matching q (take k xs) ++ matching q (t ∷ [])
+  next_trace =
+      ap (matching q) (take_more xs k [] le) ∙ filter-append (list_any (matches q)) (take k xs) (slice_index_or xs k [] ∷ [])
+      ∙ ap (λ y. matching q (take k xs) ++ matching q (y ∷ [])) (sym is)
+
+  pub trace_kept : matching q (done ++ t ∷ []) ≡ matching q (take (k + 1) xs)
+  trace_kept = filter-append (list_any (matches q)) done (t ∷ []) ∙ ap (λ l. l ++ matching q (t ∷ [])) before ∙ sym next_trace
+
+  pub trace_passed : list_any (matches q) t ≡ false → matching q done ≡ matching q (take (k + 1) xs)
+  trace_passed none =
+      before ∙ sym (append-nil (matching q (take k xs))) ∙ ap (λ b. matching q (take k xs) ++ (cond b (t ∷ []) [])) (sym none) ∙ sym next_trace

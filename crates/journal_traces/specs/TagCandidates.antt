@@ -1,0 +1,93 @@
+-- Traces by the spots of their spans among entries that are collected once each.
+use Rattle.std.specs.Prelude.{◌≡◌, ◌<◌, ℕ, suc, Bool, false, List, [], ◌∷◌, ◌++◌, map, length, get_or, Option}
+use Rattle.std.specs.Arc.{arc_value}
+use Rattle.std.specs.List.{list_any, cons_option, All}
+use Rattle.jaeger_model.specs.declared.batch.Process.{Process}
+use Rattle.jaeger_model.specs.declared.placed.Placed.{Placed}
+use Rattle.trace_model.specs.declared.entry.Entry.{Entry}
+use Rattle.trace_model.specs.declared.query.Find.{Find}
+use Rattle.trace_model.specs.Searching.{matches}
+use Rattle.trace_model.specs.TakenSpans.{Taken}
+use Rattle.trace_model.specs.EntryWork.{placed_brought}
+use Rattle.trace_assembly.specs.declared.spot.Spot.{Spot}
+use Rattle.trace_assembly.specs.LocatedSpans.{span_at}
+use Rattle.journal_traces.specs.declared.tag_candidates.TakenEntry.{TakenEntry}
+use Rattle.journal_traces.specs.declared.taken_spot.TakenSpot.{TakenSpot}
+use Rattle.journal_traces.specs.TraceParts.{AreStarts}
+use Rattle.journal_traces.specs.SpansAtSpots.{process_at}
+use Rattle.journal_traces.specs.TakenTraces.{placed_taken, HaveProcesses}
+
+-- a search, the collected entries, and the traces that the search considers, whose spans have the numbers of their
+-- entries
+pub record TagCandidatesValue : Type 0 where
+  pub query : Find
+  pub entries : List Entry
+  pub traces : List (List Taken)
+
+-- ---- spans by their spots among the entries
+-- its place among the entries
+abbrev pub spot_of : TakenSpot → Spot
+spot_of s = record { place = suc s.number; index = s.index }
+
+abbrev pub taken_spotted : List Entry → TakenSpot → Taken
+taken_spotted es s = record { span = span_at es (spot_of s); number = s.number }
+
+abbrev pub trace_spotted : List Entry → List TakenSpot → List Taken
+trace_spotted es ss = map (taken_spotted es) ss
+
+-- the spans that the traces have
+abbrev pub traces_spotted : TagCandidatesValue → List (List Placed)
+traces_spotted s = map placed_taken s.traces
+
+-- ---- entries whose spans meet a search
+-- one of the entry's spans does
+abbrev pub is_entry_met : Find → Entry → Bool
+is_entry_met q e = list_any (matches q) (placed_brought e.work)
+
+-- none does if the flag says that none may
+abbrev pub IsMatchFlag : Find → Entry → Bool → Type 0
+IsMatchFlag q e may_match = may_match ≡ false → is_entry_met q e ≡ false
+
+abbrev pub HasMatchFlag : Find → TakenEntry → Type 0
+HasMatchFlag q t = IsMatchFlag q (arc_value t.entry) t.may_match
+
+-- the flag of a collected entry says so
+abbrev pub IsMatchFlagOf : Find → TakenEntry → Bool → Type 0
+IsMatchFlagOf q t may_match = IsMatchFlag q (arc_value t.entry) may_match
+
+-- whether the entry of the spot may, by the flag of each entry
+abbrev pub may_spot_meet : List Bool → TakenSpot → Bool
+may_spot_meet flags s = get_or flags s.number false
+
+abbrev pub may_spots_meet : List Bool → List TakenSpot → Bool
+may_spots_meet flags ss = list_any (may_spot_meet flags) ss
+
+-- ---- processes by the numbers of their entries
+abbrev pub process_numbered : List Entry → ℕ → Option Process
+process_numbered es n = process_at es (suc n)
+
+-- the number of each span of the traces leads to its process
+abbrev pub AreNumberedByEntry : List Entry → List (List Taken) → Type 0
+AreNumberedByEntry es traces = All (HaveProcesses (process_numbered es)) traces
+
+-- ---- the value of what is collected
+abbrev pub entry_shared : TakenEntry → Entry
+entry_shared t = arc_value t.entry
+
+abbrev pub entries_shared : List TakenEntry → List Entry
+entries_shared ts = map entry_shared ts
+
+abbrev pub IsSpotWithin : ℕ → TakenSpot → Type 0
+IsSpotWithin count s = s.number < count
+
+pub record AreTagCandidates (q : Find) (entries : List TakenEntry) (spots : List TakenSpot) (starts : List ℕ) : Type 0 where
+  pub ordered : AreStarts (length spots) starts
+  pub correct : All (HasMatchFlag q) entries
+  pub within : All (IsSpotWithin (length entries)) spots
+
+-- ---- the last trace grows
+-- it gets this span, if there is one
+abbrev pub AddsSpan : Option Placed → List (List Taken) → List (List Taken) → Type 0
+AddsSpan o old new =
+    (ts : List (List Taken)) (t : List Taken) → old ≡ ts ++ t ∷ [] → (more : List Taken) × (placed_taken more ≡ cons_option o [])
+    × (new ≡ ts ++ (t ++ more) ∷ [])

@@ -1,0 +1,29 @@
+-- Traces that are collected from a journal.
+use Rattle.std.specs.Prelude.{◌≡◌, ℕ, List, filter_map, Option, Some, IfSome}
+use Rattle.std.specs.List.{All}
+use Rattle.jaeger_model.specs.declared.batch.Process.{Process}
+use Rattle.jaeger_model.specs.declared.placed.Placed.{Placed}
+use Rattle.trace_model.specs.declared.entry.Entry.{Entry}
+use Rattle.trace_model.specs.TakenSpans.{Taken}
+use Rattle.journal_traces.specs.SpansAtSpots.{process_at}
+
+-- the spans themselves
+abbrev pub placed_taken : List Taken → List Placed
+placed_taken ts = filter_map (λ (t : Taken). t.span) ts
+
+-- the number of the span leads to its process
+abbrev pub HasProcess : (ℕ → Option Process) → Taken → Type 0
+HasProcess process_of t = IfSome t.span (λ (p : Placed). Some p.process ≡ process_of t.number)
+
+-- so does that of each span of the trace
+abbrev pub HaveProcesses : (ℕ → Option Process) → List Taken → Type 0
+HaveProcesses process_of ts = All (HasProcess process_of) ts
+
+-- the number of each span of the traces is the place of the entry that reported it
+abbrev pub AreNumberedByPlace : List Entry → List (List Taken) → Type 0
+AreNumberedByPlace h traces = All (HaveProcesses (process_at h)) traces
+
+-- spans with one number have one process
+pub record ShareByNumber (traces : List (List Taken)) : Type 0 where
+  pub process_of : ℕ → Option Process
+  pub each : All (HaveProcesses process_of) traces

@@ -1,0 +1,114 @@
+-- Open connections, each with a session that is underway over a store that the others use too.
+use Rattle.std.specs.Prelude.{◌≡◌, ◌⊎◌, ℕ, List, [], Bool, Option, Some, None, true, false}
+use Rattle.std.specs.Io.KnownBytes.{Keeps as KeepsBytes}
+use Rattle.std.specs.Option.{option_map}
+use Rattle.slab.specs.Slab.{Slab, get}
+use Rattle.trace_model.specs.StoreKnowledge.{Keeps}
+use Rattle.http_session.specs.ResponseOrder.{Line}
+use Rattle.http_session.specs.SessionRuns.{Store, EndsServed, FailsServed}
+use Rattle.http_session.specs.Pieces.{CanContinue, UnderwayAmong, shared}
+use Rattle.http_session.specs.declared.exchanges.Ended.{Ended as EndedSession}
+use Rattle.http_session.specs.declared.exchanges.SessionError.{SessionError}
+use Rattle.open_connections.specs.Outboxes.{box_line, box_takes, handed_over}
+use Rattle.open_connections.specs.declared.open.OpenConnection.{OpenConnection}
+use Rattle.open_connections.specs.declared.outbox.Outbox.{Outbox}
+use Rattle.open_connections.specs.declared.open.ConnectionProgress.{ConnectionProgress}
+use Rattle.open_connections.specs.declared.set.ConnectionTurn.{ConnectionTurn}
+use Rattle.open_connections.specs.declared.set.ConnectionTurn.TheVariants.{Absent, Open, Left}
+use Rattle.open_connections.specs.declared.socket.Socket.{Socket}
+use Rattle.open_connections.specs.declared.open.ConnectionProgress.TheVariants.{Answered, HoldsMore, Paused, Writing, Ended, Closing, Failed, Undelivered}
+
+-- The connection can continue: its session is underway from the start of the connection and the state of the store
+-- then, and the connection hasn't failed.
+pub record IsOpen {S C : Type 0} (store : Store S) (line : Line (Outbox C)) (now : S) (it : OpenConnection C) : Type 0 where
+  pub then : S
+  pub underway : UnderwayAmong store line it.began.value it.connection then now it.session
+  pub ready : CanContinue (line.source.remaining it.connection) it.session
+  pub input_works : line.in_failed it.connection ≡ false
+  pub output_works : line.out_failed it.connection ≡ false
+
+-- its session has ended, as one that began with the connection
+pub record HasEnded {S C : Type 0} (store : Store S) (line : Line (Outbox C)) (now : S) (it : OpenConnection C) : Type 0 where
+  pub then : S
+  pub last : S
+  pub ended : EndedSession
+  pub served : EndsServed (shared store) line it.began.value it.connection then last ended
+  pub keeps : Keeps store.limits store.knows last now
+
+-- its session has failed, as one that began with the connection
+pub record HasFailed {S C : Type 0} (store : Store S) (line : Line (Outbox C)) (now : S) (it : OpenConnection C) : Type 0 where
+  pub then : S
+  pub last : S
+  pub error : SessionError
+  pub served : FailsServed (shared store) line it.began.value it.connection then last error
+  pub keeps : Keeps store.limits store.knows last now
+
+-- its session is underway, and the connection failed before the client took the last response
+pub record HasBroken {S C : Type 0} (store : Store S) (line : Line (Outbox C)) (now : S) (it : OpenConnection C) : Type 0 where
+  pub then : S
+  pub underway : UnderwayAmong store line it.began.value it.connection then now it.session
+  pub output_failed : line.out_failed it.connection ≡ true
+
+-- what became of a connection in one more turn
+abbrev pub HasCome : {S C : Type 0} → Store S → Line (Outbox C) → S → OpenConnection C → ConnectionProgress → Type 0
+HasCome store line now it Answered = IsOpen store line now it
+HasCome store line now it HoldsMore = IsOpen store line now it
+HasCome store line now it Paused = IsOpen store line now it
+HasCome store line now it Writing = IsOpen store line now it
+HasCome store line now it Ended = HasEnded store line now it
+HasCome store line now it Closing = HasEnded store line now it
+HasCome store line now it Failed = HasFailed store line now it
+HasCome store line now it Undelivered = HasBroken store line now it
+
+abbrev pub stays_open : ConnectionProgress → Bool
+stays_open Answered = true
+stays_open HoldsMore = true
+stays_open Paused = true
+stays_open Writing = true
+stays_open Ended = false
+stays_open Closing = false
+stays_open Failed = false
+stays_open Undelivered = false
+
+-- each connection of the set
+abbrev pub AllOpen : {S C : Type 0} → Store S → Line (Outbox C) → S → Slab (OpenConnection C) → Type 0
+AllOpen {C = C} store line now set = (key : ℕ) (it : OpenConnection C) → get set key ≡ Some it → IsOpen store line now it
+
+-- The connection left the set with its outbox: the session that began with the connection under the key ended or failed,
+-- or the client didn't take its last response.
+pub record HasLeft {S C : Type 0} (store : Store S) (line : Line (Outbox C)) (now : S) (before : Option (OpenConnection C)) (progress : ConnectionProgress)
+    (box : Outbox C) : Type 0 where
+  pub it : OpenConnection C
+  pub box_is : it.connection ≡ box
+  pub began : option_map (λ (o : OpenConnection C). o.began.value) before ≡ Some it.began.value
+  pub closed : stays_open progress ≡ false
+  pub comes : HasCome store line now it progress
+
+-- what became of the connection under a key in a turn
+abbrev pub TurnsTo : {S C : Type 0} → Store S → Line (Outbox C) → S → Slab (OpenConnection C) → ℕ → ConnectionTurn C → Type 0
+TurnsTo store line now set key Absent = get set key ≡ None
+TurnsTo store line now set key (Open progress) = stays_open progress ≡ true
+TurnsTo store line now set key (Left progress box) = HasLeft store line now (get set key) progress box
+
+-- the set is empty
+abbrev pub IsEmpty : {C : Type 0} → Slab (OpenConnection C) → Type 0
+IsEmpty set = (key : ℕ) → get set key ≡ None
+
+-- each connection of the set was there before, under the same key
+abbrev pub IsRest : {C : Type 0} → Slab (OpenConnection C) → Slab (OpenConnection C) → Type 0
+IsRest {C = C} old new = (key : ℕ) (it : OpenConnection C) → get new key ≡ Some it → get old key ≡ Some it
+
+-- Writing the waiting bytes changes neither the session nor what was handed over. The connection stays open or has
+-- failed.
+pub record Delivers {C : Type 0} (remaining : C → Option (List ℕ)) (failed : C → Bool) (contents : C → Option (List ℕ)) (old new : OpenConnection C)
+    (progress : ConnectionProgress) : Type 0 where
+  pub session : new.session ≡ old.session
+  pub began : new.began.value ≡ old.began.value
+  pub nothing_new : box_takes remaining failed contents old.connection [] new.connection
+  pub kept : KeepsBytes (handed_over contents old.connection) (handed_over contents new.connection)
+  pub comes_to : ((stays_open progress ≡ true) × (new.connection.failed ≡ old.connection.failed)) ⊎ ((progress ≡ Undelivered) × (new.connection.failed ≡ true))
+
+-- ---- sockets, about whose bytes nothing is known
+
+abbrev pub socket_line : Line (Outbox Socket)
+socket_line = box_line (λ s. None) (λ s given t. Unit {0}) (λ s. s.failed) (λ s. None)

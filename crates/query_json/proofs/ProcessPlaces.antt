@@ -1,0 +1,34 @@
+-- The places of the processes of a trace's spans.
+use Rattle.std.proofs.Common.{◌≡◌, ◌∙◌, ◌+◌, ◌<◌, ◌^◌, ◌==◌, ℕ, zero, suc, true, List, [], ◌∷◌, ap, arith, eqb-true, get_or, length, map, refl, subst, sym}
+use Rattle.std.specs.List.{list_all}
+use Rattle.std.proofs.lemmas.Bool.{and_parts}
+use Rattle.std.proofs.lemmas.List.{get_or-map}
+use Rattle.trace_model.specs.declared.answer.AdjustedSpan.{AdjustedSpan}
+use Rattle.query_json.specs.declared.writing.processes.NamedProcess.{NamedProcess}
+use Rattle.query_json.specs.LentTraces.{IsNumbered}
+use Rattle.query_json.specs.NamedProcesses.{AreNamed, first_named}
+use Rattle.query_json.specs.Trees.{processes_of}
+use Rattle.query_json.specs.TraceProcesses.{process_place}
+
+pub numbered : (ss : List AdjustedSpan) (places : List ℕ) (ps : List NamedProcess) → places ≡ map (process_place (processes_of ss)) ss
+    → AreNamed ss (processes_of ss) ps → length ps + length ss < 2 ^ 62 → IsNumbered ss places ps
+numbered ss places ps at named few = record {
+  places =
+      λ k s within is. ap (λ l. get_or l k 0) at ∙ get_or-map (process_place (processes_of ss)) ss k s 0 within ∙ ap (process_place (processes_of ss)) (sym is);
+  named = named;
+  few = few;
+}
+
+pub zeros : (places : List ℕ) → list_all (λ p. p == 0) places ≡ true → (k : ℕ) → get_or places k 0 ≡ 0
+zeros [] all k = refl
+zeros (p ∷ ps) all zero = eqb-true p 0 (and_parts (p == 0) (list_all (λ q. q == 0) ps) all).0
+zeros (p ∷ ps) all (suc k) = zeros ps (and_parts (p == 0) (list_all (λ q. q == 0) ps) all).1 k
+
+-- if the process of the first span is the only one, no place is needed
+pub one_numbered : (ss : List AdjustedSpan) (places : List ℕ) (ps : List NamedProcess) → IsNumbered ss places ps → ps ≡ first_named ∷ []
+    → ((k : ℕ) → get_or places k 0 ≡ 0) → IsNumbered ss [] (first_named ∷ [])
+one_numbered ss places ps known alone none = record {
+  places = λ k s within is. sym (none k) ∙ known.places k s within is;
+  named = subst (AreNamed ss (processes_of ss)) alone known.named;
+  few = omega (arith, known.few, ap length alone);
+}

@@ -1,0 +1,53 @@
+-- The places of the processes of the spans so far.
+use Rattle.std.specs.Prelude.{◌≡◌, ◌==◌, ℕ, ◌+◌, ◌<◌, true, List, Option, Some, None, All, length, map, take, get_or, slice_get, if◌then◌else◌}
+use Rattle.std.specs.Ordering.{nat_cmp}
+use Rattle.std.specs.BTreeMap.{get}
+use Rattle.jaeger_model.specs.declared.placed.Placed.{Placed}
+use Rattle.trace_model.specs.declared.answer.AdjustedSpan.{AdjustedSpan}
+use Rattle.trace_model.specs.Adjusting.{spans_of}
+use Rattle.trace_model.specs.SharedProcesses.{ShareProcesses}
+use Rattle.query_json.specs.declared.naming.Placing.{Placing}
+use Rattle.query_json.specs.ProcessNames.{among, place}
+use Rattle.query_json.specs.ProcessNumbers.{IsByPlace, IsFirst, numbered}
+use Rattle.query_json.specs.Trees.{processes_of}
+use Rattle.query_json.specs.TraceProcesses.{process_place}
+
+-- the map by keys, with one more inserted if its key is known
+abbrev pub kept_under : Option ℕ → ℕ → (ℕ → Option ℕ) → ℕ → Option ℕ
+kept_under None number old key = old key
+kept_under (Some own) number old key = if own == key then Some number else old key
+
+-- the number is the place of the process of one of the first spans, which has that key
+pub record IsKnown (spans : List AdjustedSpan) (keys : List ℕ) (i key number : ℕ) : Type 0 where
+  pub index : ℕ
+  pub before : index < i
+  pub stands : slice_get keys index ≡ Some key
+  pub counted : (d : Placed) → among (get_or (spans_of spans) index d).process (processes_of (take i spans)) ≡ true
+  pub place : (d : Placed) → number ≡ place (get_or (spans_of spans) index d).process (processes_of spans)
+
+-- whatever the map has for a key
+abbrev pub AreKnown : List AdjustedSpan → List ℕ → ℕ → (ℕ → Option ℕ) → Type 0
+AreKnown spans keys i known = (key number : ℕ) → known key ≡ Some number → IsKnown spans keys i key number
+
+-- n of the spans have been added
+pub record HasPlaces (spans : List AdjustedSpan) (keys : List ℕ) (i : ℕ) (p : Placing) : Type 0 where
+  pub by_place : IsByPlace p.numbering
+  pub processes : numbered p.numbering ≡ processes_of (take i spans)
+  pub firsts : All (IsFirst spans) p.numbering.processes.items
+  pub places : p.places.items ≡ map (process_place (processes_of spans)) (take i spans)
+  pub known : AreKnown spans keys i (get nat_cmp p.known)
+
+-- the process of s, the span after n others, has been added, and this is its place
+pub record HasPlace (spans : List AdjustedSpan) (keys : List ℕ) (i : ℕ) (s : AdjustedSpan) (p : Placing) (number : ℕ) : Type 0 where
+  pub by_place : IsByPlace p.numbering
+  pub processes : numbered p.numbering ≡ processes_of (take (i + 1) spans)
+  pub firsts : All (IsFirst spans) p.numbering.processes.items
+  pub known : AreKnown spans keys (i + 1) (get nat_cmp p.known)
+  pub place : number ≡ process_place (processes_of spans) s
+
+-- s is the span at the index, and this is its key
+pub record ComesNext (spans : List AdjustedSpan) (keys : List ℕ) (i : ℕ) (s : AdjustedSpan) (key : Option ℕ) : Type 0 where
+  pub within : i < length spans
+  pub is : s ≡ get_or spans i s
+  pub stands : key ≡ slice_get keys i
+  pub shares : ShareProcesses (spans_of spans) keys

@@ -1,0 +1,6 @@
+use Rattle.std.proofs.Common.{◌≡◌, take}
+use Rattle.call_links.specs.LinkTallies.{tallied}
+use Rattle.span_store.proofs.window_links.links_of.Given as goal
+
+abbrev pub invariant-loop-place : goal.invariant-loop-place
+invariant-loop-place l = l.counts ≡ tallied (take l.place l.traces)

@@ -1,0 +1,16 @@
+-- A worker's connections, which share its seat and its pass.
+use Rattle.slab.specs.Slab.{Slab}
+use Rattle.trace_model.specs.declared.limits.Limits.{Limits}
+use Rattle.http_session.specs.SessionRuns.{Store, store_of}
+use Rattle.intake.specs.LiveStores.{LiveValue, LiveKnows, LiveSubmits, LiveReads}
+use Rattle.open_connections.specs.OpenConnections.{AllOpen, socket_line}
+use Rattle.open_connections.specs.declared.open.OpenConnection.{OpenConnection}
+use Rattle.open_connections.specs.declared.socket.Socket.{Socket}
+
+-- what a store with these limits does over a seat and a pass
+abbrev pub live_store : Limits → Store LiveValue
+live_store limits = store_of (LiveSubmits limits) (LiveReads limits) LiveKnows (λ _. limits)
+
+-- The session of each connection is underway from its start, over the present state of this seat and this pass.
+abbrev pub AllUnderway : Limits → LiveValue → Slab (OpenConnection Socket) → Type 0
+AllUnderway limits live connections = AllOpen (live_store limits) socket_line live connections
