@@ -1,18 +1,18 @@
 //! The interface between a session and its store, which is its own or shared.
 //!
-//! Contracts see a store by what it knows: lists of entries that are prefixes of one growing history. The relations of
-//! a [`Backend`] say what its calls do, and the laws of the trait say what that means for what it knows. An accepted
-//! batch is at its place in a list that is known from then on. An answer is the plain store's, for a list that starts
-//! with every list known before.
+//! Contracts see a store by what it knows: lists of entries that are prefixes of one growing history, and which of them
+//! refused a batch. The relations of a [`Backend`] say what its calls do, and the laws of the trait say what that means
+//! for what it knows. An accepted batch is at its place in a list that is known from then on. An answer is the plain
+//! store's, for a list that starts with every list known before. A batch that is refused by 20, 21 or 29 is refused by a
+//! list, and the store knows this from then on.
 
-ghost use Rattle.std.specs.Prelude.{◌≡◌, ℕ, List, Result};
+ghost use Rattle.std.specs.Prelude.{◌≡◌, ℕ, Result};
 ghost use Rattle.jaeger_model.specs.declared.batch.Batch.{Batch as BatchValue};
-ghost use Rattle.trace_model.specs.declared.entry.Entry.{Entry};
 ghost use Rattle.trace_model.specs.declared.limits.Limits.{Limits};
 ghost use Rattle.trace_model.specs.declared.query.Query.{Query as QueryValue};
 ghost use Rattle.trace_model.specs.declared.answer.Answer.{Answer as AnswerValue};
 ghost use Rattle.trace_model.specs.declared.refusal.Refusal.{Refusal as RefusalValue};
-ghost use Rattle.trace_model.specs.StoreKnowledge.{SubmitKnows, ReadKnows};
+ghost use Rattle.trace_model.specs.StoreKnowledge.{Known, SubmitKnows, ReadKnows};
 
 use crate::answer::Answer;
 use crate::query::Query;
@@ -25,8 +25,8 @@ pub trait Backend<T> {
     /// The limits of its histories.
     ghost limits: { Self → Limits };
 
-    /// The store knows this list of entries.
-    ghost knows: { Self → List Entry → Type 0 };
+    /// The store knows that its history has reached a list of entries, or that such a list refused a batch.
+    ghost knows: { Self → Known → Type 0 };
 
     /// What submitting a batch may do. A store that promises no more than the law below repeats the law here.
     ghost submits: { Self → BatchValue → Result ℕ RefusalValue → Self → Type 0 };
@@ -50,7 +50,8 @@ pub trait Backend<T> {
     fn read(&mut self, alloc: Global, query: &Query) -> Result<Answer, Refusal>
         ensures { reads self.old query.now result self.new };
 
-    /// Nothing known is forgotten, and an accepted batch is in a list that is known then.
+    /// Nothing known is forgotten. An accepted batch is in a list that is known then, and if a list is the reason of a
+    /// refusal (20, 21 or 29), this is known then.
     ghost submit_knows: { (s : Self) (b : BatchValue) (r : Result ℕ RefusalValue) (t : Self) →
         submits s b r t → SubmitKnows limits knows s b r t };
 
