@@ -1,5 +1,5 @@
 -- What an entry brings to a store.
-use Rattle.std.specs.Prelude.{ℕ, ◌==◌, Bool, false, List, [], ◌∷◌, map, Option, Some, None}
+use Rattle.std.specs.Prelude.{ℕ, ◌==◌, Bool, false, List, [], ◌∷◌, map, Option, Some, None, option_map, slice_get, unwrap_or}
 use Rattle.jaeger_model.specs.declared.batch.Batch.{Batch}
 use Rattle.jaeger_model.specs.declared.span.Span.{Span}
 use Rattle.jaeger_model.specs.declared.placed.Placed.{Placed}
@@ -22,6 +22,10 @@ spans_brought (brings.TraceLimit n) = []
 abbrev pub service_brought : Work → List ℕ
 service_brought (brings.Batch b) = b.process.service
 service_brought (brings.TraceLimit n) = []
+
+-- the operation of the span at the index; empty if there is no such span
+abbrev pub operation_brought : Work → ℕ → List ℕ
+operation_brought work index = unwrap_or (option_map (λ (s : Span). s.operation) (slice_get (spans_brought work) index)) []
 
 -- the spans as they are kept, each with its process and with its parent among its references
 abbrev pub placed_brought : Work → List Placed

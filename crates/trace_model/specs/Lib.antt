@@ -20,6 +20,6 @@ pub mod Places
 pub mod BorrowedSpans
 pub mod SharedProcesses
 pub mod KeptTraces
-pub mod ServiceNames
+pub mod LentNames
 pub mod TakenSpans
 pub mod StoreKnowledge

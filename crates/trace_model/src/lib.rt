@@ -2,8 +2,8 @@
 //!
 //! * `limits`, `trace_limit`, `entry`, `admission`, `refusal`: what is stored, and why an entry is refused.
 //! * `query`, `answer`: queries and their answers; `adjusted_trace`: the spans of a trace, adjusted for an answer;
-//!   `answered_trace`: a trace of an answer, copied or in its entries; `service_name`: the name of a service in
-//!   an answer; `taken_span`: a span of a trace that was collected from a store.
+//!   `answered_trace`: a trace of an answer, copied or in its entries; `name`: the name of a service or of an
+//!   operation in an answer; `taken_span`: a span of a trace that was collected from a store.
 //! * `clock`: what a span passes to the spans below it, for the adjustment of clocks.
 //! * `backend`: the interface between a session and its store: the [`Backend`].
 //!
@@ -19,9 +19,9 @@ mod backend;
 mod clock;
 mod entry;
 mod limits;
+mod name;
 mod query;
 mod refusal;
-mod service_name;
 mod taken_span;
 mod trace_limit;
 
@@ -33,8 +33,8 @@ pub use backend::Backend;
 pub use clock::Clock;
 pub use entry::{Entry, Work};
 pub use limits::Limits;
+pub use name::Name;
 pub use query::{Find, Query};
 pub use refusal::Refusal;
-pub use service_name::ServiceName;
 pub use taken_span::TakenSpan;
 pub use trace_limit::TraceLimit;

@@ -7,7 +7,7 @@ ghost use Rattle.trace_model.specs.BorrowedSpans.{placed_by_its_entry};
 
 use crate::answered_trace::{KeptSpan, reported_in};
 use crate::entry::Entry;
-use crate::service_name::ServiceName;
+use crate::name::Name;
 use jaeger_model::Seen;
 use std::alloc::AllocError;
 use std::marker::Model;
@@ -100,9 +100,9 @@ impl TakenSpan {
     ///
     /// Out of memory, and nothing else.
     #[tactic(auto, using(crate::proofs::KeptSpans::name_there))]
-    pub fn service(&self) -> Result<ServiceName, AllocError>
+    pub fn service(&self) -> Result<Name, AllocError>
         ensures { IfOk result (λ n. Some n ≡ option_map (λ p. p.process.service) self.now.span) }
     {
-        ServiceName::kept(&self.entry)
+        Name::of_service(&self.entry)
     }
 }
