@@ -153,6 +153,16 @@ class Results:
         return note(said)
 
 
+    def days(self, *names):
+        """Of several series only the days, the programs and the machines; the tables of their sections have the rest."""
+        series = [self.series[name] for name in names]
+        dates = [day(it) for it in sorted({it["date"] for it in series})]
+        programs = " and ".join(sorted({it["program"] for it in series}))
+        machines_of = sorted({it["machine"] for it in series})
+        return note([f"{' to '.join(dict.fromkeys((dates[0], dates[-1])))}; program: {programs}; "
+                     f"machine{'s' if machines_of[1:] else ''} {' and '.join(machines_of)}"])
+
+
 def printed(name, heads, forms=()):
     """A table of a series as it is, with these heads; a form makes the cell of its column."""
     def made(found):
@@ -455,10 +465,11 @@ def speed(found):
         [f"spans taken in a second, {SIZES[-1]:,} held, by 1, 2, 4 and 8 writers", *by_number(found)],
         ["a POST beside four writers and two readers at full speed, p99, ms", *of_both(POST, 4)],
         ["20 traces with their JSON among 100,000 spans, ms", f"{store_ms:.2f}", f"{scan_ms:.0f}", two(scan_ms / store_ms)],
-        ["the longest POST beside a query of `held.py`, 10,000,000 spans held, ms", longest_of(found, 10_000_000), "not compared", ""],
+        ["the longest POST while a heavy query runs, 10,000,000 spans held, ms", longest_of(found, 10_000_000), "not compared", ""],
         ["memory at 100,000 spans, bytes a span, by its tags", per_span, "not compared", ""],
     ]
-    return table(["What", "Kiwibismuth", "Plain Rust", "Times as good"], rows) + found.captions("compare --count", "serve", "searches", "held", "memory")
+    heads = ["What", "Kiwibismuth", "Plain Rust", "Times as good"]
+    return table(heads, rows) + found.days("compare --count", "serve", "searches", "held", "memory")
 
 
 def memory_most(found):
@@ -626,7 +637,7 @@ def gate_quotes(found):
            "virtual machine of four cores")
     yield "docs/MAINTAINING.md", f"took about {before} minutes of a processor, added up over several runs"
     yield "docs/MAINTAINING.md", f"took about {now} minutes of a processor and {by_clock} by the clock"
-    yield "README.md", f"The proofs and tests took {by_clock} minutes beside other jobs"
+    yield "README.md", f"{by_clock} minutes for proofs and tests, on four cores beside other jobs"
     least, most = found.of("proofs", "a test crate before its first test")
     once, often = found.of("proofs", "a public function whose contract names much, once a crate")
     yield "docs/MAINTAINING.md", f"{least} to {most} seconds of a processor to read what it stands on, and {once} to {often} once for each public function"
