@@ -1,6 +1,6 @@
 #!/usr/bin/env python3
 """What bodies cost in which two parts could multiply: process tags and spans, a long text and the spans that share
-it, tags and asked pairs, and more.
+it, tags and requested tags, and more.
 
 Each shape is a session of the built program, `jaeger_one pipe`, with a quarter of each part, with half and with the
 whole; each size is compared with the one before. Where a shape costs what its bytes cost, twice the parts take twice
@@ -11,11 +11,11 @@ stand in their place, in millions, which callgrind counts and which are the same
 
     bench/heavy.py [--bin PATH] [--runs 3] [--parts 1000] [--count] [--save KIND] [SHAPE..]
 
-A row is dear if twice the parts take more than 2.2 times the memory or, with `--count`, the instructions, or if the
-whole takes more than 10 bytes of memory for each byte sent. Seconds aren't judged: they vary too much. If the bytes in
-and out together more than double, the bar is 1.1 times their growth, and the line says so. The last line is `0 dear`,
-or the number of dear rows after a line for each; the exit status is 1 then. Fixed costs count too, so with a few parts
-the memory for each byte is above its bar.
+A row is over its bound if twice the parts take more than 2.2 times the memory or, with `--count`, the instructions, or
+if the whole takes more than 10 bytes of memory for each byte sent. Seconds aren't judged: they vary too much. If the
+bytes in and out together more than double, the bar is 1.1 times their growth, and the line says so. The last line is
+`0 over their bounds`, or the number of such rows after a line for each; the exit status is 1 then. Fixed costs count
+too, so with a few parts the memory for each byte is above its bar.
 """
 import contextlib
 import json
@@ -159,7 +159,7 @@ SHAPES = {
         lambda n: [post(batch("a", tags(4 * n) + [text_tag("k", "v")], a_trace_each(8 * n))), finds("&tag=k:v&limit=1")],
     "a binary process tag, a trace each; a search by its key":
         lambda n: [post(batch("a", [binary_tag("b", bytes(200 * n))], a_trace_each(8 * n))), finds("&tag=b:x&limit=0")],
-    "asked pairs, entries; a search":
+    "requested tags, entries; a search":
         lambda n: [post(batch("a", [text_tag("", "")], [span(k)])) for k in range(1, 4 * n)] + [finds("&tag=:" * (n * 13 // 10) + "&tag=x:y")],
     "equal processes, a trace each; a search for 20":
         lambda n: [post(batch("a", tags(n), a_trace_each(n))) for _ in range(10)] + [finds("&limit=20")],
@@ -350,18 +350,18 @@ def main():
     words.add_argument("--count", action="store_true", help="count instructions in place of seconds, in millions")
     words.add_argument("shapes", nargs="*", help="words of the shapes to run; all where none is given")
     options = words.parse_args()
-    record, dear, left_out = Record(options, "heavy", COLUMNS), [], []
+    record, over, left_out = Record(options, "heavy", COLUMNS), [], []
     unit = "instructions" if options.count else "seconds"
     print(f"{'':55} {'MB in':>6} {'MB out':>7} {unit:>24} {'ratios':>9} {'MB of memory':>16} {'ratios':>9} {'of sent':>6}")
     for row in rows(options, left_out):
         print(row, flush=True)
         record.row(*row.columns())
         if faults := [*row.faults(options.count)]:
-            dear.append(f"{row.name}: {'; '.join(faults)}")
+            over.append(f"{row.name}: {'; '.join(faults)}")
     if options.count and not options.shapes:
         record.save()
-    print("\n".join([*dear, f"{len(dear)} dear" + (f", {len(left_out)} left out" if left_out else "")]))
-    return 1 if dear else 0
+    print("\n".join([*over, f"{len(over)} over their bounds" + (f", {len(left_out)} left out" if left_out else "")]))
+    return 1 if over else 0
 
 
 if __name__ == "__main__":

@@ -12,12 +12,12 @@ don't read, it is also what is held for each of them once all answers have begun
 
     bench/held.py [--bin PATH] [--parts 1000] [--spans 100000,1000000,10000000] [--asks 5] [--at-once] [--save KIND] [SHAPE..]
 
-A row is dear if its longest POST beside the query takes more than 20 ms, and 100 ms more for each million spans above 100,000, and also
+A row is over its bound if its longest POST beside the query takes more than 20 ms, and 100 ms more for each million spans above 100,000, and also
 more than twice the longest POST while nobody asks: if POSTs are about as slow without the query, the machine is slow and not the query.
-Such a row is measured a second time and is dear only if it is above its bar again: a query that delays POSTs delays them every time.
-The latest traces of a service are dear if their middle time at 10,000,000 spans is more than 3 times that at 100,000. With `--at-once` a
-row is dear if the eight connections together take more than 10 bytes for each byte sent; with a few parts fixed costs pass that. The last
-line is `0 dear`, or the number of dear rows after a line for each; the exit status is 1 then.
+Such a row is measured a second time and counts only if it is over it again: a query that delays POSTs delays them every time.
+The latest traces of a service are over theirs if their middle time at 10,000,000 spans is more than 3 times that at 100,000. With `--at-once` a
+row is over its bound if the eight connections together take more than 10 bytes for each byte sent; with a few parts fixed costs pass that. The last
+line is `0 over their bounds`, or the number of such rows after a line for each; the exit status is 1 then.
 """
 import contextlib
 import itertools
@@ -82,7 +82,7 @@ def found_by_a_binary(n):
     return [], [wire.batch("a", a_trace_each(n), [binary_tag("b", bytes(200 * n))])], search("&tag=b:x&limit=0")
 
 
-def asked_pairs(n):
+def requested_tags(n):
     bodies = [wire.batch("a", [wire.span(k, 1)], [tag("", "")]) for k in range(1, 20 * n)]
     return [], bodies, search("&tag=:" * 1300 + "&tag=x:y")
 
@@ -114,7 +114,7 @@ SHAPES = {
     "process tags x traces found by one, limit 0": lambda n: found_by_process_tags(n, 0),
     "process tags x traces found by one, limit 100": lambda n: found_by_process_tags(2 * n, 100),
     "a binary process tag x traces": found_by_a_binary,
-    "asked pairs x entries": asked_pairs,
+    "requested tags x entries": requested_tags,
     "matches that have left the ring": hidden_matches,
     "equal processes x traces": equal_processes,
     "pairs of long services, dependencies": pairs_of_services,
@@ -198,7 +198,7 @@ class Row(NamedTuple):
         more = max(0, self.size - 100_000) if self.unit == "spans" else 0
         return POST_BAR + POST_BAR_FOR_A_MILLION * more / 1e6
 
-    def is_dear(self):
+    def is_over_bound(self):
         return self.beside.longest > max(self.bar(), 2 * self.alone.longest)
 
     def columns(self):
@@ -221,7 +221,7 @@ class Rise(NamedTuple):
     def of_sent(self):
         return self.most / self.sent
 
-    def is_dear(self):
+    def is_over_bound(self):
         """What slow readers take isn't judged: each holds an answer of its own."""
         return self.asked.is_read and self.of_sent() > SENT_BAR
 
@@ -318,10 +318,10 @@ def filled(program, words, bodies, workers=WORKERS):
 def measured(name, size, unit, server, query, asks):
     """The row of a shape. One above its bar is measured again, and the better one counts."""
     row = Row(name, size, unit, *beside(server, query, asks))
-    if row.is_dear():
+    if row.is_over_bound():
         print(f"{row}\tabove its bar, measured again", flush=True)
         again = Row(name, size, unit, *beside(server, query, asks))
-        row = again if not again.is_dear() else min(row, again, key=lambda it: it.beside.longest)
+        row = again if not again.is_over_bound() else min(row, again, key=lambda it: it.beside.longest)
     return row
 
 
@@ -374,23 +374,23 @@ def rises(options, chosen):
 
 
 def all_at_once(options, chosen):
-    """The rows of connections that ask at once; a line for each dear one."""
+    """The rows of connections that ask at once; a line for each over its bound."""
     record, found = Record(options, "held --at-once", COLUMNS_AT_ONCE), []
     print("shape\tasking\tsent\theld before\tmore at most\tof bytes sent\theld for a slow reader")
     for row in rises(options, chosen):
         record.row(*row.columns())
         print(row, flush=True)
-        if row.is_dear():
+        if row.is_over_bound():
             found.append(f"{row.name}: {row.of_sent():.1f} bytes of memory for each byte sent, and {SENT_BAR} is the bar")
     if not options.shapes:
         record.save()
     return found
 
 
-def dear(rows):
-    """A line for each row above its bar."""
+def over_bound(rows):
+    """A line for each row over its bound."""
     for row in rows:
-        if row.is_dear():
+        if row.is_over_bound():
             yield f"{row.name}, {row.size:,} {row.unit}: a POST beside it took {row.beside.longest:.1f} ms, and {row.bar():.0f} ms is the bar"
     middles = {(row.name, row.size): row.query.middle for row in rows if row.unit == "spans"}
     for name in LATEST:
@@ -402,7 +402,7 @@ def dear(rows):
 
 
 def beside_posts(options, chosen):
-    """The rows of queries beside POSTs; a line for each dear one."""
+    """The rows of queries beside POSTs; a line for each over its bound."""
     record, rows = Record(options, "held", COLUMNS), []
     print("shape\tsent or held\tPOST alone, ms: longest (middle)\tbeside the query\tthe query, ms: longest (middle)")
     for made in (rows_of_senders, rows_of_plain_stores):
@@ -412,7 +412,7 @@ def beside_posts(options, chosen):
             print(row, flush=True)
     if not options.shapes:
         record.save()
-    return [*dear(rows)]
+    return [*over_bound(rows)]
 
 
 def sizes(text):
@@ -429,7 +429,7 @@ def main():
     options = words.parse_args()
     chosen = lambda name: not options.shapes or any(word in name for word in options.shapes)
     found = all_at_once(options, chosen) if options.at_once else beside_posts(options, chosen)
-    print("\n".join([*found, f"{len(found)} dear"]))
+    print("\n".join([*found, f"{len(found)} over their bounds"]))
     return 1 if found else 0
 
 

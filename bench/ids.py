@@ -1,5 +1,5 @@
 #!/usr/bin/env python3
-"""Whether whoever sends ids can make an arrival dear.
+"""Whether a sender of ids can make an arrival costly.
 
 Each measurement is one run of `jaeger_one pipe` that is sent one body of one-span traces, whose ids are of one
 kind. What is timed is from the first byte of the request to the last byte of its answer. The kinds:

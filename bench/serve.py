@@ -11,7 +11,7 @@
   reads, alone      one reader of random traces by their ids, then one of the 20 latest traces of the one service, with nobody
                     writing: processor time of the server a request, and the median time
   processor time    of the server a span, beside the spans a second
-  left alone        processor time of `jaeger_one` in ten seconds after 1,000 spans, with nobody connected
+  idle              processor time of `jaeger_one` in ten seconds after 1,000 spans, with nobody connected
 
 A figure is the median of the rounds. `times as good` is how many times as good `jaeger_one` is: of rates the ratio of the two
 medians, of times and of memory its inverse; behind it stand the least and the most of the rounds' own ones. With `--itself` the plain server is
@@ -213,7 +213,7 @@ def main():
         bench = Bench(programs, rust_program(folder, "bench/load.rs"), options.seconds, options.rounds)
         table(bench, [int(size) for size in options.sizes.split(",")], record)
         if "ours" in programs and not options.itself:
-            print(f"Left alone for ten seconds: {bench.left_alone():.2f} s of a processor")
+            print(f"Idle for ten seconds: {bench.left_alone():.2f} s of a processor")
     if len(bench.shown) == 2:
         ours, plain = bench.shown["ours"], bench.shown["plain"]
         same = "the same bytes" if ours[0] == plain[0] else "NOT the same"

@@ -392,7 +392,7 @@ def glance_beside(found):
 
 def glance_alone(found):
     rows = [*glance_serve(found), *glance_connections(found), *glance_rest(found)]
-    names = ["serve", "connections", "connections, memory", "decode", "searches --count", "searches --load", "held", "heavy", "limits", "resent"]
+    names = ["serve", "serve, left alone", "connections", "connections, memory", "decode", "searches --count", "searches --load", "held", "heavy", "limits", "resent"]
     return table(["What", "Measured", "By `bench/`"], rows) + found.captions(*names)
 
 
@@ -406,7 +406,7 @@ def glance_serve(found):
     alone = found.of("serve, left alone", "after 1,000 spans")
     rates = f"{found.rates(ALONE, 4)} with four writers, {found.rates(ALONE, 8)} with eight"
     yield "spans that `serve` takes in a second", rates, "`serve.py`"
-    yield "processor time a span", f"{span(costs, cell)} microseconds; left alone for ten seconds {alone:.2f} s", "`serve.py`"
+    yield "processor time a span", f"{span(costs, cell)} microseconds; idle for ten seconds {alone:.2f} s", "`serve.py`"
     yield "a trace by its id beside four writers at full speed", looks(found), "`serve.py`"
 
 
