@@ -25,7 +25,8 @@ pub fn a_receipts_list_is_a_prefix_of_later_ones()
 /// One history explains all calls. Of whatever was admitted, read, learnt and settled under one store name, by any
 /// threads, each call named a list: a pass the one that it had entered, a receipt and a refusal their own. The
 /// [`HistoryPrefix`](crate::HistoryPrefix)es of these lists have a longest one, [`longest`](crate::longest), which
-/// is legal and of which each is a prefix. Each answer is the plain store's for a prefix of that list, each
+/// is legal and of which each is a prefix, as it is of all that the keeper has accepted
+/// ([`Keeper::includes`](crate::Keeper::includes)). Each answer is the plain store's for a prefix of that list, each
 /// acknowledged entry is in it at the named place and nowhere else, and each refusal by `JournalFull`, `Stale` or
 /// `Conflict` is true of a prefix.
 pub fn all_calls_have_one_history()

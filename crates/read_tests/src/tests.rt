@@ -6,6 +6,7 @@ mod entries;
 mod fixture;
 mod holding;
 mod machine;
+mod prefixes;
 mod rows;
 mod sent_again;
 mod threads;

@@ -5,6 +5,7 @@ ghost use Rattle.std.specs.Prelude.{◌≡◌, ◌≤◌};
 use crate::tests::along::asked_along;
 use crate::tests::holding::{held_before, held_beside, learnt_late};
 use crate::tests::machine::followed;
+use crate::tests::prefixes::prefixes_compared;
 use crate::tests::rows::{all_or_nothing, moved_on, settled};
 use crate::tests::sent_again::{first_is_held, rows_are_answered, sent_twice};
 use crate::tests::threads::read_beside;
@@ -34,6 +35,7 @@ pub enum Row {
     SentTwice,
     ReadBeside,
     AskedAlong,
+    PrefixesCompared,
 }
 
 /// What belongs to a store that was opened.
@@ -71,6 +73,7 @@ impl Row {
             Row::SentTwice => sent_twice(rt, alloc, keeper),
             Row::ReadBeside => read_beside(rt, alloc, keeper, passes),
             Row::AskedAlong => asked_along(rt, alloc, keeper, passes, limits),
+            Row::PrefixesCompared => prefixes_compared(rt, alloc, keeper, passes),
         }
     }
 }
