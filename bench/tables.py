@@ -631,21 +631,17 @@ def connection_quotes(found):
 def gate_quotes(found):
     """What pages say of the time that the gate takes."""
     edits, processor, clock = found.of("gate", "an earlier version, with other work beside it")
-    _, before, _ = found.of("gate", "before small crates were merged, several runs added up, without the wrong bodies")
     _, now, by_clock = found.of("gate", "this version, two runs beside up to eight other jobs, without the wrong bodies")
-    yield ("docs/MAINTAINING.md", f"which tried {edits} wrong bodies, took {processor} minutes of a processor from nothing, and {clock} by the clock on a "
-           "virtual machine of four cores")
-    yield "docs/MAINTAINING.md", f"took about {before} minutes of a processor, added up over several runs"
+    yield "docs/MAINTAINING.md", f"An earlier version with its {edits} wrong bodies took {processor} and {clock}, also beside other work"
     yield "docs/MAINTAINING.md", f"took about {now} minutes of a processor and {by_clock} by the clock"
     yield "README.md", f"{by_clock} minutes for proofs and tests, on four cores beside other jobs"
     least, most = found.of("proofs", "a test crate before its first test")
     once, often = found.of("proofs", "a public function whose contract names much, once a crate")
     yield "docs/MAINTAINING.md", f"{least} to {most} seconds of a processor to read what it stands on, and {once} to {often} once for each public function"
     block, by_call = (found.of("proofs", f"a query let go {how}")[0] for how in ("at the end of a block", "by a call"))
-    yield "docs/MAINTAINING.md", f"a query let go at the end of a block {block}, by a call of `drop` {by_call}"
+    yield "docs/MAINTAINING.md", f"A query that is dropped at the end of a block costs {block} seconds, by a call of `drop` {by_call}"
     place, call = (found.of("proofs", f"a function of deep types let go {how}") for how in ("in its place", "by a call"))
-    yield "docs/MAINTAINING.md", f"costs {place[0]} to {place[1]} seconds then, and {call[0]} to {call[1]} by a call"
-    yield "docs/MAINTAINING.md", f"the tactics need {found.of('proofs', 'all fields of a span in one function')[0]}"
+    yield "docs/MAINTAINING.md", f"costs {place[0]} to {place[1]} seconds with such places, and {call[0]} to {call[1]} with calls"
 
 
 def too_small(found):
