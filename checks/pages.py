@@ -11,7 +11,8 @@ It reads README.md, docs/ and the READMEs of bench/, checks/, cases/, deploy/ an
 * `Type::function`: `clause`, where the words after the colon have to be clauses of one of the functions before it;
 * `path/file.rt`: `function`, where they have to stand in that file;
 * `--option`, which the program or a script of checks/ or bench/ has to have;
-* that docs/ASSURANCE.md, of what is trusted, names each crate of the toolchain that crates.txt has.
+* that docs/ASSURANCE.md, of what is trusted, names each crate of the toolchain that crates.txt has;
+* that each decision of docs/DECISIONS.md says which form was rejected, except for the limits of the toolchain.
 
 It prints what it doesn't find and exits with status 1. WORDS below are names of other programs and of ordinary text.
 """
@@ -218,6 +219,14 @@ def trust_faults(text):
             yield crate, "a crate of the toolchain that is used, and isn't named among what is trusted"
 
 
+def decision_faults(text):
+    """Yields the decisions that say nothing of a rejected form."""
+    for decision in text.partition("\n## Limits of the toolchain\n")[0].split("\n### ")[1:]:
+        heading, _, body = decision.partition("\n")
+        if "Rejected" not in body.partition("\n## ")[0]:
+            yield heading, "it doesn't say which form was rejected"
+
+
 def main():
     """Prints each fault with its page, and the count."""
     asked = asked_of(__doc__, None)
@@ -233,6 +242,8 @@ def main():
         found = [*link_faults(page, text), *word_faults(names, bare), *pair_faults(names, flat)]
         if path == "docs/ASSURANCE.md":
             found += trust_faults(bare)
+        if path == "docs/DECISIONS.md":
+            found += decision_faults(bare)
         for word, why in found:
             faults += 1
             print(f"{path}: {word}: {why}")
