@@ -112,7 +112,7 @@ use std::time::{Clock, Duration};
 use std::{env, thread};
 use trace_model::{Answer, Entry, Limits, Query, Refusal, Work};
 
-/// What is handed in before the timing, the bodies that are decoded behind that and timed, and the traces that are held before.
+/// What is submitted before the timing, the bodies that are decoded behind that and timed, and the traces that are held before.
 #[derive(Drop)]
 struct Load<'a> {
     first: Vec<Arc<Entry>>,

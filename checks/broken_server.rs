@@ -224,7 +224,7 @@ impl Session<'_> {
     fn answer(&mut self, head: &Head, body: &[u8]) -> Reply {
         let path: Vec<&str> = head.path.split('/').skip(1).collect();
         match (head.method.as_str(), &path[..]) {
-            ("POST", ["api", "traces"]) => self.hand_in(head, body),
+            ("POST", ["api", "traces"]) => self.submit(head, body),
             ("GET", ["api", "traces"]) => self.search(head),
             ("GET", ["api", "traces", id]) => self.trace(id),
             ("GET", ["api", "services"]) => self.names(|store, point| store.service_names(point), quoted),
@@ -238,7 +238,7 @@ impl Session<'_> {
         }
     }
 
-    fn hand_in(&mut self, head: &Head, body: &[u8]) -> Reply {
+    fn submit(&mut self, head: &Head, body: &[u8]) -> Reply {
         if !head.thrift {
             return Reply::fault(415, "unsupported content type");
         }

@@ -21,7 +21,7 @@ Judged, as docs/serve.md and docs/http-session.md promise it:
                     before its end: never. It is whole: no look shows one of its spans without the others.
   each look         shows a beginning of the history, as far as its question lets it be seen. So of any two looks one is a
                     beginning of the other, and nothing is shown that was never sent.
-  each connection   its batches stand in the order in which they were handed in. No look stands in front of an earlier look of
+  each connection   its batches stand in the order in which they were submitted. No look stands in front of an earlier look of
                     the same connection, of a batch acknowledged on it, or of a batch whose 202 had come, to whichever
                     client, before the connection was opened.
 
@@ -172,7 +172,7 @@ FAULTS = {
     "twice": "stands twice in the history; it was acknowledged once",
     "half": "does not show the whole of",
     "refused": "stands once in the history; it was refused or cut once",
-    "reordered": "which was handed in first",
+    "reordered": "which was submitted first",
     "stale": "which was acknowledged on this connection",
     "swapped": "which is no beginning of the history",
     "late": "was acknowledged before the connection was opened",

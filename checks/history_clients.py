@@ -257,7 +257,7 @@ class Log:
             self.seen_last.clear()
         self.seen_last[subject_seen] = items
 
-    def handed_in(self, batch, outcome):
+    def submitted(self, batch, outcome):
         self.sent.append((self.connection(), batch, outcome, time.monotonic()))
 
     def violates(self, what):
@@ -348,7 +348,7 @@ class Look:
 
 
 class HandIn:
-    """A batch that is handed in; `wanted` is what a body that is none, or of another type, has to be answered."""
+    """A batch that is submitted; `wanted` is what a body that is none, or of another type, has to be answered."""
 
     def __init__(self, batch, request, wanted=202):
         self.batch = batch
@@ -359,7 +359,7 @@ class HandIn:
         if status != self.wanted and status < 500:
             log.violates(f"{batch_name(self.batch)} was answered {status} {body[:120]!r} and not {self.wanted}")
         outcome = self.outcome(status, body)
-        log.handed_in(self.batch, outcome)
+        log.submitted(self.batch, outcome)
         if outcome == WHOLE:
             log.event(subject(ACKNOWLEDGED, self.batch), 0, 0, begin)
 
@@ -373,7 +373,7 @@ class HandIn:
         return WHOLE if status == 202 else REFUSED
 
     def unanswered(self, log):
-        log.handed_in(self.batch, OPEN if self.wanted == 202 else REFUSED)
+        log.submitted(self.batch, OPEN if self.wanted == 202 else REFUSED)
 
 
 # Clients.
@@ -535,7 +535,7 @@ class Writer(Client):
 
     def step(self, connection):
         self.waits_its_turn()
-        steps = [self.hands_in, self.pipelines, self.damages, self.mistypes, self.cuts_in_head, self.cuts_in_body,
+        steps = [self.submits, self.pipelines, self.damages, self.mistypes, self.cuts_in_head, self.cuts_in_body,
                  self.closes_in_body, self.cuts_before_answer, self.cuts_in_answer]
         weights = [70, 12, 6, 1, 2, 3, 1, 3, 2]
         return self.rng.choices(steps, weights)[0](connection)
@@ -557,7 +557,7 @@ class Writer(Client):
     def request(self, batch, page):
         return post(self.rng, body_of(batch, page), chunked=self.rng.random() < 0.3)
 
-    def hand_in(self):
+    def next_submission(self):
         batch, page = self.batch()
         return batch, page, HandIn(batch, self.request(batch, page))
 
@@ -573,8 +573,8 @@ class Writer(Client):
             return Look(SearchLook(batch, page))
         return Look(OperationsLook(service_of(batch, page), kinds=kind < 0.8)) if kind < 0.9 else self.look()
 
-    def hands_in(self, connection):
-        batch, page, request = self.hand_in()
+    def submits(self, connection):
+        batch, page, request = self.next_submission()
         is_open = self.ask(connection, request)
         for _ in range(self.rng.randint(0, 3)):
             is_open = is_open and self.ask(connection, self.own_look(batch, page))
@@ -583,7 +583,7 @@ class Writer(Client):
     def pipelines(self, connection):
         requests = []
         for _ in range(self.rng.randint(1, 3)):
-            batch, page, request = self.hand_in()
+            batch, page, request = self.next_submission()
             requests += [request, self.own_look(batch, page)]
         return self.ask(connection, *requests)
 
@@ -603,7 +603,7 @@ class Writer(Client):
         """The request is never whole."""
         batch, page = self.batch()
         data = self.request(batch, page)
-        self.log.handed_in(batch, REFUSED)
+        self.log.submitted(batch, REFUSED)
         self.may_send_again(batch)
         body = data.index(b"\r\n\r\n") + 4
         return self.cut(connection, data, body if in_body else 1, len(data) - 1 if in_body else body - 1)
@@ -626,14 +626,14 @@ class Writer(Client):
         return self.ask(connection, refused)
 
     def cuts_before_answer(self, connection):
-        batch, page, request = self.hand_in()
-        self.log.handed_in(batch, OPEN)
+        batch, page, request = self.next_submission()
+        self.log.submitted(batch, OPEN)
         self.may_send_again(batch)
         return self.cut(connection, request.bytes, len(request.bytes), len(request.bytes))
 
     def cuts_in_answer(self, connection):
-        batch, page, request = self.hand_in()
-        self.log.handed_in(batch, OPEN)
+        batch, page, request = self.next_submission()
+        self.log.submitted(batch, OPEN)
         self.may_send_again(batch)
         connection.send(request.bytes + self.look().bytes)
         connection.socket.recv(self.rng.randint(1, 30))

@@ -149,7 +149,7 @@ class Judge:
                 continue
             if before and before[0] == connection and self.first[before[1]] > self.last[batch]:
                 names = f"{batch_name(batch)} stands in front of {batch_name(before[1])}"
-                self.violates(moment, f"{log.name}, connection {connection}: {names}, which was handed in first")
+                self.violates(moment, f"{log.name}, connection {connection}: {names}, which was submitted first")
             before = connection, batch
 
     # No look of a connection stands in front of what the connection has to count in.

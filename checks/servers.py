@@ -307,7 +307,7 @@ class Server:
         check(output.splitlines()[1:] == [f"served {count}", f"books {acknowledged} {refused} 0"], f"it printed {output!r}")
 
     def is_well(self, trace=0xE11):
-        """A new client hands in a batch and finds it, in little time."""
+        """A new client submits a batch and finds it, in little time."""
         begin = time.monotonic()
         with self.client() as client:
             client.ask(post(trace), 202)

@@ -96,7 +96,7 @@ fn close_soon<N: StoreName>(desk: &Desk<N>, turns: u64, begun: &AtomicU64) {
 }
 
 /// Two seats, each in its thread.
-fn two_hand_in<N: StoreName + Send + Sync, R: Threads + Wait + Sync>(
+fn two_submit<N: StoreName + Send + Sync, R: Threads + Wait + Sync>(
     rt: &R,
     alloc: Global,
     a: &mut Submitter<N>,
@@ -159,7 +159,7 @@ fn four_of<N: StoreName>(alloc: Global, clerk: &Clerk<N>, seats: Vec<Seat<N>>) -
 }
 
 /// Four seats, each in its thread.
-fn four_hand_in<N: StoreName + Send + Sync, R: Threads + Wait + Sync>(
+fn four_submit<N: StoreName + Send + Sync, R: Threads + Wait + Sync>(
     rt: &R,
     alloc: Global,
     four: &mut Four<N>,
@@ -173,8 +173,8 @@ fn four_hand_in<N: StoreName + Send + Sync, R: Threads + Wait + Sync>(
     let Four { a, b, c, d } = four;
     join_mut(
         rt,
-        &mut || two_hand_in(rt, alloc, a, b, begun),
-        &mut || two_hand_in(rt, alloc, c, d, begun),
+        &mut || two_submit(rt, alloc, a, b, begun),
+        &mut || two_submit(rt, alloc, c, d, begun),
     );
 }
 
@@ -196,7 +196,7 @@ struct OpenDesk<N: StoreName> {
 }
 
 /// The seats submit, while one more thread closes the desk.
-fn all_hand_in<N: StoreName + Send + Sync, R: Threads + Wait + Sync>(
+fn all_submit<N: StoreName + Send + Sync, R: Threads + Wait + Sync>(
     rt: &R,
     alloc: Global,
     floor: &mut Floor<N>,
@@ -215,7 +215,7 @@ fn all_hand_in<N: StoreName + Send + Sync, R: Threads + Wait + Sync>(
     let begun: &AtomicU64 = begun;
     join_mut(
         rt,
-        &mut || four_hand_in(rt, alloc, four, begun),
+        &mut || four_submit(rt, alloc, four, begun),
         &mut || close_soon(desk, *turns, begun),
     );
 }
@@ -267,7 +267,7 @@ fn all_day<N: StoreName + Send + Sync, R: Threads + Wait + Sync>(
     join_mut(
         rt,
         &mut || keep(rt, office),
-        &mut || all_hand_in(rt, alloc, floor),
+        &mut || all_submit(rt, alloc, floor),
     );
 }
 

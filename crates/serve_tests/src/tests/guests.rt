@@ -208,7 +208,7 @@ fn two_connections<R: Net<Stream = TcpStream, Listener = TcpListener>>(
     )
 }
 
-fn hands_in_and_looks<R: Net<Stream = TcpStream, Listener = TcpListener>>(
+fn submits_and_queries<R: Net<Stream = TcpStream, Listener = TcpListener>>(
     rt: &R,
     alloc: Global,
     address: SocketAddr,
@@ -231,7 +231,7 @@ fn eight<R: Threads + Net<Stream = TcpStream, Listener = TcpListener> + Sync>(
         rt,
         alloc,
         8,
-        &|_| -> bool { matches!(hands_in_and_looks(rt, alloc, address), Ok(true)) },
+        &|_| -> bool { matches!(submits_and_queries(rt, alloc, address), Ok(true)) },
     )?;
     Ok(pleased.iter().all(|it| *it))
 }
@@ -247,7 +247,7 @@ fn bad_neighbours<R: Net<Stream = TcpStream, Listener = TcpListener>>(
     let half = joined(alloc, &[POST, b"\x0c\x00\x01"])?;
     gone.write_all(half.as_slice())?;
     drop(gone);
-    let served = hands_in_and_looks(rt, alloc, address)?;
+    let served = submits_and_queries(rt, alloc, address)?;
     let mut rest = Vec::new(alloc);
     let ended = stalled.read_to_end(&mut rest).is_ok() && rest.is_empty();
     Ok(served && ended)

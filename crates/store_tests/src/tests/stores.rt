@@ -582,7 +582,7 @@ fn numbered(alloc: Global, numbers: &[u64]) -> Result<Vec<Arc<Entry>>, AllocErro
 }
 
 /// The first is submitted twice, and the last has no room.
-const HANDED_IN: &[u64] = &[1, 1, 2, 3];
+const SUBMITTED: &[u64] = &[1, 1, 2, 3];
 
 /// Those that are accepted.
 const ACCEPTED: &[u64] = &[1, 2];
@@ -622,7 +622,7 @@ fn accepted_of(alloc: Global, keys: RandomState, entries: &[Arc<Entry>]) -> Resu
 
 /// The numbers of those that are submitted and accepted.
 fn accepted(alloc: Global, keys: RandomState) -> Result<Vec<u64>, Fail> {
-    let entries = numbered(alloc, HANDED_IN)?;
+    let entries = numbered(alloc, SUBMITTED)?;
     let numbers = accepted_of(alloc, keys, &entries);
     drop(entries);
     numbers
@@ -642,7 +642,7 @@ fn same_replayed_of(
 
 /// Whether a store of those that are submitted does.
 fn same_replayed(alloc: Global, keys: RandomState) -> Result<bool, Fail> {
-    let entries = numbered(alloc, HANDED_IN)?;
+    let entries = numbered(alloc, SUBMITTED)?;
     let same = same_replayed_of(alloc, keys, &entries);
     drop(entries);
     same
@@ -651,7 +651,7 @@ fn same_replayed(alloc: Global, keys: RandomState) -> Result<bool, Fail> {
 /// The answer of a replay of those that are submitted to a query for the services, as text.
 fn services_replayed(alloc: Global, keys: RandomState) -> Result<String, Fail> {
     let limits = for_two()?;
-    let entries = numbered(alloc, HANDED_IN)?;
+    let entries = numbered(alloc, SUBMITTED)?;
     let answer = replayed_answer(alloc, keys, limits, &entries, &Query::Services);
     drop(entries);
     Ok(shown(alloc, answer.ok().ok_or("refused")?)?)
