@@ -11,7 +11,7 @@ use jaeger_model::{Seen, parent_of};
 use std::alloc::AllocError;
 use std::marker::Model;
 use std::sync::Arc;
-use trace_model::{Entry, ServiceName, reported_in};
+use trace_model::{Entry, Name, reported_in};
 
 /// A span in its entry, with its ids and the number of its service. The entry is borrowed, so that a span costs no
 /// count of its sharers. Contracts see the span with its process and its parent among its references, and the number.
@@ -140,9 +140,9 @@ impl<'a> NumberedSpan<'a> {
     ///
     /// Out of memory, and nothing else.
     #[tactic(auto, using(trace_model::proofs::KeptSpans::name_there))]
-    pub(crate) fn service(&self) -> Result<ServiceName, AllocError>
+    pub(crate) fn service(&self) -> Result<Name, AllocError>
         ensures { IfOk result (λ n. Some n ≡ option_map (λ p. p.process.service) self.now.span) }
     {
-        ServiceName::kept(self.entry)
+        Name::of_service(self.entry)
     }
 }

@@ -9,7 +9,7 @@ use crate::sets::insert_once;
 use jaeger_model::{Placed, Seq, Text, parent_of};
 use span_steps::is_in_window;
 use std::alloc::{AllocError, Global};
-use trace_model::{Link, ServiceName};
+use trace_model::{Link, Name};
 
 /// Returns the first span of the trace with the id of the span's parent.
 fn parent_in<'a>(trace: &'a [Placed], placed: &Placed) -> Option<&'a Placed>
@@ -109,8 +109,8 @@ fn counted(alloc: Global, calls: &[(Text, Text)]) -> Result<Vec<Link>, AllocErro
         let number = calls.iter().filter(|c| is_same_call(&pair, c)).count();
         let (parent, child) = pair;
         links.push(Link {
-            parent: ServiceName::own(parent),
-            child: ServiceName::own(child),
+            parent: Name::own(alloc, parent)?,
+            child: Name::own(alloc, child)?,
             calls: number as u64,
         })?;
     }

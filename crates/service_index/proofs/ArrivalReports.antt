@@ -1,13 +1,12 @@
 -- What the arrivals report, by their numbers.
 use Rattle.std.proofs.Common.{◌≡◌, ℕ, zero, suc, ◌-◌, ◌<◌, true, false, List, [], ◌∷◌, ◌++◌, map, length, get_or, take, refl, sym, ap, subst, ◌∙◌, arith}
 use Rattle.std.proofs.Common.{length-append}
-use Rattle.std.specs.Prelude.{if◌then◌else◌, cond, nat_lt, Some, None, Result, IfOk, slice_get, option_map, unwrap_or}
+use Rattle.std.specs.Prelude.{if◌then◌else◌, cond, nat_lt, Some, None, slice_get, option_map, unwrap_or}
 use Rattle.std.specs.Arc.{arc_value}
 use Rattle.std.specs.declared.sync.Arc.{Arc}
 use Rattle.std.specs.Global.{Global}
 use Rattle.std.proofs.lemmas.Bool.{false≢true, ltb-true, lt-ltb}
 use Rattle.std.proofs.lemmas.List.{length-map, get_or-map, map-append, take_at, get_or_append_left, get_or_default}
-use Rattle.std.proofs.lemmas.Result.{IfOk-weaker}
 use Rattle.jaeger_model.specs.declared.placed.Placed.{Placed}
 use Rattle.jaeger_model.specs.declared.batch.Batch.{Batch}
 use Rattle.jaeger_model.specs.declared.span.Span.{Span}
@@ -18,7 +17,7 @@ use Rattle.trace_model.specs.declared.answer.Operation.{Operation}
 use Rattle.trace_model.specs.declared.entry.Entry.{Entry}
 use Rattle.trace_model.specs.declared.entry.Work.{Work}
 use Rattle.trace_model.specs.declared.entry.Work.TheVariants as brings
-use Rattle.trace_model.specs.EntryWork.{spans_brought, placed_brought, service_brought}
+use Rattle.trace_model.specs.EntryWork.{spans_brought, placed_brought, service_brought, operation_brought}
 use Rattle.trace_model.specs.Histories.{arrivals}
 use Rattle.service_index.specs.ListedNames.{Listed, listed, listed_in, listed_cmp}
 use Rattle.service_index.specs.Labels.{Extends, IsServiceNumberOf, service_alone}
@@ -32,7 +31,6 @@ use Rattle.service_index.specs.ServicePlaces.{reporters, service_at, service_num
 use Rattle.trace_model.proofs.LastEntries.{last_of}
 use Rattle.service_index.proofs.ServiceNumbers.{as_many_reporters, service_number_known}
 use Rattle.service_index.specs.ArrivalNumbers.{AreOf}
-use Rattle.service_index.specs.TakenNames.{name_brought}
 use Rattle.service_index.specs.KeptNames.{reports, reported_at, names_of, reports_service}
 use Rattle.service_index.specs.ArrivalServices.{arrival_number, numbers_keyed}
 use Rattle.service_index.proofs.NumbersOfEntry.{arrivals_push}
@@ -117,7 +115,7 @@ name_placed b [] i d below = absurd (omega arith)
 name_placed b (s ∷ ss) zero d below = ap (λ (l : Listed). l.operation.name) (listed-placed b s)
 name_placed b (s ∷ ss) (suc i) d below = name_placed b ss i d (omega arith)
 
-name_came : (w : Work) (i : ℕ) (d : Placed) → i < length (spans_brought w) → (listed (get_or (placed_brought w) i d)).operation.name ≡ name_brought w i
+name_came : (w : Work) (i : ℕ) (d : Placed) → i < length (spans_brought w) → (listed (get_or (placed_brought w) i d)).operation.name ≡ operation_brought w i
 name_came (brings.Batch b) i d below = name_placed b b.spans i d below
 name_came (brings.TraceLimit n) i d below = absurd (omega arith)
 
@@ -157,16 +155,8 @@ module _ (h : List Entry) (entry_of firsts : List ℕ) (n : ℕ) (a : AreOf h en
   pub service_named : (reported_at h n).service ≡ service_brought e.work
   service_named = ap (λ (l : Listed). l.service) reported_is ∙ service_came e.work index arrival ((a.at n below).within e there)
 
-  pub name_named : (reported_at h n).operation.name ≡ name_brought e.work index
+  pub name_named : (reported_at h n).operation.name ≡ operation_brought e.work index
   name_named = ap (λ (l : Listed). l.operation.name) reported_is ∙ name_came e.work index arrival ((a.at n below).within e there)
-
--- an operation by its parts
-pub operation_is : {E : Type 0} (r : Result Operation E) (name kind same_name same_kind : List ℕ) → IfOk r (λ o. o ≡ record { name = name; kind = kind })
-    → name ≡ same_name → kind ≡ same_kind
-    → IfOk r (λ o. o ≡ record { name = same_name; kind = same_kind })
-operation_is r name kind same_name same_kind is n k =
-    IfOk-weaker r (λ o. o ≡ record { name = name; kind = kind }) (λ o. o ≡ record { name = same_name; kind = same_kind })
-    (λ o e. e ∙ (λ i. record { name = n i; kind = k i })) is
 
 -- ---- a list and its last entry
 pub extends_last : (h : List Entry) → 0 < length h → Extends (names_of (before_last h)) (names_of h)

@@ -8,4 +8,3 @@ pub mod PlaceChains
 pub mod ArrivalNumbers
 pub mod KeptNames
 pub mod ArrivalServices
-pub mod TakenNames

@@ -10,14 +10,11 @@
 //!
 //! * `numbers`: which span has which arrival number.
 //! * `names`: the services and operations.
-//! * `taken_operation`: an operation whose name is read from its entry: the [`TakenOperation`].
 //! * `laws`: facts about the definitions of `specs/`.
 
 pub mod laws;
 mod names;
 mod numbers;
-mod taken_operation;
 
 pub use names::ArrivalNames;
 pub use numbers::{ArrivalNumbers, Arrivals};
-pub use taken_operation::TakenOperation;

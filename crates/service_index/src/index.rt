@@ -138,7 +138,7 @@ impl ServiceIndex {
     }
 
     /// Returns the number of one span of each service, in no particular order.
-    /// [`sorted_texts`](crate::sorted_texts) sorts the services.
+    /// [`sorted_names`](crate::sorted_names) sorts the services.
     pub fn service_numbers(&self) -> &[u32]
         ensures held { (names : Names) → IsIndexed names self.now →
             AreNumbersBelow names.count result.now }
@@ -164,8 +164,8 @@ impl ServiceIndex {
     }
 
     /// Returns the number of one span of each operation of a service with its kind, in no particular order.
-    /// [`sorted_operations`](crate::sorted_operations) and [`sorted_names`](crate::sorted_names) sort the
-    /// operations, or their names.
+    /// [`sorted_operations`](crate::sorted_operations) and [`sorted_operation_names`](crate::sorted_operation_names)
+    /// sort the operations, or their names.
     ///
     /// # Errors
     ///

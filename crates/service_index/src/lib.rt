@@ -41,11 +41,11 @@ pub mod service_places;
 mod sought_label;
 mod texts;
 
-pub use arrival_names::{ArrivalNames, ArrivalNumbers, TakenOperation};
+pub use arrival_names::{ArrivalNames, ArrivalNumbers};
 pub use index::ServiceIndex;
 pub use labels::{Label, Labels};
 pub use links::RowLinks;
 pub use name_table::NameTable;
-pub use operation_sets::{sorted_names, sorted_operations, sorted_texts};
+pub use operation_sets::{sorted_names, sorted_operation_names, sorted_operations};
 pub use service_places::{Places, ServicePlaces};
 pub use texts::Texts;

@@ -6,43 +6,34 @@ ghost use Rattle.trace_model.specs.declared.answer.Operation.{Operation as Opera
 ghost use Rattle.trace_model.specs.Names.{operation_cmp};
 ghost use Rattle.service_index.specs.ListedNames.{names_of};
 
-use jaeger_model::Text;
 use std::alloc::{AllocError, Global};
-use trace_model::Operation;
+use trace_model::{Name, Operation};
 
-/// Sorts the texts and removes duplicates.
-///
-/// # Errors
-///
-/// Out of memory, and nothing else.
-pub fn sorted_texts(texts: Vec<Text>) -> Result<Vec<Text>, AllocError>
-    ensures { IfOk result (λ v. v.items ≡ sorted_set text_cmp texts.items) }
+/// Sorts the names and removes duplicates. Allocates nothing.
+pub fn sorted_names(names: Vec<Name>) -> Vec<Name>
+    ensures { result.items ≡ sorted_set text_cmp names.items }
 {
-    let mut texts = texts;
-    texts.sort()?;
-    texts.dedup();
-    Ok(texts)
+    let mut names = names;
+    names.sort_unstable();
+    names.dedup();
+    names
 }
 
-/// Sorts the operations and removes duplicates.
-///
-/// # Errors
-///
-/// Out of memory, and nothing else.
-pub fn sorted_operations(operations: Vec<Operation>) -> Result<Vec<Operation>, AllocError>
-    ensures { IfOk result (λ v. v.items ≡ sorted_set operation_cmp operations.items) }
+/// Sorts the operations and removes duplicates. Allocates nothing.
+pub fn sorted_operations(operations: Vec<Operation>) -> Vec<Operation>
+    ensures { result.items ≡ sorted_set operation_cmp operations.items }
 {
     let mut operations = operations;
-    operations.sort()?;
+    operations.sort_unstable();
     operations.dedup();
-    Ok(operations)
+    operations
 }
 
 /// Returns the names of the operations.
-fn names_of_operations(alloc: Global, operations: Vec<Operation>) -> Result<Vec<Text>, AllocError>
+fn names_of_operations(alloc: Global, operations: Vec<Operation>) -> Result<Vec<Name>, AllocError>
     ensures { IfOk result (λ v. v.items ≡ map (λ (o : OperationValue). o.name) operations.items) }
 {
-    let mut names = Vec::new(alloc);
+    let mut names = Vec::with_capacity(alloc, operations.len())?;
     for operation in operations {
         let Operation { name, kind: _ } = operation;
         names.push(name)?;
@@ -55,9 +46,12 @@ fn names_of_operations(alloc: Global, operations: Vec<Operation>) -> Result<Vec<
 /// # Errors
 ///
 /// Out of memory, and nothing else.
-pub fn sorted_names(alloc: Global, operations: Vec<Operation>) -> Result<Vec<Text>, AllocError>
+pub fn sorted_operation_names(
+    alloc: Global,
+    operations: Vec<Operation>,
+) -> Result<Vec<Name>, AllocError>
     ensures { IfOk result (λ v. v.items ≡ names_of operations.items) }
 {
     let names = names_of_operations(alloc, operations)?;
-    sorted_texts(names)
+    Ok(sorted_names(names))
 }

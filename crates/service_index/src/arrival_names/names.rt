@@ -12,7 +12,6 @@ ghost use Rattle.arrival_journal.specs.KindTexts.{kinds_in};
 ghost use Rattle.service_index.specs.KeptNames.{AreNamesKept, names_of, reports, reports_service, reports_operation, AreOperations};
 
 use crate::arrival_names::numbers::{ArrivalNumbers, Arrivals};
-use crate::arrival_names::taken_operation::TakenOperation;
 use crate::index::ServiceIndex;
 use crate::service_places::ServicePlaces;
 use crate::texts::Texts;
@@ -22,7 +21,7 @@ use std::alloc::{AllocError, Global};
 use std::hash::RandomState;
 use std::marker::Model;
 use std::sync::Arc;
-use trace_model::{Entry, ServiceName};
+use trace_model::{Entry, Name, Operation};
 
 /// The services and operations of the arrivals of a list of entries that grows at its end.
 #[derive(Drop)]
@@ -103,7 +102,7 @@ impl ArrivalNames {
         alloc: Global,
         entries: &[Arc<Entry>],
         reported: &ServicePlaces,
-    ) -> Result<Vec<ServiceName>, AllocError>
+    ) -> Result<Vec<Name>, AllocError>
         requires kept { AreNamesKept (map arc_value entries.now) self.now }
         requires placed { ArePlacesKept (map arc_value entries.now) reported.now }
         ensures { IfOk result (λ v. sorted_set text_cmp v.items ≡
@@ -125,7 +124,7 @@ impl ArrivalNames {
         entries: &[Arc<Entry>],
         reported: &ServicePlaces,
         service: &Text,
-    ) -> Result<Vec<TakenOperation>, AllocError>
+    ) -> Result<Vec<Operation>, AllocError>
         requires kept { AreNamesKept (map arc_value entries.now) self.now }
         requires placed { ArePlacesKept (map arc_value entries.now) reported.now }
         ensures { IfOk result (λ v. AreOperations service.now
@@ -196,7 +195,7 @@ fn services_of(
     alloc: Global,
     arrivals: &Arrivals<'_>,
     numbers: &[u32],
-) -> Result<Vec<ServiceName>, AllocError>
+) -> Result<Vec<Name>, AllocError>
     requires { AreNumbersBelow (names_of arrivals.now).count numbers.now }
     ensures { IfOk result (λ v. v.items ≡ owners (names_of arrivals.now) numbers.now) }
 {
@@ -212,13 +211,13 @@ fn operations_of(
     alloc: Global,
     arrivals: &Arrivals<'_>,
     numbers: &[u32],
-) -> Result<Vec<TakenOperation>, AllocError>
+) -> Result<Vec<Operation>, AllocError>
     requires { AreNumbersBelow (names_of arrivals.now).count numbers.now }
     ensures { IfOk result (λ v. v.items ≡ operations_at (names_of arrivals.now) numbers.now) }
 {
     let mut operations = Vec::with_capacity(alloc, numbers.len())?;
     for n in numbers {
-        operations.push(arrivals.operation_at(*n)?)?;
+        operations.push(arrivals.operation_at(alloc, *n)?)?;
     }
     Ok(operations)
 }

@@ -10,15 +10,14 @@ ghost use Rattle.service_index.specs.ArrivalNumbers.{AreOf, IsAt};
 ghost use Rattle.arrival_journal.specs.KindTexts.{kind_text, first_kinds, kinds_in};
 ghost use Rattle.service_index.specs.KeptNames.{AreKinds, reported_at};
 
-use crate::arrival_names::taken_operation::TakenOperation;
 use crate::service_places::ServicePlaces;
 use crate::texts::Texts;
 use arrival_journal::{Kind, SpanKinds};
-use jaeger_model::Span;
+use jaeger_model::{Span, Text};
 use std::alloc::{AllocError, Global};
 use std::marker::Model;
 use std::sync::Arc;
-use trace_model::{Entry, ServiceName, Work};
+use trace_model::{Entry, Name, Operation, Work};
 
 /// Which span has which arrival number.
 #[derive(Drop)]
@@ -114,12 +113,12 @@ impl<'a> Arrivals<'a> {
     /// # Errors
     ///
     /// Out of memory, and nothing else.
-    pub(crate) fn service_at(&self, n: u32) -> Result<ServiceName, AllocError>
+    pub(crate) fn service_at(&self, n: u32) -> Result<Name, AllocError>
         requires { n < length (arrivals self.now) }
         ensures { IfOk result (λ s. s ≡ (reported_at self.now n).service) }
     {
         let before = self.entry_of[n as usize];
-        ServiceName::kept(&self.entries[before as usize])
+        Name::of_service(&self.entries[before as usize])
     }
 
     /// Returns the operation of the arrival with this number. The name refers to its entry.
@@ -127,14 +126,16 @@ impl<'a> Arrivals<'a> {
     /// # Errors
     ///
     /// Out of memory, and nothing else.
-    pub(crate) fn operation_at(&self, n: u32) -> Result<TakenOperation, AllocError>
+    pub(crate) fn operation_at(&self, alloc: Global, n: u32) -> Result<Operation, AllocError>
         requires { n < length (arrivals self.now) }
         ensures { IfOk result (λ o. o ≡ (reported_at self.now n).operation) }
     {
         let before = self.entry_of[n as usize];
         let first = self.firsts[before as usize];
         let kind = self.kinds[n as usize];
-        TakenOperation::new(&self.entries[before as usize], n - first, kind)
+        let name = Name::of_operation(&self.entries[before as usize], n - first)?;
+        let kind = Text::from_str(alloc, kind.text())?;
+        Ok(Operation { name, kind })
     }
 }
 

@@ -5,5 +5,5 @@ use Rattle.service_index.proofs.operation_sets.sorted_operations.Goals as goal
 
 pub returns : goal.returns
 returns c =
-    sorted_once operation_total operation_exact same_operation_by_cmp c.args.operations.items _ c.dedup.new.self.items c.in_ok-sort.ensures.permutation
-    c.in_ok-sort.ensures.sorted c.dedup.ensures.filtered
+    sorted_once operation_total operation_exact same_operation_by_cmp c.args.operations.items _ c.dedup.new.self.items c.sort_unstable.ensures.permutation
+    c.sort_unstable.ensures.sorted c.dedup.ensures.filtered

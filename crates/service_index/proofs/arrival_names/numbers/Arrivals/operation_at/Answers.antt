@@ -4,7 +4,7 @@ use Rattle.std.specs.Global.{Global}
 use Rattle.trace_model.specs.declared.entry.Entry.{Entry}
 use Rattle.trace_model.specs.Histories.{arrivals}
 use Rattle.service_index.specs.KeptNames.{reported_at}
-use Rattle.service_index.proofs.ArrivalReports.{came_in, name_named, operation_is}
+use Rattle.service_index.proofs.ArrivalReports.{came_in, name_named}
 use Rattle.service_index.proofs.KeptKinds.{as_many_kinds, kind_is}
 use Rattle.service_index.proofs.arrival_names.numbers.Arrivals.operation_at.Goals as goal
 
@@ -29,5 +29,5 @@ returns c =
     let kinds : c.args.n < length a.kinds.now = omega arith in
     let name = sym (name_named h a.entry_of.now a.firsts.now c.args.n c.self.invariant.0 came.0 e came.1)
     ∙ ap (λ (x : List Entry). (reported_at x c.args.n).operation.name) c.self.view_is in
-    operation_is c.new.result _ _ _ _ c.new.ensures name
-    (kind_is h a.kinds.now c.args.n _ c.self.invariant.1 kinds ∙ ap (λ (x : List Entry). (reported_at x c.args.n).operation.kind) c.self.view_is)
+    let kind = kind_is h a.kinds.now c.args.n _ c.self.invariant.1 kinds ∙ ap (λ (x : List Entry). (reported_at x c.args.n).operation.kind) c.self.view_is in
+    λ i. record { name = (c.in_ok-name.ensures ∙ name) i; kind = (c.in_ok-kind.ensures ∙ c.text.ensures ∙ kind) i }

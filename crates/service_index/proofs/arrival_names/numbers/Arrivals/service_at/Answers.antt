@@ -25,4 +25,4 @@ returns c =
     let came = came_in a.entries.now a.entry_of.now a.firsts.now c.args.n r e c.self.invariant.0 asked refl in
     let is = sym (service_named h a.entry_of.now a.firsts.now c.args.n c.self.invariant.0 came.0 e came.1)
     ∙ ap (λ (x : List Entry). (reported_at x c.args.n).service) c.self.view_is in
-    subst (λ (s : List ℕ). IfOk c.kept.result (λ n. n ≡ s)) is c.kept.ensures
+    subst (λ (s : List ℕ). IfOk c.of_service.result (λ n. n ≡ s)) is c.of_service.ensures
