@@ -8,14 +8,14 @@ ghost use Rattle.query_json.specs.TracePieces.{item_spans, trace_pieces};
 ghost use Rattle.query_json.specs.Trees.{answer_tree, trace_tree};
 
 use crate::writing::{Page, TraceItem, WriteItems};
-use jaeger_model::{Seq, Text, TraceId};
+use jaeger_model::{Seq, TraceId};
 use std::alloc::{AllocError, Global};
-use trace_model::{Answer, AnsweredTrace, Link, Operation};
+use trace_model::{Answer, AnsweredTrace, Link, Name, Operation};
 
 /// The items of an answer. A piece is what one call writes.
 #[derive(Drop)]
 pub(crate) enum Items {
-    Names(Seq<Text>),
+    Names(Seq<Name>),
     Operations(Seq<Operation>),
     Ids(Seq<TraceId>),
     Links(Seq<Link>),

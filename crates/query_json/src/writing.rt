@@ -27,9 +27,9 @@ mod trace;
 mod values;
 
 pub(crate) use answer::{begin_items, end_items, write_error};
-use jaeger_model::Text;
 pub(crate) use page::Page;
 pub(crate) use trace::TraceItem;
+use trace_model::Name;
 
 /// A value that an answer shows as one JSON tree, and that can be written without that tree.
 pub(crate) trait WriteJson {
@@ -91,8 +91,8 @@ fn write_list<L: WriteItems + Drop>(out: &mut Page, items: L)
     out.push_str("]");
 }
 
-impl WriteJson for Text {
-    ghost tree = { λ t. string t };
+impl WriteJson for Name {
+    ghost tree = { λ n. string n };
 
     fn write(&self, out: &mut Page) {
         out.string(self.as_str());

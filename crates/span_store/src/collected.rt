@@ -11,10 +11,10 @@ use crate::found_traces::FoundTraces;
 use crate::tag_search::TagSearch;
 use crate::window_links::WindowLinks;
 use jaeger_model::{Seq, Text};
-use service_index::{TakenOperation, sorted_names, sorted_operations, sorted_texts};
+use service_index::{sorted_names, sorted_operation_names, sorted_operations};
 use std::alloc::{AllocError, Global};
 use std::marker::Model;
-use trace_model::{Answer, Operation, Refusal, ServiceName, with_kind};
+use trace_model::{Answer, Name, Operation, Refusal, with_kind};
 
 /// What was collected, by the kind of query.
 #[derive(Drop)]
@@ -22,13 +22,13 @@ pub(crate) enum Form<'q> {
     /// The answer itself, which needed only the store's numbers.
     Ready(Answer),
     /// The services, in no particular order. The names refer to their entries.
-    Services(Vec<ServiceName>),
+    Services(Vec<Name>),
     /// The operations of a service, in no particular order, for a query of their names. The names refer to their
     /// entries.
-    OperationNames(Vec<TakenOperation>),
+    OperationNames(Vec<Operation>),
     /// The operations of a service, in no particular order, for a query of this kind. The names refer to their
     /// entries.
-    Operations(Vec<TakenOperation>, &'q Text),
+    Operations(Vec<Operation>, &'q Text),
     /// A search by tags.
     Tags(TagSearch<'q>),
     /// The traces that a search without tags found.
@@ -54,55 +54,28 @@ impl<'q> Model for Collected<'q> {
     ghost view = { λ c. form_answer c.form };
 }
 
-/// Copies the names.
-fn texts_of(alloc: Global, names: &[ServiceName]) -> Result<Vec<Text>, AllocError>
-    ensures { IfOk result (λ v. v.items ≡ names.now) }
-{
-    let mut texts = Vec::with_capacity(alloc, names.len())?;
-    for name in names {
-        texts.push(Text::from_str(alloc, name.as_str())?)?;
-    }
-    Ok(texts)
-}
-
-/// Copies the operations.
-fn operations_of(alloc: Global, taken: &[TakenOperation]) -> Result<Vec<Operation>, AllocError>
-    ensures { IfOk result (λ v. v.items ≡ taken.now) }
-{
-    let mut operations = Vec::with_capacity(alloc, taken.len())?;
-    for operation in taken {
-        operations.push(operation.operation(alloc)?)?;
-    }
-    Ok(operations)
-}
-
 /// Sorts the services for an answer.
-fn answer_services(alloc: Global, services: Vec<ServiceName>) -> Result<Answer, AllocError>
-    ensures { IfOk result (λ a. a ≡ form_answer (collected.Services services)) }
+fn answer_services(services: Vec<Name>) -> Answer
+    ensures { result ≡ form_answer (collected.Services services) }
 {
-    let texts = texts_of(alloc, &services)?;
-    Ok(Answer::Names(Seq::from_vec(sorted_texts(texts)?)))
+    Answer::Names(Seq::from_vec(sorted_names(services)))
 }
 
 /// Sorts the names of the operations for an answer.
-fn answer_names(alloc: Global, taken: Vec<TakenOperation>) -> Result<Answer, AllocError>
-    ensures { IfOk result (λ a. a ≡ form_answer (collected.OperationNames taken)) }
+fn answer_names(alloc: Global, operations: Vec<Operation>) -> Result<Answer, AllocError>
+    ensures { IfOk result (λ a. a ≡ form_answer (collected.OperationNames operations)) }
 {
-    let operations = operations_of(alloc, &taken)?;
-    Ok(Answer::Names(Seq::from_vec(sorted_names(alloc, operations)?)))
+    let names = sorted_operation_names(alloc, operations)?;
+    Ok(Answer::Names(Seq::from_vec(names)))
 }
 
 /// Sorts the operations of the requested kind for an answer.
-fn answer_operations(
-    alloc: Global,
-    taken: Vec<TakenOperation>,
-    kind: &Text,
-) -> Result<Answer, AllocError>
-    ensures { IfOk result (λ a. a ≡ say.Operations
-        (filter (is_asked_kind kind.now) (sorted_set operation_cmp taken.items))) }
+fn answer_operations(operations: Vec<Operation>, kind: &Text) -> Answer
+    ensures { result ≡ say.Operations
+        (filter (is_asked_kind kind.now) (sorted_set operation_cmp operations.items)) }
 {
-    let known = sorted_operations(operations_of(alloc, &taken)?)?;
-    Ok(Answer::Operations(Seq::from_vec(with_kind(known, kind))))
+    let known = sorted_operations(operations);
+    Answer::Operations(Seq::from_vec(with_kind(known, kind)))
 }
 
 impl<'q> Collected<'q> {
@@ -124,9 +97,9 @@ impl<'q> Collected<'q> {
         let Collected { alloc, form } = self;
         match form {
             Form::Ready(answer) => Ok(answer),
-            Form::Services(services) => Ok(answer_services(alloc, services)?),
+            Form::Services(services) => Ok(answer_services(services)),
             Form::OperationNames(operations) => Ok(answer_names(alloc, operations)?),
-            Form::Operations(operations, kind) => Ok(answer_operations(alloc, operations, kind)?),
+            Form::Operations(operations, kind) => Ok(answer_operations(operations, kind)),
             Form::Tags(search) => Ok(search.answer(alloc)?),
             Form::Found(traces) => Ok(traces.answer(alloc)?),
             Form::Links(links) => Ok(links.answer(alloc)?),

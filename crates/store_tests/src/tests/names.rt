@@ -10,7 +10,7 @@ use std::hash::RandomState;
 use std::mem::drop;
 use std::sync::Arc;
 use std::test::*;
-use trace_model::{Answer, Entry, Limits, Operation, Query};
+use trace_model::{Answer, Entry, Limits, Name, Operation, Query};
 use trace_samples::{first_mismatch, kept, list_of, placed, span, text_tag};
 
 /// Service, operation and kind, as they are added.
@@ -81,7 +81,7 @@ fn services_of(
     alloc: Global,
     keys: RandomState,
     entries: &[Arc<Entry>],
-) -> Result<Vec<Text>, Fail> {
+) -> Result<Vec<Name>, Fail> {
     names_in(answer_to(alloc, keys, entries, Query::Services)?)
 }
 
@@ -91,7 +91,7 @@ fn names_of(
     keys: RandomState,
     entries: &[Arc<Entry>],
     service: &str,
-) -> Result<Vec<Text>, Fail> {
+) -> Result<Vec<Name>, Fail> {
     let query = queries::operation_names(alloc, service)?;
     names_in(answer_to(alloc, keys, entries, query)?)
 }
@@ -130,7 +130,7 @@ fn has_names(
 }
 
 /// Whether these are the names.
-fn is_named(names: &[Text], wanted: &[&str]) -> bool {
+fn is_named(names: &[Name], wanted: &[&str]) -> bool {
     names
         .iter()
         .map(|name| name.as_str())
@@ -423,7 +423,7 @@ fn one_trace() -> Result<Limits, Fail> {
 }
 
 /// The names of an answer that is made of names.
-fn names_in(answer: Answer) -> Result<Vec<Text>, Fail> {
+fn names_in(answer: Answer) -> Result<Vec<Name>, Fail> {
     match answer {
         Answer::Names(names) => Ok(names.into_vec()),
         other => {

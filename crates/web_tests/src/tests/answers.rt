@@ -3,7 +3,7 @@ use query_json::{AnswerParts, answer_json, error_json};
 use std::alloc::{AllocError, Global};
 use std::process::Abort;
 use std::test::*;
-use trace_model::{AdjustedSpan, AdjustedTrace, Answer, AnsweredTrace};
+use trace_model::{AdjustedSpan, AdjustedTrace, Answer, AnsweredTrace, Name};
 use trace_samples::{list_of, placed, retry};
 
 /// The span of the sample batch: trace 1, span 2, operation `op`, from 1000 for 50 microseconds.
@@ -101,7 +101,7 @@ fn shows_items(
 fn names_and_ids(rt: HostRuntime) -> Result<(), Fail> {
     let alloc = rt.alloc();
     shows_items(&rt, alloc, Answer::Names(Seq::new(alloc)), "[]", 0)?;
-    let names = list_of(alloc, Text::from_str(alloc, "a")?)?;
+    let names = list_of(alloc, Name::own(alloc, Text::from_str(alloc, "a")?)?)?;
     shows_items(&rt, alloc, Answer::Names(names), r#"["a"]"#, 1)?;
     let ids = vec![in alloc; TraceId { high: 0, low: 171 }, TraceId { high: 1, low: 0 }]?;
     let want = r#"["00000000000000ab","00000000000000010000000000000000"]"#;
@@ -113,7 +113,7 @@ const MANY: usize = 1_000;
 fn many_names(alloc: Global) -> Result<Answer, AllocError> {
     let mut names = Vec::new(alloc);
     for _ in 0..MANY {
-        names.push(Text::from_str(alloc, "n")?)?;
+        names.push(Name::own(alloc, Text::from_str(alloc, "n")?)?)?;
     }
     Ok(Answer::Names(Seq::from_vec(names)))
 }

@@ -6,7 +6,7 @@ use std::alloc::{AllocError, Global};
 use std::sync::Arc;
 use std::test::*;
 use trace_model::{
-    Answer, AnsweredTrace, Entry, KeptSpan, KeptTrace, Limits, Link, Operation, ServiceName, Work,
+    Answer, AnsweredTrace, Entry, KeptSpan, KeptTrace, Limits, Link, Name, Operation, Work,
 };
 use trace_samples::{kept, process, retry, span, submitted};
 
@@ -34,7 +34,7 @@ fn long_name(alloc: Global, letters: usize) -> Result<Text, AllocError> {
 fn names(alloc: Global) -> Result<Answer, AllocError> {
     let mut names = Vec::new(alloc);
     for _ in 0..MANY {
-        names.push(long_name(alloc, LETTERS)?)?;
+        names.push(Name::own(alloc, long_name(alloc, LETTERS)?)?)?;
     }
     Ok(Answer::Names(Seq::from_vec(names)))
 }
@@ -42,7 +42,7 @@ fn names(alloc: Global) -> Result<Answer, AllocError> {
 fn operations(alloc: Global) -> Result<Answer, AllocError> {
     let mut operations = Vec::new(alloc);
     for _ in 0..MANY {
-        let name = long_name(alloc, LETTERS)?;
+        let name = Name::own(alloc, long_name(alloc, LETTERS)?)?;
         let kind = Text::from_str(alloc, "client")?;
         operations.push(Operation { name, kind })?;
     }
@@ -60,8 +60,8 @@ fn ids(alloc: Global) -> Result<Answer, AllocError> {
 fn links(alloc: Global) -> Result<Answer, AllocError> {
     let mut links = Vec::new(alloc);
     for calls in 0..MANY {
-        let parent = ServiceName::own(long_name(alloc, LETTERS)?);
-        let child = ServiceName::own(long_name(alloc, LETTERS)?);
+        let parent = Name::own(alloc, long_name(alloc, LETTERS)?)?;
+        let child = Name::own(alloc, long_name(alloc, LETTERS)?)?;
         let calls = u64::from(calls);
         links.push(Link {
             parent,
