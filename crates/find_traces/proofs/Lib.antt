@@ -3,8 +3,8 @@ pub mod Numbers
 pub mod RequestedPairs
 pub mod AscendingLists
 pub mod Order
+pub mod InsertedKeys
+pub mod OfferedKeys
+pub mod LimitedAnswers
 pub mod SortedTraces
 pub mod Found
-pub mod WalkAnswers
-pub mod HeapOrder
-pub mod RankingWalk

@@ -40,20 +40,20 @@ module _ {X : Type 0} (start : ℕ × X → ℤ) where
   abbrev pub rank_cmp : ℕ × X → ℕ × X → Ordering
   rank_cmp a b = ordering_then (int_cmp (start b) (start a)) (nat_cmp b.0 a.0)
 
-  rank_total : IsTotalOrder rank_cmp
+  pub rank_total : IsTotalOrder rank_cmp
   rank_total = then_total (on_total start (back_total int_cmp_total)) (on_total (λ (e : ℕ × X). e.0) (back_total nat_cmp_total))
 
-  abbrev After : ℕ × X → List (ℕ × X) → Type 0
+  abbrev pub After : ℕ × X → List (ℕ × X) → Type 0
   After x es = AllByRecursion (λ (e : ℕ × X). x.0 < e.0) es
 
   abbrev PlacesRise : List (ℕ × X) → Type 0
   PlacesRise [] = Unit {0}
   PlacesRise (x ∷ es) = After x es × PlacesRise es
 
-  earlier : (x y : ℕ × X) → int_lt (start y) (start x) ≡ true → rank_cmp x y ≡ Less
+  pub earlier : (x y : ℕ × X) → int_lt (start y) (start x) ≡ true → rank_cmp x y ≡ Less
   earlier x y e = ap (λ b. ordering_then (cond b Less (cond (int_lt (start x) (start y)) Greater Equal)) (nat_cmp y.0 x.0)) e
 
-  later : (x y : ℕ × X) → int_lt (start y) (start x) ≡ false → x.0 < y.0 → rank_cmp y x ≡ Less
+  pub later : (x y : ℕ × X) → int_lt (start y) (start x) ≡ false → x.0 < y.0 → rank_cmp y x ≡ Less
   later x y e h =
       elim (int_lt (start x) (start y)) as (λ b. ordering_then (cond b Less (cond (int_lt (start y) (start x)) Greater Equal)) (nat_cmp x.0 y.0) ≡ Less) [
         | true ↦ refl
@@ -105,6 +105,10 @@ module _ {X : Type 0} (start : ℕ × X → ℤ) where
   places_rise : (n : ℕ) (xs : List X) → PlacesRise (enumerate_from n xs)
   places_rise n [] = tt
   places_rise n (x ∷ xs) = (above n (enumerate_from (n + 1) xs) (places_above (n + 1) xs), places_rise (n + 1) xs)
+
+  -- those that are numbered from the next number on
+  pub places_after : (x : ℕ × X) (xs : List X) → After x (enumerate_from (x.0 + 1) xs)
+  places_after x xs = above x.0 (enumerate_from (x.0 + 1) xs) (places_above (x.0 + 1) xs)
 
   pub ranked_rises : (xs : List X) → IsStrictlySortedBy rank_cmp (ranked_by_start start (enumerate_from 0 xs))
   ranked_rises xs = strict_ranked (enumerate_from 0 xs) (places_rise 0 xs)

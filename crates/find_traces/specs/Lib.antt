@@ -1,4 +1,5 @@
 pub mod Places
 pub mod Keys
+pub mod BestKeys
 pub mod RequestedPairs
 pub mod PreparedSearches

@@ -1,59 +1,43 @@
-//! Searches with a limit. A heap yields the traces in the order of the answer; they are judged in that order,
-//! until the limit is reached.
+//! Searches with a limit. They keep no more keys than the limit: first those of the traces that start last, then, if
+//! not all of these match, those of the best other matches.
 
-ghost use Rattle.std.specs.Prelude.{◌≡◌, IfOk, List, map, filter};
-ghost use Rattle.std.specs.List.Sorted.{IsPermutation, IsStrictlySortedBy};
-ghost use Rattle.std.specs.BinaryHeap.{heap_items, IsHeap};
-ghost use Rattle.trace_model.specs.Searching.{cut};
+ghost use Rattle.std.specs.Prelude.{◌≡◌, ◌++◌, ◌<◌, ◌≤◌, true, IfOk, OnOk, map, filter, length, take};
+ghost use Rattle.std.specs.Bool.{OnTrue, OnFalse};
+ghost use Rattle.std.specs.BTreeSet.{insert_key};
 ghost use Rattle.find_traces.specs.Places.{places_found};
-ghost use Rattle.std.specs.List.{enumerate_from};
-ghost use Rattle.find_traces.specs.Keys.{is_full, key_of, key_place, key_cmp, best_cmp, key_judged};
+ghost use Rattle.find_traces.specs.Keys.{reversed, reverse_key_place, reverse_key_cmp};
+ghost use Rattle.find_traces.specs.BestKeys.{ranking, is_match, is_match_after};
 
+use crate::best_keys::BestKeys;
 use crate::key::{Key, key_at};
 use crate::searched::Searched;
 use std::alloc::{AllocError, Global};
-use std::collections::BinaryHeap;
 
-/// Makes a key for each trace.
-fn all_keys<T: Searched>(alloc: Global, traces: &T) -> Result<Vec<Key>, AllocError>
-    ensures { IfOk result (λ v. v.items ≡ map key_of (enumerate_from 0 (T.traces traces.now))) }
+/// Returns the keys of the traces that start last, at most `most` of them. Judges none.
+fn latest_keys<T: Searched>(alloc: Global, traces: &T, most: usize) -> Result<BestKeys, AllocError>
+    ensures keys { IfOk result (λ latest. latest.keys.keys ≡ take most (ranking (T.traces traces.now))) }
+    ensures most { IfOk result (λ latest. latest.most ≡ most) }
 {
-    let mut keys = Vec::with_capacity(alloc, traces.count())?;
-    for place in 0..traces.count() {
-        keys.push(key_at(traces, place))?;
+    let mut latest = BestKeys::new(alloc, most);
+    for place in (0..traces.count()).rev() {
+        latest.offer(key_at(traces, place))?;
     }
-    Ok(keys)
+    Ok(latest)
 }
 
-/// Whether the count has reached the limit.
-fn is_full(limit: u64, count: usize) -> bool
-    ensures { result ≡ is_full limit count }
-{
-    limit != 0 && limit <= count as u64
-}
-
-/// Returns the places of the traces that match, the best first, no more than the limit. None is judged after the
-/// limit is reached.
-fn judge_popped<T: Searched>(
+/// Returns the places of those traces with these keys that match, in the order of the keys.
+fn judge_in_order<T: Searched>(
     alloc: Global,
     traces: &mut T,
-    mut keys: BinaryHeap<Key>,
+    mut keys: BestKeys,
 ) -> Result<Vec<usize>, AllocError>
-    ghost ranking: { List Key }
-    requires rises { IsStrictlySortedBy best_cmp ranking }
-    requires permutation { IsPermutation ranking (heap_items keys) }
-    requires heap { IsHeap key_cmp (heap_items keys) }
-    ensures places { IfOk result (λ v. v.items ≡ map key_place
-        (cut (T.query traces.old).limit
-        (filter (key_judged (T.query traces.old) (T.traces traces.old)) ranking))) }
+    ensures places { IfOk result (λ v. v.items ≡ map reverse_key_place
+        (filter (is_match (T.query traces.old) (T.traces traces.old)) keys.keys.keys)) }
     ensures same_traces { T.traces traces.new ≡ T.traces traces.old }
     ensures same_query { T.query traces.new ≡ T.query traces.old }
 {
     let mut places = Vec::new(alloc);
     while let Some(key) = keys.pop() {
-        if is_full(traces.limit(), places.len()) {
-            break;
-        }
         if traces.is_found_at(alloc, key.place)? {
             places.push(key.place)?;
         }
@@ -61,16 +45,87 @@ fn judge_popped<T: Searched>(
     Ok(places)
 }
 
+/// Whether the trace with a key ranks after another one, would be kept among the best, and matches. Only then is it
+/// judged.
+fn is_chosen<T: Searched>(
+    alloc: Global,
+    traces: &mut T,
+    last: Key,
+    best: &BestKeys,
+    key: Key,
+) -> Result<bool, AllocError>
+    requires { length best.now.keys.keys ≤ best.now.most }
+    ensures chosen { IfOk result (λ chosen. OnTrue chosen
+        (is_match_after (T.query traces.old) (T.traces traces.old) last (reversed key) ≡ true)) }
+    ensures left { IfOk result (λ chosen. OnFalse chosen
+        (is_match_after (T.query traces.old) (T.traces traces.old) last (reversed key) ≡ true →
+        take best.now.most (insert_key reverse_key_cmp best.now.keys.keys (reversed key)) ≡
+        best.now.keys.keys)) }
+    ensures same_traces { T.traces traces.new ≡ T.traces traces.old }
+    ensures same_query { T.query traces.new ≡ T.query traces.old }
+{
+    if key >= last || !best.would_keep(key) {
+        return Ok(false);
+    }
+    traces.is_found_at(alloc, key.place)
+}
+
+/// Returns the keys of the best matches that rank after a key, at most `most` of them. The trace opened last is
+/// judged first, and none that ranks after enough matches.
+fn best_after<T: Searched>(
+    alloc: Global,
+    traces: &mut T,
+    last: Key,
+    most: usize,
+) -> Result<BestKeys, AllocError>
+    ensures keys { IfOk result (λ best. best.keys.keys ≡ take most
+        (filter (is_match_after (T.query traces.old) (T.traces traces.old) last)
+        (ranking (T.traces traces.old)))) }
+    ensures same_traces { T.traces traces.new ≡ T.traces traces.old }
+    ensures same_query { T.query traces.new ≡ T.query traces.old }
+{
+    let mut best = BestKeys::new(alloc, most);
+    for place in (0..traces.count()).rev() {
+        let key = key_at(traces, place);
+        if is_chosen(alloc, traces, last, &best, key)? {
+            best.offer(key)?;
+        }
+    }
+    Ok(best)
+}
+
+/// Appends the places of the keys, in their order.
+fn push_places(places: &mut Vec<usize>, mut keys: BestKeys) -> Result<(), AllocError>
+    ensures { OnOk result (places.new.items ≡
+        places.old.items ++ map reverse_key_place keys.keys.keys) }
+{
+    while let Some(key) = keys.pop() {
+        places.push(key.place)?;
+    }
+    Ok(())
+}
+
 /// Returns the places of the best traces that match, in the order of the answer.
 pub(crate) fn find_best<T: Searched>(
     alloc: Global,
     traces: &mut T,
 ) -> Result<Vec<usize>, AllocError>
+    requires { 0 < (T.query traces.old).limit }
     ensures places { IfOk result (λ v. v.items ≡
         places_found (T.query traces.old) (T.traces traces.old)) }
     ensures same_traces { T.traces traces.new ≡ T.traces traces.old }
     ensures same_query { T.query traces.new ≡ T.query traces.old }
 {
-    let keys = all_keys(alloc, traces)?;
-    judge_popped(alloc, traces, BinaryHeap::from(keys))
+    let limit = traces.limit() as usize;
+    let latest = latest_keys(alloc, traces, limit)?;
+    let last = latest.last_if_full();
+    let mut places = judge_in_order(alloc, traces, latest)?;
+    if let Some(last) = last {
+        let room = limit - places.len();
+        if room != 0 {
+            let others = best_after(alloc, traces, last, room)?;
+            push_places(&mut places, others)?;
+        }
+    }
+    Ok(places)
 }

@@ -9,8 +9,9 @@ use jaeger_model::TraceId;
 use std::alloc::{AllocError, Global};
 
 /// Returns the places of the traces that a search finds, in the order of its answer: latest first start first, of
-/// equal starts the trace opened later, and no more than the limit. With a limit, no trace is judged after the
-/// limit is reached; without one, only those that match are sorted.
+/// equal starts the trace opened later, and no more than the limit. With a limit, no more keys than that are kept at
+/// once, and first as many traces as the limit are judged, those that start last. Only if some of these don't match are
+/// others judged. Without a limit, only those that match are sorted.
 ///
 /// # Errors
 ///

@@ -6,11 +6,13 @@
 //! * `searched`: traces that are judged one by one, wherever their spans are.
 //! * `key`: the sort key of a trace.
 //! * `matched`: the traces that match, judged one after the other and then sorted.
-//! * `best`: the best traces that match, judged in the order of a heap, up to a limit.
+//! * `best_keys`: the best keys of those that are offered, up to a number of them.
+//! * `best`: the best traces that match, up to a limit.
 //! * `finding`: the traces that a search finds, in the order of its answer.
 #![tactic(auto)]
 
 mod best;
+mod best_keys;
 mod finding;
 mod judged_process;
 mod key;

@@ -135,7 +135,7 @@ fn all_kept(
 }
 
 /// Returns the traces that a search finds, in the order of its answer, as they are to be shown. Their spans stay in
-/// the entries. No trace is judged after the limit of the search is reached.
+/// the entries.
 ///
 /// # Errors
 ///

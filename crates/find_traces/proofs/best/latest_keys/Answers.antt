@@ -1,0 +1,25 @@
+use Rattle.std.proofs.Common.{◌≡◌, ◌+◌, ◌-◌, ◌<◌, length, take, sym, ap, ◌∙◌, arith}
+use Rattle.std.specs.BTreeSet.{insert_key}
+use Rattle.find_traces.specs.Places.{trace_at}
+use Rattle.find_traces.specs.Keys.{reversed, reverse_key_cmp}
+use Rattle.find_traces.proofs.OfferedKeys.{best_of, from_place, offered, one_before, all_after}
+use Rattle.find_traces.proofs.best.latest_keys.Goals as goal
+
+pub loop-place-preserved : goal.loop-place-preserved
+loop-place-preserved g c =
+    let ts = g.T.Searched.traces c.args.traces.now in
+    let i = c.loop-place.place - 1 in
+    let back : i + 1 ≡ c.loop-place.place = omega (arith, c.loop-place-test.true) in
+    let below : i < length ts = omega (arith, c.loop-place-test.true, c.loop-place.auto.place, c.count-place.ensures) in
+    let was = c.loop-place.invariant in
+    let n = c.args.most in
+    let old = c.loop-place.latest.keys.keys in
+    let kept = was.keys ∙ ap (λ p. take n (best_of (from_place ts p))) (sym back) in
+    record {
+      keys =
+          c.in_ok-offer.ensures.keys
+          ∙ (λ j. take (was.most j) (insert_key reverse_key_cmp old (reversed (c.key_at.ensures j))))
+          ∙ offered n old (i, trace_at ts i) (from_place ts (i + 1)) (all_after ts i) kept
+          ∙ ap (λ l. take n (best_of l)) (sym (one_before ts i below));
+      most = c.in_ok-offer.ensures.most ∙ was.most;
+    }

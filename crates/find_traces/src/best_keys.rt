@@ -1,0 +1,83 @@
+//! The best keys of those that are offered, up to a number of them.
+
+ghost use Rattle.std.specs.Prelude.{◌≡◌, ◌<◌, ◌≤◌, [], ◌∷◌, IfSome, IfNone, OnOk, length, take};
+ghost use Rattle.std.specs.Bool.{OnFalse};
+ghost use Rattle.std.specs.BTreeSet.{insert_key};
+ghost use Rattle.find_traces.specs.Keys.{reversed, reverse_key_cmp};
+ghost use Rattle.find_traces.specs.BestKeys.{IsLast};
+
+use crate::key::Key;
+use std::alloc::{AllocError, Global};
+use std::cmp::Reverse;
+use std::collections::BTreeSet;
+
+/// The best keys of those that were offered, at most `most` of them; the best is the first of the set.
+#[derive(Drop)]
+pub(crate) struct BestKeys {
+    keys: BTreeSet<Reverse<Key>>,
+    most: usize,
+}
+
+impl BestKeys {
+    pub(crate) fn new(alloc: Global, most: usize) -> BestKeys
+        ensures keys { result.keys.keys ≡ [] }
+        ensures most { result.most ≡ most }
+    {
+        BestKeys {
+            keys: BTreeSet::new(alloc),
+            most,
+        }
+    }
+
+    /// Whether a key would be kept if it were offered.
+    pub(crate) fn would_keep(&self, key: Key) -> bool
+        requires { length self.now.keys.keys ≤ self.now.most }
+        ensures { OnFalse result (take self.now.most
+            (insert_key reverse_key_cmp self.now.keys.keys (reversed key)) ≡ self.now.keys.keys) }
+    {
+        if self.keys.len() < self.most {
+            return true;
+        }
+        match self.keys.last() {
+            Some(worst) => worst.0 < key,
+            None => false,
+        }
+    }
+
+    /// Adds a key. The worst one is dropped if they are too many.
+    pub(crate) fn offer(&mut self, key: Key) -> Result<(), AllocError>
+        requires { length self.old.keys.keys ≤ self.old.most }
+        ensures keys { OnOk result (self.new.keys.keys ≡ take self.old.most
+            (insert_key reverse_key_cmp self.old.keys.keys (reversed key))) }
+        ensures most { self.new.most ≡ self.old.most }
+    {
+        if !self.would_keep(key) {
+            return Ok(());
+        }
+        self.keys.insert(Reverse(key))?;
+        if self.keys.len() > self.most {
+            self.keys.pop_last();
+        }
+        Ok(())
+    }
+
+    /// Returns the worst key that is kept, if no more are kept than may be: other keys may have been dropped.
+    pub(crate) fn last_if_full(&self) -> Option<Key>
+        requires { 0 < self.now.most }
+        ensures last { IfSome result (IsLast self.now.keys.keys) }
+        ensures all { IfNone result (length self.now.keys.keys < self.now.most) }
+    {
+        if self.keys.len() < self.most {
+            return None;
+        }
+        self.keys.last().map(|worst| worst.0)
+    }
+
+    /// Removes the best key.
+    pub(crate) fn pop(&mut self) -> Option<Key>
+        ensures best { IfSome result (λ k. self.old.keys.keys ≡ reversed k ∷ self.new.keys.keys) }
+        ensures none { IfNone result (self.old.keys.keys ≡ []) }
+    {
+        self.keys.pop_first().map(|best| best.0)
+    }
+}
