@@ -9,7 +9,7 @@ use Rattle.trace_model.specs.declared.answer.Answer.{Answer}
 use Rattle.trace_model.specs.declared.refusal.Refusal.{Refusal}
 use Rattle.trace_model.specs.Histories.{IsLegal}
 use Rattle.trace_model.specs.Answers.{answer}
-use Rattle.trace_model.specs.StoreKnowledge.{History, IsPrefixOf, HasAt, Keeps, Places, AnswersAt, SubmitKnows, ReadKnows}
+use Rattle.trace_model.specs.StoreKnowledge.{History, IsPrefixOf, HasAt, Known, reached, lists_of, Keeps, Places, AnswersAt, SubmitKnows, ReadKnows}
 use Rattle.http_session.specs.Sessions.{Exchange, Submits, Reads, Step, Run}
 use Rattle.http_session.specs.HistoryPoints.{Seen, IsPoint, Gets, Related, nothing_seen}
 use Rattle.http_session.specs.declared.verdict.Verdict.{Verdict}
@@ -28,32 +28,32 @@ still_has h long place b has goes = record {
   whole = goes.1 ∙ ap (λ l. l ++ goes.0) has.whole ∙ append_assoc has.before (has.entry ∷ has.after) goes.0;
 }
 
-module _ {S : Type 0} (limits : S → Limits) (knows : S → History → Type 0) (submits : Submits S) (reads : Reads S)
+module _ {S : Type 0} (limits : S → Limits) (knows : S → Known → Type 0) (submits : Submits S) (reads : Reads S)
     (submit_knows : (s : S) (b : Batch) (r : Result ℕ Refusal) (t : S) → submits s b r t → SubmitKnows limits knows s b r t)
     (read_knows : (s : S) (q : Query) (r : Result Answer Refusal) (t : S) → reads s q r t → ReadKnows limits knows s q r t) where
   abbrev pub Placed : S → Batch × ℕ → Type 0
-  Placed s pair = (h : History) × HasAt h pair.1 pair.0 × knows s h
+  Placed s pair = (h : History) × HasAt h pair.1 pair.0 × knows s (reached h)
 
   pub record Holds (under : Limits) (knew : History → Type 0) (s : S) (seen : Seen) : Type 0 where
     pub same : limits s ≡ under
-    pub old : (h : History) → knew h → knows s h
-    pub last : IfSome seen.point (λ h. knows s h)
+    pub old : (h : History) → knew h → knows s (reached h)
+    pub last : IfSome seen.point (lists_of knows s)
     pub placed : All (Placed s) seen.accepted
 
-  last_kept : (s t : S) → Keeps limits knows s t → (o : Option History) → IfSome o (λ h. knows s h) → IfSome o (λ h. knows t h)
+  last_kept : (s t : S) → Keeps limits knows s t → (o : Option History) → IfSome o (lists_of knows s) → IfSome o (lists_of knows t)
   last_kept s t keeps None k = tt
-  last_kept s t keeps (Some h) k = keeps.knowledge h k
+  last_kept s t keeps (Some h) k = keeps.knowledge (reached h) k
 
   kept : (under : Limits) (knew : History → Type 0) (s t : S) (seen : Seen) → Holds under knew s seen → Keeps limits knows s t → Holds under knew t seen
   kept under knew s t seen holds keeps = record {
     same = keeps.same_limits ∙ holds.same;
-    old = λ h k. keeps.knowledge h (holds.old h k);
+    old = λ h k. keeps.knowledge (reached h) (holds.old h k);
     last = last_kept s t keeps seen.point holds.last;
-    placed = All-weaker (Placed s) (Placed t) (λ pair p. (p.0, p.1, keeps.knowledge p.0 p.2)) seen.accepted holds.placed;
+    placed = All-weaker (Placed s) (Placed t) (λ pair p. (p.0, p.1, keeps.knowledge (reached p.0) p.2)) seen.accepted holds.placed;
   }
 
-  behind : (knew : History → Type 0) (s : S) (o : Option History) (h : History) → ((l : History) → knew l → knows s l) → IfSome o (λ l. knows s l)
-      → ((l : History) → knows s l → IsPrefixOf l h)
+  behind : (knew : History → Type 0) (s : S) (o : Option History) (h : History) → ((l : History) → knew l → knows s (reached l)) → IfSome o (lists_of knows s)
+      → ((l : History) → knows s (reached l) → IsPrefixOf l h)
       → MatchOption o ((l : History) → knew l → IsPrefixOf l h) (λ before. IsPrefixOf before h)
   behind knew s None h old last all = λ l k. all l (old l k)
   behind knew s (Some before) h old last all = all before last
@@ -93,7 +93,7 @@ module _ {S : Type 0} (limits : S → Limits) (knows : S → History → Type 0)
   goes under knew s t seen (Submit b) Accepted holds step =
       let (keeps, places) = submit_knows s b (Ok step.0) t step.1 in
       (record seen { accepted = (b, step.0) ∷ seen.accepted }, (step.0, refl), accepted under knew s t seen b step.0 holds keeps places)
-  goes under knew s t seen (Submit b) (Refused r) holds step = (seen, refl, kept under knew s t seen holds (submit_knows s b (Err r) t step))
+  goes under knew s t seen (Submit b) (Refused r) holds step = (seen, refl, kept under knew s t seen holds (submit_knows s b (Err r) t step).0)
   goes under knew s t seen (Ask q) (Answered a) holds step =
       let (keeps, at) = read_knows s q (Ok a) t step in
       pointed under knew s t seen q a holds keeps at
@@ -108,9 +108,9 @@ module _ {S : Type 0} (limits : S → Limits) (knows : S → History → Type 0)
       let on = goes under knew s run.0 seen x.verdict x.reply holds run.1 in
       (on.0, on.1, related under knew run.0 t on.0 xs on.2 run.2)
 
-  begin : (s : S) → Holds (limits s) (λ h. knows s h) s nothing_seen
+  begin : (s : S) → Holds (limits s) (lists_of knows s) s nothing_seen
   begin s = record { same = refl; old = λ h k. k; last = tt; placed = All-nil (Placed s) }
 
   -- from the start, when nothing was seen
-  pub related_all : (s t : S) (xs : List Exchange) → Run submits reads s xs t → Related (λ h. knows s h) (limits s) nothing_seen xs
-  related_all s t xs run = related (limits s) (λ h. knows s h) s t nothing_seen xs (begin s) run
+  pub related_all : (s t : S) (xs : List Exchange) → Run submits reads s xs t → Related (lists_of knows s) (limits s) nothing_seen xs
+  related_all s t xs run = related (limits s) (lists_of knows s) s t nothing_seen xs (begin s) run

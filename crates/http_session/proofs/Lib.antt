@@ -7,3 +7,4 @@ pub mod SessionTurns
 pub mod AnsweredRequests
 pub mod HistoryPoints
 pub mod SessionPieces
+pub mod KnownRefusals

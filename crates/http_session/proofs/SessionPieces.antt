@@ -8,7 +8,7 @@ use Rattle.trace_model.specs.declared.limits.Limits.{Limits}
 use Rattle.trace_model.specs.declared.query.Query.{Query}
 use Rattle.trace_model.specs.declared.answer.Answer.{Answer}
 use Rattle.trace_model.specs.declared.refusal.Refusal.{Refusal}
-use Rattle.trace_model.specs.StoreKnowledge.{History, Keeps, SubmitKnows, ReadKnows}
+use Rattle.trace_model.specs.StoreKnowledge.{Known, reached, Keeps, SubmitKnows, ReadKnows}
 use Rattle.http_requests.specs.declared.read_buffer.ReadError.{ReadError}
 use Rattle.http_requests.specs.declared.request.BadRequest.{BadRequest}
 use Rattle.http_requests.specs.declared.read_buffer.ReadError.TheVariants as why
@@ -46,7 +46,7 @@ pub record Promises {S : Type 0} (store : Store S) : Type 0 where
   pub submit_knows : (s : S) (b : Batch) (r : Result ℕ Refusal) (t : S) → store.submits s b r t → SubmitKnows store.limits store.knows s b r t
   pub read_knows : (s : S) (q : Query) (r : Result Answer Refusal) (t : S) → store.reads s q r t → ReadKnows store.limits store.knows s q r t
 
-pub promises_of : {S : Type 0} {submits : Submits S} {reads : Reads S} {knows : S → History → Type 0} {limits : S → Limits}
+pub promises_of : {S : Type 0} {submits : Submits S} {reads : Reads S} {knows : S → Known → Type 0} {limits : S → Limits}
     → ((s : S) (b : Batch) (r : Result ℕ Refusal) (t : S) → submits s b r t → SubmitKnows limits knows s b r t)
     → ((s : S) (q : Query) (r : Result Answer Refusal) (t : S) → reads s q r t → ReadKnows limits knows s q r t)
     → Promises (store_of submits reads knows limits)
@@ -74,14 +74,22 @@ module _ {S : Type 0} (store : Store S) where
     later_submit_knows s b (Ok place) t later =
         let known = promises.submit_knows later.0 b (Ok place) t later.2 in
         (keeps_on s later.0 t later.1 known.0, known.1)
-    later_submit_knows s b (Err why) t later = keeps_on s later.0 t later.1 (promises.submit_knows later.0 b (Err why) t later.2)
+    later_submit_knows s b (Err why) t later =
+        let known = promises.submit_knows later.0 b (Err why) t later.2 in
+        (keeps_on s later.0 t later.1 known.0, known.1)
 
     later_read_knows : (s : S) (q : Query) (r : Result Answer Refusal) (t : S) → (shared store).reads s q r t → ReadKnows store.limits store.knows s q r t
     later_read_knows s q (Ok a) t later =
         let known = promises.read_knows later.0 q (Ok a) t later.2 in
         let at = known.1 in (
           keeps_on s later.0 t later.1 known.0,
-          record { history = at.history; legal = at.legal; behind = λ h k. at.behind h (later.1.knowledge h k); answer_is = at.answer_is; known = at.known },
+          record {
+            history = at.history;
+            legal = at.legal;
+            behind = λ h k. at.behind h (later.1.knowledge (reached h) k);
+            answer_is = at.answer_is;
+            known = at.known;
+          },
         )
     later_read_knows s q (Err why) t later = keeps_on s later.0 t later.1 (promises.read_knows later.0 q (Err why) t later.2)
 
@@ -342,27 +350,18 @@ module _ {S C : Type 0} (store : Store S) (line : Line C) (two : IsTwoWay line) 
   pub begins_among : UnderwayAmong store line c c s s no_requests_yet
   begins_among = (s, record { text = []; incoming = refl; so_far = begins (shared store).submits (shared store).reads line two c s }, keeps_all store s)
 
--- ---- in a pause
+-- ---- what a step keeps
 
-module _ {S C : Type 0} (store : Store S) (promises : Promises store) (line : Line C) where
-  pub others_forget_nothing : StaysUnderway store line (ForgetsNothing store)
-  others_forget_nothing c0 c1 s t u session under keeps = (under.0, under.1, keeps_on store under.0 t u under.2 keeps)
-
-  submit_keeps : (t u : S) (b : Batch) (r : Result ℕ Refusal) → store.submits t b r u → Keeps store.limits store.knows t u
+module _ {S : Type 0} (store : Store S) (promises : Promises store) where
+  pub submit_keeps : (t u : S) (b : Batch) (r : Result ℕ Refusal) → store.submits t b r u → Keeps store.limits store.knows t u
   submit_keeps t u b (Ok place) step = (promises.submit_knows t b (Ok place) u step).0
-  submit_keeps t u b (Err why) step = promises.submit_knows t b (Err why) u step
+  submit_keeps t u b (Err why) step = (promises.submit_knows t b (Err why) u step).0
 
-  read_keeps : (t u : S) (q : Query) (r : Result Answer Refusal) → store.reads t q r u → Keeps store.limits store.knows t u
+  pub read_keeps : (t u : S) (q : Query) (r : Result Answer Refusal) → store.reads t q r u → Keeps store.limits store.knows t u
   read_keeps t u q (Ok a) step = (promises.read_knows t q (Ok a) u step).0
   read_keeps t u q (Err why) step = promises.read_knows t q (Err why) u step
 
-  pub others_submit : StaysUnderway store line (SubmitsSome store)
-  others_submit c0 c1 s t u session under does = others_forget_nothing c0 c1 s t u session under (submit_keeps t u does.0 does.1 does.2)
-
-  pub others_read : StaysUnderway store line (ReadsSome store)
-  others_read c0 c1 s t u session under does = others_forget_nothing c0 c1 s t u session under (read_keeps t u does.0 does.1 does.2)
-
-  step_keeps : (t u : S) (v : Verdict) (reply : Reply) → Step store.submits store.reads t v reply u → Keeps store.limits store.knows t u
+  pub step_keeps : (t u : S) (v : Verdict) (reply : Reply) → Step store.submits store.reads t v reply u → Keeps store.limits store.knows t u
   step_keeps t u (Submit b) Accepted step = submit_keeps t u b (Ok step.0) step.1
   step_keeps t u (Submit b) (Refused r) step = submit_keeps t u b (Err r) step
   step_keeps t u (Ask q) (Answered a) step = read_keeps t u q (Ok a) step
@@ -370,9 +369,21 @@ module _ {S C : Type 0} (store : Store S) (promises : Promises store) (line : Li
   step_keeps t u (Reject error) (Error said) step = subst (λ (x : S). Keeps store.limits store.knows t x) (sym step.1) (keeps_all store t)
   step_keeps t u _ _ step = absurd step
 
+-- ---- in a pause
+
+module _ {S C : Type 0} (store : Store S) (promises : Promises store) (line : Line C) where
+  pub others_forget_nothing : StaysUnderway store line (ForgetsNothing store)
+  others_forget_nothing c0 c1 s t u session under keeps = (under.0, under.1, keeps_on store under.0 t u under.2 keeps)
+
+  pub others_submit : StaysUnderway store line (SubmitsSome store)
+  others_submit c0 c1 s t u session under does = others_forget_nothing c0 c1 s t u session under (submit_keeps store promises t u does.0 does.1 does.2)
+
+  pub others_read : StaysUnderway store line (ReadsSome store)
+  others_read c0 c1 s t u session under does = others_forget_nothing c0 c1 s t u session under (read_keeps store promises t u does.0 does.1 does.2)
+
   pub others_go_on : StaysUnderway store line (AsksOnce store)
   others_go_on c0 c1 s t u session under (inl same) = subst (λ (x : S). UnderwayAmong store line c0 c1 s x session) (sym same) under
-  others_go_on c0 c1 s t u session under (inr does) = others_forget_nothing c0 c1 s t u session under (step_keeps t u does.0 does.1 does.2)
+  others_go_on c0 c1 s t u session under (inr does) = others_forget_nothing c0 c1 s t u session under (step_keeps store promises t u does.0 does.1 does.2)
 
   -- and when the connection has taken nothing
   pub outlasts_writes : IsTwoWay line → OutlastsWrites store line

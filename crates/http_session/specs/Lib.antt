@@ -12,3 +12,4 @@ pub mod UnderwaySessions
 pub mod HistoryPoints
 pub mod SessionRuns
 pub mod Pieces
+pub mod KnownRefusals

@@ -9,7 +9,7 @@ use Rattle.jaeger_model.specs.declared.batch.Batch.{Batch}
 use Rattle.trace_model.specs.declared.query.Query.{Query}
 use Rattle.trace_model.specs.declared.answer.Answer.{Answer}
 use Rattle.trace_model.specs.declared.refusal.Refusal.{Refusal}
-use Rattle.trace_model.specs.StoreKnowledge.{Keeps}
+use Rattle.trace_model.specs.StoreKnowledge.{lists_of, Keeps}
 use Rattle.http_session.specs.Sessions.{Submits, Reads, Step}
 use Rattle.http_session.specs.ResponseOrder.{Line}
 use Rattle.http_session.specs.UnderwaySessions.{SoFar}
@@ -111,7 +111,7 @@ UnderwayAmong {S = S} store line c0 c1 s t session =
 abbrev pub AnswersSoFar : {S C : Type 0} → Store S → Line C → Type 0
 AnswersSoFar {S = S} {C = C} store line =
     (c0 c1 : C) (s t : S) (session : Session) (under : UnderwayAmong store line c0 c1 s t session)
-    → Related (store.knows s) (store.limits s) nothing_seen under.1.so_far.opens
+    → Related (lists_of store.knows s) (store.limits s) nothing_seen under.1.so_far.opens
 
 -- ---- what others do in a pause
 

@@ -1,7 +1,7 @@
 -- Sessions between an input and an output, and over a connection, in terms of what is known about these and the store.
 use Rattle.std.specs.Prelude.{ℕ, Bool, List, ◌++◌, Option}
 use Rattle.trace_model.specs.declared.limits.Limits.{Limits}
-use Rattle.trace_model.specs.StoreKnowledge.{History}
+use Rattle.trace_model.specs.StoreKnowledge.{Known, lists_of}
 use Rattle.http_requests.specs.AwaitedReads.{Gives, Source, source_of}
 use Rattle.http_session.specs.Sessions.{Submits, Reads, Exchange, EndsAs, FailsAs, last_of, exchange_due}
 use Rattle.http_session.specs.ReadTurns.{ReadsInTurn, ReadsInTurnUpTo}
@@ -14,10 +14,10 @@ use Rattle.http_session.specs.declared.exchanges.SessionError.{SessionError}
 pub record Store (S : Type 0) : Type 1 where
   pub submits : Submits S
   pub reads : Reads S
-  pub knows : S → History → Type 0
+  pub knows : S → Known → Type 0
   pub limits : S → Limits
 
-abbrev pub store_of : {S : Type 0} → Submits S → Reads S → (S → History → Type 0) → (S → Limits) → Store S
+abbrev pub store_of : {S : Type 0} → Submits S → Reads S → (S → Known → Type 0) → (S → Limits) → Store S
 store_of submits reads knows limits = record { submits = submits; reads = reads; knows = knows; limits = limits }
 
 -- what is known about an input and an output in each of their states
@@ -51,22 +51,22 @@ FailsWith submits reads WritesResponse devices in0 in1 out0 out1 s t error =
 -- a session ended, and its answers belong to one growing history
 abbrev pub EndsBetween : {S R W : Type 0} → Store S → Devices R W → R → R → W → W → S → S → Ended → Type 0
 EndsBetween store devices in0 in1 out0 out1 s t ended =
-    EndsWith store.submits store.reads (λ xs. Related (store.knows s) (store.limits s) nothing_seen xs) devices in0 in1 out0 out1 s t ended
+    EndsWith store.submits store.reads (λ xs. Related (lists_of store.knows s) (store.limits s) nothing_seen xs) devices in0 in1 out0 out1 s t ended
 
 -- like EndsBetween, for a session that failed
 abbrev pub FailsBetween : {S R W : Type 0} → Store S → Devices R W → R → R → W → W → S → S → SessionError → Type 0
 FailsBetween store devices in0 in1 out0 out1 s t error =
-    FailsWith store.submits store.reads (λ xs. Related (store.knows s) (store.limits s) nothing_seen xs) devices in0 in1 out0 out1 s t error
+    FailsWith store.submits store.reads (λ xs. Related (lists_of store.knows s) (store.limits s) nothing_seen xs) devices in0 in1 out0 out1 s t error
 
 -- A session over a connection ended: as in EndsBetween, and before each read the responses to all earlier requests were
 -- written.
 abbrev pub EndsServed : {S C : Type 0} → Store S → Line C → C → C → S → S → Ended → Type 0
 EndsServed store line c0 c1 s t ended =
     (over : EndsOver store.submits store.reads line c0 c1 s t ended)
-    × Related (store.knows s) (store.limits s) nothing_seen (over.0.opens ++ last_of over.0.ending)
+    × Related (lists_of store.knows s) (store.limits s) nothing_seen (over.0.opens ++ last_of over.0.ending)
 
 -- like EndsServed, for a session that failed
 abbrev pub FailsServed : {S C : Type 0} → Store S → Line C → C → C → S → S → SessionError → Type 0
 FailsServed store line c0 c1 s t error =
     (over : FailsOver store.submits store.reads line c0 c1 s t error)
-    × Related (store.knows s) (store.limits s) nothing_seen (over.0.opens ++ exchange_due over.0.next)
+    × Related (lists_of store.knows s) (store.limits s) nothing_seen (over.0.opens ++ exchange_due over.0.next)

@@ -4,6 +4,7 @@ ghost use Rattle.http_session.specs.ResponseOrder.{line_of};
 ghost use Rattle.http_session.specs.SessionRuns.{store_of};
 ghost use Rattle.http_session.specs.Pieces.{no_requests_yet, CanContinue, Underway, UnderwayAmong, AnswersSoFar, StaysUnderway, OutlastsWrites, SubmitsSome};
 ghost use Rattle.http_session.specs.Pieces.{ReadsSome, AsksOnce, ForgetsNothing};
+ghost use Rattle.http_session.specs.KnownRefusals.{RefusalsStayKnown, RefusalsStayKnownAmong};
 
 use session_devices::Connection;
 use trace_model::Backend;
@@ -54,5 +55,16 @@ pub fn late_writes_keep_a_session_underway<T, C: Connection, B: Backend<T>>()
 /// before a batch accepted from it.
 pub fn answers_so_far_are_of_one_history<T, C: Connection, B: Backend<T>>()
     ensures { AnswersSoFar (store_of B.submits B.reads B.knows B.limits)
+        (line_of C.remaining C.gives C.Input.has_failed C.contents C.takes C.Output.has_failed) }
+{}
+
+/// A batch that is refused by 20, 21 or 29 is refused by a list, and the store still knows by which one later: at each
+/// moment of the session that submitted the batch, and after it has ended or failed. This holds for a session that has
+/// the store to itself, and for one among others.
+pub fn refusals_stay_known<T, C: Connection, B: Backend<T>>()
+    ensures alone { RefusalsStayKnown (store_of B.submits B.reads B.knows B.limits)
+        (line_of C.remaining C.gives C.Input.has_failed C.contents C.takes C.Output.has_failed) }
+
+    ensures among { RefusalsStayKnownAmong (store_of B.submits B.reads B.knows B.limits)
         (line_of C.remaining C.gives C.Input.has_failed C.contents C.takes C.Output.has_failed) }
 {}

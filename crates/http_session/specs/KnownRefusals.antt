@@ -1,0 +1,42 @@
+-- By which lists the batches of a session were refused, and that the store still knows it later.
+use Rattle.std.specs.Prelude.{List, ◌++◌, All, Option, Some, None, Result, Ok, Err}
+use Rattle.trace_model.specs.StoreKnowledge.{Known, KnowsRefusal}
+use Rattle.http_session.specs.Sessions.{Exchange, last_of, exchange_due}
+use Rattle.http_session.specs.ResponseOrder.{Line}
+use Rattle.http_session.specs.SessionRuns.{Store}
+use Rattle.http_session.specs.Pieces.{ComesTo, ComesToAmong, shared}
+use Rattle.http_session.specs.declared.pieces.Session.{Session}
+use Rattle.http_session.specs.declared.exchanges.Ended.{Ended}
+use Rattle.http_session.specs.declared.exchanges.SessionError.{SessionError}
+use Rattle.http_session.specs.declared.verdict.Verdict.{Verdict}
+use Rattle.http_session.specs.declared.verdict.Verdict.TheVariants.{Submit}
+use Rattle.http_session.specs.declared.reply.Reply.{Reply}
+use Rattle.http_session.specs.declared.reply.Reply.TheVariants.{Refused}
+
+-- if a batch was refused by 20, 21 or 29, the store knows by which list
+abbrev pub RefusalIsKnown : {S : Type 0} → (S → Known → Type 0) → S → Verdict → Reply → Type 0
+RefusalIsKnown knows t (Submit b) (Refused why) = KnowsRefusal knows b why t
+RefusalIsKnown knows t _ _ = Unit {0}
+
+-- of each exchange
+abbrev pub RefusalsAreKnown : {S : Type 0} → (S → Known → Type 0) → S → List Exchange → Type 0
+RefusalsAreKnown knows t xs = All (λ (x : Exchange). RefusalIsKnown knows t x.verdict x.reply) xs
+
+-- the exchanges of a session so far, or all if it has ended or failed
+abbrev pub exchanges_of : {S C : Type 0} (store : Store S) (line : Line C) (c0 c1 : C) (s t : S) (session : Session)
+    (result : Result (Option Ended) SessionError) → ComesTo store line c0 c1 s t session result → List Exchange
+exchanges_of store line c0 c1 s t session (Ok None) it = it.so_far.opens
+exchanges_of store line c0 c1 s t session (Ok (Some ended)) it = it.0.0.opens ++ last_of it.0.0.ending
+exchanges_of store line c0 c1 s t session (Err error) it = it.0.0.opens ++ exchange_due it.0.0.next
+
+-- the store knows the refusals of a session that it served alone
+abbrev pub RefusalsStayKnown : {S C : Type 0} → Store S → Line C → Type 0
+RefusalsStayKnown {S = S} {C = C} store line =
+    (c0 c1 : C) (s t : S) (session : Session) (result : Result (Option Ended) SessionError) (it : ComesTo store line c0 c1 s t session result)
+    → RefusalsAreKnown store.knows t (exchanges_of store line c0 c1 s t session result it)
+
+-- the store knows the refusals of a session among others, also after what these do later
+abbrev pub RefusalsStayKnownAmong : {S C : Type 0} → Store S → Line C → Type 0
+RefusalsStayKnownAmong {S = S} {C = C} store line =
+    (c0 c1 : C) (s t : S) (session : Session) (result : Result (Option Ended) SessionError) (it : ComesToAmong store line c0 c1 s t session result)
+    → RefusalsAreKnown store.knows t (exchanges_of (shared store) line c0 c1 s it.0 session result it.1)
