@@ -12,10 +12,12 @@ use Rattle.trace_model.specs.Refusals.{place_of, with_admitted}
 use Rattle.trace_model.specs.Answers.{answer}
 use Rattle.arrival_journal.specs.Journals.{admission_by, turned_away_by}
 use Rattle.span_store.specs.NextEntry.{next_entry}
-use Rattle.trace_model.specs.StoreKnowledge.{History, IsPrefixOf}
+use Rattle.trace_model.specs.StoreKnowledge.{Known, reached, refused, IsPrefixOf, RefusesBatch}
 
-abbrev pub DirectKnows : LimitedHistory → History → Type 0
-DirectKnows s h = IsPrefixOf h s.entries
+-- prefixes of the entries, and which of them refuse a batch
+abbrev pub DirectKnows : LimitedHistory → Known → Type 0
+DirectKnows s (reached h) = IsPrefixOf h s.entries
+DirectKnows s (refused b why h) = IsPrefixOf h s.entries × RefusesBatch s.limits h b why
 
 -- a batch is accepted if the entries admit it, or have it already: then they don't change, and its place is the old one
 abbrev pub DirectSubmits : LimitedHistory → Batch → Result ℕ Refusal → LimitedHistory → Type 0
