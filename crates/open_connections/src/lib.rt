@@ -14,8 +14,10 @@
 //! * `open`: a connection and its session.
 //! * `set`: the sessions of all connections.
 //! * `readiness`: which sockets are ready, over `mio`.
+//! * `laws`: laws of open connections.
 #![tactic(auto)]
 
+pub mod laws;
 mod nonblocking;
 mod open;
 mod outbox;

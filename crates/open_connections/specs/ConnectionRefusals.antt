@@ -1,0 +1,31 @@
+-- By which lists the batches of a connection were refused, and that the store still knows it later.
+use Rattle.std.specs.Prelude.{List, ◌++◌}
+use Rattle.trace_model.specs.StoreKnowledge.{Keeps}
+use Rattle.http_session.specs.Sessions.{Exchange, last_of, exchange_due}
+use Rattle.http_session.specs.ResponseOrder.{Line}
+use Rattle.http_session.specs.SessionRuns.{Store}
+use Rattle.http_session.specs.KnownRefusals.{RefusalsAreKnown}
+use Rattle.open_connections.specs.OpenConnections.{HasCome}
+use Rattle.open_connections.specs.declared.open.OpenConnection.{OpenConnection}
+use Rattle.open_connections.specs.declared.outbox.Outbox.{Outbox}
+use Rattle.open_connections.specs.declared.open.ConnectionProgress.{ConnectionProgress}
+use Rattle.open_connections.specs.declared.open.ConnectionProgress.TheVariants.{Answered, HoldsMore, Paused, Writing, Ended, Closing, Failed, Undelivered}
+
+-- the exchanges of a connection since it began
+abbrev pub exchanges_of : {S C : Type 0} (store : Store S) (line : Line (Outbox C)) (now : S) (it : OpenConnection C) (progress : ConnectionProgress)
+    → HasCome store line now it progress → List Exchange
+exchanges_of store line now it Answered came = came.underway.1.so_far.opens
+exchanges_of store line now it HoldsMore came = came.underway.1.so_far.opens
+exchanges_of store line now it Paused came = came.underway.1.so_far.opens
+exchanges_of store line now it Writing came = came.underway.1.so_far.opens
+exchanges_of store line now it Ended came = came.served.0.0.opens ++ last_of came.served.0.0.ending
+exchanges_of store line now it Closing came = came.served.0.0.opens ++ last_of came.served.0.0.ending
+exchanges_of store line now it Failed came = came.served.0.0.opens ++ exchange_due came.served.0.0.next
+exchanges_of store line now it Undelivered came = came.underway.1.so_far.opens
+
+-- the store knows the refusals of a connection in one more turn, and later
+abbrev pub RefusalsStayKnown : {S C : Type 0} → Store S → Line (Outbox C) → Type 0
+RefusalsStayKnown {S = S} {C = C} store line =
+    (now later : S) (it : OpenConnection C) (progress : ConnectionProgress) (came : HasCome store line now it progress)
+    → Keeps store.limits store.knows now later
+    → RefusalsAreKnown store.knows later (exchanges_of store line now it progress came)
