@@ -159,7 +159,7 @@ impl<N: StoreName, R: Wait> Backend<R> for Live<N> {
 
     ghost limits = { λ s. N.limits };
 
-    ghost knows = { LiveKnows };
+    ghost knows = { LiveKnows N.limits };
 
     ghost submits = { LiveSubmits N.limits };
 
