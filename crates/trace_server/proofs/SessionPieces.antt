@@ -1,8 +1,9 @@
 -- What becomes of the seat in a piece of a session.
-use Rattle.std.proofs.Common.{◌≡◌, ℕ, List, ap, refl, Result, Ok, Err, inl, inr}
+use Rattle.std.proofs.Common.{◌≡◌, List, ap, sym, subst, Ok, Err, inl, inr}
 use mathlib.Core.List.{IsPrefix}
+use Rattle.trace_model.specs.declared.entry.Entry.{Entry}
 use Rattle.trace_model.specs.declared.limits.Limits.{Limits}
-use Rattle.trace_model.proofs.Prefixes.{prefix_trans}
+use Rattle.trace_model.proofs.Prefixes.{prefix_self}
 use Rattle.trace_model.specs.StoreKnowledge.{Keeps}
 use Rattle.http_session.specs.Pieces.{AsksOnce}
 use Rattle.http_session.specs.Sessions.{Step}
@@ -10,7 +11,8 @@ use Rattle.http_session.specs.declared.verdict.Verdict.{Verdict}
 use Rattle.http_session.specs.declared.verdict.Verdict.TheVariants.{Submit, Ask, Reject}
 use Rattle.http_session.specs.declared.reply.Reply.{Reply}
 use Rattle.http_session.specs.declared.reply.Reply.TheVariants.{Accepted, Answered, Refused, Error, Malformed}
-use Rattle.intake.specs.LiveStores.{LiveValue, LiveKnows, SeatGoesOn, LiveSubmits, LiveReads}
+use Rattle.intake.specs.LiveStores.{LiveValue, SeatGoesOn, LiveSubmits, LiveReads}
+use Rattle.intake.specs.LiveLaws.{keeps}
 use Rattle.intake.proofs.LiveSeats.{stays_same, submit_goes_on, read_goes_on}
 use Rattle.trace_server.specs.WorkerConnections.{live_store}
 
@@ -37,5 +39,7 @@ asking_goes_on limits s t (inl same) = stays_same s.seat t.seat (ap (λ (z : Liv
 asking_goes_on limits s t (inr does) = step_goes_on limits s does.0 does.1 t does.2
 
 -- what is learnt is known besides
-pub learning_keeps : (limits : Limits) (s t : LiveValue) → IsPrefix s.known t.known → Keeps (live_store limits).limits (live_store limits).knows s t
-learning_keeps limits s t more = record { same_limits = refl; knowledge = λ h k. prefix_trans h s.known t.known k more }
+pub learning_keeps : (limits : Limits) (s t : LiveValue) → IsPrefix s.known t.known → t.refused_by ≡ s.refused_by
+    → Keeps (live_store limits).limits (live_store limits).knows s t
+learning_keeps limits s t more same =
+    keeps limits s t more (subst (λ (z : List Entry). IsPrefix s.refused_by z) (sym same) (prefix_self s.refused_by))

@@ -86,6 +86,7 @@ impl<'a, N: StoreName, G, R> Gated<'a, N, G, R> {
         ensures seat { self.new.seat ≡ self.old.seat }
         ensures old { IsPrefix self.old.known self.new.known }
         ensures learnt { IsPrefix receipt.now.entries self.new.known }
+        ensures refused_by { self.new.refused_by ≡ self.old.refused_by }
     {
         self.live.learn(receipt);
     }
@@ -97,7 +98,7 @@ impl<'a, N: StoreName, G: Gate, R: Wait + Eprint> Backend<R> for Gated<'a, N, G,
 
     ghost limits = { λ s. N.limits };
 
-    ghost knows = { LiveKnows };
+    ghost knows = { LiveKnows N.limits };
 
     ghost submits = { LiveSubmits N.limits };
 

@@ -18,6 +18,7 @@
 //! * `notices`: lines for the operator on standard error. `counts`, `acknowledged`: what workers count for them.
 //!   `periodic`: the periodic line.
 //! * `serving`: [`serve_with`].
+//! * `laws`: laws of a worker's connections.
 #![tactic(auto)]
 
 mod acceptor;
@@ -30,6 +31,7 @@ mod ending;
 mod event_loop;
 mod gate;
 mod gated;
+pub mod laws;
 mod lingering;
 mod loads;
 mod notices;

@@ -11,14 +11,14 @@ returns-then-is_err-clause-underway g c =
     let limits = g.N.StoreName.limits in
     all_open_later (live_store limits) (promises_of (submit_knows limits) (read_knows limits))
     socket_line c.args.store.now c.learn.new.self c.args.self.now.open
-    (learning_keeps limits c.args.store.now c.learn.new.self c.learn.ensures.old) c.requires.underway
+    (learning_keeps limits c.args.store.now c.learn.new.self c.learn.ensures.old c.learn.ensures.refused_by) c.requires.underway
 
 pub add-requires-clause-underway : goal.add-requires-clause-underway
 add-requires-clause-underway g c =
     let limits = g.N.StoreName.limits in
     all_open_later (live_store limits) (promises_of (submit_knows limits) (read_knows limits))
     socket_line c.args.store.now c.learn.new.self c.args.self.now.open
-    (learning_keeps limits c.args.store.now c.learn.new.self c.learn.ensures.old) c.requires.underway
+    (learning_keeps limits c.args.store.now c.learn.new.self c.learn.ensures.old c.learn.ensures.refused_by) c.requires.underway
 
 pub returns-then-is_err-2-clause-underway : goal.returns-then-is_err-2-clause-underway
 returns-then-is_err-2-clause-underway g c =
