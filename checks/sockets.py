@@ -674,7 +674,7 @@ def spans_of(trace, count):
 def told_at_the_start():
     """The lines that docs/operating.md has, to the letter; with a host that others reach, the one about it comes first."""
     exposed = "takes connections from other machines: anyone who reaches it may read all traces and send spans, with no password and no TLS"
-    size = "that may take 42 MB with one tag a span, 71 MB with five; more if tags are long, up to 3 times as much with one span a batch"
+    size = "that may take 42 MB with one tag a span, 71 MB with five; more if tags are long, up to 8 times with one span a batch and twenty process tags"
     held = "holds at most 1000 batches and 100000 spans, and shows"
     for words, host, wanted in (((), None, [f"{held} every trace", size]),
                                 (("--traces", 7), "0.0.0.0", [f"0.0.0.0 {exposed}", f"{held} the newest 7 traces", size])):

@@ -298,7 +298,7 @@ pub(crate) fn print_limits<R: Eprint>(rt: &R, limits: &Limits) {
         ),
     };
     let _lost = eprintln!(rt;
-        "that may take {few} MB with one tag a span, {many} MB with five; more if tags are long, up to 3 times as much with one span a batch"
+        "that may take {few} MB with one tag a span, {many} MB with five; more if tags are long, up to 8 times with one span a batch and twenty process tags"
     );
 }
 
