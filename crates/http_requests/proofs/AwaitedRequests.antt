@@ -6,7 +6,7 @@ use Rattle.http_requests.specs.Heads.{TakesHead, EndsLine}
 use Rattle.http_requests.specs.Requests.{HasBody, Spells, PassesMost, IsMalformed, AwaitsBody, AwaitsAfter, AwaitsRequest}
 use Rattle.http_requests.specs.declared.request.BodyLength.{BodyLength}
 use Rattle.http_requests.specs.declared.request.BodyLength.TheVariants.{Bytes, Chunked, Unreadable, TooLarge}
-use Rattle.http_requests.specs.declared.request.BadRequest.TheVariants as bad_request
+use Rattle.http_requests.specs.declared.request.RequestFault.TheVariants as fault
 use Rattle.http_requests.proofs.OneRequest.{head_once, request_stays}
 
 body_is_not_there : (size : BodyLength) (text body rest : List ℕ) → HasBody size text body → AwaitsBody size (text ++ rest) → ⊥
@@ -36,7 +36,7 @@ not_there bytes text rest h body awaits spells e =
       | inr behind ↦ body_is_not_there (body_length h) spells.after body rest spells.body_is (awaits_after bytes (spells.after ++ rest) h behind takes)
     ]
 
-pub not_too_large : (bytes : List ℕ) → AwaitsRequest bytes → IsMalformed ⊥ bytes bad_request.TooLarge → ⊥
+pub not_too_large : (bytes : List ℕ) → AwaitsRequest bytes → IsMalformed ⊥ bytes fault.TooLarge → ⊥
 not_too_large bytes (inl head) reported = head.none reported.head reported.after reported.takes
 not_too_large bytes (inr behind) reported =
     body_is_not_large (body_length reported.head) reported.after reported.breaks (awaits_after bytes reported.after reported.head behind reported.takes)

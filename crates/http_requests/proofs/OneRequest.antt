@@ -14,9 +14,9 @@ use Rattle.http_requests.specs.Heads.{TakesHead, HasNoHead}
 use Rattle.http_requests.specs.Requests.{HasBody, Spells, IsUnreadable, PassesMost, BodyBreaks, BreaksAfter, IsMalformed}
 use Rattle.http_requests.specs.declared.request.BodyLength.{BodyLength}
 use Rattle.http_requests.specs.declared.request.BodyLength.TheVariants.{Bytes, Chunked, Unreadable, TooLarge}
-use Rattle.http_requests.specs.declared.request.BadRequest.{BadRequest}
-use Rattle.http_requests.specs.declared.request.BadRequest.TheVariants.{Head, Body}
-use Rattle.http_requests.specs.declared.request.BadRequest.TheVariants as bad_request
+use Rattle.http_requests.specs.declared.request.RequestFault.{RequestFault}
+use Rattle.http_requests.specs.declared.request.RequestFault.TheVariants.{Head, Body}
+use Rattle.http_requests.specs.declared.request.RequestFault.TheVariants as fault
 
 -- ---- heads
 
@@ -62,28 +62,28 @@ request_once text other h k body more rest left one two e =
 
 -- ---- why all the bytes are malformed
 
-abbrev pub Breaks : List ℕ → BadRequest → Type 0
+abbrev pub Breaks : List ℕ → RequestFault → Type 0
 Breaks bytes b = IsMalformed (Unit {0}) bytes b
 
 -- nothing is left after a list that nothing follows
 nothing_more : (xs left : List ℕ) → left ≡ [] → xs ++ left ≡ xs
 nothing_more xs left none = ap (λ (l : List ℕ). xs ++ l) none ∙ append-nil xs
 
-body_breaks_all : (size : BodyLength) (after left : List ℕ) (b : BadRequest) → BodyBreaks (left ≡ []) b size after
+body_breaks_all : (size : BodyLength) (after left : List ℕ) (b : RequestFault) → BodyBreaks (left ≡ []) b size after
     → BodyBreaks (Unit {0}) b size (after ++ left)
 body_breaks_all (Bytes n) after left Body malformed = (subst (λ (l : List ℕ). length l < n) (sym (nothing_more after left malformed.1)) malformed.0, tt)
 body_breaks_all Chunked after left Body (inl never) = inl (never_longer (IsDecided MAX_BODY_BYTES) after left never)
 body_breaks_all Chunked after left Body (inr ended) = inr (tt, subst (HasNone (IsDecided MAX_BODY_BYTES)) (sym (nothing_more after left ended.0)) ended.1)
 body_breaks_all Unreadable after left Body malformed = tt
 body_breaks_all TooLarge after left Body malformed = absurd malformed
-body_breaks_all (Bytes n) after left bad_request.TooLarge malformed = absurd malformed
-body_breaks_all Chunked after left bad_request.TooLarge b =
+body_breaks_all (Bytes n) after left fault.TooLarge malformed = absurd malformed
+body_breaks_all Chunked after left fault.TooLarge b =
     record { text = b.text; rest = b.rest ++ left; is = b.is; cut = ap (λ l. l ++ left) b.cut ∙ append_assoc b.text b.rest left }
-body_breaks_all Unreadable after left bad_request.TooLarge malformed = absurd malformed
-body_breaks_all TooLarge after left bad_request.TooLarge malformed = tt
+body_breaks_all Unreadable after left fault.TooLarge malformed = absurd malformed
+body_breaks_all TooLarge after left fault.TooLarge malformed = tt
 body_breaks_all size after left Head malformed = absurd malformed
 
-after_all : (piece left : List ℕ) (b : BadRequest) → BreaksAfter (left ≡ []) piece b → BreaksAfter (Unit {0}) (piece ++ left) b
+after_all : (piece left : List ℕ) (b : RequestFault) → BreaksAfter (left ≡ []) piece b → BreaksAfter (Unit {0}) (piece ++ left) b
 after_all piece left b reported = record {
   head = reported.head;
   after = reported.after ++ left;
@@ -92,13 +92,13 @@ after_all piece left b reported = record {
 }
 
 -- if a piece is malformed, all bytes that start with it are, provided that the end was seen only with nothing left
-pub breaks_all : (piece left : List ℕ) (b : BadRequest) → IsMalformed (left ≡ []) piece b → Breaks (piece ++ left) b
+pub breaks_all : (piece left : List ℕ) (b : RequestFault) → IsMalformed (left ≡ []) piece b → Breaks (piece ++ left) b
 breaks_all piece left Head (inl never) = inl (λ more. subst HasNoHead (sym (append_assoc piece left more)) (never (left ++ more)))
 breaks_all piece left Head (inr ended) =
     let same : piece ≡ piece ++ left = sym (nothing_more piece left ended.0) in
     inr (tt, subst (λ (l : List ℕ). 0 < length l) same ended.1, subst HasNoHead same ended.2)
 breaks_all piece left Body reported = after_all piece left Body reported
-breaks_all piece left bad_request.TooLarge reported = after_all piece left bad_request.TooLarge reported
+breaks_all piece left fault.TooLarge reported = after_all piece left fault.TooLarge reported
 
 -- if the head is malformed there is none
 no_head : (bytes : List ℕ) → Breaks bytes Head → HasNoHead bytes
@@ -106,30 +106,30 @@ no_head bytes (inl never) h rest takes = never [] h (rest ++ []) (head_stays byt
 no_head bytes (inr ended) h rest takes = ended.2 h rest takes
 
 -- a body isn't malformed
-body_no_bad_request : (size : BodyLength) (text body rest : List ℕ) (b : BadRequest) → HasBody size text body → BodyBreaks (Unit {0}) b size (text ++ rest) → ⊥
-body_no_bad_request (Bytes n) text body rest Body is malformed = absurd (omega (arith, malformed.0, ap length is.0, is.1, length-append text rest))
-body_no_bad_request Chunked text body rest Body is (inl never) = never [] text (rest ++ []) (inl (body, is)) (append_assoc text rest [])
-body_no_bad_request Chunked text body rest Body is (inr ended) = ended.1 text rest (inl (body, is)) refl
-body_no_bad_request Unreadable text body rest b is malformed = absurd is
-body_no_bad_request TooLarge text body rest b is malformed = absurd is
-body_no_bad_request (Bytes n) text body rest bad_request.TooLarge is malformed = absurd malformed
-body_no_bad_request Chunked text body rest bad_request.TooLarge is malformed =
+body_no_fault : (size : BodyLength) (text body rest : List ℕ) (b : RequestFault) → HasBody size text body → BodyBreaks (Unit {0}) b size (text ++ rest) → ⊥
+body_no_fault (Bytes n) text body rest Body is malformed = absurd (omega (arith, malformed.0, ap length is.0, is.1, length-append text rest))
+body_no_fault Chunked text body rest Body is (inl never) = never [] text (rest ++ []) (inl (body, is)) (append_assoc text rest [])
+body_no_fault Chunked text body rest Body is (inr ended) = ended.1 text rest (inl (body, is)) refl
+body_no_fault Unreadable text body rest b is malformed = absurd is
+body_no_fault TooLarge text body rest b is malformed = absurd is
+body_no_fault (Bytes n) text body rest fault.TooLarge is malformed = absurd malformed
+body_no_fault Chunked text body rest fault.TooLarge is malformed =
     body_is_not_large MAX_BODY_BYTES text malformed.text body rest malformed.rest is malformed.is malformed.cut
-body_no_bad_request (Bytes n) text body rest Head is malformed = absurd malformed
-body_no_bad_request Chunked text body rest Head is malformed = absurd malformed
+body_no_fault (Bytes n) text body rest Head is malformed = absurd malformed
+body_no_fault Chunked text body rest Head is malformed = absurd malformed
 
-no_request_after : (text rest : List ℕ) (h : RequestHead) (body : List ℕ) (b : BadRequest) → Spells text h body → BreaksAfter (Unit {0}) (text ++ rest) b → ⊥
+no_request_after : (text rest : List ℕ) (h : RequestHead) (body : List ℕ) (b : RequestFault) → Spells text h body → BreaksAfter (Unit {0}) (text ++ rest) b → ⊥
 no_request_after text rest h body b spells reported =
     let same = head_once (text ++ rest) reported.head h reported.after (spells.after ++ rest) reported.takes (request_stays text h body rest spells) in
     let malformed : BodyBreaks (Unit {0}) b (body_length h) (spells.after ++ rest) =
     subst (λ (x : RequestHead). BodyBreaks (Unit {0}) b (body_length x) (spells.after ++ rest)) same.0
     (subst (λ (l : List ℕ). BodyBreaks (Unit {0}) b (body_length reported.head) l) same.1 reported.breaks) in
-    body_no_bad_request (body_length h) spells.after body rest b spells.body_is malformed
+    body_no_fault (body_length h) spells.after body rest b spells.body_is malformed
 
-pub no_request : (text rest : List ℕ) (h : RequestHead) (body : List ℕ) (b : BadRequest) → Spells text h body → Breaks (text ++ rest) b → ⊥
+pub no_request : (text rest : List ℕ) (h : RequestHead) (body : List ℕ) (b : RequestFault) → Spells text h body → Breaks (text ++ rest) b → ⊥
 no_request text rest h body Head spells malformed = no_head (text ++ rest) malformed h (spells.after ++ rest) (request_stays text h body rest spells)
 no_request text rest h body Body spells reported = no_request_after text rest h body Body spells reported
-no_request text rest h body bad_request.TooLarge spells reported = no_request_after text rest h body bad_request.TooLarge spells reported
+no_request text rest h body fault.TooLarge spells reported = no_request_after text rest h body fault.TooLarge spells reported
 
 -- a body that can't be read isn't too large
 body_not_both : (size : BodyLength) (after : List ℕ) → IsUnreadable (Unit {0}) size after → PassesMost size after → ⊥
@@ -140,7 +140,7 @@ body_not_both Chunked after (inr ended) other = ended.1 other.text other.rest (i
 body_not_both Unreadable after one other = absurd other
 body_not_both TooLarge after one other = absurd one
 
-not_both : (bytes : List ℕ) → Breaks bytes Body → Breaks bytes bad_request.TooLarge → ⊥
+not_both : (bytes : List ℕ) → Breaks bytes Body → Breaks bytes fault.TooLarge → ⊥
 not_both bytes one other =
     let same = head_once bytes one.head other.head one.after other.after one.takes other.takes in
     let malformed : IsUnreadable (Unit {0}) (body_length other.head) other.after =
@@ -148,16 +148,16 @@ not_both bytes one other =
     (subst (IsUnreadable (Unit {0}) (body_length one.head)) same.1 one.breaks) in
     body_not_both (body_length other.head) other.after malformed other.breaks
 
-pub one_bad_request : (bytes : List ℕ) (b c : BadRequest) → Breaks bytes b → Breaks bytes c → b ≡ c
-one_bad_request bytes Head Head one other = refl
-one_bad_request bytes Head Body one other = absurd (no_head bytes one other.head other.after other.takes)
-one_bad_request bytes Head bad_request.TooLarge one other = absurd (no_head bytes one other.head other.after other.takes)
-one_bad_request bytes Body Head one other = absurd (no_head bytes other one.head one.after one.takes)
-one_bad_request bytes Body Body one other = refl
-one_bad_request bytes Body bad_request.TooLarge one other = absurd (not_both bytes one other)
-one_bad_request bytes bad_request.TooLarge Head one other = absurd (no_head bytes other one.head one.after one.takes)
-one_bad_request bytes bad_request.TooLarge Body one other = absurd (not_both bytes other one)
-one_bad_request bytes bad_request.TooLarge bad_request.TooLarge one other = refl
+pub one_fault : (bytes : List ℕ) (b c : RequestFault) → Breaks bytes b → Breaks bytes c → b ≡ c
+one_fault bytes Head Head one other = refl
+one_fault bytes Head Body one other = absurd (no_head bytes one other.head other.after other.takes)
+one_fault bytes Head fault.TooLarge one other = absurd (no_head bytes one other.head other.after other.takes)
+one_fault bytes Body Head one other = absurd (no_head bytes other one.head one.after one.takes)
+one_fault bytes Body Body one other = refl
+one_fault bytes Body fault.TooLarge one other = absurd (not_both bytes one other)
+one_fault bytes fault.TooLarge Head one other = absurd (no_head bytes other one.head one.after one.takes)
+one_fault bytes fault.TooLarge Body one other = absurd (not_both bytes other one)
+one_fault bytes fault.TooLarge fault.TooLarge one other = refl
 
 -- ---- no bytes
 
@@ -201,20 +201,20 @@ some_head_is_taken : TakesHead (print_request some_head) some_head []
 unfolding some_head print_request
 some_head_is_taken = record { reads = (some_head_is_one, sym (append-nil (print_request some_head))); size = omega arith; fields = omega arith }
 
-pub nothing_is_no_bad_request : (b : BadRequest) → Breaks [] b → ⊥
-nothing_is_no_bad_request Head (inl never) = never (print_request some_head) some_head [] some_head_is_taken
-nothing_is_no_bad_request Head (inr ended) = absurd (omega (arith, ended.1))
-nothing_is_no_bad_request Body reported = absurd (omega (arith, head_is_some [] reported.head reported.after reported.takes))
-nothing_is_no_bad_request bad_request.TooLarge reported = absurd (omega (arith, head_is_some [] reported.head reported.after reported.takes))
+pub nothing_is_no_fault : (b : RequestFault) → Breaks [] b → ⊥
+nothing_is_no_fault Head (inl never) = never (print_request some_head) some_head [] some_head_is_taken
+nothing_is_no_fault Head (inr ended) = absurd (omega (arith, ended.1))
+nothing_is_no_fault Body reported = absurd (omega (arith, head_is_some [] reported.head reported.after reported.takes))
+nothing_is_no_fault fault.TooLarge reported = absurd (omega (arith, head_is_some [] reported.head reported.after reported.takes))
 
 -- ---- pieces
 
-pub piece_no_request : (text rest piece left : List ℕ) (h : RequestHead) (body : List ℕ) (b : BadRequest) → Spells text h body → piece ++ left ≡ text ++ rest
+pub piece_no_request : (text rest piece left : List ℕ) (h : RequestHead) (body : List ℕ) (b : RequestFault) → Spells text h body → piece ++ left ≡ text ++ rest
     → IsMalformed (left ≡ []) piece b → ⊥
 piece_no_request text rest piece left h body b spells e malformed =
     no_request text rest h body b spells (subst (λ (l : List ℕ). Breaks l b) e (breaks_all piece left b malformed))
 
-pub piece_one_bad_request : (piece left part behind : List ℕ) (b c : BadRequest) → piece ++ left ≡ part ++ behind → IsMalformed (left ≡ []) piece b
+pub piece_one_fault : (piece left part behind : List ℕ) (b c : RequestFault) → piece ++ left ≡ part ++ behind → IsMalformed (left ≡ []) piece b
     → IsMalformed (behind ≡ []) part c → b ≡ c
-piece_one_bad_request piece left part behind b c e one other =
-    one_bad_request (part ++ behind) b c (subst (λ (l : List ℕ). Breaks l b) e (breaks_all piece left b one)) (breaks_all part behind c other)
+piece_one_fault piece left part behind b c e one other =
+    one_fault (part ++ behind) b c (subst (λ (l : List ℕ). Breaks l b) e (breaks_all piece left b one)) (breaks_all part behind c other)

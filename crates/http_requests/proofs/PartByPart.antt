@@ -6,12 +6,12 @@ use Rattle.http_requests.specs.Requests.{HasBody, BodyBreaks, AwaitsBody}
 use Rattle.http_requests.specs.AwaitedReads.{Source}
 use Rattle.http_requests.specs.ReceivedBytes.{ReadBuffer, ReadsOn, ReadsOnWhile, IsRead, ReadFails, StopsWhile, put_back}
 use Rattle.http_requests.specs.Bodies.{TakesBody, BreaksBody}
-use Rattle.http_requests.specs.PartialRequests.{IsPart, AwaitsMore, Comes, TakesOn, TakesPart}
+use Rattle.http_requests.specs.PartialRequests.{IsPart, AwaitsMoreBody, Comes, TakesOn, TakesPart}
 use Rattle.http_requests.specs.declared.request.BodyLength.{BodyLength}
-use Rattle.http_requests.specs.declared.request.BadRequest.{BadRequest}
-use Rattle.http_requests.specs.declared.request.BadRequest.TheVariants as bad_request
+use Rattle.http_requests.specs.declared.request.RequestFault.{RequestFault}
+use Rattle.http_requests.specs.declared.request.RequestFault.TheVariants as fault
 use Rattle.http_requests.specs.declared.body_reader.BodyReader.{BodyReader}
-use Rattle.http_requests.specs.declared.body_reader.BodyLook.TheVariants.{Whole, More, Malformed}
+use Rattle.http_requests.specs.declared.body_reader.BodyLook.TheVariants.{Whole, More, Fault}
 use Rattle.http_requests.specs.declared.read_buffer.ReadError.{ReadError}
 use Rattle.http_requests.proofs.Readings.{nothing_yet, with_text, read_after, stops_reading}
 use Rattle.http_requests.proofs.Parts.{awaits_body, ended_breaks, breaks_anyway}
@@ -44,7 +44,7 @@ module _ {S R : Type 0} (takes : Takings S) (source : Source R) where
       put = joined before now after so.content on.content so.put on.put;
     }
 
-    pub malformed_body : (why : BadRequest) → TakesOn takes here new now after was (λ of text content. Comes of text content new.held is (Malformed why))
+    pub malformed_body : (why : RequestFault) → TakesOn takes here new now after was (λ of text content. Comes of text content new.held is (Fault why))
         → BreaksBody source s t old new size why
     malformed_body why on = record {
       text = so.text ++ on.text;
@@ -53,8 +53,8 @@ module _ {S R : Type 0} (takes : Takings S) (source : Source R) where
     }
 
   module _ (s m t : R) (old here new : ReadBuffer) (before after : S) (size : BodyLength) (reader : BodyReader)
-      (so : TakesPart takes source s m old here before after size reader) (awaits : AwaitsMore reader here.held) where
-    pub ended_body : IsAtEnd (source.remaining m) → BreaksBody source s m old here size bad_request.Body
+      (so : TakesPart takes source s m old here before after size reader) (awaits : AwaitsMoreBody reader here.held) where
+    pub ended_body : IsAtEnd (source.remaining m) → BreaksBody source s m old here size fault.Body
     ended_body at_end =
         record {
           text = so.text;

@@ -9,15 +9,16 @@ use Rattle.session_devices.specs.ByteTakers.{Takings, TakesNothing, TakesJoined}
 use Rattle.http_requests.specs.declared.request.TheConstants.{MAX_BODY_BYTES}
 use Rattle.http_requests.specs.declared.request.BodyLength.{BodyLength}
 use Rattle.http_requests.specs.declared.request.BodyLength.TheVariants.{Bytes, Chunked, Unreadable, TooLarge}
-use Rattle.http_requests.specs.declared.request.BadRequest.{BadRequest}
-use Rattle.http_requests.specs.declared.request.BadRequest.TheVariants as bad_request
+use Rattle.http_requests.specs.declared.request.RequestFault.{RequestFault}
+use Rattle.http_requests.specs.declared.request.RequestFault.TheVariants as fault
 use Rattle.http_requests.specs.declared.body_reader.BodyReader.{BodyReader}
 use Rattle.http_requests.specs.declared.body_reader.Stage.{Stage}
-use Rattle.http_requests.specs.declared.body_reader.Stage.TheVariants.{Length, SizeLine, Data, Trailer, Refused}
+use Rattle.http_requests.specs.declared.body_reader.Stage.TheVariants.{Length, SizeLine, Data, Trailer}
+use Rattle.http_requests.specs.declared.body_reader.Stage.TheVariants as stage
 use Rattle.http_requests.specs.Requests.{HasBody, BodyBreaks, AwaitsBody}
 use Rattle.http_requests.specs.ReceivedBytes.{ReadBuffer, put_back}
 use Rattle.http_requests.specs.Bodies.{AwaitsLine, IsLineEnd}
-use Rattle.http_requests.specs.PartialRequests.{WithChunks, WithData, WithLastLine, IsPartAt, IsPart, HasLookedAt, HasLooked, AwaitsAt, AwaitsMore, TakesOn, TakesText}
+use Rattle.http_requests.specs.PartialRequests.{WithChunks, WithData, WithLastLine, IsPartAt, IsPart, HasLookedAt, HasLooked, AwaitsAt, AwaitsMoreBody, TakesOn, TakesText}
 use Rattle.http_requests.proofs.ChunkParts.{shorter, none_after, awaited_after, line_awaited, no_size, passes, each_with, sum_with, texts_with, content_awaited}
 use Rattle.http_requests.proofs.ChunkParts.{no_more_content, trailer_awaited, no_trailer_comes, chunks_whole}
 
@@ -59,18 +60,18 @@ line_then_trailer Unreadable front fed line left so is = absurd so
 line_then_trailer TooLarge front fed line left so is = absurd so
 
 pub line_passes : (of : BodyLength) (front fed line held : List ℕ) (left size : ℕ) → IsPartAt of front fed left SizeLine → IsSizeLine line size → left < size
-    → BodyBreaks ⊥ bad_request.TooLarge of ((front ++ line) ++ held)
+    → BodyBreaks ⊥ fault.TooLarge of ((front ++ line) ++ held)
 line_passes Chunked front fed line held left size so is large =
-    subst (λ (l : List ℕ). BodyBreaks ⊥ bad_request.TooLarge Chunked ((l ++ line) ++ held)) (sym so.text_is)
+    subst (λ (l : List ℕ). BodyBreaks ⊥ fault.TooLarge Chunked ((l ++ line) ++ held)) (sym so.text_is)
     (passes so.chunks left so.each so.sum line size is held large)
 line_passes (Bytes n) front fed line held left size so is large = absurd so
 line_passes Unreadable front fed line held left size so is large = absurd so
 line_passes TooLarge front fed line held left size so is large = absurd so
 
 pub no_line_comes : (of : BodyLength) (front fed held : List ℕ) (left : ℕ) → IsPartAt of front fed left SizeLine → NeverHas IsSomeSizeLine held
-    → BodyBreaks ⊥ bad_request.Body of (front ++ held)
+    → BodyBreaks ⊥ fault.Body of (front ++ held)
 no_line_comes Chunked front fed held left so never =
-    subst (λ (l : List ℕ). BodyBreaks ⊥ bad_request.Body Chunked (l ++ held)) (sym so.text_is) (no_size so.chunks left so.each so.sum held never)
+    subst (λ (l : List ℕ). BodyBreaks ⊥ fault.Body Chunked (l ++ held)) (sym so.text_is) (no_size so.chunks left so.each so.sum held never)
 no_line_comes (Bytes n) front fed held left so never = absurd so
 no_line_comes Unreadable front fed held left so never = absurd so
 no_line_comes TooLarge front fed held left so never = absurd so
@@ -124,13 +125,13 @@ never_content held never more text rest is e = never more text rest (is.text_is 
     is_nothing (x ∷ xs) e = absurd (omega (arith, e))
 
 pub no_end_comes : (of : BodyLength) (front fed held : List ℕ) (left : ℕ) → IsPartAt of front fed left (Data 0) → NeverHas IsLineEnd held
-    → BodyBreaks ⊥ bad_request.Body of (front ++ held)
+    → BodyBreaks ⊥ fault.Body of (front ++ held)
 no_end_comes Chunked front fed held left so never =
     let fits : so.size ≤ so.size + left = omega arith in
     let nothing = never_content held never in
     let behind : NeverHas (IsContent so.size) (so.got ++ held) =
     λ more. subst (HasNone (IsContent so.size)) (sym (append_assoc so.got held more)) (none_after so.size 0 so.got so.lacking (held ++ more) (nothing more)) in
-    subst (λ (l : List ℕ). BodyBreaks ⊥ bad_request.Body Chunked l)
+    subst (λ (l : List ℕ). BodyBreaks ⊥ fault.Body Chunked l)
     (sym (append_assoc (texts so.chunks ++ so.line) so.got held) ∙ ap (λ l. l ++ held) (sym so.text_is))
     (no_more_content so.chunks (so.size + left) so.each so.sum so.line so.size so.line_is so.some fits (so.got ++ held) behind)
 no_end_comes (Bytes n) front fed held left so never = absurd so
@@ -153,9 +154,9 @@ trailer_ends Unreadable front fed text left seen so is = absurd so
 trailer_ends TooLarge front fed text left seen so is = absurd so
 
 pub no_trailer_then : (of : BodyLength) (front fed held : List ℕ) (left seen : ℕ) → IsPartAt of front fed left (Trailer seen) → NeverHas IsTrailer held
-    → BodyBreaks ⊥ bad_request.Body of (front ++ held)
+    → BodyBreaks ⊥ fault.Body of (front ++ held)
 no_trailer_then Chunked front fed held left seen so never =
-    subst (λ (l : List ℕ). BodyBreaks ⊥ bad_request.Body Chunked (l ++ held)) (sym so.text_is)
+    subst (λ (l : List ℕ). BodyBreaks ⊥ fault.Body Chunked (l ++ held)) (sym so.text_is)
     (no_trailer_comes so.chunks (rest_of so.chunks) so.each (omega (arith, so.small)) so.line so.line_is held never)
 no_trailer_then (Bytes n) front fed held left seen so never = absurd so
 no_trailer_then Unreadable front fed held left seen so never = absurd so
@@ -184,14 +185,14 @@ length_ends Chunked front fed piece left count so long = absurd so
 length_ends Unreadable front fed piece left count so long = absurd so
 length_ends TooLarge front fed piece left count so long = absurd so
 
-pub refused_breaks : (of : BodyLength) (why : BadRequest) (front fed held : List ℕ) (left : ℕ) → IsPartAt of front fed left (Refused why)
+pub refused_breaks : (of : BodyLength) (why : RequestFault) (front fed held : List ℕ) (left : ℕ) → IsPartAt of front fed left (stage.Unreadable why)
     → BodyBreaks ⊥ why of (front ++ held)
-refused_breaks Unreadable bad_request.Body front fed held left so = tt
-refused_breaks TooLarge bad_request.TooLarge front fed held left so = tt
-refused_breaks Unreadable bad_request.Head front fed held left so = absurd so
-refused_breaks Unreadable bad_request.TooLarge front fed held left so = absurd so
-refused_breaks TooLarge bad_request.Head front fed held left so = absurd so
-refused_breaks TooLarge bad_request.Body front fed held left so = absurd so
+refused_breaks Unreadable fault.Body front fed held left so = tt
+refused_breaks TooLarge fault.TooLarge front fed held left so = tt
+refused_breaks Unreadable fault.Head front fed held left so = absurd so
+refused_breaks Unreadable fault.TooLarge front fed held left so = absurd so
+refused_breaks TooLarge fault.Head front fed held left so = absurd so
+refused_breaks TooLarge fault.Body front fed held left so = absurd so
 refused_breaks (Bytes n) why front fed held left so = absurd so
 refused_breaks Chunked why front fed held left so = absurd so
 
@@ -215,23 +216,23 @@ awaits_at Chunked front fed held left (Trailer seen) so awaits =
     subst (λ (l : List ℕ). AwaitsBody Chunked (l ++ held)) (sym so.text_is)
     (trailer_awaited so.chunks (rest_of so.chunks) so.each (omega (arith, so.small)) so.line so.line_is held awaits.1)
 awaits_at Chunked front fed held left (Length count) so awaits = absurd so
-awaits_at Chunked front fed held left (Refused why) so awaits = absurd so
+awaits_at Chunked front fed held left (stage.Unreadable why) so awaits = absurd so
 awaits_at (Bytes n) front fed held left SizeLine so awaits = absurd so
 awaits_at (Bytes n) front fed held left (Data count) so awaits = absurd so
 awaits_at (Bytes n) front fed held left (Trailer seen) so awaits = absurd so
-awaits_at (Bytes n) front fed held left (Refused why) so awaits = absurd so
+awaits_at (Bytes n) front fed held left (stage.Unreadable why) so awaits = absurd so
 awaits_at Unreadable front fed held left (Length count) so awaits = absurd so
 awaits_at Unreadable front fed held left SizeLine so awaits = absurd so
 awaits_at Unreadable front fed held left (Data count) so awaits = absurd so
 awaits_at Unreadable front fed held left (Trailer seen) so awaits = absurd so
-awaits_at Unreadable front fed held left (Refused why) so awaits = absurd awaits
+awaits_at Unreadable front fed held left (stage.Unreadable why) so awaits = absurd awaits
 awaits_at TooLarge front fed held left (Length count) so awaits = absurd so
 awaits_at TooLarge front fed held left SizeLine so awaits = absurd so
 awaits_at TooLarge front fed held left (Data count) so awaits = absurd so
 awaits_at TooLarge front fed held left (Trailer seen) so awaits = absurd so
-awaits_at TooLarge front fed held left (Refused why) so awaits = absurd awaits
+awaits_at TooLarge front fed held left (stage.Unreadable why) so awaits = absurd awaits
 
-pub awaits_body : (of : BodyLength) (front fed held : List ℕ) (reader : BodyReader) → IsPart of front fed reader → AwaitsMore reader held
+pub awaits_body : (of : BodyLength) (front fed held : List ℕ) (reader : BodyReader) → IsPart of front fed reader → AwaitsMoreBody reader held
     → AwaitsBody of (front ++ held)
 awaits_body of front fed held reader so awaits = awaits_at of front fed held reader.left reader.stage so awaits
 
@@ -244,26 +245,26 @@ looked_at (Trailer seen) held more awaits = (
   omega (arith, awaits.0, length-append held more),
   subst (HasNone IsTrailer) (sym (ap (λ n. take n (held ++ more)) awaits.0 ∙ take-append_seam held more)) awaits.1,
 )
-looked_at (Refused why) held more awaits = absurd awaits
+looked_at (stage.Unreadable why) held more awaits = absurd awaits
 
-pub has_looked : (reader : BodyReader) (held new more : List ℕ) → new ≡ held ++ more → AwaitsMore reader held → HasLooked reader new
+pub has_looked : (reader : BodyReader) (held new more : List ℕ) → new ≡ held ++ more → AwaitsMoreBody reader held → HasLooked reader new
 has_looked reader held new more is awaits = subst (HasLooked reader) (sym is) (looked_at reader.stage held more awaits)
 
 -- where the input has ended, there is none
-pub ended_breaks : (AtEnd : Type 0) (of : BodyLength) (after : List ℕ) → AwaitsBody of after → AtEnd → BodyBreaks AtEnd bad_request.Body of after
+pub ended_breaks : (AtEnd : Type 0) (of : BodyLength) (after : List ℕ) → AwaitsBody of after → AtEnd → BodyBreaks AtEnd fault.Body of after
 ended_breaks AtEnd (Bytes n) after short ended = (short, ended)
 ended_breaks AtEnd Chunked after awaits ended = inr (ended, awaits.none)
 ended_breaks AtEnd Unreadable after awaits ended = tt
 ended_breaks AtEnd TooLarge after awaits ended = absurd awaits
 
-pub breaks_anyway : (AtEnd : Type 0) (why : BadRequest) (of : BodyLength) (after : List ℕ) → BodyBreaks ⊥ why of after → BodyBreaks AtEnd why of after
-breaks_anyway AtEnd bad_request.Head of after breaks = breaks
-breaks_anyway AtEnd bad_request.Body (Bytes n) after breaks = absurd breaks.1
-breaks_anyway AtEnd bad_request.Body Chunked after (inl never) = inl never
-breaks_anyway AtEnd bad_request.Body Chunked after (inr ended) = absurd ended.0
-breaks_anyway AtEnd bad_request.Body Unreadable after breaks = tt
-breaks_anyway AtEnd bad_request.Body TooLarge after breaks = absurd breaks
-breaks_anyway AtEnd bad_request.TooLarge of after breaks = breaks
+pub breaks_anyway : (AtEnd : Type 0) (why : RequestFault) (of : BodyLength) (after : List ℕ) → BodyBreaks ⊥ why of after → BodyBreaks AtEnd why of after
+breaks_anyway AtEnd fault.Head of after breaks = breaks
+breaks_anyway AtEnd fault.Body (Bytes n) after breaks = absurd breaks.1
+breaks_anyway AtEnd fault.Body Chunked after (inl never) = inl never
+breaks_anyway AtEnd fault.Body Chunked after (inr ended) = absurd ended.0
+breaks_anyway AtEnd fault.Body Unreadable after breaks = tt
+breaks_anyway AtEnd fault.Body TooLarge after breaks = absurd breaks
+breaks_anyway AtEnd fault.TooLarge of after breaks = breaks
 
 -- ---- one text, and then another
 

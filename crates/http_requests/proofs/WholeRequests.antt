@@ -12,15 +12,15 @@ use Rattle.http_requests.specs.declared.request.Method.{Method}
 use Rattle.http_requests.specs.HeadContents.{asked_by, pairs_of, method_of, has_batch_type, closes_by}
 use Rattle.http_requests.specs.Requests.{HasBody, BodyBreaks, BreaksAfter, IsMalformed, AwaitsBody, AwaitsRequest}
 use Rattle.http_requests.specs.AwaitedReads.{Source}
-use Rattle.http_requests.specs.ReceivedBytes.{ReadBuffer, ReadsOnWhile, StopsWhile, put_back, FindsHead, FindsNone, TakesRequest, FindsBadRequest}
+use Rattle.http_requests.specs.ReceivedBytes.{ReadBuffer, ReadsOnWhile, StopsWhile, put_back, FindsHead, FindsNone, TakesRequest, FindsFault}
 use Rattle.session_devices.specs.ByteTakers.{Takings}
 use Rattle.http_requests.specs.Bodies.{TakesBody, BreaksBody}
 use Rattle.http_requests.specs.declared.request.BodyLength.{BodyLength}
-use Rattle.http_requests.specs.declared.request.BadRequest.{BadRequest}
+use Rattle.http_requests.specs.declared.request.RequestFault.{RequestFault}
 use Rattle.http_requests.specs.declared.read_buffer.ReadError.{ReadError}
 use Rattle.http_requests.proofs.Readings.{prefixes_join, prefix_taken, widened, stops_after}
 use Rattle.http_requests.specs.FramedHeads.{Frames}
-use Rattle.http_requests.specs.declared.request.BadRequest.TheVariants as bad_request
+use Rattle.http_requests.specs.declared.request.RequestFault.TheVariants as fault
 use Rattle.http_requests.specs.declared.request.Request.{Request}
 
 -- a part of the start, whatever follows that
@@ -114,7 +114,7 @@ module _ {R : Type 0} (source : Source R) (s m t : R) (old here behind new : Rea
         };
   }
 
-  breaks_after : (why : BadRequest) (b : BreaksBody source m t behind new size why)
+  breaks_after : (why : RequestFault) (b : BreaksBody source m t behind new size why)
       → BreaksAfter (IsAtEnd (source.remaining t)) ((bytes ++ b.text) ++ new.held) why
   breaks_after why b = record {
     head = (found.is).head;
@@ -124,15 +124,15 @@ module _ {R : Type 0} (source : Source R) (s m t : R) (old here behind new : Rea
     breaks = subst (λ (z : BodyLength). BodyBreaks (IsAtEnd (source.remaining t)) why z (b.text ++ new.held)) found.size_is b.breaks;
   }
 
-  breaks : (why : BadRequest) (b : BreaksBody source m t behind new size why) → IsMalformed (IsAtEnd (source.remaining t)) ((bytes ++ b.text) ++ new.held) why
-  breaks bad_request.Head b = absurd b.breaks
-  breaks bad_request.Body b = breaks_after bad_request.Body b
-  breaks bad_request.TooLarge b = breaks_after bad_request.TooLarge b
+  breaks : (why : RequestFault) (b : BreaksBody source m t behind new size why) → IsMalformed (IsAtEnd (source.remaining t)) ((bytes ++ b.text) ++ new.held) why
+  breaks fault.Head b = absurd b.breaks
+  breaks fault.Body b = breaks_after fault.Body b
+  breaks fault.TooLarge b = breaks_after fault.TooLarge b
 
-  pub finds_bad_request : (why : BadRequest) → BreaksBody source m t behind new size why → FindsBadRequest source s t old new why
-  finds_bad_request why b = record { text = bytes ++ b.text; reads = after_head b.text b.reads; malformed = breaks why b }
+  pub finds_fault : (why : RequestFault) → BreaksBody source m t behind new size why → FindsFault source s t old new why
+  finds_fault why b = record { text = bytes ++ b.text; reads = after_head b.text b.reads; malformed = breaks why b }
 
 -- no head is no request
-pub none_is_bad_request : {R : Type 0} (source : Source R) (s t : R) (old new : ReadBuffer) → FindsNone source s t old new
-    → FindsBadRequest source s t old new bad_request.Head
-none_is_bad_request source s t old new none = record { text = []; reads = awaits_more source s t old new none.reads; malformed = none.malformed }
+pub none_is_fault : {R : Type 0} (source : Source R) (s t : R) (old new : ReadBuffer) → FindsNone source s t old new
+    → FindsFault source s t old new fault.Head
+none_is_fault source s t old new none = record { text = []; reads = awaits_more source s t old new none.reads; malformed = none.malformed }

@@ -11,7 +11,7 @@ use Rattle.http_requests.specs.ReceivedBytes.{ReadBuffer, ReadsOnWhile, put_back
 use Rattle.session_devices.specs.ByteTakers.{Takings}
 use Rattle.http_requests.specs.declared.request.BodyLength.{BodyLength}
 use Rattle.http_requests.specs.declared.request.BodyLength.TheVariants.{Chunked}
-use Rattle.http_requests.specs.declared.request.BadRequest.{BadRequest}
+use Rattle.http_requests.specs.declared.request.RequestFault.{RequestFault}
 
 -- ---- a text of one kind at the start
 
@@ -57,11 +57,11 @@ pub record TakesBody {S R : Type 0} (takes : Takings S) (source : Source R) (s t
 
 -- a text was taken, and with what is left it isn't the body that the head announces, for this reason; each read was
 -- made while more of a body was awaited
-pub record BreaksBody {R : Type 0} (source : Source R) (s t : R) (old new : ReadBuffer) (size : BodyLength) (why : BadRequest) : Type 0 where
+pub record BreaksBody {R : Type 0} (source : Source R) (s t : R) (old new : ReadBuffer) (size : BodyLength) (why : RequestFault) : Type 0 where
   pub text : List ℕ
   pub reads : ReadsOnWhile source (AwaitsBody size) s t old (put_back text new)
   pub breaks : BodyBreaks (IsAtEnd (source.remaining t)) why size (text ++ new.held)
 
-abbrev pub ReadsBody : {S R : Type 0} → Takings S → Source R → R → R → ReadBuffer → ReadBuffer → S → S → BodyLength → Result (Unit {0}) BadRequest → Type 0
+abbrev pub ReadsBody : {S R : Type 0} → Takings S → Source R → R → R → ReadBuffer → ReadBuffer → S → S → BodyLength → Result (Unit {0}) RequestFault → Type 0
 ReadsBody takes source s t old new before after size (Ok _) = TakesBody takes source s t old new before after size
 ReadsBody takes source s t old new before after size (Err why) = BreaksBody source s t old new size why

@@ -7,12 +7,13 @@ use Rattle.session_devices.specs.ByteTakers.{Takings}
 use Rattle.http_requests.specs.declared.request.TheConstants.{MAX_BODY_BYTES}
 use Rattle.http_requests.specs.declared.request.BodyLength.{BodyLength}
 use Rattle.http_requests.specs.declared.request.BodyLength.TheVariants.{Bytes, Chunked, Unreadable, TooLarge}
-use Rattle.http_requests.specs.declared.request.BadRequest.TheVariants as bad_request
+use Rattle.http_requests.specs.declared.request.RequestFault.TheVariants as fault
 use Rattle.http_requests.specs.declared.body_reader.BodyLook.{BodyLook}
-use Rattle.http_requests.specs.declared.body_reader.BodyLook.TheVariants.{Whole, More, Malformed}
+use Rattle.http_requests.specs.declared.body_reader.BodyLook.TheVariants.{Whole, More, Fault}
 use Rattle.http_requests.specs.declared.body_reader.BodyReader.{BodyReader}
 use Rattle.http_requests.specs.declared.body_reader.Stage.{Stage}
-use Rattle.http_requests.specs.declared.body_reader.Stage.TheVariants.{Length, SizeLine, Data, Trailer, Refused}
+use Rattle.http_requests.specs.declared.body_reader.Stage.TheVariants.{Length, SizeLine, Data, Trailer}
+use Rattle.http_requests.specs.declared.body_reader.Stage.TheVariants as stage
 use Rattle.http_requests.specs.declared.reading.HeadWait.{HeadWait}
 use Rattle.http_requests.specs.Heads.{AwaitsHead}
 use Rattle.http_requests.specs.Requests.{HasBody, BodyBreaks, IsShorter, AwaitsBody}
@@ -71,8 +72,8 @@ IsPartAt (Bytes n) text content left (Length count) = (text ≡ content) × (len
 IsPartAt Chunked text content left SizeLine = WithChunks text content left
 IsPartAt Chunked text content left (Data count) = WithData text content left count
 IsPartAt Chunked text content left (Trailer seen) = WithLastLine text content
-IsPartAt Unreadable text content left (Refused bad_request.Body) = Unit {0}
-IsPartAt TooLarge text content left (Refused bad_request.TooLarge) = Unit {0}
+IsPartAt Unreadable text content left (stage.Unreadable fault.Body) = Unit {0}
+IsPartAt TooLarge text content left (stage.Unreadable fault.TooLarge) = Unit {0}
 IsPartAt _ text content left _ = ⊥
 
 -- a part of a body of this length, and of its data
@@ -94,11 +95,11 @@ AwaitsAt (Length count) held = IsShorter count held
 AwaitsAt SizeLine held = AwaitsLine held
 AwaitsAt (Data count) held = AwaitsRest (IsContent count) held
 AwaitsAt (Trailer seen) held = (seen ≡ length held) × HasNone IsTrailer held
-AwaitsAt (Refused why) held = ⊥
+AwaitsAt (stage.Unreadable why) held = ⊥
 
 -- more is awaited after the part that was taken
-abbrev pub AwaitsMore : BodyReader → List ℕ → Type 0
-AwaitsMore reader held = AwaitsAt reader.stage held
+abbrev pub AwaitsMoreBody : BodyReader → List ℕ → Type 0
+AwaitsMoreBody reader held = AwaitsAt reader.stage held
 
 -- ---- what a look finds
 
@@ -106,7 +107,7 @@ AwaitsMore reader held = AwaitsAt reader.stage held
 abbrev pub Comes : BodyLength → List ℕ → List ℕ → List ℕ → BodyReader → BodyLook → Type 0
 Comes size text content held reader Whole = HasBody size text content
 Comes size text content held reader More = IsPart size text content reader
-Comes size text content held reader (Malformed why) = BodyBreaks ⊥ why size (text ++ held)
+Comes size text content held reader (Fault why) = BodyBreaks ⊥ why size (text ++ held)
 
 abbrev pub ComesOr : BodyLength → List ℕ → List ℕ → List ℕ → BodyReader → Option BodyLook → Type 0
 ComesOr size text content held reader None = IsPart size text content reader
@@ -115,8 +116,8 @@ ComesOr size text content held reader (Some look) = Comes size text content held
 -- if nothing is decided, more is awaited
 abbrev pub Leaves : BodyReader → List ℕ → BodyLook → Type 0
 Leaves reader held Whole = Unit {0}
-Leaves reader held More = AwaitsMore reader held
-Leaves reader held (Malformed why) = Unit {0}
+Leaves reader held More = AwaitsMoreBody reader held
+Leaves reader held (Fault why) = Unit {0}
 
 abbrev pub LeavesOr : BodyReader → List ℕ → Option BodyLook → Type 0
 LeavesOr reader held None = HasLooked reader held

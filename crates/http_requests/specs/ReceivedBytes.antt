@@ -2,19 +2,19 @@
 use Rattle.std.specs.Prelude.{◌≡◌, ℕ, ◌+◌, ◌*◌, ◌≤◌, ◌⊎◌, Bool, true, false, if◌then◌else◌, List, [], ◌++◌, length, take, drop, Option, Result, Ok, Err}
 use Rattle.std.specs.Io.KnownBytes.{Consumes, IsAtEnd}
 use Rattle.httparse.specs.Grammar.{RequestHead}
-use Rattle.http_requests.specs.declared.room.TheConstants.{PIECE}
+use Rattle.http_requests.specs.declared.room.TheConstants.{READ_BYTES}
 use Rattle.http_requests.specs.Heads.{TakesHead, AwaitsHead}
 use Rattle.http_requests.specs.HeadContents.{body_length}
 use Rattle.http_requests.specs.Requests.{Spells, IsHeadOf, IsMalformed, AwaitsRequest}
 use Rattle.http_requests.specs.AwaitedReads.{Gives, Source, counted, ReadsWhile, FailsToRead}
 use Rattle.http_requests.specs.declared.request.BodyLength.{BodyLength}
-use Rattle.http_requests.specs.declared.request.BadRequest.{BadRequest}
-use Rattle.http_requests.specs.declared.request.BadRequest.TheVariants as bad_request
+use Rattle.http_requests.specs.declared.request.RequestFault.{RequestFault}
+use Rattle.http_requests.specs.declared.request.RequestFault.TheVariants as fault
 use Rattle.http_requests.specs.declared.request.Request.{Request}
 use Rattle.http_requests.specs.declared.read_buffer.ReadError.{ReadError}
 use Rattle.http_requests.specs.declared.read_buffer.ReadError.TheVariants.{Reading, Memory}
 use Rattle.http_requests.specs.declared.reading.Next.{Next}
-use Rattle.http_requests.specs.declared.reading.Next.TheVariants.{One, Clean, Malformed}
+use Rattle.http_requests.specs.declared.reading.Next.TheVariants.{One, Clean, NoHead}
 
 -- the bytes that were read and not yet taken, the number of reads left, and whether the input has ended
 pub record ReadBuffer : Type 0 where
@@ -36,7 +36,7 @@ pub record ReadsOn (in0 in1 : Option (List ℕ)) (old new : ReadBuffer) : Type 0
   pub read : Consumes in0 in1 more
   pub held : new.held ≡ old.held ++ more
   pub least : turns old ≤ length more + turns new
-  pub most : length more + PIECE * new.left ≤ PIECE * old.left
+  pub most : length more + READ_BYTES * new.left ≤ READ_BYTES * old.left
   pub end : KnowsItsEnd old.ended in0 → KnowsItsEnd new.ended in1
 
 -- whether the input has failed is unchanged, unless a failed read stopped the call
@@ -93,13 +93,13 @@ pub record FindsEnd {R : Type 0} (source : Source R) (s t : R) (old new : ReadBu
 -- what is left doesn't start with a head
 pub record FindsNone {R : Type 0} (source : Source R) (s t : R) (old new : ReadBuffer) : Type 0 where
   pub reads : ReadsOnWhile source AwaitsHead s t old new
-  pub malformed : IsMalformed (IsAtEnd (source.remaining t)) new.held bad_request.Head
+  pub malformed : IsMalformed (IsAtEnd (source.remaining t)) new.held fault.Head
 
 -- what one search for the head of a request finds
 abbrev pub Finds : {R : Type 0} → Source R → R → R → ReadBuffer → ReadBuffer → Next → Type 0
 Finds source s t old new (One r len size) = FindsHead source s t old new r len size
 Finds source s t old new Clean = FindsEnd source s t old new
-Finds source s t old new Malformed = FindsNone source s t old new
+Finds source s t old new NoHead = FindsNone source s t old new
 
 -- ---- requests whose head was taken, and then the body
 
@@ -110,7 +110,7 @@ pub record TakesRequest {R : Type 0} (source : Source R) (s t : R) (old new : Re
   pub spells : Spells text head body
 
 -- what was taken and what is left don't start with a request; each read was made while one was awaited
-pub record FindsBadRequest {R : Type 0} (source : Source R) (s t : R) (old new : ReadBuffer) (why : BadRequest) : Type 0 where
+pub record FindsFault {R : Type 0} (source : Source R) (s t : R) (old new : ReadBuffer) (why : RequestFault) : Type 0 where
   pub text : List ℕ
   pub reads : ReadsOnWhile source AwaitsRequest s t old (put_back text new)
   pub malformed : IsMalformed (IsAtEnd (source.remaining t)) (text ++ new.held) why

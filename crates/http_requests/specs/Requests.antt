@@ -7,8 +7,8 @@ use Rattle.http_requests.specs.Heads.{TakesHead, HasNoHead, NeverHasHead, EndsLi
 use Rattle.http_requests.specs.HeadContents.{asked_by, body_length}
 use Rattle.http_requests.specs.declared.request.BodyLength.{BodyLength}
 use Rattle.http_requests.specs.declared.request.BodyLength.TheVariants.{Bytes, Chunked, Unreadable, TooLarge}
-use Rattle.http_requests.specs.declared.request.BadRequest.{BadRequest}
-use Rattle.http_requests.specs.declared.request.BadRequest.TheVariants as bad_request
+use Rattle.http_requests.specs.declared.request.RequestFault.{RequestFault}
+use Rattle.http_requests.specs.declared.request.RequestFault.TheVariants as fault
 use Rattle.http_requests.specs.declared.request.Request.{Request}
 
 -- the text after a head that announces a body of this length: the body itself, or its chunks
@@ -38,13 +38,13 @@ PassesMost Chunked after = BeginsWith (IsTooLarge MAX_BODY_BYTES) after
 PassesMost Unreadable after = ⊥
 PassesMost TooLarge after = Unit {0}
 
-abbrev pub BodyBreaks : Type 0 → BadRequest → BodyLength → List ℕ → Type 0
-BodyBreaks AtEnd bad_request.Head size after = ⊥
-BodyBreaks AtEnd bad_request.Body size after = IsUnreadable AtEnd size after
-BodyBreaks AtEnd bad_request.TooLarge size after = PassesMost size after
+abbrev pub BodyBreaks : Type 0 → RequestFault → BodyLength → List ℕ → Type 0
+BodyBreaks AtEnd fault.Head size after = ⊥
+BodyBreaks AtEnd fault.Body size after = IsUnreadable AtEnd size after
+BodyBreaks AtEnd fault.TooLarge size after = PassesMost size after
 
 -- there is a head, and no body after it for this reason
-pub record BreaksAfter (AtEnd : Type 0) (rest : List ℕ) (why : BadRequest) : Type 0 where
+pub record BreaksAfter (AtEnd : Type 0) (rest : List ℕ) (why : RequestFault) : Type 0 where
   pub head : RequestHead
   pub after : List ℕ
   pub takes : TakesHead rest head after
@@ -52,10 +52,10 @@ pub record BreaksAfter (AtEnd : Type 0) (rest : List ℕ) (why : BadRequest) : T
 
 -- The bytes don't start with a request for this reason: no continuation starts with a head, or with one whose body can
 -- be read, or the input ended inside the request.
-abbrev pub IsMalformed : Type 0 → List ℕ → BadRequest → Type 0
-IsMalformed AtEnd rest bad_request.Head = NeverHasHead rest ⊎ (AtEnd × (0 < length rest) × HasNoHead rest)
-IsMalformed AtEnd rest bad_request.Body = BreaksAfter AtEnd rest bad_request.Body
-IsMalformed AtEnd rest bad_request.TooLarge = BreaksAfter AtEnd rest bad_request.TooLarge
+abbrev pub IsMalformed : Type 0 → List ℕ → RequestFault → Type 0
+IsMalformed AtEnd rest fault.Head = NeverHasHead rest ⊎ (AtEnd × (0 < length rest) × HasNoHead rest)
+IsMalformed AtEnd rest fault.Body = BreaksAfter AtEnd rest fault.Body
+IsMalformed AtEnd rest fault.TooLarge = BreaksAfter AtEnd rest fault.TooLarge
 
 -- ---- what is awaited
 

@@ -6,7 +6,7 @@ ghost use Rattle.http_requests.specs.Bodies.{ReadsBody};
 
 use crate::body_reader::{BodyLook, BodyReader};
 use crate::read_buffer::{ReadBuffer, ReadError};
-use crate::request::{BadRequest, BodyLength};
+use crate::request::{BodyLength, RequestFault};
 use crate::sink::Sink;
 use session_devices::Input;
 
@@ -24,7 +24,7 @@ pub fn read_body<R: Input, S: Sink>(
     received: &mut ReadBuffer,
     sink: &mut S,
     size: BodyLength,
-) -> Result<Result<(), BadRequest>, ReadError>
+) -> Result<Result<(), RequestFault>, ReadError>
     requires end { KnowsItsEnd received.old.ended (R.remaining input.old) }
     ensures body { IfOk result (ReadsBody S.takes (source_of R.remaining R.gives)
         input.old input.new received.old received.new sink.old sink.new size) }
@@ -36,8 +36,8 @@ pub fn read_body<R: Input, S: Sink>(
     'reads: loop {
         match reader.take_from(received, sink) {
             BodyLook::Whole => return Ok(Ok(())),
-            BodyLook::Malformed(why) => return Ok(Err(why)),
-            BodyLook::More if received.has_ended() => return Ok(Err(BadRequest::Body)),
+            BodyLook::Fault(why) => return Ok(Err(why)),
+            BodyLook::More if received.has_ended() => return Ok(Err(RequestFault::Body)),
             BodyLook::More => received.read_more(input)?,
         }
     }

@@ -9,7 +9,7 @@ ghost use Rattle.http_requests.specs.declared.body_reader.Stage.TheVariants as s
 
 use crate::chunked::{Look, MAX_TRAILER_BYTES, look_for_size, look_for_trailer};
 use crate::read_buffer::ReadBuffer;
-use crate::request::{BadRequest, BodyLength, MAX_BODY_BYTES};
+use crate::request::{BodyLength, MAX_BODY_BYTES, RequestFault};
 use crate::searching::{Search, look_when_due};
 use crate::sink::Sink;
 
@@ -21,7 +21,7 @@ pub enum BodyLook {
     /// More of it is awaited.
     More,
     /// It can't be read, whatever follows.
-    Malformed(BadRequest),
+    Fault(RequestFault),
 }
 
 /// The next part of a body.
@@ -35,7 +35,7 @@ enum Stage {
     /// The trailer. This number of bytes received was examined, and they hold none.
     Trailer(usize),
     /// The body isn't read.
-    Refused(BadRequest),
+    Unreadable(RequestFault),
 }
 
 /// A body that was taken in part. It holds none of the bytes.
@@ -124,8 +124,8 @@ impl BodyReader {
         let stage = match size {
             BodyLength::Bytes(count) => Stage::Length(count),
             BodyLength::Chunked => Stage::SizeLine,
-            BodyLength::Unreadable => Stage::Refused(BadRequest::Body),
-            BodyLength::TooLarge => Stage::Refused(BadRequest::TooLarge),
+            BodyLength::Unreadable => Stage::Unreadable(RequestFault::Body),
+            BodyLength::TooLarge => Stage::Unreadable(RequestFault::TooLarge),
         };
         BodyReader {
             stage,
@@ -145,7 +145,7 @@ impl BodyReader {
             Look::Whole((length, size)) => {
                 received.take(length);
                 if size > self.left {
-                    return Some(BodyLook::Malformed(BadRequest::TooLarge));
+                    return Some(BodyLook::Fault(RequestFault::TooLarge));
                 }
                 if size == 0 {
                     self.stage = Stage::Trailer(0);
@@ -156,7 +156,7 @@ impl BodyReader {
                 None
             }
             Look::More => Some(BodyLook::More),
-            Look::Never => Some(BodyLook::Malformed(BadRequest::Body)),
+            Look::Never => Some(BodyLook::Fault(RequestFault::Body)),
         }
     }
 
@@ -175,7 +175,7 @@ impl BodyReader {
                 None
             }
             Look::More => Some(BodyLook::More),
-            Look::Never => Some(BodyLook::Malformed(BadRequest::Body)),
+            Look::Never => Some(BodyLook::Fault(RequestFault::Body)),
         }
     }
 
@@ -197,7 +197,7 @@ impl BodyReader {
                 self.stage = Stage::Trailer(bytes.len());
                 BodyLook::More
             }
-            Look::Never => BodyLook::Malformed(BadRequest::Body),
+            Look::Never => BodyLook::Fault(RequestFault::Body),
         }
     }
 
@@ -259,7 +259,7 @@ impl BodyReader {
             Stage::Data(0) => self.take_line_end(received),
             Stage::Data(count) => self.take_data(received, sink, count),
             Stage::Trailer(seen) => Some(self.take_trailer(received, seen)),
-            Stage::Refused(why) => Some(BodyLook::Malformed(why)),
+            Stage::Unreadable(why) => Some(BodyLook::Fault(why)),
         }
     }
 

@@ -6,11 +6,11 @@ ghost use Rattle.httparse.specs.Grammar.{RequestHead as RequestHeadValue, NeverH
 ghost use Rattle.http_requests.specs.declared.head.TheConstants.{MAX_HEAD_BYTES, MAX_FIELDS};
 ghost use Rattle.http_requests.specs.declared.request.TheConstants.{MAX_BODY_BYTES};
 ghost use Rattle.session_devices.specs.declared.limits.TheConstants.{MAX_READS};
-ghost use Rattle.http_requests.specs.declared.room.TheConstants.{PIECE};
+ghost use Rattle.http_requests.specs.declared.room.TheConstants.{READ_BYTES};
 ghost use Rattle.http_requests.specs.Heads.{TakesHead, EndsLine};
 ghost use Rattle.http_requests.specs.Requests.{Spells, IsMalformed, AwaitsRequest};
-ghost use Rattle.http_requests.specs.declared.request.BadRequest.{BadRequest as BadRequestValue};
-ghost use Rattle.http_requests.specs.declared.request.BadRequest.TheVariants.{TooLarge};
+ghost use Rattle.http_requests.specs.declared.request.RequestFault.{RequestFault as RequestFaultValue};
+ghost use Rattle.http_requests.specs.declared.request.RequestFault.TheVariants.{TooLarge};
 
 /// The limits of a session: the bytes and fields of a head, the bytes of a body, the number of reads, and the bytes
 /// that one read asks for.
@@ -19,7 +19,7 @@ pub fn a_session_has_these_limits()
     ensures fields { MAX_FIELDS ≡ 64 }
     ensures body { MAX_BODY_BYTES ≡ 4194304 }
     ensures reads { MAX_READS ≡ 1099511627776 }
-    ensures piece { PIECE ≡ 16384 }
+    ensures piece { READ_BYTES ≡ 16384 }
 {}
 
 /// Bytes start with at most one head, which has one rest.
@@ -44,27 +44,27 @@ pub fn a_request_is_spelled_in_one_way()
 /// If a piece of the bytes is malformed, all of them are, for the same reason. The end counts only if nothing is left
 /// after the piece.
 pub fn a_malformed_request_stays_malformed()
-    ensures { (piece left : List ℕ) (b : BadRequestValue) →
+    ensures { (piece left : List ℕ) (b : RequestFaultValue) →
         IsMalformed (left ≡ []) piece b → IsMalformed (Unit {0}) (piece ++ left) b }
 {}
 
 /// Bytes that start with a request are not malformed, whatever piece of them was examined.
 pub fn a_request_is_not_malformed()
     ensures { (text rest piece left : List ℕ) (h : RequestHeadValue) (body : List ℕ)
-        (b : BadRequestValue) →
+        (b : RequestFaultValue) →
         Spells text h body → piece ++ left ≡ text ++ rest → IsMalformed (left ≡ []) piece b → ⊥ }
 {}
 
 /// Bytes are malformed for one reason, whatever pieces of them were examined.
 pub fn a_malformed_request_has_one_reason()
-    ensures { (piece left part behind : List ℕ) (b c : BadRequestValue) →
+    ensures { (piece left part behind : List ℕ) (b c : RequestFaultValue) →
         piece ++ left ≡ part ++ behind → IsMalformed (left ≡ []) piece b →
         IsMalformed (behind ≡ []) part c → b ≡ c }
 {}
 
 /// No bytes are not malformed.
 pub fn no_bytes_are_not_malformed()
-    ensures { (b : BadRequestValue) → IsMalformed (Unit {0}) [] b → ⊥ }
+    ensures { (b : RequestFaultValue) → IsMalformed (Unit {0}) [] b → ⊥ }
 {}
 
 /// While a request is awaited, the bytes don't start with one.

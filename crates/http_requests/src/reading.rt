@@ -21,7 +21,7 @@ pub enum Next {
     /// The input has ended between two requests.
     Clean,
     /// They don't start with a head, and none can come.
-    Malformed,
+    NoHead,
 }
 
 /// A head that is awaited: the first `seen` bytes received hold none.
@@ -85,7 +85,7 @@ pub fn next_head<R: Input>(input: &mut R, received: &mut ReadBuffer) -> Result<N
             Look::Whole((request, length, size)) => return Ok(Next::One(request, length, size)),
             Look::More if !received.has_ended() => received.read_more(input)?,
             Look::More if received.as_slice().is_empty() => return Ok(Next::Clean),
-            Look::More | Look::Never => return Ok(Next::Malformed),
+            Look::More | Look::Never => return Ok(Next::NoHead),
         }
     }
 }

@@ -36,7 +36,7 @@ pub enum BodyLength {
 
 /// Why bytes are not a request that can be read.
 #[derive(Clone, Copy, Debug, PartialEq, Eq)]
-pub enum BadRequest {
+pub enum RequestFault {
     /// They don't start with a head, whatever follows.
     Head,
     /// The body after the head can't be read.

@@ -8,7 +8,7 @@ use std::alloc::{AllocError, Global};
 use std::mem;
 
 /// The number of bytes that one read asks for.
-pub const PIECE: usize = 16_384;
+pub const READ_BYTES: usize = 16_384;
 
 /// An empty buffer that the sessions of one thread use in turn.
 #[derive(Drop)]
@@ -120,21 +120,21 @@ impl Room {
     /// them, so no byte is moved twice.
     pub(crate) fn make_room(&mut self) -> Result<(), AllocError>
         ensures same { held self.new ≡ held self.old }
-        ensures room { OnOk result (self.new.end + PIECE ≤ vec_len self.new.bytes) }
+        ensures room { OnOk result (self.new.end + READ_BYTES ≤ vec_len self.new.bytes) }
     {
-        if self.bytes.len() - self.end >= PIECE {
+        if self.bytes.len() - self.end >= READ_BYTES {
             return Ok(());
         }
         self.move_to_start();
-        if self.bytes.len() - self.end >= PIECE {
+        if self.bytes.len() - self.end >= READ_BYTES {
             return Ok(());
         }
-        self.bytes.resize(self.end + PIECE, 0)
+        self.bytes.resize(self.end + READ_BYTES, 0)
     }
 
     /// Reads once, at most a piece, after the bytes held. Returns the number of bytes read.
     pub(crate) fn read_from<R: Input>(&mut self, input: &mut R) -> Result<usize, Failed>
-        requires room { self.old.end + PIECE ≤ vec_len self.old.bytes }
+        requires room { self.old.end + READ_BYTES ≤ vec_len self.old.bytes }
         ensures ok { IfOk result (GetsPiece (source_of R.remaining R.gives) input.old input.new
             (held self.old) (held self.new)) }
         ensures works { OnOk result (R.has_failed input.new ≡ R.has_failed input.old) }
@@ -143,7 +143,7 @@ impl Room {
             × (R.has_failed input.new ≡ true) × R.gives input.old [] input.new) }
     {
         let end = self.end;
-        let count = input.read(&mut self.bytes.as_mut_slice()[end..end + PIECE])?;
+        let count = input.read(&mut self.bytes.as_mut_slice()[end..end + READ_BYTES])?;
         self.end = end + count;
         Ok(count)
     }

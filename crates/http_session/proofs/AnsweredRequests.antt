@@ -1,7 +1,7 @@
 -- One request that was heard, answered.
 use Rattle.std.proofs.Common.{◌≡◌, ◌≢◌, ℕ, ◌+◌, ◌*◌, ◌<◌, ◌||◌, Bool, true, false, ◌++◌, length, take, Err, refl, sym, ap, ◌∙◌, subst, arith, length-append}
 use Rattle.std.specs.Io.KnownBytes.{Appends}
-use Rattle.http_requests.specs.declared.room.TheConstants.{PIECE}
+use Rattle.http_requests.specs.declared.room.TheConstants.{READ_BYTES}
 use Rattle.http_requests.specs.ReceivedBytes.{ReadBuffer, put_back}
 use Rattle.http_requests.proofs.OneRequest.{request_is_some}
 use Rattle.http_session.specs.IncomingRequests.{ReceivesOne}
@@ -21,7 +21,7 @@ some_text old here v asked found = request_is_some found.text found.head found.b
 
 -- fewer bytes are left after a request, and as many reads
 pub fewer_left : (old here : ReadBuffer) (v : Verdict) (asked : Bool) (found : ReceivesOne old here v asked)
-    → PIECE * here.left + length here.held < PIECE * old.left + length old.held
+    → READ_BYTES * here.left + length here.held < READ_BYTES * old.left + length old.held
 fewer_left old here v asked found =
     let held : length old.held ≡ length (found.text ++ here.held) = ap (λ (b : ReadBuffer). length b.held) found.cut in
     let left : old.left ≡ here.left = ap (λ (b : ReadBuffer). b.left) found.cut in

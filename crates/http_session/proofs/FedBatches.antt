@@ -9,7 +9,7 @@ use Rattle.batch_feeder.specs.ContinuedCalls.{Faults}
 use Rattle.http_session.specs.Verdicts.{JudgesBatch}
 use Rattle.http_session.specs.Questions.{JudgesRead}
 use Rattle.http_session.specs.BodySinks.{Follows}
-use Rattle.http_session.specs.declared.verdict.ErrorReply.TheVariants.{NoSuchPath, NotAllowed, UnsupportedType, BatchRefused, BadParameter, NoMemory}
+use Rattle.http_session.specs.declared.verdict.ErrorReply.TheVariants.{NoSuchPath, NotAllowed, UnsupportedType, BadBatch, BadParameter, NoMemory}
 use Rattle.http_session.specs.declared.verdict.Verdict.{Verdict}
 use Rattle.http_session.specs.declared.verdict.Verdict.TheVariants.{Submit, Ask, Reject}
 
@@ -33,8 +33,8 @@ module _ (old new : List ℕ → Result Reported DecodeError) (body : List ℕ) 
   pub batch_verdict : (v : Verdict) → Follows old body new → JudgesRead (new []) v → JudgesBatch true body v
   batch_verdict (Submit b) (inl same) is = (refl, sym (all same) ∙ is)
   batch_verdict (Submit b) (inr want) is = absurd (cc (want.0.all [], is))
-  batch_verdict (Reject (BatchRefused f)) (inl same) is = (refl, sym (all same) ∙ is.0)
-  batch_verdict (Reject (BatchRefused f)) (inr want) is = absurd (is.1 (cc (want.0.all [], is.0)))
+  batch_verdict (Reject (BadBatch f)) (inl same) is = (refl, sym (all same) ∙ is.0)
+  batch_verdict (Reject (BadBatch f)) (inr want) is = absurd (is.1 (cc (want.0.all [], is.0)))
   batch_verdict (Reject NoMemory) follows is = refl
   batch_verdict (Reject UnsupportedType) follows is = absurd is
   batch_verdict (Reject NoSuchPath) follows is = absurd is

@@ -12,11 +12,11 @@ use Rattle.http_requests.specs.Heads.{TakesHead, AwaitsHead, NeverHasHead}
 use Rattle.http_requests.specs.Requests.{HasBody, BodyBreaks, Spells, IsMalformed, BreaksAfter, IsHeadOf, AwaitsRequest}
 use Rattle.http_requests.specs.ReceivedBytes.{ReadBuffer, put_back}
 use Rattle.http_requests.specs.FramedHeads.{Frames}
-use Rattle.http_requests.specs.PartialRequests.{IsPart, Comes, AwaitsMore, TakesOn}
+use Rattle.http_requests.specs.PartialRequests.{IsPart, Comes, AwaitsMoreBody, TakesOn}
 use Rattle.http_requests.specs.declared.request.BodyLength.{BodyLength}
 use Rattle.http_requests.specs.declared.request.BodyLength.TheVariants.{Bytes, Chunked, Unreadable, TooLarge}
-use Rattle.http_requests.specs.declared.request.BadRequest.{BadRequest}
-use Rattle.http_requests.specs.declared.request.BadRequest.TheVariants as bad_request
+use Rattle.http_requests.specs.declared.request.RequestFault.{RequestFault}
+use Rattle.http_requests.specs.declared.request.RequestFault.TheVariants as fault
 use Rattle.http_requests.specs.declared.request.Request.{Request}
 use Rattle.http_requests.specs.declared.body_reader.BodyReader.{BodyReader}
 use Rattle.http_requests.specs.declared.body_reader.BodyLook.TheVariants as look
@@ -27,13 +27,13 @@ use Rattle.http_session.specs.Verdicts.{Judges, JudgesBatch, asked_of}
 use Rattle.http_session.specs.Questions.{Decides, AsksQuestion, JudgesRead}
 use Rattle.http_session.specs.BodySinks.{Follows}
 use Rattle.http_session.specs.BodySinkLaws.{follows_joined}
-use Rattle.http_session.specs.IncomingRequests.{JudgesBy, Carries, IsPartOf, HasReceived, HasLookedBy, WaitsAfter, ReceivesOne, ReceivesBadRequest, ReceivesPart}
+use Rattle.http_session.specs.IncomingRequests.{JudgesBy, Carries, IsPartOf, HasReceived, HasLookedBy, WaitsAfter, ReceivesOne, ReceivesFault, ReceivesPart}
 use Rattle.http_session.specs.IncomingRequests.{ReceivesWhole, ReceivesOf, FinishesAs, before_a_request}
 use Rattle.http_session.specs.declared.question.Question.{Question}
 use Rattle.http_session.specs.declared.question.Question.TheVariants as question
 use Rattle.http_session.specs.declared.verdict.Verdict.{Verdict}
 use Rattle.http_session.specs.declared.receiving.Incoming.{Incoming}
-use Rattle.http_session.specs.declared.receiving.Incoming.TheVariants.{One, Clean, Malformed}
+use Rattle.http_session.specs.declared.receiving.Incoming.TheVariants.{Request as OneRequest, Clean, NoRequest}
 use Rattle.http_session.specs.declared.receiving.BatchBody.{BatchBody}
 use Rattle.http_session.specs.declared.receiving.BodySink.{BodySink}
 use Rattle.http_session.specs.declared.receiving.BodySink.TheVariants.{Settled, Batch}
@@ -108,7 +108,7 @@ module _ (request : PartialRequest) (text : List ℕ) (so : IsPartOf request tex
   all_of more = ap (λ l. l ++ more) so.text_is ∙ append_assoc (print_request so.head) so.taken more
 
   -- more of it is awaited
-  pub awaits_after : (held : List ℕ) → AwaitsMore request.reader held → AwaitsRequest (text ++ held)
+  pub awaits_after : (held : List ℕ) → AwaitsMoreBody request.reader held → AwaitsRequest (text ++ held)
   awaits_after held awaits = inr (record {
     head = so.head;
     after = so.taken ++ held;
@@ -116,7 +116,7 @@ module _ (request : PartialRequest) (text : List ℕ) (so : IsPartOf request tex
     awaits = awaits_body (body_length so.head) so.taken so.content held request.reader so.part awaits;
   })
 
-  breaks_as : (AtEnd : Type 0) (why : BadRequest) (held : List ℕ) → BodyBreaks AtEnd why (body_length so.head) (so.taken ++ held)
+  breaks_as : (AtEnd : Type 0) (why : RequestFault) (held : List ℕ) → BodyBreaks AtEnd why (body_length so.head) (so.taken ++ held)
       → BreaksAfter AtEnd (text ++ held) why
   breaks_as AtEnd why held breaks = record {
     head = so.head;
@@ -125,11 +125,11 @@ module _ (request : PartialRequest) (text : List ℕ) (so : IsPartOf request tex
     breaks = breaks;
   }
 
-  malformed_as : (AtEnd : Type 0) (why : BadRequest) (held : List ℕ) → BodyBreaks AtEnd why (body_length so.head) (so.taken ++ held)
+  malformed_as : (AtEnd : Type 0) (why : RequestFault) (held : List ℕ) → BodyBreaks AtEnd why (body_length so.head) (so.taken ++ held)
       → IsMalformed AtEnd (text ++ held) why
-  malformed_as AtEnd bad_request.Head held breaks = absurd breaks
-  malformed_as AtEnd bad_request.Body held breaks = breaks_as AtEnd bad_request.Body held breaks
-  malformed_as AtEnd bad_request.TooLarge held breaks = breaks_as AtEnd bad_request.TooLarge held breaks
+  malformed_as AtEnd fault.Head held breaks = absurd breaks
+  malformed_as AtEnd fault.Body held breaks = breaks_as AtEnd fault.Body held breaks
+  malformed_as AtEnd fault.TooLarge held breaks = breaks_as AtEnd fault.TooLarge held breaks
 
   spells_whole : (body : List ℕ) → HasBody (body_length so.head) so.taken body → Spells text so.head body
   spells_whole body is = record {
@@ -139,11 +139,11 @@ module _ (request : PartialRequest) (text : List ℕ) (so : IsPartOf request tex
   }
 
   -- where the input has ended
-  pub ends_inside : (new : ReadBuffer) → AwaitsMore request.reader new.held → new.ended ≡ true → ReceivesBadRequest (put_back text new) new bad_request.Body
+  pub ends_inside : (new : ReadBuffer) → AwaitsMoreBody request.reader new.held → new.ended ≡ true → ReceivesFault (put_back text new) new fault.Body
   ends_inside new awaits ended = record {
     text = text;
     cut = refl;
-    malformed = malformed_as (new.ended ≡ true) bad_request.Body new.held
+    malformed = malformed_as (new.ended ≡ true) fault.Body new.held
         (ended_breaks (new.ended ≡ true) (body_length so.head) (so.taken ++ new.held)
         (awaits_body (body_length so.head) so.taken so.content new.held request.reader so.part awaits) ended);
   }
@@ -180,15 +180,15 @@ module _ (was is : PartialRequest) (text : List ℕ) (old new : ReadBuffer) (so 
   -- the input ended after it
   pub receives_end_inside : is.closes ≡ was.closes
       → TakesOn Carries old new was.sink is.sink was.reader (λ size text content. Comes size text content new.held is.reader look.More)
-      → AwaitsMore is.reader new.held → new.ended ≡ true → ReceivesBadRequest (put_back text old) new bad_request.Body
+      → AwaitsMoreBody is.reader new.held → new.ended ≡ true → ReceivesFault (put_back text old) new fault.Body
   unfolding ends_inside part_more
   receives_end_inside closes on awaits ended =
       let inside = ends_inside is (text ++ on.text) (part_more closes on) new awaits ended in
       record { text = text ++ on.text; cut = cut_after on.text on.cut; malformed = inside.malformed }
 
-  pub receives_malformed : (why : BadRequest)
-      → TakesOn Carries old new was.sink is.sink was.reader (λ size text content. Comes size text content new.held is.reader (look.Malformed why))
-      → ReceivesBadRequest (put_back text old) new why
+  pub receives_malformed : (why : RequestFault)
+      → TakesOn Carries old new was.sink is.sink was.reader (λ size text content. Comes size text content new.held is.reader (look.Fault why))
+      → ReceivesFault (put_back text old) new why
   receives_malformed why on =
       let breaks = on.come (body_length so.head) so.taken so.content so.part in
       let after : (so.taken ++ on.text) ++ new.held ≡ so.taken ++ (on.text ++ new.held) = append_assoc so.taken on.text new.held in
@@ -223,7 +223,7 @@ module _ (was is : PartialRequest) (text : List ℕ) (old new : ReadBuffer) (so 
 -- the verdict on it
 finished_as : (old new : ReadBuffer) (request : PartialRequest) (incoming : Incoming) → ReceivesWhole old new request → FinishesAs (Body request) incoming
     → ReceivesOf old new before_a_request (Some incoming)
-finished_as old new request (One v closes) whole finishes = (
+finished_as old new request (OneRequest v closes) whole finishes = (
   record {
     text = whole.text;
     head = whole.head;
@@ -236,7 +236,7 @@ finished_as old new request (One v closes) whole finishes = (
   refl,
 )
 finished_as old new request Clean whole finishes = absurd finishes
-finished_as old new request (Malformed why) whole finishes = absurd finishes
+finished_as old new request (NoRequest why) whole finishes = absurd finishes
 
 pub receives_finished : (old new : ReadBuffer) (request : PartialRequest) (stage next : SessionStage) (incoming : Incoming) → stage ≡ Body request
     → next ≡ before_a_request → ReceivesWhole old new request
@@ -265,25 +265,25 @@ looked_still stage held waits = looked_by stage held held [] (sym (append-nil he
 -- ---- where the input has ended only perhaps
 
 module _ (A B : Type 0) (if_ended : A → B) where
-  breaks_if : (why : BadRequest) (size : BodyLength) (after : List ℕ) → BodyBreaks A why size after → BodyBreaks B why size after
-  breaks_if bad_request.Head size after breaks = breaks
-  breaks_if bad_request.Body (Bytes n) after breaks = (breaks.0, if_ended breaks.1)
-  breaks_if bad_request.Body Chunked after (inl never) = inl never
-  breaks_if bad_request.Body Chunked after (inr ended) = inr (if_ended ended.0, ended.1)
-  breaks_if bad_request.Body Unreadable after breaks = breaks
-  breaks_if bad_request.Body TooLarge after breaks = breaks
-  breaks_if bad_request.TooLarge size after breaks = breaks
+  breaks_if : (why : RequestFault) (size : BodyLength) (after : List ℕ) → BodyBreaks A why size after → BodyBreaks B why size after
+  breaks_if fault.Head size after breaks = breaks
+  breaks_if fault.Body (Bytes n) after breaks = (breaks.0, if_ended breaks.1)
+  breaks_if fault.Body Chunked after (inl never) = inl never
+  breaks_if fault.Body Chunked after (inr ended) = inr (if_ended ended.0, ended.1)
+  breaks_if fault.Body Unreadable after breaks = breaks
+  breaks_if fault.Body TooLarge after breaks = breaks
+  breaks_if fault.TooLarge size after breaks = breaks
 
-  breaks_after_if : (why : BadRequest) (rest : List ℕ) → BreaksAfter A rest why → BreaksAfter B rest why
+  breaks_after_if : (why : RequestFault) (rest : List ℕ) → BreaksAfter A rest why → BreaksAfter B rest why
   breaks_after_if why rest b = record { head = b.head; after = b.after; takes = b.takes; breaks = breaks_if why (body_length b.head) b.after b.breaks }
 
-malformed_by : (A B : Type 0) → (A → B) → (why : BadRequest) (rest : List ℕ) → IsMalformed A rest why → IsMalformed B rest why
-malformed_by A B if_ended bad_request.Head rest (inl never) = inl never
-malformed_by A B if_ended bad_request.Head rest (inr ended) = inr (if_ended ended.0, ended.1, ended.2)
-malformed_by A B if_ended bad_request.Body rest b = breaks_after_if A B if_ended bad_request.Body rest b
-malformed_by A B if_ended bad_request.TooLarge rest b = breaks_after_if A B if_ended bad_request.TooLarge rest b
+malformed_by : (A B : Type 0) → (A → B) → (why : RequestFault) (rest : List ℕ) → IsMalformed A rest why → IsMalformed B rest why
+malformed_by A B if_ended fault.Head rest (inl never) = inl never
+malformed_by A B if_ended fault.Head rest (inr ended) = inr (if_ended ended.0, ended.1, ended.2)
+malformed_by A B if_ended fault.Body rest b = breaks_after_if A B if_ended fault.Body rest b
+malformed_by A B if_ended fault.TooLarge rest b = breaks_after_if A B if_ended fault.TooLarge rest b
 
-pub malformed_if : (A B : Type 0) (why : BadRequest) (rest : List ℕ) → (A → B) → IsMalformed A rest why → IsMalformed B rest why
+pub malformed_if : (A B : Type 0) (why : RequestFault) (rest : List ℕ) → (A → B) → IsMalformed A rest why → IsMalformed B rest why
 malformed_if A B why rest if_ended malformed = malformed_by A B if_ended why rest malformed
 
 -- what was taken, put back
@@ -291,9 +291,9 @@ pub cut_back : (old mid : ReadBuffer) (count : ℕ) → mid ≡ record old { hel
 cut_back old mid count is = ap (put_back (take count old.held)) is ∙ ap (λ (l : List ℕ). record old { held = l }) (take-append-drop count old.held)
 
 -- none of a head can come
-pub no_head_comes : (here : ReadBuffer) → NeverHasHead here.held → ReceivesBadRequest here here bad_request.Head
+pub no_head_comes : (here : ReadBuffer) → NeverHasHead here.held → ReceivesFault here here fault.Head
 no_head_comes here never = record { text = []; cut = refl; malformed = inl never }
 
 -- the input ended inside a head
-pub ends_in_head : (here : ReadBuffer) → AwaitsHead here.held → here.ended ≡ true → 0 < length here.held → ReceivesBadRequest here here bad_request.Head
+pub ends_in_head : (here : ReadBuffer) → AwaitsHead here.held → here.ended ≡ true → 0 < length here.held → ReceivesFault here here fault.Head
 ends_in_head here awaits ended some = record { text = []; cut = refl; malformed = inr (ended, some, awaits.none) }

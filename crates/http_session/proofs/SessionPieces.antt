@@ -10,14 +10,14 @@ use Rattle.trace_model.specs.declared.answer.Answer.{Answer}
 use Rattle.trace_model.specs.declared.refusal.Refusal.{Refusal}
 use Rattle.trace_model.specs.StoreKnowledge.{Known, reached, Keeps, SubmitKnows, ReadKnows}
 use Rattle.http_requests.specs.declared.read_buffer.ReadError.{ReadError}
-use Rattle.http_requests.specs.declared.request.BadRequest.{BadRequest}
+use Rattle.http_requests.specs.declared.request.RequestFault.{RequestFault}
 use Rattle.http_requests.specs.declared.read_buffer.ReadError.TheVariants as why
 use Rattle.http_requests.specs.Requests.{AwaitsRequest}
 use Rattle.http_requests.specs.LineLaws.{no_bytes_await}
 use Rattle.http_requests.specs.ReceivedBytes.{ReadBuffer, ReadsOn, ReadsOnWhile, IsRead, ReadFails, StopsWhile, SameUnlessReading, put_back}
 use Rattle.http_requests.proofs.Readings.{nothing_yet, read_after, stops_reading}
 use Rattle.http_session.specs.Verdicts.{BeginsWithQuery}
-use Rattle.http_session.specs.IncomingRequests.{before_a_request, HasReceived, WaitsAfter, ReceivesOne, ReceivesEnd, ReceivesBadRequest, ReceivesPart, ReceivesNothing}
+use Rattle.http_session.specs.IncomingRequests.{before_a_request, HasReceived, WaitsAfter, ReceivesOne, ReceivesEnd, ReceivesFault, ReceivesPart, ReceivesNothing}
 use Rattle.http_session.specs.UnderwaySessions.{SoFar}
 use Rattle.http_session.specs.Replies.{closes, takes_no_memory, response_of}
 use Rattle.http_session.specs.Sessions.{Submits, Reads, Step, WritesResponse, cause_by}
@@ -30,7 +30,7 @@ use Rattle.http_session.specs.declared.receiving.SessionStage.{SessionStage}
 use Rattle.http_session.specs.declared.verdict.Verdict.{Verdict}
 use Rattle.http_session.specs.declared.verdict.Verdict.TheVariants.{Submit, Ask, Reject}
 use Rattle.http_session.specs.declared.reply.Reply.{Reply}
-use Rattle.http_session.specs.declared.reply.Reply.TheVariants.{Accepted, Answered, Refused, Error, Malformed}
+use Rattle.http_session.specs.declared.reply.Reply.TheVariants.{Accepted, Answered, Refused, Error, NoRequest}
 use Rattle.http_session.specs.declared.exchanges.Ended.{Ended}
 use Rattle.http_session.specs.declared.exchanges.SessionError.{SessionError}
 use Rattle.http_session.specs.declared.exchanges.SessionErrorKind.TheVariants.{Memory}
@@ -167,32 +167,32 @@ module _ {S C : Type 0} (store : Store S) (promises : Promises store) (line : Li
       ends_served other kept line c0 c1 s m _
       (ends_clean other.submits other.reads line two c0 c1 s m here old.answered here_so (here_so.end end.ended, end.nothing)))
 
-  pub parts : (c2 : C) (here : ReadBuffer) (b : BadRequest)
-      → ((text : List ℕ) → HasReceived old.stage text → ReceivesBadRequest (put_back text old.received) here b)
-      → Appends (line.contents c1) (line.contents c2) (response_of (Malformed b) true) → line.takes c1 (response_of (Malformed b) true) c2
+  pub parts : (c2 : C) (here : ReadBuffer) (b : RequestFault)
+      → ((text : List ℕ) → HasReceived old.stage text → ReceivesFault (put_back text old.received) here b)
+      → Appends (line.contents c1) (line.contents c2) (response_of (NoRequest b) true) → line.takes c1 (response_of (NoRequest b) true) c2
       → GoesOn store line c1 c2 t t old new (Ok (Some (record { answered = old.answered + 1; clean = false })))
   parts c2 here b found wrote took =
       unasked c2 (Ok (Some (record { answered = old.answered + 1; clean = false })))
       (λ other kept c0 s m so.
-      let bad_request = found so.text so.incoming in
-      let here_so = subst (λ (r : ReadBuffer). SoFar other.submits other.reads line c0 c1 s m r old.answered) bad_request.cut so.so_far in
+      let fault = found so.text so.incoming in
+      let here_so = subst (λ (r : ReadBuffer). SoFar other.submits other.reads line c0 c1 s m r old.answered) fault.cut so.so_far in
       ends_served other kept line c0 c2 s m _
-      (ends_malformed other.submits other.reads line two c0 c1 c2 s m _ old.answered b here_so (malformed_if _ _ b _ here_so.end bad_request.malformed)
+      (ends_malformed other.submits other.reads line two c0 c1 c2 s m _ old.answered b here_so (malformed_if _ _ b _ here_so.end fault.malformed)
       wrote took))
 
-  pub parts_not : (c2 : C) (here : ReadBuffer) (b : BadRequest) (partial_write : PartialWrite)
-      → ((text : List ℕ) → HasReceived old.stage text → ReceivesBadRequest (put_back text old.received) here b)
-      → WritesResponse (line.contents c1) (line.contents c2) false (line.out_failed c2) (response_of (Malformed b) true) (Err partial_write)
-      → line.takes c1 (take partial_write.written (response_of (Malformed b) true)) c2 → line.in_failed c1 ≡ false
+  pub parts_not : (c2 : C) (here : ReadBuffer) (b : RequestFault) (partial_write : PartialWrite)
+      → ((text : List ℕ) → HasReceived old.stage text → ReceivesFault (put_back text old.received) here b)
+      → WritesResponse (line.contents c1) (line.contents c2) false (line.out_failed c2) (response_of (NoRequest b) true) (Err partial_write)
+      → line.takes c1 (take partial_write.written (response_of (NoRequest b) true)) c2 → line.in_failed c1 ≡ false
       → GoesOn store line c1 c2 t t old new (Err (record { answered = old.answered; written = partial_write.written; cause = partial_write.cause }))
   parts_not c2 here b partial_write found said took works =
       unasked c2 (Err (record { answered = old.answered; written = partial_write.written; cause = partial_write.cause }))
       (λ other kept c0 s m so.
-      let bad_request = found so.text so.incoming in
-      let here_so = subst (λ (r : ReadBuffer). SoFar other.submits other.reads line c0 c1 s m r old.answered) bad_request.cut so.so_far in
+      let fault = found so.text so.incoming in
+      let here_so = subst (λ (r : ReadBuffer). SoFar other.submits other.reads line c0 c1 s m r old.answered) fault.cut so.so_far in
       fails_served other kept line c0 c2 s m _
       (fails_malformed other.submits other.reads line two c0 c1 c2 s m _ old.answered b partial_write here_so
-      (malformed_if _ _ b _ here_so.end bad_request.malformed) said took works))
+      (malformed_if _ _ b _ here_so.end fault.malformed) said took works))
 
   module _ (c2 : C) (u : S) (here : ReadBuffer) (v : Verdict) (ask : Bool) (reply : Reply) (close : Bool)
       (found : (text : List ℕ) → HasReceived old.stage text → ReceivesOne (put_back text old.received) here v ask)

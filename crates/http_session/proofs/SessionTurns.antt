@@ -10,19 +10,19 @@ use Rattle.session_devices.specs.declared.limits.TheConstants.{MAX_READS}
 use Rattle.http_requests.specs.Requests.{IsMalformed, AwaitsRequest}
 use Rattle.http_requests.specs.AwaitedReads.{Gives, Source, FailsToRead}
 use Rattle.http_requests.specs.ReceivedBytes.{ReadBuffer, ReadsOnWhile, StopsWhile, SameUnlessReading}
-use Rattle.http_requests.specs.declared.request.BadRequest.{BadRequest}
+use Rattle.http_requests.specs.declared.request.RequestFault.{RequestFault}
 use Rattle.http_requests.specs.declared.read_buffer.ReadError.{ReadError}
 use Rattle.http_requests.specs.declared.read_buffer.ReadError.TheVariants as why
 use Rattle.http_requests.proofs.AwaitedReads.{uncounted}
 use Rattle.http_requests.specs.LineLaws.{no_bytes_await}
 use Rattle.http_session.specs.IncomingRequests.{ReceivesNothing}
 use Rattle.http_session.specs.Replies.{response_of, takes_no_memory}
-use Rattle.http_session.specs.Sessions.{Exchange, IsExchange, IsOpen, texts, response_to, responses, Submits, Reads, Step, Run, Ending, clean, closing}
+use Rattle.http_session.specs.Sessions.{Exchange, IsExchange, LeavesOpen, texts, response_to, responses, Submits, Reads, Step, Run, Ending, clean, closing}
 use Rattle.http_session.specs.Sessions.{malformed, last_of, IsEnding, malformed_response, malformed_responses, is_clean, Due, none_yet, due, due_malformed}
 use Rattle.http_session.specs.Sessions.{exchange_due, NothingWasDue, IsDue, bytes_due, is_spared, IsCause, WritesResponse, cause_by}
 use Rattle.http_session.specs.ResponseOrder.{Line, line_of, IsTwoWay, pieces, EndsOver, FailsOver}
 use Rattle.http_session.specs.UnderwaySessions.{SoFar}
-use Rattle.http_session.specs.declared.reply.Reply.TheVariants.{Malformed}
+use Rattle.http_session.specs.declared.reply.Reply.TheVariants.{NoRequest}
 use Rattle.http_session.specs.declared.exchanges.SessionErrorKind.{SessionErrorKind}
 use Rattle.http_session.specs.declared.exchanges.SessionErrorKind.TheVariants.{Reading, Writing, Memory}
 use Rattle.http_session.specs.declared.exchanges.PartialWrite.{PartialWrite}
@@ -153,7 +153,7 @@ module _ {S C : Type 0} (submits : Submits S) (reads : Reads S) (line : Line C) 
         answers = said.0;
         made = omega (arith, so.made, said.1, ap (λ a. length (pieces a)) before.1);
         split = split_more so.taken old.held rest so.opens x so.split cut;
-        each = All-append IsOpen so.opens (x ∷ []) so.each (All-cons IsOpen x [] (record { exchange = is; open_is = open_is }) (All-nil IsOpen));
+        each = All-append LeavesOpen so.opens (x ∷ []) so.each (All-cons LeavesOpen x [] (record { exchange = is; open_is = open_is }) (All-nil LeavesOpen));
         run = run_more submits reads s t u so.opens x so.run step;
         written = subst (Appends (line.contents c0) (line.contents c2)) (sym (responses_more so.opens x))
             (Appends-trans (line.contents c0) (line.contents c1) (line.contents c2) (responses so.opens) (response_to x) so.written wrote);
@@ -240,14 +240,14 @@ module _ {S C : Type 0} (submits : Submits S) (reads : Reads S) (line : Line C) 
             (responses (so.opens ++ last_of ending) ++ malformed_response ending) so.answers took all).0,
       )
 
-  pub ends_malformed : (c0 c1 c2 : C) (s t : S) (old : ReadBuffer) (answered : ℕ) (b : BadRequest)
+  pub ends_malformed : (c0 c1 c2 : C) (s t : S) (old : ReadBuffer) (answered : ℕ) (b : RequestFault)
       → SoFar submits reads line c0 c1 s t old answered → IsMalformed (IsAtEnd (line.source.remaining c1)) old.held b
-      → Appends (line.contents c1) (line.contents c2) (response_of (Malformed b) true) → line.takes c1 (response_of (Malformed b) true) c2
+      → Appends (line.contents c1) (line.contents c2) (response_of (NoRequest b) true) → line.takes c1 (response_of (NoRequest b) true) c2
       → EndsOver submits reads line c0 c2 s t (record { answered = answered + 1; clean = false })
   ends_malformed c0 c1 c2 s t old answered b so is wrote took =
-      ends_saying c0 c1 c2 s t t old answered (malformed b) old.held (response_of (Malformed b) true) so (split_all so.taken old.held so.opens so.split) is
+      ends_saying c0 c1 c2 s t t old answered (malformed b) old.held (response_of (NoRequest b) true) so (split_all so.taken old.held so.opens so.split) is
       (run_all submits reads s t so.opens so.run)
-      (ap (λ (l : List Exchange). responses l ++ response_of (Malformed b) true) (append-nil so.opens)) refl refl wrote took
+      (ap (λ (l : List Exchange). responses l ++ response_of (NoRequest b) true) (append-nil so.opens)) refl refl wrote took
 
   pub ends_closing : (c0 c1 c2 : C) (s t u : S) (old : ReadBuffer) (rest : List ℕ) (answered : ℕ) (x : Exchange)
       → SoFar submits reads line c0 c1 s t old answered → IsExchange x → x.close ≡ true → old.held ≡ x.text ++ rest
@@ -407,10 +407,10 @@ module _ {S C : Type 0} (submits : Submits S) (reads : Reads S) (line : Line C) 
       fails_saying c0 c1 c2 s t u old answered (due x) rest partial_write so (split_more so.taken old.held rest so.opens x so.split cut) (is, said.2)
       (run_more submits reads s t u so.opens x so.run step) said took in_works spared
 
-  pub fails_malformed : (c0 c1 c2 : C) (s t : S) (old : ReadBuffer) (answered : ℕ) (b : BadRequest) (partial_write : PartialWrite)
+  pub fails_malformed : (c0 c1 c2 : C) (s t : S) (old : ReadBuffer) (answered : ℕ) (b : RequestFault) (partial_write : PartialWrite)
       → SoFar submits reads line c0 c1 s t old answered → IsMalformed (IsAtEnd (line.source.remaining c1)) old.held b
-      → WritesResponse (line.contents c1) (line.contents c2) false (line.out_failed c2) (response_of (Malformed b) true) (Err partial_write)
-      → line.takes c1 (take partial_write.written (response_of (Malformed b) true)) c2 → line.in_failed c1 ≡ false
+      → WritesResponse (line.contents c1) (line.contents c2) false (line.out_failed c2) (response_of (NoRequest b) true) (Err partial_write)
+      → line.takes c1 (take partial_write.written (response_of (NoRequest b) true)) c2 → line.in_failed c1 ≡ false
       → FailsOver submits reads line c0 c2 s t (record { answered = answered; written = partial_write.written; cause = partial_write.cause })
   fails_malformed c0 c1 c2 s t old answered b partial_write so is said took in_works =
       fails_saying c0 c1 c2 s t t old answered (due_malformed b) old.held partial_write so (split_all so.taken old.held so.opens so.split) (is, said.2)

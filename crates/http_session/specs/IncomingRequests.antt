@@ -8,8 +8,8 @@ use Rattle.http_requests.specs.Heads.{TakesHead, AwaitsHead}
 use Rattle.http_requests.specs.Requests.{Spells, IsMalformed, AwaitsRequest}
 use Rattle.http_requests.specs.AwaitedReads.{Source}
 use Rattle.http_requests.specs.ReceivedBytes.{ReadBuffer, ReadsOnWhile, StopsWhile, put_back}
-use Rattle.http_requests.specs.PartialRequests.{HasSeen, IsPart, HasLooked, AwaitsMore}
-use Rattle.http_requests.specs.declared.request.BadRequest.{BadRequest}
+use Rattle.http_requests.specs.PartialRequests.{HasSeen, IsPart, HasLooked, AwaitsMoreBody}
+use Rattle.http_requests.specs.declared.request.RequestFault.{RequestFault}
 use Rattle.http_requests.specs.declared.read_buffer.ReadError.{ReadError}
 use Rattle.http_requests.specs.declared.read_buffer.ReadError.TheVariants.{Reading, Memory}
 use Rattle.http_session.specs.Verdicts.{Judges, BeginsWithQuery}
@@ -21,7 +21,7 @@ use Rattle.http_session.specs.declared.verdict.Verdict.{Verdict}
 use Rattle.http_session.specs.declared.verdict.Verdict.TheVariants.{Reject}
 use Rattle.http_session.specs.declared.verdict.ErrorReply.TheVariants.{NoMemory}
 use Rattle.http_session.specs.declared.receiving.Incoming.{Incoming}
-use Rattle.http_session.specs.declared.receiving.Incoming.TheVariants.{One, Clean, Malformed}
+use Rattle.http_session.specs.declared.receiving.Incoming.TheVariants.{Request as OneRequest, Clean, NoRequest}
 use Rattle.http_session.specs.declared.receiving.BodySink.{BodySink}
 use Rattle.http_session.specs.declared.receiving.BodySink.TheVariants.{Settled, Batch}
 use Rattle.http_session.specs.declared.receiving.PartialRequest.{PartialRequest}
@@ -73,7 +73,7 @@ HasLookedBy (Body request) held = HasLooked request.reader held
 -- more is awaited after them
 abbrev pub WaitsAfter : SessionStage → List ℕ → Type 0
 WaitsAfter (Head wait) held = (wait.seen ≡ length held) × AwaitsHead held
-WaitsAfter (Body request) held = AwaitsMore request.reader held
+WaitsAfter (Body request) held = AwaitsMoreBody request.reader held
 
 -- ---- what was received
 
@@ -94,7 +94,7 @@ pub record ReceivesEnd (old new : ReadBuffer) : Type 0 where
   pub nothing : new.held ≡ []
 
 -- what was taken and what is left don't start with a request
-pub record ReceivesBadRequest (old new : ReadBuffer) (why : BadRequest) : Type 0 where
+pub record ReceivesFault (old new : ReadBuffer) (why : RequestFault) : Type 0 where
   pub text : List ℕ
   pub cut : old ≡ put_back text new
   pub malformed : IsMalformed (new.ended ≡ true) (text ++ new.held) why
@@ -121,25 +121,25 @@ pub record ReceivesWhole (old new : ReadBuffer) (request : PartialRequest) : Typ
 abbrev pub PartComes : ReadBuffer → ReadBuffer → PartialRequest → BodyLook → Type 0
 PartComes old new request look.Whole = ReceivesWhole old new request
 PartComes old new request look.More = ReceivesPart old new (Body request)
-PartComes old new request (look.Malformed why) = ReceivesBadRequest old new why
+PartComes old new request (look.Fault why) = ReceivesFault old new why
 
 -- the verdict on a request whose body is complete
 abbrev pub FinishesAs : SessionStage → Incoming → Type 0
 FinishesAs (Head wait) incoming = ⊥
-FinishesAs (Body request) (One v closes) =
+FinishesAs (Body request) (OneRequest v closes) =
     ((q : Question) (body : List ℕ) → JudgesBy q request.sink body → Decides q body v) × (closes ≡ request.closes)
 FinishesAs (Body request) Clean = ⊥
-FinishesAs (Body request) (Malformed why) = ⊥
+FinishesAs (Body request) (NoRequest why) = ⊥
 
-abbrev pub IsBody : SessionStage → Type 0
-IsBody (Head wait) = ⊥
-IsBody (Body request) = Unit {0}
+abbrev pub IsBodyStage : SessionStage → Type 0
+IsBodyStage (Head wait) = ⊥
+IsBodyStage (Body request) = Unit {0}
 
 -- what was received, or what is awaited
 abbrev pub ReceivesOf : ReadBuffer → ReadBuffer → SessionStage → Option Incoming → Type 0
-ReceivesOf old new stage (Some (One v closes)) = ReceivesOne old new v closes × (stage ≡ before_a_request)
+ReceivesOf old new stage (Some (OneRequest v closes)) = ReceivesOne old new v closes × (stage ≡ before_a_request)
 ReceivesOf old new stage (Some Clean) = ReceivesEnd old new
-ReceivesOf old new stage (Some (Malformed why)) = ReceivesBadRequest old new why
+ReceivesOf old new stage (Some (NoRequest why)) = ReceivesFault old new why
 ReceivesOf old new stage None = ReceivesPart old new stage
 
 -- if nothing is decided, more is awaited, and the input hasn't ended
@@ -149,8 +149,8 @@ LeavesWaiting new stage None = WaitsAfter stage new.held × (new.ended ≡ false
 
 abbrev pub LeavesPart : ReadBuffer → PartialRequest → BodyLook → Type 0
 LeavesPart new request look.Whole = Unit {0}
-LeavesPart new request look.More = AwaitsMore request.reader new.held × (new.ended ≡ false)
-LeavesPart new request (look.Malformed why) = Unit {0}
+LeavesPart new request look.More = AwaitsMoreBody request.reader new.held × (new.ended ≡ false)
+LeavesPart new request (look.Fault why) = Unit {0}
 
 -- ---- why nothing was received
 

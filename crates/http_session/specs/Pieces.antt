@@ -2,7 +2,7 @@
 use Rattle.std.specs.Prelude.{◌≡◌, ◌⊎◌, ℕ, ◌+◌, ◌*◌, ◌≤◌, List, [], ◌++◌, length, Option, Some, None, Result, Ok, Err, false}
 use Rattle.std.specs.Io.KnownBytes.{Keeps as KeepsBytes}
 use Rattle.session_devices.specs.declared.limits.TheConstants.{MAX_READS}
-use Rattle.http_requests.specs.declared.room.TheConstants.{PIECE}
+use Rattle.http_requests.specs.declared.room.TheConstants.{READ_BYTES}
 use Rattle.http_requests.specs.Requests.{AwaitsRequest}
 use Rattle.http_requests.specs.ReceivedBytes.{KnowsItsEnd, put_back}
 use Rattle.jaeger_model.specs.declared.batch.Batch.{Batch}
@@ -35,7 +35,7 @@ pub record CanContinue (input : Option (List ℕ)) (session : Session) : Type 0 
   pub incoming : HasReceived session.stage text
   pub looked : HasLookedBy session.stage session.received.held
   pub end : KnowsItsEnd session.received.ended input
-  pub most : session.answered + length (text ++ session.received.held) + PIECE * session.received.left ≤ PIECE * MAX_READS
+  pub most : session.answered + length (text ++ session.received.held) + READ_BYTES * session.received.left ≤ READ_BYTES * MAX_READS
 
 -- A session that pauses inside a request or before one: the bytes received hold no complete request, and don't rule one
 -- out.

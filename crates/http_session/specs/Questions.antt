@@ -7,7 +7,7 @@ use Rattle.http_requests.specs.HeadContents.{Asked}
 use Rattle.http_session.specs.Verdicts.{JudgesBatch, Judges}
 use Rattle.http_session.specs.declared.question.Question.{Question}
 use Rattle.http_session.specs.declared.question.Question.TheVariants.{Settled, Batch}
-use Rattle.http_session.specs.declared.verdict.ErrorReply.TheVariants.{NoSuchPath, NotAllowed, UnsupportedType, BatchRefused, BadParameter, NoMemory}
+use Rattle.http_session.specs.declared.verdict.ErrorReply.TheVariants.{NoSuchPath, NotAllowed, UnsupportedType, BadBatch, BadParameter, NoMemory}
 use Rattle.http_session.specs.declared.verdict.Verdict.{Verdict}
 use Rattle.http_session.specs.declared.verdict.Verdict.TheVariants.{Submit, Ask, Reject}
 
@@ -23,7 +23,7 @@ AsksQuestion a q = (body : List ℕ) (v : Verdict) → Decides q body v → Judg
 -- the verdict on a batch that was decoded, or on the fault
 abbrev pub JudgesRead : Result BatchValue DecodeError → Verdict → Type 0
 JudgesRead read (Submit b) = read ≡ Ok b
-JudgesRead read (Reject (BatchRefused f)) = (read ≡ Err f) × (f ≢ Memory)
+JudgesRead read (Reject (BadBatch f)) = (read ≡ Err f) × (f ≢ Memory)
 JudgesRead read (Reject NoMemory) = read ≡ Err Memory
 JudgesRead read (Reject UnsupportedType) = ⊥
 JudgesRead read (Reject NoSuchPath) = ⊥

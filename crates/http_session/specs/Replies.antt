@@ -6,17 +6,17 @@ use Rattle.trace_model.specs.declared.answer.Answer.{Answer}
 use Rattle.trace_model.specs.declared.answer.Answer.TheVariants as give
 use Rattle.trace_model.specs.declared.refusal.Refusal.{Refusal}
 use Rattle.trace_model.specs.declared.refusal.Refusal.TheVariants as why
-use Rattle.http_requests.specs.declared.request.BadRequest.{BadRequest}
-use Rattle.http_requests.specs.declared.request.BadRequest.TheVariants as bad_request
+use Rattle.http_requests.specs.declared.request.RequestFault.{RequestFault}
+use Rattle.http_requests.specs.declared.request.RequestFault.TheVariants as fault
 use Rattle.query_http.specs.declared.paths.Endpoint.{Endpoint}
 use Rattle.query_http.specs.declared.paths.Endpoint.TheVariants as at
 use Rattle.query_http.specs.Faults.{parameter_name}
 use Rattle.query_http.specs.Responses.{response}
 use Rattle.query_json.specs.Trees.{answer_tree, error_tree}
 use Rattle.http_session.specs.declared.verdict.ErrorReply.{ErrorReply}
-use Rattle.http_session.specs.declared.verdict.ErrorReply.TheVariants.{NoSuchPath, NotAllowed, UnsupportedType, BatchRefused, BadParameter, NoMemory}
+use Rattle.http_session.specs.declared.verdict.ErrorReply.TheVariants.{NoSuchPath, NotAllowed, UnsupportedType, BadBatch, BadParameter, NoMemory}
 use Rattle.http_session.specs.declared.reply.Reply.{Reply}
-use Rattle.http_session.specs.declared.reply.Reply.TheVariants.{Accepted, Answered, Refused, Error, Malformed}
+use Rattle.http_session.specs.declared.reply.Reply.TheVariants.{Accepted, Answered, Refused, Error, NoRequest}
 
 abbrev pub refusal_status : Refusal → ℕ
 refusal_status (why.JournalFull batches spans) = 503
@@ -48,7 +48,7 @@ abbrev pub error_status : ErrorReply → ℕ
 error_status NoSuchPath = 404
 error_status (NotAllowed e) = 405
 error_status UnsupportedType = 415
-error_status (BatchRefused f) = 400
+error_status (BadBatch f) = 400
 error_status (BadParameter p) = 400
 error_status NoMemory = 500
 
@@ -56,19 +56,19 @@ abbrev pub error_message : ErrorReply → List ℕ
 error_message NoSuchPath = codes "no such path"
 error_message (NotAllowed e) = codes "method not allowed"
 error_message UnsupportedType = codes "unsupported content type"
-error_message (BatchRefused f) = codes "batch refused: " ++ fault_text f
+error_message (BadBatch f) = codes "batch refused: " ++ fault_text f
 error_message (BadParameter p) = codes "bad parameter: " ++ parameter_name p
 error_message NoMemory = codes "out of memory"
 
-abbrev pub bad_request_status : BadRequest → ℕ
-bad_request_status bad_request.Head = 400
-bad_request_status bad_request.Body = 400
-bad_request_status bad_request.TooLarge = 413
+abbrev pub fault_status : RequestFault → ℕ
+fault_status fault.Head = 400
+fault_status fault.Body = 400
+fault_status fault.TooLarge = 413
 
-abbrev pub bad_request_message : BadRequest → List ℕ
-bad_request_message bad_request.Head = codes "bad request head"
-bad_request_message bad_request.Body = codes "bad request body"
-bad_request_message bad_request.TooLarge = codes "body too large"
+abbrev pub fault_message : RequestFault → List ℕ
+fault_message fault.Head = codes "bad request head"
+fault_message fault.Body = codes "bad request body"
+fault_message fault.TooLarge = codes "body too large"
 
 abbrev pub answer_status : Answer → ℕ
 answer_status (give.Trace None) = 404
@@ -84,7 +84,7 @@ status_of Accepted = 202
 status_of (Answered a) = answer_status a
 status_of (Refused r) = refusal_status r
 status_of (Error error) = error_status error
-status_of (Malformed b) = bad_request_status b
+status_of (NoRequest b) = fault_status b
 
 abbrev pub error_body : ℕ → List ℕ → List ℕ
 error_body status message = compact_text (error_tree status message)
@@ -94,7 +94,7 @@ body_of Accepted = []
 body_of (Answered a) = compact_text (answer_tree a)
 body_of (Refused r) = error_body (refusal_status r) (refusal_message r)
 body_of (Error error) = error_body (error_status error) (error_message error)
-body_of (Malformed b) = error_body (bad_request_status b) (bad_request_message b)
+body_of (NoRequest b) = error_body (fault_status b) (fault_message b)
 
 -- the methods of the endpoint, if the request's is none of them
 abbrev pub methods_of : Endpoint → List ℕ
@@ -109,7 +109,7 @@ abbrev pub allowed_by : ErrorReply → List ℕ
 allowed_by (NotAllowed e) = methods_of e
 allowed_by NoSuchPath = []
 allowed_by UnsupportedType = []
-allowed_by (BatchRefused f) = []
+allowed_by (BadBatch f) = []
 allowed_by (BadParameter p) = []
 allowed_by NoMemory = []
 
@@ -118,20 +118,20 @@ allow_of (Error error) = allowed_by error
 allow_of Accepted = []
 allow_of (Answered a) = []
 allow_of (Refused r) = []
-allow_of (Malformed b) = []
+allow_of (NoRequest b) = []
 
-abbrev pub closes_by : ErrorReply → Bool
-closes_by (NotAllowed e) = true
-closes_by NoSuchPath = false
-closes_by UnsupportedType = false
-closes_by (BatchRefused f) = false
-closes_by (BadParameter p) = false
-closes_by NoMemory = false
+abbrev pub error_closes : ErrorReply → Bool
+error_closes (NotAllowed e) = true
+error_closes NoSuchPath = false
+error_closes UnsupportedType = false
+error_closes (BadBatch f) = false
+error_closes (BadParameter p) = false
+error_closes NoMemory = false
 
 -- the session closes after these, whatever the request asks
 abbrev pub closes : Reply → Bool
-closes (Error error) = closes_by error
-closes (Malformed b) = true
+closes (Error error) = error_closes error
+closes (NoRequest b) = true
 closes Accepted = false
 closes (Answered a) = false
 closes (Refused r) = false

@@ -34,18 +34,18 @@ devices_of remaining gives in_failed contents out_failed =
 -- A session between an input and an output ended, over a store that does this: what was read and written, what holds
 -- for its exchanges, and that it read only while the next request was awaited.
 abbrev pub EndsWith : {S R W : Type 0} → Submits S → Reads S → (List Exchange → Type 0) → Devices R W → R → R → W → W → S → S → Ended → Type 0
-EndsWith submits reads WritesResponse devices in0 in1 out0 out1 s t ended =
+EndsWith submits reads Holds devices in0 in1 out0 out1 s t ended =
     (ends : EndsAs submits reads (devices.source.remaining in0) (devices.source.remaining in1) (devices.contents out0) (devices.contents out1)
     s t ended.answered ended.clean)
-    × WritesResponse (ends.opens ++ last_of ends.ending)
+    × Holds (ends.opens ++ last_of ends.ending)
     × ReadsInTurn devices.source.gives in0 in1 ends.opens ends.taken
 
 -- like EndsWith, for a session that failed
 abbrev pub FailsWith : {S R W : Type 0} → Submits S → Reads S → (List Exchange → Type 0) → Devices R W → R → R → W → W → S → S → SessionError → Type 0
-FailsWith submits reads WritesResponse devices in0 in1 out0 out1 s t error =
+FailsWith submits reads Holds devices in0 in1 out0 out1 s t error =
     (fails : FailsAs submits reads (devices.source.remaining in0) (devices.source.remaining in1) (devices.contents out0) (devices.contents out1) s t
     (devices.in_failed in1) (devices.out_failed out1) error)
-    × WritesResponse (fails.opens ++ exchange_due fails.next)
+    × Holds (fails.opens ++ exchange_due fails.next)
     × ReadsInTurnUpTo devices.source in0 in1 (devices.in_failed in1) fails.opens fails.taken fails.made
 
 -- a session ended, and its answers belong to one growing history

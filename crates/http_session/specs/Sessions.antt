@@ -12,13 +12,13 @@ use Rattle.http_requests.specs.HeadContents.{asked_by}
 use Rattle.http_requests.specs.Requests.{Spells, IsMalformed, AwaitsRequest}
 use Rattle.http_requests.specs.declared.read_buffer.ReadError.{ReadError}
 use Rattle.http_requests.specs.declared.read_buffer.ReadError.TheVariants as why
-use Rattle.http_requests.specs.declared.request.BadRequest.{BadRequest}
+use Rattle.http_requests.specs.declared.request.RequestFault.{RequestFault}
 use Rattle.http_session.specs.Verdicts.{Judges, BeginsWithQuery}
 use Rattle.http_session.specs.Replies.{closes, takes_no_memory, response_of}
 use Rattle.http_session.specs.declared.verdict.Verdict.{Verdict}
 use Rattle.http_session.specs.declared.verdict.Verdict.TheVariants.{Submit, Ask, Reject}
 use Rattle.http_session.specs.declared.reply.Reply.{Reply}
-use Rattle.http_session.specs.declared.reply.Reply.TheVariants.{Accepted, Answered, Refused, Error, Malformed}
+use Rattle.http_session.specs.declared.reply.Reply.TheVariants.{Accepted, Answered, Refused, Error, NoRequest}
 use Rattle.http_session.specs.declared.exchanges.SessionErrorKind.{SessionErrorKind}
 use Rattle.http_session.specs.declared.exchanges.SessionErrorKind.TheVariants.{Reading, Writing, Memory}
 use Rattle.http_session.specs.declared.exchanges.SessionError.{SessionError}
@@ -39,7 +39,7 @@ pub record IsExchange (x : Exchange) : Type 0 where
   pub verdict_follows : Judges (asked_by x.head) x.body x.verdict
   pub close_is : x.close ≡ ((asked_by x.head).closes || closes x.reply)
 
-pub record IsOpen (x : Exchange) : Type 0 where
+pub record LeavesOpen (x : Exchange) : Type 0 where
   pub exchange : IsExchange x
   pub open_is : x.close ≡ false
 
@@ -79,7 +79,7 @@ Run {S = S} submits reads s (x ∷ xs) t = (m : S) × Step submits reads s x.ver
 pub data Ending : Type 0 where
   clean : Ending
   closing : Exchange → Ending
-  malformed : BadRequest → Ending
+  malformed : RequestFault → Ending
 
 -- the exchange that closes the session, if one does
 abbrev pub last_of : Ending → List Exchange
@@ -96,7 +96,7 @@ IsEnding AtEnd rest (malformed b) = IsMalformed AtEnd rest b
 abbrev pub malformed_response : Ending → List ℕ
 malformed_response clean = []
 malformed_response (closing x) = []
-malformed_response (malformed b) = response_of (Malformed b) true
+malformed_response (malformed b) = response_of (NoRequest b) true
 
 abbrev pub malformed_responses : Ending → ℕ
 malformed_responses clean = 0
@@ -118,7 +118,7 @@ pub record EndsAs {S : Type 0} (submits : Submits S) (reads : Reads S) (in0 in1 
   pub rest : List ℕ
   pub read : Consumes in0 in1 taken
   pub split : taken ≡ texts (opens ++ last_of ending) ++ rest
-  pub each : All IsOpen opens
+  pub each : All LeavesOpen opens
   pub ends : IsEnding (IsAtEnd in1) rest ending
   pub run : Run submits reads s (opens ++ last_of ending) t
   pub written : Appends out0 out1 (responses (opens ++ last_of ending) ++ malformed_response ending)
@@ -131,7 +131,7 @@ pub record EndsAs {S : Type 0} (submits : Submits S) (reads : Reads S) (in0 in1 
 pub data Due : Type 0 where
   none_yet : Due
   due : Exchange → Due
-  due_malformed : BadRequest → Due
+  due_malformed : RequestFault → Due
 
 abbrev pub exchange_due : Due → List Exchange
 exchange_due none_yet = []
@@ -154,7 +154,7 @@ IsDue AtEnd cause rest (due_malformed b) = IsMalformed AtEnd rest b × (cause �
 abbrev pub bytes_due : Due → List ℕ
 bytes_due none_yet = []
 bytes_due (due x) = response_to x
-bytes_due (due_malformed b) = response_of (Malformed b) true
+bytes_due (due_malformed b) = response_of (NoRequest b) true
 
 -- the response that is due needs no memory
 abbrev pub is_spared : Due → Bool
@@ -181,7 +181,7 @@ pub record FailsAs {S : Type 0} (submits : Submits S) (reads : Reads S) (in0 in1
   pub rest : List ℕ
   pub read : Consumes in0 in1 taken
   pub split : taken ≡ texts (opens ++ exchange_due next) ++ rest
-  pub each : All IsOpen opens
+  pub each : All LeavesOpen opens
   pub next_is : IsDue (IsAtEnd in1) error.cause rest next
   pub run : Run submits reads s (opens ++ exchange_due next) t
   pub within : error.cause ≡ Writing → error.written < length (bytes_due next)

@@ -14,7 +14,7 @@ use Rattle.query_http.specs.declared.paths.Endpoint.TheVariants.{Traces, Trace, 
 use Rattle.query_http.specs.Paths.{IsPath, IsNoPath}
 use Rattle.query_http.specs.QueryStrings.{pairs_of}
 use Rattle.query_http.specs.Queries.{query_at, path_of, query_string_of}
-use Rattle.http_session.specs.declared.verdict.ErrorReply.TheVariants.{NoSuchPath, NotAllowed, UnsupportedType, BatchRefused, BadParameter, NoMemory}
+use Rattle.http_session.specs.declared.verdict.ErrorReply.TheVariants.{NoSuchPath, NotAllowed, UnsupportedType, BadBatch, BadParameter, NoMemory}
 use Rattle.http_session.specs.declared.verdict.Verdict.{Verdict}
 use Rattle.http_session.specs.declared.verdict.Verdict.TheVariants.{Submit, Ask, Reject}
 
@@ -40,14 +40,14 @@ JudgesQuery read (Reject (BadParameter p)) = read ≡ Err p
 JudgesQuery read (Reject NoSuchPath) = ⊥
 JudgesQuery read (Reject (NotAllowed e)) = ⊥
 JudgesQuery read (Reject UnsupportedType) = ⊥
-JudgesQuery read (Reject (BatchRefused f)) = ⊥
+JudgesQuery read (Reject (BadBatch f)) = ⊥
 JudgesQuery read (Reject NoMemory) = ⊥
 JudgesQuery read (Submit b) = ⊥
 
 -- a batch that is submitted: its content type first, then its bytes; memory may run out for it
 abbrev pub JudgesBatch : Bool → List ℕ → Verdict → Type 0
 JudgesBatch has_type body (Submit b) = (has_type ≡ true) × (decoded body ≡ Ok b)
-JudgesBatch has_type body (Reject (BatchRefused f)) = (has_type ≡ true) × (decoded body ≡ Err f)
+JudgesBatch has_type body (Reject (BadBatch f)) = (has_type ≡ true) × (decoded body ≡ Err f)
 JudgesBatch has_type body (Reject NoMemory) = has_type ≡ true
 JudgesBatch has_type body (Reject UnsupportedType) = has_type ≡ false
 JudgesBatch has_type body (Reject NoSuchPath) = ⊥

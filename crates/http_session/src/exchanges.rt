@@ -102,10 +102,10 @@ pub(crate) fn answer<T, B: Backend<T>>(
 }
 
 /// Returns whether the session closes after the reply: the request asked for it, or the reply closes it.
-pub(crate) fn closes_after(asked: bool, reply: &Reply) -> bool
-    ensures { result ≡ (asked || closes reply.now) }
+pub(crate) fn closes_after(asks: bool, reply: &Reply) -> bool
+    ensures { result ≡ (asks || closes reply.now) }
 {
-    asked || reply.closes()
+    asks || reply.closes()
 }
 
 /// Writes the bytes of a response. Allocates nothing.

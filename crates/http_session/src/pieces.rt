@@ -131,16 +131,16 @@ impl Session {
             Ok(None) => return Ok(Progress::Paused),
             Ok(Some(incoming)) => incoming,
         };
-        let (verdict, asked) = match incoming {
+        let (verdict, closes) = match incoming {
             Incoming::Clean => {
                 return Ok(Progress::Ended(Ended {
                     answered,
                     clean: true,
                 }));
             }
-            Incoming::Malformed(bad_request) => {
-                let refused = Reply::Malformed(bad_request);
-                if let Err(partial_write) = write_reply(alloc, connection, refused, true) {
+            Incoming::NoRequest(fault) => {
+                let reply = Reply::NoRequest(fault);
+                if let Err(partial_write) = write_reply(alloc, connection, reply, true) {
                     return Err(partial_write.after(answered));
                 }
                 return Ok(Progress::Ended(Ended {
@@ -148,10 +148,10 @@ impl Session {
                     clean: false,
                 }));
             }
-            Incoming::One(verdict, asked) => (verdict, asked),
+            Incoming::Request { verdict, closes } => (verdict, closes),
         };
         let reply = answer(rt, alloc, backend, verdict);
-        let close = closes_after(asked, &reply);
+        let close = closes_after(closes, &reply);
         let said = write_reply(alloc, connection, reply, close);
         if let Err(partial_write) = said {
             return Err(partial_write.after(answered));

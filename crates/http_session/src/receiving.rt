@@ -9,7 +9,7 @@ ghost use Rattle.http_requests.specs.ReceivedBytes.{put_back};
 ghost use Rattle.http_session.specs.Verdicts.{BeginsWithQuery};
 ghost use Rattle.http_session.specs.Questions.{JudgesRead, Decides};
 ghost use Rattle.http_session.specs.declared.question.Question.{Question as QuestionValue};
-ghost use Rattle.http_session.specs.IncomingRequests.{before_a_request, JudgesBy, Carries, IsPartOf, HasReceived, HasLookedBy, IsBody, PartComes, LeavesPart};
+ghost use Rattle.http_session.specs.IncomingRequests.{before_a_request, JudgesBy, Carries, IsPartOf, HasReceived, HasLookedBy, IsBodyStage, PartComes, LeavesPart};
 ghost use Rattle.http_session.specs.IncomingRequests.{FinishesAs, ReceivesOf, LeavesWaiting};
 
 use crate::question::{Question, question_of};
@@ -17,7 +17,7 @@ use crate::verdict::{ErrorReply, Verdict};
 use batch_codec::DecodeError;
 use batch_feeder::Feeder;
 use http_requests::{
-    BadRequest, BodyLength, BodyLook, BodyReader, HeadWait, Look, ReadBuffer, Sink,
+    BodyLength, BodyLook, BodyReader, HeadWait, Look, ReadBuffer, RequestFault, Sink,
 };
 use matchit::Router;
 use query_http::Endpoint;
@@ -28,12 +28,16 @@ use std::mem;
 /// What a client sent.
 #[derive(Debug, Drop)]
 pub(crate) enum Incoming {
-    /// A request: what it asks, and whether it asks to close the session.
-    One(Verdict, bool),
+    /// A request.
+    Request {
+        verdict: Verdict,
+        /// It asks to close the session.
+        closes: bool,
+    },
     /// The input has ended between two requests.
     Clean,
     /// No request, for this reason.
-    Malformed(BadRequest),
+    NoRequest(RequestFault),
 }
 
 /// Discards a body.
@@ -77,7 +81,7 @@ impl BatchBody {
         match Box::into_inner(self.feeder).finish() {
             Ok(batch) => Verdict::Submit(batch),
             Err(DecodeError::Memory) => Verdict::Reject(ErrorReply::NoMemory),
-            Err(fault) => Verdict::Reject(ErrorReply::BatchRefused(fault)),
+            Err(fault) => Verdict::Reject(ErrorReply::BadBatch(fault)),
         }
     }
 }
@@ -172,8 +176,8 @@ impl PartialRequest {
     {
         match self.take_from(received) {
             BodyLook::Whole => BodyLook::Whole,
-            BodyLook::Malformed(bad_request) => BodyLook::Malformed(bad_request),
-            BodyLook::More if received.has_ended() => BodyLook::Malformed(BadRequest::Body),
+            BodyLook::Fault(fault) => BodyLook::Fault(fault),
+            BodyLook::More if received.has_ended() => BodyLook::Fault(RequestFault::Body),
             BodyLook::More => BodyLook::More,
         }
     }
@@ -209,14 +213,17 @@ fn assign<V: Drop>(place: &mut V, value: V)
 
 /// Returns a request whose body is complete, and goes to the next stage.
 fn finish(stage: &mut SessionStage) -> Incoming
-    requires body { IsBody stage.old }
+    requires body { IsBodyStage stage.old }
     ensures finished { FinishesAs stage.old result }
     ensures next { stage.new ≡ before_a_request }
 {
     match mem::replace(stage, SessionStage::new()) {
         SessionStage::Body(request) => {
             let closes = request.closes;
-            Incoming::One(request.verdict(), closes)
+            Incoming::Request {
+                verdict: request.verdict(),
+                closes,
+            }
         }
         SessionStage::Head(_) => unreachable!(),
     }
@@ -224,7 +231,7 @@ fn finish(stage: &mut SessionStage) -> Incoming
 
 /// Takes the received part of a body.
 fn receive_body(stage: &mut SessionStage, received: &mut ReadBuffer) -> Option<Incoming>
-    requires body { IsBody stage.old }
+    requires body { IsBodyStage stage.old }
     requires looked { HasLookedBy stage.old received.old.held }
     ensures incoming { (text : List ℕ) → HasReceived stage.old text →
         ReceivesOf (put_back text received.old) received.new stage.new result }
@@ -235,7 +242,7 @@ fn receive_body(stage: &mut SessionStage, received: &mut ReadBuffer) -> Option<I
     };
     match request.take_part(received) {
         BodyLook::Whole => Some(finish(stage)),
-        BodyLook::Malformed(bad_request) => Some(Incoming::Malformed(bad_request)),
+        BodyLook::Fault(fault) => Some(Incoming::NoRequest(fault)),
         BodyLook::More => None,
     }
 }
@@ -274,8 +281,8 @@ fn receive_head(
             Ok(None)
         }
         Look::More if received.as_slice().is_empty() => Ok(Some(Incoming::Clean)),
-        Look::More => Ok(Some(Incoming::Malformed(BadRequest::Head))),
-        Look::Never => Ok(Some(Incoming::Malformed(BadRequest::Head))),
+        Look::More => Ok(Some(Incoming::NoRequest(RequestFault::Head))),
+        Look::Never => Ok(Some(Incoming::NoRequest(RequestFault::Head))),
     }
 }
 

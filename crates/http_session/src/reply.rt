@@ -5,13 +5,13 @@ ghost use Rattle.query_http.specs.Statuses.{code_of};
 ghost use Rattle.query_json.specs.Parts.{to_come};
 ghost use Rattle.query_json.specs.Trees.{answer_tree};
 ghost use Rattle.http_session.specs.Replies.{status_of, allow_of, closes, takes_no_memory, response_of, error_message, error_status, methods_of};
-ghost use Rattle.http_session.specs.Replies.{refusal_status, refusal_message, bad_request_status, bad_request_message, error_body};
+ghost use Rattle.http_session.specs.Replies.{refusal_status, refusal_message, fault_status, fault_message, error_body};
 ghost use Rattle.http_session.specs.declared.reply.Reply.TheVariants as reply;
 
 use crate::fixed::{accepted, internal_error, out_of_memory};
 use crate::response::Response;
 use crate::verdict::ErrorReply;
-use http_requests::BadRequest;
+use http_requests::RequestFault;
 use query_http::{Endpoint, Status, respond, response_head};
 use query_json::{AnswerParts, error_bytes};
 use std::alloc::{AllocError, Global};
@@ -29,7 +29,7 @@ pub enum Reply {
     /// An error, without asking the store.
     Error(ErrorReply),
     /// The bytes are no request that can be read.
-    Malformed(BadRequest),
+    NoRequest(RequestFault),
 }
 
 /// The size up to which an answer is copied after its head, so that one write takes both.
@@ -76,7 +76,7 @@ fn error_status(error: ErrorReply) -> Status
         ErrorReply::NoSuchPath => Status::NotFound,
         ErrorReply::NotAllowed(_) => Status::MethodNotAllowed,
         ErrorReply::UnsupportedType => Status::UnsupportedMediaType,
-        ErrorReply::BatchRefused(_) | ErrorReply::BadParameter(_) => Status::BadRequest,
+        ErrorReply::BadBatch(_) | ErrorReply::BadParameter(_) => Status::BadRequest,
         ErrorReply::NoMemory => Status::InternalServerError,
     }
 }
@@ -88,7 +88,7 @@ fn error_message(alloc: Global, error: ErrorReply) -> Result<String, AllocError>
         ErrorReply::NoSuchPath => String::from_str(alloc, "no such path"),
         ErrorReply::NotAllowed(_) => String::from_str(alloc, "method not allowed"),
         ErrorReply::UnsupportedType => String::from_str(alloc, "unsupported content type"),
-        ErrorReply::BatchRefused(fault) => format!(in alloc; "batch refused: {fault}"),
+        ErrorReply::BadBatch(fault) => format!(in alloc; "batch refused: {fault}"),
         ErrorReply::BadParameter(parameter) => {
             let name = parameter.name();
             format!(in alloc; "bad parameter: {name}")
@@ -97,22 +97,22 @@ fn error_message(alloc: Global, error: ErrorReply) -> Result<String, AllocError>
     }
 }
 
-fn bad_request_status(bad_request: BadRequest) -> Status
-    ensures { code_of result ≡ bad_request_status bad_request }
+fn fault_status(fault: RequestFault) -> Status
+    ensures { code_of result ≡ fault_status fault }
 {
-    match bad_request {
-        BadRequest::Head | BadRequest::Body => Status::BadRequest,
-        BadRequest::TooLarge => Status::ContentTooLarge,
+    match fault {
+        RequestFault::Head | RequestFault::Body => Status::BadRequest,
+        RequestFault::TooLarge => Status::ContentTooLarge,
     }
 }
 
-fn bad_request_message(bad_request: BadRequest) -> &'static str
-    ensures { result.now ≡ bad_request_message bad_request }
+fn fault_message(fault: RequestFault) -> &'static str
+    ensures { result.now ≡ fault_message fault }
 {
-    match bad_request {
-        BadRequest::Head => "bad request head",
-        BadRequest::Body => "bad request body",
-        BadRequest::TooLarge => "body too large",
+    match fault {
+        RequestFault::Head => "bad request head",
+        RequestFault::Body => "bad request body",
+        RequestFault::TooLarge => "body too large",
     }
 }
 
@@ -212,7 +212,7 @@ impl Reply {
             Reply::Answered(_) => Status::Ok,
             Reply::Refused(refusal) => refusal_status(*refusal),
             Reply::Error(error) => error_status(*error),
-            Reply::Malformed(bad_request) => bad_request_status(*bad_request),
+            Reply::NoRequest(fault) => fault_status(*fault),
         }
     }
 
@@ -232,7 +232,7 @@ impl Reply {
     {
         matches!(
             self,
-            Reply::Error(ErrorReply::NotAllowed(_)) | Reply::Malformed(_)
+            Reply::Error(ErrorReply::NotAllowed(_)) | Reply::NoRequest(_)
         )
     }
 
@@ -247,7 +247,7 @@ impl Reply {
             Reply::Accepted => Some(accepted(close)),
             Reply::Refused(refusal) => fixed_refusal(*refusal, close),
             Reply::Error(error) => fixed_error(*error, close),
-            Reply::Answered(_) | Reply::Malformed(_) => None,
+            Reply::Answered(_) | Reply::NoRequest(_) => None,
         }
     }
 
@@ -266,11 +266,7 @@ impl Reply {
             Reply::Answered(answer) => return answered(alloc, status, answer, close),
             Reply::Refused(refusal) => error_bytes(alloc, status.code(), refusal_message(refusal))?,
             Reply::Error(error) => error_reply_body(alloc, error)?,
-            Reply::Malformed(bad_request) => error_bytes(
-                alloc,
-                status.code(),
-                bad_request_message(bad_request),
-            )?,
+            Reply::NoRequest(fault) => error_bytes(alloc, status.code(), fault_message(fault))?,
         };
         let whole = respond(alloc, status, body.as_slice(), allow, close)?;
         Ok(Response::whole(whole))

@@ -11,7 +11,7 @@ pub enum ErrorReply {
     NotAllowed(Endpoint),
     /// The body has a content coding, or another type than the binary Thrift protocol.
     UnsupportedType,
-    BatchRefused(DecodeError),
+    BadBatch(DecodeError),
     BadParameter(Parameter),
     /// Memory ran out for the batch.
     NoMemory,

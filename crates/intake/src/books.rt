@@ -77,7 +77,7 @@ impl<N: StoreName> Books<N> {
         self.inbox.end(seat);
         let (number, last) = (seat.number(), seat.submitted());
         if self.inbox.has_taken(number, last) {
-            self.inbox.observe();
+            self.inbox.learn_queue();
             return Ok(());
         }
         for _ in rt.forever() {
@@ -92,7 +92,7 @@ impl<N: StoreName> Books<N> {
             let is_last = is_job(&entry, number, last);
             self.left.push_reserved(entry);
             if is_last {
-                self.inbox.observe();
+                self.inbox.learn_queue();
                 return Ok(());
             }
         }

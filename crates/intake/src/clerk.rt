@@ -12,9 +12,9 @@ ghost use Rattle.intake.specs.Books.{Ran, Balances, acknowledged, refused};
 use crate::account::Account;
 use crate::accounts::Accounts;
 use crate::books::Books;
-use crate::cell::JobOutcome;
 use crate::denial::Denial;
 use crate::inbox::Inbox;
+use crate::reply_slot::JobOutcome;
 use crate::shared::Shared;
 use crate::ticket::Ack;
 use arrival_journal::Record;
@@ -183,7 +183,7 @@ impl<N: StoreName> Clerk<N> {
             return Ok(if closed { Turn::Ended } else { Turn::Idle });
         };
         let (seat, number) = job.id();
-        let (entry, cell) = job.split();
+        let (entry, slot) = job.split();
         let answer = judge_entry(rt, self.alloc, keeper, entry);
         let account = Account {
             seat,
@@ -192,7 +192,7 @@ impl<N: StoreName> Clerk<N> {
         };
         self.accounts.add(rt, &account);
         let outcome = JobOutcome { answer };
-        self.ending.shared.store_outcome(rt, seat, &cell, outcome);
+        self.ending.shared.store_outcome(rt, seat, &slot, outcome);
         Ok(Turn::Served { seat, number })
     }
 

@@ -3,7 +3,7 @@
 ghost use Rattle.std.specs.Prelude.{◌≡◌, IfOk};
 ghost use Rattle.std.specs.Arc.{arc_value};
 
-use crate::cell::Cell;
+use crate::reply_slot::ReplySlot;
 use arrival_journal::Record;
 use read_side::StoreName;
 use sent_batches::BatchKeys;
@@ -15,7 +15,7 @@ use trace_model::{Entry, Refusal};
 #[derive(Drop)]
 pub(crate) struct Job<N: StoreName> {
     entry: Record,
-    cell: Arc<Cell<N>>,
+    slot: Arc<ReplySlot<N>>,
 }
 
 impl<N: StoreName> Model for Job<N> {
@@ -27,23 +27,23 @@ impl<N: StoreName> Model for Job<N> {
 
     ghost view = { λ j. j.entry };
 
-    ghost invariant = { λ j. arc_value j.cell ≡ j.entry };
+    ghost invariant = { λ j. arc_value j.slot ≡ j.entry };
 }
 
 impl<N: StoreName> Job<N> {
-    /// Makes the job of an entry, whose answer goes into the entry's cell. Makes the entry's record, with a hash
+    /// Makes the job of an entry, whose answer goes into the entry's slot. Makes the entry's record, with a hash
     /// under these keys.
     pub(crate) fn new(
         keys: BatchKeys,
         entry: &Arc<Entry>,
-        cell: &Arc<Cell<N>>,
+        slot: &Arc<ReplySlot<N>>,
     ) -> Result<Job<N>, Refusal>
-        requires { arc_value cell.now ≡ arc_value entry.now }
+        requires { arc_value slot.now ≡ arc_value entry.now }
         ensures { IfOk result (λ j. j ≡ arc_value entry.now) }
     {
-        let cell = Arc::try_clone(cell)?;
+        let slot = Arc::try_clone(slot)?;
         let entry = Record::new(keys, Arc::try_clone(entry)?);
-        Ok(Job { entry, cell })
+        Ok(Job { entry, slot })
     }
 
     /// Returns the seat that submitted it, and its number there.
@@ -55,11 +55,11 @@ impl<N: StoreName> Job<N> {
     }
 
     /// Returns the entry, and where its answer goes.
-    pub(crate) fn split(self) -> (Record, Arc<Cell<N>>)
+    pub(crate) fn split(self) -> (Record, Arc<ReplySlot<N>>)
         ensures entry { result.0 ≡ self }
-        ensures cell { arc_value result.1 ≡ self }
+        ensures slot { arc_value result.1 ≡ self }
     {
-        let Job { entry, cell } = self;
-        (entry, cell)
+        let Job { entry, slot } = self;
+        (entry, slot)
     }
 }

@@ -6,9 +6,9 @@ ghost use Rattle.crossbeam_queue.specs.Passes.{view, IsPassOf, ruled_capacity};
 ghost use Rattle.trace_model.specs.declared.entry.Work.TheVariants as brings;
 ghost use Rattle.intake.specs.Seats.{next_job, with_job, HasNextNumber, IsNotTaken, IsEndOf, IsNewSeat};
 
-use crate::cell::Cell;
 use crate::job::Job;
 use crate::queue::{PushJob, QueueEnd, Resign};
+use crate::reply_slot::ReplySlot;
 use crate::shared::Shared;
 use crate::ticket::Ticket;
 use jaeger_model::Batch;
@@ -224,9 +224,9 @@ impl<N: StoreName> Seat<N> {
         ensures ticket { IfOk result (λ r. r.0 ≡ arc_value entry.now) }
         ensures job { IfOk result (λ r. r.1 ≡ arc_value entry.now) }
     {
-        let cell = Arc::new(alloc, Cell::new(entry))?;
-        let job = Job::new(self.shared.keys, entry, &cell)?;
+        let slot = Arc::new(alloc, ReplySlot::new(entry))?;
+        let job = Job::new(self.shared.keys, entry, &slot)?;
         let shared = Arc::try_clone(&self.shared)?;
-        Ok((Ticket::new(Arc::try_clone(entry)?, cell, shared), job))
+        Ok((Ticket::new(Arc::try_clone(entry)?, slot, shared), job))
     }
 }

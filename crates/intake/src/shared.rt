@@ -7,8 +7,8 @@ ghost use Rattle.read_side.specs.Receipts.{AnsweredAt};
 ghost use Rattle.intake.specs.Denials.{IsDenied};
 
 use crate::bell::Bell;
-use crate::cell::{Cell, JobOutcome};
 use crate::queue::Queue;
+use crate::reply_slot::{JobOutcome, ReplySlot};
 use crossbeam_utils::CachePadded;
 use read_side::{Receipt, StoreName};
 use sent_batches::BatchKeys;
@@ -70,18 +70,18 @@ impl<N: StoreName> Shared<N> {
         &self,
         rt: &R,
         seat: u16,
-        cell: &Cell<N>,
+        slot: &ReplySlot<N>,
         outcome: JobOutcome<N>,
     )
         requires answered { IfOk outcome.answer (λ a.
-            AnsweredAt (arc_value a.receipt).entries a.place cell.now) }
+            AnsweredAt (arc_value a.receipt).entries a.place slot.now) }
         requires denied { IfErr outcome.answer (λ d.
-            IsDenied N.limits cell.now d.refusal d.list) }
+            IsDenied N.limits slot.now d.refusal d.list) }
     {
         if let Some(receipt) = outcome.receipt() {
             *self.last.lock(rt) = receipt;
         }
-        cell.store_outcome(outcome);
+        slot.store_outcome(outcome);
         // Impossible: a seat without a bell. Its ticket would sleep until the clerk ends.
         if let Some(bell) = self.bell(seat) {
             let _woken = bell.ring();

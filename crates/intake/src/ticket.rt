@@ -6,8 +6,8 @@ ghost use Rattle.read_side.specs.Receipts.{AnsweredAt};
 ghost use Rattle.intake.specs.Seats.{IsUnacknowledged};
 ghost use Rattle.intake.specs.Denials.{IsDenied, IsDeniedSomehow};
 
-use crate::cell::Cell;
 use crate::denial::Denial;
+use crate::reply_slot::ReplySlot;
 use crate::shared::Shared;
 use read_side::{Receipt, StoreName};
 use std::marker::Model;
@@ -32,7 +32,7 @@ pub struct Ticket<N: StoreName> {
     /// The job's entry. The clerk gives up its own share before it answers, so the waiting thread frees an entry
     /// that the store does not keep.
     entry: Arc<Entry>,
-    cell: Arc<Cell<N>>,
+    slot: Arc<ReplySlot<N>>,
     shared: Arc<Shared<N>>,
     /// The number of spins before it sleeps.
     spins: u32,
@@ -47,18 +47,22 @@ impl<N: StoreName> Model for Ticket<N> {
 
     ghost view = { λ t. arc_value t.entry };
 
-    ghost invariant = { λ t. arc_value t.cell ≡ arc_value t.entry };
+    ghost invariant = { λ t. arc_value t.slot ≡ arc_value t.entry };
 }
 
 impl<N: StoreName> Ticket<N> {
-    /// Makes a ticket for the entry, whose answer comes into the cell.
-    pub(crate) fn new(entry: Arc<Entry>, cell: Arc<Cell<N>>, shared: Arc<Shared<N>>) -> Ticket<N>
-        requires { arc_value cell ≡ arc_value entry }
+    /// Makes a ticket for the entry, whose answer comes into the slot.
+    pub(crate) fn new(
+        entry: Arc<Entry>,
+        slot: Arc<ReplySlot<N>>,
+        shared: Arc<Shared<N>>,
+    ) -> Ticket<N>
+        requires { arc_value slot ≡ arc_value entry }
         ensures { result ≡ arc_value entry }
     {
         Ticket {
             entry,
-            cell,
+            slot,
             shared,
             spins: SPINS,
         }
@@ -107,7 +111,7 @@ impl<N: StoreName> Ticket<N> {
         for _ in rt.forever() {
             let rings = self.rings();
             let ended = self.shared.has_ended();
-            if let Some(answer) = self.cell.take() {
+            if let Some(answer) = self.slot.take() {
                 return answer;
             }
             if ended {

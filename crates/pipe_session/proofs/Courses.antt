@@ -4,9 +4,9 @@ use Rattle.std.proofs.Common.{length-append}
 use Rattle.std.proofs.lemmas.List.Elements.{All-head, All-tail}
 use Rattle.trace_model.specs.LimitedHistories.{LimitedHistory}
 use Rattle.http_requests.specs.HeadContents.{asked_by}
-use Rattle.http_requests.specs.declared.request.BadRequest.{BadRequest}
-use Rattle.http_requests.proofs.OneRequest.{Breaks, breaks_all, request_is_some, request_once, no_request, one_bad_request, nothing_is_no_bad_request}
-use Rattle.http_session.specs.Sessions.{Exchange, IsExchange, IsOpen, texts, Ending, Ending.{clean, closing, malformed}, last_of, IsEnding}
+use Rattle.http_requests.specs.declared.request.RequestFault.{RequestFault}
+use Rattle.http_requests.proofs.OneRequest.{Breaks, breaks_all, request_is_some, request_once, no_request, one_fault, nothing_is_no_fault}
+use Rattle.http_session.specs.Sessions.{Exchange, IsExchange, LeavesOpen, texts, Ending, Ending.{clean, closing, malformed}, last_of, IsEnding}
 use Rattle.http_session.specs.Replies.{closes}
 use Rattle.http_session.specs.Verdicts.{Judges}
 use Rattle.http_session.specs.declared.verdict.ErrorReply.TheVariants.{NoMemory}
@@ -55,11 +55,11 @@ not_empty s x rest asks =
 not_empty_at : (bytes : List ℕ) (s : LimitedHistory) (x : Exchange) (rest : List ℕ) → bytes ≡ [] → Asks bytes s x rest → ⊥
 not_empty_at bytes s x rest none asks = not_empty s x rest (subst (λ (l : List ℕ). Asks l s x rest) none asks)
 
-pub not_malformed : (bytes : List ℕ) (s : LimitedHistory) (x : Exchange) (rest : List ℕ) (b : BadRequest) → Asks bytes s x rest → Breaks bytes b → ⊥
+pub not_malformed : (bytes : List ℕ) (s : LimitedHistory) (x : Exchange) (rest : List ℕ) (b : RequestFault) → Asks bytes s x rest → Breaks bytes b → ⊥
 not_malformed bytes s x rest b asks breaks = no_request x.text rest x.head x.body b asks.exchange.spells (subst (λ (l : List ℕ). Breaks l b) asks.front breaks)
 
-not_nothing : (bytes : List ℕ) (b : BadRequest) → bytes ≡ [] → Breaks bytes b → ⊥
-not_nothing bytes b none breaks = nothing_is_no_bad_request b (subst (λ (l : List ℕ). Breaks l b) none breaks)
+not_nothing : (bytes : List ℕ) (b : RequestFault) → bytes ≡ [] → Breaks bytes b → ⊥
+not_nothing bytes b none breaks = nothing_is_no_fault b (subst (λ (l : List ℕ). Breaks l b) none breaks)
 
 pub one_next : (bytes : List ℕ) (s : LimitedHistory) (m n : Ending) (rest more : List ℕ) → ComesNext bytes s m rest → ComesNext bytes s n more → (m ≡ n) × (rest ≡ more)
 one_next bytes s clean clean rest more one other = (refl, one.1 ∙ sym other.1)
@@ -70,7 +70,7 @@ one_next bytes s (closing x) (closing y) rest more one other = let same = same_e
 one_next bytes s (closing x) (malformed b) rest more one other = absurd (not_malformed bytes s x rest b one other.0)
 one_next bytes s (malformed a) clean rest more one other = absurd (not_nothing bytes a other.0 one.0)
 one_next bytes s (malformed a) (closing y) rest more one other = absurd (not_malformed bytes s y more a other one.0)
-one_next bytes s (malformed a) (malformed b) rest more one other = (ap malformed (one_bad_request bytes a b one.0 other.0), one.1 ∙ sym other.1)
+one_next bytes s (malformed a) (malformed b) rest more one other = (ap malformed (one_fault bytes a b one.0 other.0), one.1 ∙ sym other.1)
 
 -- ---- whole courses
 
@@ -154,11 +154,11 @@ last_goes bytes s clean behind t stand ends = ([], (stand.front ∙ ends, refl),
 last_goes bytes s (closing x) behind t stand ends = (behind, first_asks bytes s x [] behind t ends.0 stand, ends.1, stand.held)
 last_goes bytes s (malformed b) behind t stand ends = ([], (subst (λ (l : List ℕ). Breaks l b) (sym stand.front) ends, refl), tt, stand.held)
 
-pub runs_to : (bytes : List ℕ) (s : LimitedHistory) (xs : List Exchange) (e : Ending) (behind : List ℕ) (t : LimitedHistory) → All IsOpen xs
+pub runs_to : (bytes : List ℕ) (s : LimitedHistory) (xs : List Exchange) (e : Ending) (behind : List ℕ) (t : LimitedHistory) → All LeavesOpen xs
     → Stand bytes s (xs ++ last_of e) behind t → EndsAt behind e → RunsTo bytes s xs e t
 runs_to bytes s [] e behind t opens stand ends = last_goes bytes s e behind t stand ends
 runs_to bytes s (x ∷ xs) e behind t opens stand ends =
-    let is = All-head IsOpen x xs opens in
-    let later = runs_to (texts (xs ++ last_of e) ++ behind) (held_after s x.verdict) xs e behind t (All-tail IsOpen x xs opens)
+    let is = All-head LeavesOpen x xs opens in
+    let later = runs_to (texts (xs ++ last_of e) ++ behind) (held_after s x.verdict) xs e behind t (All-tail LeavesOpen x xs opens)
     (rest_stands bytes s x (xs ++ last_of e) behind t stand) ends in
     (texts (xs ++ last_of e) ++ behind, first_asks bytes s x (xs ++ last_of e) behind t is.exchange stand, is.open_is, later)

@@ -14,7 +14,7 @@ use Rattle.query_http.specs.QueryStrings.{pairs_of}
 use Rattle.query_http.specs.Queries.{query_at, path_of, query_string_of}
 use Rattle.query_http.proofs.PathLaws.{one_endpoint}
 use Rattle.http_session.specs.Verdicts.{allows, JudgesQuery, JudgesBatch, JudgesMethod, Judges}
-use Rattle.http_session.specs.declared.verdict.ErrorReply.TheVariants.{NoSuchPath, NotAllowed, UnsupportedType, BatchRefused, BadParameter, NoMemory}
+use Rattle.http_session.specs.declared.verdict.ErrorReply.TheVariants.{NoSuchPath, NotAllowed, UnsupportedType, BadBatch, BadParameter, NoMemory}
 use Rattle.http_session.specs.declared.verdict.Verdict.{Verdict}
 use Rattle.http_session.specs.declared.verdict.Verdict.TheVariants.{Submit, Ask, Reject}
 
@@ -27,7 +27,7 @@ query_verdict (Err p) = Reject (BadParameter p)
 batch_verdict : Bool → Result Batch DecodeError → Verdict
 batch_verdict false read = Reject UnsupportedType
 batch_verdict true (Ok b) = Submit b
-batch_verdict true (Err f) = Reject (BatchRefused f)
+batch_verdict true (Err f) = Reject (BadBatch f)
 
 -- of an endpoint with the verdict of a query and the one of a batch
 method_verdict : Method → Endpoint → Verdict → Verdict → Verdict
@@ -48,14 +48,14 @@ by_query read (Reject (BadParameter p)) is = sym (ap query_verdict is)
 by_query read (Reject NoSuchPath) is = absurd is
 by_query read (Reject (NotAllowed e)) is = absurd is
 by_query read (Reject UnsupportedType) is = absurd is
-by_query read (Reject (BatchRefused f)) is = absurd is
+by_query read (Reject (BadBatch f)) is = absurd is
 by_query read (Reject NoMemory) is = absurd is
 by_query read (Submit b) is = absurd is
 
 by_batch : (has_type : Bool) (body : List ℕ) (v : Verdict) → v ≢ Reject NoMemory → JudgesBatch has_type body v → v ≡ batch_verdict has_type (decoded body)
 unfolding batch_verdict
 by_batch has_type body (Submit b) memory is = sym (ap (λ (t : Bool). batch_verdict t (decoded body)) is.0 ∙ ap (batch_verdict true) is.1)
-by_batch has_type body (Reject (BatchRefused f)) memory is = sym (ap (λ (t : Bool). batch_verdict t (decoded body)) is.0 ∙ ap (batch_verdict true) is.1)
+by_batch has_type body (Reject (BadBatch f)) memory is = sym (ap (λ (t : Bool). batch_verdict t (decoded body)) is.0 ∙ ap (batch_verdict true) is.1)
 by_batch has_type body (Reject NoMemory) memory is = absurd (memory refl)
 by_batch has_type body (Reject UnsupportedType) memory is = sym (ap (λ (t : Bool). batch_verdict t (decoded body)) is)
 by_batch has_type body (Reject NoSuchPath) memory is = absurd is

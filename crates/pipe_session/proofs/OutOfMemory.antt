@@ -7,7 +7,7 @@ use Rattle.std.proofs.lemmas.List.Elements.{All-head, All-tail, All-cons, All-ni
 use Rattle.std.proofs.lemmas.Grind.{flat_map-append}
 use Rattle.trace_model.specs.LimitedHistories.{LimitedHistory}
 use Rattle.pipe_session.specs.DirectCalls.{DirectSubmits, DirectReads}
-use Rattle.http_session.specs.Sessions.{Exchange, IsOpen, texts, Submits, Reads, Run, EndsAs, FailsAs, Ending, Ending.{clean, closing, malformed}, last_of}
+use Rattle.http_session.specs.Sessions.{Exchange, LeavesOpen, texts, Submits, Reads, Run, EndsAs, FailsAs, Ending, Ending.{clean, closing, malformed}, last_of}
 use Rattle.http_session.specs.Sessions.{malformed_response, response_to, responses, Due, Due.{none_yet, due, due_malformed}, exchange_due, bytes_due}
 use Rattle.http_requests.specs.LineLaws.{no_bytes_await}
 use Rattle.http_session.specs.declared.exchanges.SessionErrorKind.TheVariants.{Reading}
@@ -60,7 +60,7 @@ left_after bytes front behind taken (Some left) read split = (behind ++ left, re
 
 -- a session up to some exchange is one whose input failed there, and had written the responses before
 stopped_there : (bytes before taken rest : List ℕ) (left : Option (List ℕ)) (s t : LimitedHistory) (ys zs : List Exchange) → Consumes (Some bytes) left taken
-    → taken ≡ texts (ys ++ zs) ++ rest → All IsOpen ys
+    → taken ≡ texts (ys ++ zs) ++ rest → All LeavesOpen ys
     → Run DirectSubmits DirectReads s (ys ++ zs) t → NeverWants ys → Failed bytes s (responses ys)
 stopped_there bytes before taken rest left s t ys zs read split opens run memory =
     let parts = run_parts DirectSubmits DirectReads s ys zs t run in
@@ -98,7 +98,7 @@ stopped_there bytes before taken rest left s t ys zs read split opens run memory
 
 -- what was answered before some exchange was written first, whatever was written after
 written_first : (bytes before taken rest tail : List ℕ) (left out : Option (List ℕ)) (s t : LimitedHistory) (opens last ys zs : List Exchange) (z : Exchange)
-    → length last ≤ 1 → All IsOpen opens → opens ++ last ≡ ys ++ z ∷ zs → NeverWants ys
+    → length last ≤ 1 → All LeavesOpen opens → opens ++ last ≡ ys ++ z ∷ zs → NeverWants ys
     → Consumes (Some bytes) left taken → taken ≡ texts (opens ++ last) ++ rest → Run DirectSubmits DirectReads s (opens ++ last) t
     → Appends (Some before) out (responses opens ++ tail) → WroteFirst bytes before out s (responses ys)
 written_first bytes before taken rest tail left None s t opens last ys zs z few each e memory read split run written = absurd written
@@ -111,7 +111,7 @@ written_first bytes before taken rest tail left (Some o) s t opens last ys zs z 
           ∙ ap (λ (l : List ℕ). l ++ tail) (responses_parts ys mid.0)
           ∙ append_assoc (responses ys) (responses mid.0) tail));
       failed = stopped_there bytes before taken rest left s t ys (z ∷ zs) read (split ∙ ap (λ (l : List Exchange). texts l ++ rest) e)
-          (all_front IsOpen ys mid.0 (subst (All IsOpen) mid.1 each)) (subst (λ (l : List Exchange). Run DirectSubmits DirectReads s l t) e run) memory;
+          (all_front LeavesOpen ys mid.0 (subst (All LeavesOpen) mid.1 each)) (subst (λ (l : List Exchange). Run DirectSubmits DirectReads s l t) e run) memory;
     }
 
 pub ended_before : (bytes before : List ℕ) (left out : Option (List ℕ)) (s t : LimitedHistory) (n : ℕ) (c : Bool)

@@ -4,7 +4,7 @@ use mathlib.Core.List.{IsPrefix}
 use Rattle.std.proofs.lemmas.Bool.{cases_lt}
 use Rattle.trace_model.specs.LimitedHistories.{LimitedHistory}
 use Rattle.trace_model.proofs.Prefixes.{prefix_self, prefix_trans, prefix_shorter}
-use Rattle.http_requests.proofs.OneRequest.{one_bad_request}
+use Rattle.http_requests.proofs.OneRequest.{one_fault}
 use Rattle.http_session.specs.Sessions.{Exchange, responses, response_to, Due, Due.{none_yet, due, due_malformed}, bytes_due}
 use Rattle.pipe_session.specs.ExactAnswers.{held_after}
 use Rattle.pipe_session.specs.OneFunction.{Failed, OneTextBegins}
@@ -48,7 +48,7 @@ one_due bytes s (due y) (due_malformed b) stops other = absurd (not_malformed by
 one_due bytes s (due_malformed b) none_yet stops other = inr (meant [] (due_malformed b), refl)
 one_due bytes s (due_malformed b) (due x) stops other = absurd (not_malformed bytes s x other.0 b other.1 stops)
 one_due bytes s (due_malformed b) (due_malformed a) stops other =
-    inl (subst (λ c. IsPrefix (meant [] (due_malformed b)) (meant [] (due_malformed c))) (one_bad_request bytes b a stops other)
+    inl (subst (λ c. IsPrefix (meant [] (due_malformed b)) (meant [] (due_malformed c))) (one_fault bytes b a stops other)
     (prefix_self (meant [] (due_malformed b))))
 
 one_meant : (bytes : List ℕ) (s : LimitedHistory) (ys : List Exchange) (d : Due) (xs : List Exchange) (e : Due) → Stops bytes s ys d → Stops bytes s xs e

@@ -15,7 +15,7 @@ use std::alloc::{AllocError, Global};
 use std::marker::Model;
 
 /// The number of bytes that a read asks for.
-const PIECE: usize = 65_536;
+const READ_BYTES: usize = 65_536;
 
 /// The bytes that were read and not yet returned as lines.
 #[derive(Drop)]
@@ -45,7 +45,7 @@ impl LineBuffer {
     pub fn new(alloc: Global) -> Result<LineBuffer, AllocError>
         ensures { IfOk result (λ s. s ≡ record { waiting = []; left = MAX_READS; ended = false }) }
     {
-        let piece = vec![in alloc; 0u8; PIECE]?;
+        let piece = vec![in alloc; 0u8; READ_BYTES]?;
         Ok(LineBuffer {
             piece,
             at: 0,

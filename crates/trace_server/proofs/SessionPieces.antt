@@ -10,7 +10,7 @@ use Rattle.http_session.specs.Sessions.{Step}
 use Rattle.http_session.specs.declared.verdict.Verdict.{Verdict}
 use Rattle.http_session.specs.declared.verdict.Verdict.TheVariants.{Submit, Ask, Reject}
 use Rattle.http_session.specs.declared.reply.Reply.{Reply}
-use Rattle.http_session.specs.declared.reply.Reply.TheVariants.{Accepted, Answered, Refused, Error, Malformed}
+use Rattle.http_session.specs.declared.reply.Reply.TheVariants.{Accepted, Answered, Refused, Error, NoRequest}
 use Rattle.intake.specs.LiveStores.{LiveValue, SeatGoesOn, LiveSubmits, LiveReads}
 use Rattle.intake.specs.LiveLaws.{keeps}
 use Rattle.intake.proofs.LiveSeats.{stays_same, submit_goes_on, read_goes_on}
@@ -22,17 +22,17 @@ step_goes_on limits s (Submit b) Accepted t d = submit_goes_on limits s b (Ok d.
 step_goes_on limits s (Submit b) (Refused why) t d = submit_goes_on limits s b (Err why) t d
 step_goes_on limits s (Submit b) (Answered a) t d = absurd d
 step_goes_on limits s (Submit b) (Error m) t d = absurd d
-step_goes_on limits s (Submit b) (Malformed m) t d = absurd d
+step_goes_on limits s (Submit b) (NoRequest m) t d = absurd d
 step_goes_on limits s (Ask q) (Answered a) t d = read_goes_on limits s q (Ok a) t d
 step_goes_on limits s (Ask q) (Refused why) t d = read_goes_on limits s q (Err why) t d
 step_goes_on limits s (Ask q) Accepted t d = absurd d
 step_goes_on limits s (Ask q) (Error m) t d = absurd d
-step_goes_on limits s (Ask q) (Malformed m) t d = absurd d
+step_goes_on limits s (Ask q) (NoRequest m) t d = absurd d
 step_goes_on limits s (Reject m) (Error said) t d = stays_same s.seat t.seat (ap (λ (z : LiveValue). z.seat) d.1)
 step_goes_on limits s (Reject m) Accepted t d = absurd d
 step_goes_on limits s (Reject m) (Answered a) t d = absurd d
 step_goes_on limits s (Reject m) (Refused why) t d = absurd d
-step_goes_on limits s (Reject m) (Malformed b) t d = absurd d
+step_goes_on limits s (Reject m) (NoRequest b) t d = absurd d
 
 pub asking_goes_on : (limits : Limits) (s t : LiveValue) → AsksOnce (live_store limits) s t → SeatGoesOn s.seat t.seat
 asking_goes_on limits s t (inl same) = stays_same s.seat t.seat (ap (λ (z : LiveValue). z.seat) same)

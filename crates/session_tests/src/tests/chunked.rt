@@ -1,6 +1,6 @@
 use crate::tests::pipes::{Seen, joined, played};
 use crate::tests::requests::{ReadOutcome, has_end, look};
-use http_requests::{BadRequest, ReadError};
+use http_requests::{ReadError, RequestFault};
 use http_session::{Ended, SessionError, SessionErrorKind};
 use session_devices::MemoryOutput;
 use std::alloc::Global;
@@ -50,10 +50,10 @@ fn has_none(
     head: &[u8],
     bytes: &[u8],
     step: usize,
-    bad_request: BadRequest,
+    fault: RequestFault,
 ) -> Result<bool, Fail> {
     let whole = joined(alloc, &[head, bytes])?;
-    Ok(has_end(alloc, whole.as_slice(), step, Some(bad_request)))
+    Ok(has_end(alloc, whole.as_slice(), step, Some(fault)))
 }
 
 /// The bytes after the head, the body in them, and the rest.
@@ -90,39 +90,36 @@ fn bodies_in_chunks(rt: HostRuntime) -> Result<(), Fail> {
 }
 
 /// The bytes after the head, and the reason why they are malformed.
-const MALFORMED_BODIES: [(&[u8], BadRequest); 21] = [
-    (b"", BadRequest::Body),
-    (b"g\r\n", BadRequest::Body),
-    (b"\r\n", BadRequest::Body),
-    (b";x\r\n\r\n", BadRequest::Body),
-    (b"-1\r\n", BadRequest::Body),
-    (b" 1\r\nx\r\n0\r\n\r\n", BadRequest::Body),
-    (b"1\nx\r\n0\r\n\r\n", BadRequest::Body),
-    (b"1;a\nb\r\nx\r\n0\r\n\r\n", BadRequest::Body),
-    (b"3\r\nab", BadRequest::Body),
-    (b"3\r\nabc", BadRequest::Body),
-    (b"3\r\nabc\r", BadRequest::Body),
-    (b"3\r\nabcd\r\n0\r\n\r\n", BadRequest::Body),
-    (b"3\r\nabc\n0\r\n\r\n", BadRequest::Body),
-    (b"3\r\nabc\r\n", BadRequest::Body),
-    (b"0\r\n", BadRequest::Body),
-    (b"0\r\nA: b\r\n", BadRequest::Body),
-    (b"0\r\nA b\r\n\r\n", BadRequest::Body),
-    (b"400001\r\n", BadRequest::TooLarge),
-    (b"1\r\nx\r\n400000\r\n", BadRequest::TooLarge),
-    (b"ffffffffffffffff\r\n", BadRequest::TooLarge),
-    (b"10000000000000000\r\n", BadRequest::Body),
+const MALFORMED_BODIES: [(&[u8], RequestFault); 21] = [
+    (b"", RequestFault::Body),
+    (b"g\r\n", RequestFault::Body),
+    (b"\r\n", RequestFault::Body),
+    (b";x\r\n\r\n", RequestFault::Body),
+    (b"-1\r\n", RequestFault::Body),
+    (b" 1\r\nx\r\n0\r\n\r\n", RequestFault::Body),
+    (b"1\nx\r\n0\r\n\r\n", RequestFault::Body),
+    (b"1;a\nb\r\nx\r\n0\r\n\r\n", RequestFault::Body),
+    (b"3\r\nab", RequestFault::Body),
+    (b"3\r\nabc", RequestFault::Body),
+    (b"3\r\nabc\r", RequestFault::Body),
+    (b"3\r\nabcd\r\n0\r\n\r\n", RequestFault::Body),
+    (b"3\r\nabc\n0\r\n\r\n", RequestFault::Body),
+    (b"3\r\nabc\r\n", RequestFault::Body),
+    (b"0\r\n", RequestFault::Body),
+    (b"0\r\nA: b\r\n", RequestFault::Body),
+    (b"0\r\nA b\r\n\r\n", RequestFault::Body),
+    (b"400001\r\n", RequestFault::TooLarge),
+    (b"1\r\nx\r\n400000\r\n", RequestFault::TooLarge),
+    (b"ffffffffffffffff\r\n", RequestFault::TooLarge),
+    (b"10000000000000000\r\n", RequestFault::Body),
 ];
 
 #[test]
-fn each_bad_request_of_chunks(rt: HostRuntime) -> Result<(), Fail> {
+fn each_fault_of_chunks(rt: HostRuntime) -> Result<(), Fail> {
     let alloc = rt.alloc();
-    for (bytes, bad_request) in &MALFORMED_BODIES {
+    for (bytes, fault) in &MALFORMED_BODIES {
         for step in [1, 10_000] {
-            assert!(rt;
-                has_none(alloc, HEAD, bytes, step, *bad_request)?,
-                "{bytes:?}"
-            );
+            assert!(rt; has_none(alloc, HEAD, bytes, step, *fault)?, "{bytes:?}");
         }
     }
     Ok(())
@@ -133,7 +130,7 @@ fn sums_do_not_pass_a_word(rt: HostRuntime) -> Result<(), Fail> {
     let alloc = rt.alloc();
     let bytes = b"2\r\nab\r\nfffffffffffffffe\r\ncd\r\n0\r\n\r\n";
     for step in [1, 10_000] {
-        assert!(rt; has_none(alloc, HEAD, bytes, step, BadRequest::TooLarge)?);
+        assert!(rt; has_none(alloc, HEAD, bytes, step, RequestFault::TooLarge)?);
     }
     Ok(())
 }
@@ -179,7 +176,7 @@ const HEADS: [(&[u8], bool); 9] = [
 fn heads_of_chunked_bodies(rt: HostRuntime) -> Result<(), Fail> {
     let alloc = rt.alloc();
     for (head, is_read) in &HEADS {
-        let none = has_none(alloc, head, b"0\r\n\r\n", 10_000, BadRequest::Body)?;
+        let none = has_none(alloc, head, b"0\r\n\r\n", 10_000, RequestFault::Body)?;
         assert!(rt; none != *is_read, "{head:?}");
     }
     Ok(())
@@ -211,7 +208,7 @@ fn long_trailer(alloc: Global, fields: usize, first: usize) -> Result<Vec<u8>, F
 fn line_seen(alloc: Global, length: usize, step: usize) -> Result<(bool, bool), Fail> {
     let line = long_line(alloc, length)?;
     let read = has_body(alloc, line.as_slice(), step, b"x", b"")?;
-    let refused = has_none(alloc, HEAD, line.as_slice(), step, BadRequest::Body)?;
+    let refused = has_none(alloc, HEAD, line.as_slice(), step, RequestFault::Body)?;
     Ok((read, refused))
 }
 
@@ -224,7 +221,7 @@ fn trailer_seen(
 ) -> Result<(bool, bool), Fail> {
     let trailer = long_trailer(alloc, fields, first)?;
     let read = has_body(alloc, trailer.as_slice(), step, b"", b"")?;
-    let refused = has_none(alloc, HEAD, trailer.as_slice(), step, BadRequest::Body)?;
+    let refused = has_none(alloc, HEAD, trailer.as_slice(), step, RequestFault::Body)?;
     Ok((read, refused))
 }
 

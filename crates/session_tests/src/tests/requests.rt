@@ -1,4 +1,4 @@
-use http_requests::{BadRequest, Next, ReadBuffer, ReadError, Sink, next_head, read_body};
+use http_requests::{Next, ReadBuffer, ReadError, RequestFault, Sink, next_head, read_body};
 use session_devices::MemoryInput;
 use std::alloc::Global;
 use std::mem::drop;
@@ -42,7 +42,7 @@ pub(crate) struct Taken {
 pub(crate) enum ReadOutcome {
     One(Taken),
     Clean,
-    Malformed(BadRequest),
+    Malformed(RequestFault),
 }
 
 /// Reads a request from these bytes, `step` at a time.
@@ -57,7 +57,7 @@ fn look_in(alloc: Global, source: MemoryInput<'_>) -> Result<ReadOutcome, ReadEr
     let (length, size) = match next_head(&mut input, &mut received)? {
         Next::One(_, length, size) => (length, size),
         Next::Clean => return Ok(ReadOutcome::Clean),
-        Next::Malformed => return Ok(ReadOutcome::Malformed(BadRequest::Head)),
+        Next::NoHead => return Ok(ReadOutcome::Malformed(RequestFault::Head)),
     };
     let head = received.as_slice()[..length].to_vec(alloc)?;
     received.take(length);
@@ -66,8 +66,8 @@ fn look_in(alloc: Global, source: MemoryInput<'_>) -> Result<ReadOutcome, ReadEr
         largest_piece: 0,
         lacks_memory: false,
     };
-    if let Err(bad_request) = read_body(&mut input, &mut received, &mut sink, size)? {
-        return Ok(ReadOutcome::Malformed(bad_request));
+    if let Err(fault) = read_body(&mut input, &mut received, &mut sink, size)? {
+        return Ok(ReadOutcome::Malformed(fault));
     }
     if sink.lacks_memory {
         return Err(ReadError::Memory);
@@ -81,10 +81,10 @@ fn look_in(alloc: Global, source: MemoryInput<'_>) -> Result<ReadOutcome, ReadEr
 }
 
 /// Returns whether it is a request, or malformed for this reason.
-fn is_ended(front: &Result<ReadOutcome, ReadError>, bad_request: Option<BadRequest>) -> bool {
-    match (front, bad_request) {
+fn is_ended(front: &Result<ReadOutcome, ReadError>, fault: Option<RequestFault>) -> bool {
+    match (front, fault) {
         (Ok(ReadOutcome::One(_)), None) => true,
-        (Ok(ReadOutcome::Malformed(seen)), Some(bad_request)) => *seen == bad_request,
+        (Ok(ReadOutcome::Malformed(seen)), Some(fault)) => *seen == fault,
         _ => false,
     }
 }
@@ -94,10 +94,10 @@ pub(crate) fn has_end(
     alloc: Global,
     bytes: &[u8],
     step: usize,
-    bad_request: Option<BadRequest>,
+    fault: Option<RequestFault>,
 ) -> bool {
     let front = look(alloc, bytes, step);
-    let said = is_ended(&front, bad_request);
+    let said = is_ended(&front, fault);
     drop(front);
     said
 }
@@ -110,7 +110,7 @@ fn is_clean(alloc: Global) -> bool {
     said
 }
 
-const ENDS: [(&[u8], Option<BadRequest>); 18] = [
+const ENDS: [(&[u8], Option<RequestFault>); 18] = [
     (b"GET / HTTP/1.1\nContent-Length: 3\n\nabc", None),
     (
         b"\r\n\r\nGET / HTTP/1.0\r\nconnection: x, Close\r\n\r\n",
@@ -118,51 +118,54 @@ const ENDS: [(&[u8], Option<BadRequest>); 18] = [
     ),
     (
         b"GET / HTTP/1.1\r\nContent-Length: 3\r\n\r\nab",
-        Some(BadRequest::Body),
+        Some(RequestFault::Body),
     ),
     (
         b"GET / HTTP/1.1\r\nContent-Length: 3\r\ncontent-length: 3\r\n\r\nabc",
-        Some(BadRequest::Body),
+        Some(RequestFault::Body),
     ),
     (
         b"GET / HTTP/1.1\r\nContent-Length: +3\r\n\r\nabc",
-        Some(BadRequest::Body),
+        Some(RequestFault::Body),
     ),
     (
         b"GET / HTTP/1.1\r\nContent-Length: 4194305\r\n\r\n",
-        Some(BadRequest::TooLarge),
+        Some(RequestFault::TooLarge),
     ),
-    (b"GET / HTTP/1.1\r\nContent-Len", Some(BadRequest::Head)),
-    (b"\r\n", Some(BadRequest::Head)),
+    (b"GET / HTTP/1.1\r\nContent-Len", Some(RequestFault::Head)),
+    (b"\r\n", Some(RequestFault::Head)),
     (
         b"GET / HTTP/1.1\r\nContent-Length:\r\n\r\n",
-        Some(BadRequest::Body),
+        Some(RequestFault::Body),
     ),
     (
         b"GET / HTTP/1.1\r\nContent-Length: +0\r\n\r\n",
-        Some(BadRequest::Body),
+        Some(RequestFault::Body),
     ),
     (
         b"GET / HTTP/1.1\r\nContent-Length: 0, 0\r\n\r\n",
-        Some(BadRequest::Body),
+        Some(RequestFault::Body),
     ),
     (
         b"GET / HTTP/1.1\r\nContent-Length: 00000000000000000000\r\n\r\n",
-        Some(BadRequest::Body),
+        Some(RequestFault::Body),
     ),
-    (b"GET / HTTP/1.2\r\n\r\n", Some(BadRequest::Head)),
-    (b"GET / HTTP/2.0\r\n\r\n", Some(BadRequest::Head)),
-    (b"GET / HTTP/1.1\r\na: \x01\r\n\r\n", Some(BadRequest::Head)),
-    (b"GET / HTTP/1.1\r\n: b\r\n\r\n", Some(BadRequest::Head)),
-    (b"GET / HTTP/1.1\r\nA : b\r\n\r\n", Some(BadRequest::Head)),
-    (b"GET  / HTTP/1.1\r\n\r\n", Some(BadRequest::Head)),
+    (b"GET / HTTP/1.2\r\n\r\n", Some(RequestFault::Head)),
+    (b"GET / HTTP/2.0\r\n\r\n", Some(RequestFault::Head)),
+    (
+        b"GET / HTTP/1.1\r\na: \x01\r\n\r\n",
+        Some(RequestFault::Head),
+    ),
+    (b"GET / HTTP/1.1\r\n: b\r\n\r\n", Some(RequestFault::Head)),
+    (b"GET / HTTP/1.1\r\nA : b\r\n\r\n", Some(RequestFault::Head)),
+    (b"GET  / HTTP/1.1\r\n\r\n", Some(RequestFault::Head)),
 ];
 
 #[test]
 fn each_end(rt: HostRuntime) {
-    for (bytes, bad_request) in &ENDS {
+    for (bytes, fault) in &ENDS {
         for step in [1, 10_000] {
-            assert!(rt; has_end(rt.alloc(), bytes, step, *bad_request), "{bytes:?}");
+            assert!(rt; has_end(rt.alloc(), bytes, step, *fault), "{bytes:?}");
         }
     }
     assert!(rt; is_clean(rt.alloc()));
@@ -170,26 +173,26 @@ fn each_end(rt: HostRuntime) {
 
 /// Returns whether these bytes are a request, or malformed for this reason, without a read for more: the input returns
 /// them one at a time and fails when it is asked for more.
-fn is_decided(alloc: Global, bytes: &[u8], bad_request: Option<BadRequest>) -> bool {
+fn is_decided(alloc: Global, bytes: &[u8], fault: Option<RequestFault>) -> bool {
     let front = look_in(alloc, MemoryInput::new(bytes, 1, bytes.len() as u64 + 1));
-    let said = is_ended(&front, bad_request);
+    let said = is_ended(&front, fault);
     drop(front);
     said
 }
 
-const NOT_TOO_MANY: [(&[u8], Option<BadRequest>); 11] = [
+const NOT_TOO_MANY: [(&[u8], Option<RequestFault>); 11] = [
     (b"GET / HTTP/1.1\r\n\r\n", None),
     (b"GET / HTTP/1.1\nContent-Length: 0\n\n", None),
     (b"POST / HTTP/1.1\r\nContent-Length: 3\r\n\r\nabc", None),
-    (b"GET / HTTP/2\r\n", Some(BadRequest::Head)),
-    (b"GET / HTTP/1.1\r\na b\r\n", Some(BadRequest::Head)),
+    (b"GET / HTTP/2\r\n", Some(RequestFault::Head)),
+    (b"GET / HTTP/1.1\r\na b\r\n", Some(RequestFault::Head)),
     (
         b"POST / HTTP/1.1\r\nContent-Length: 4194305\r\n\r\n",
-        Some(BadRequest::TooLarge),
+        Some(RequestFault::TooLarge),
     ),
     (
         b"POST / HTTP/1.1\r\nContent-Length: +3\r\n\r\n",
-        Some(BadRequest::Body),
+        Some(RequestFault::Body),
     ),
     (
         b"POST / HTTP/1.1\r\nTransfer-Encoding: chunked\r\n\r\n3\r\nabc\r\n0\r\n\r\n",
@@ -197,21 +200,21 @@ const NOT_TOO_MANY: [(&[u8], Option<BadRequest>); 11] = [
     ),
     (
         b"POST / HTTP/1.1\r\nTransfer-Encoding: chunked\r\n\r\ng",
-        Some(BadRequest::Body),
+        Some(RequestFault::Body),
     ),
     (
         b"POST / HTTP/1.1\r\nTransfer-Encoding: chunked\r\n\r\n3\r\nabcd",
-        Some(BadRequest::Body),
+        Some(RequestFault::Body),
     ),
     (
         b"POST / HTTP/1.1\r\nTransfer-Encoding: chunked\r\n\r\n400001\r\n",
-        Some(BadRequest::TooLarge),
+        Some(RequestFault::TooLarge),
     ),
 ];
 
 #[test]
 fn no_read_too_many(rt: HostRuntime) {
-    for (bytes, bad_request) in &NOT_TOO_MANY {
-        assert!(rt; is_decided(rt.alloc(), bytes, *bad_request), "{bytes:?}");
+    for (bytes, fault) in &NOT_TOO_MANY {
+        assert!(rt; is_decided(rt.alloc(), bytes, *fault), "{bytes:?}");
     }
 }

@@ -12,10 +12,10 @@ reads-init g c = (
   c.new-reader.ensures.looked _,
 )
 
-pub returns-in-Malformed-clause-body : goal.returns-in-Malformed-clause-body
-returns-in-Malformed-clause-body g c =
+pub returns-in-Fault-clause-body : goal.returns-in-Fault-clause-body
+returns-in-Fault-clause-body g c =
     malformed_body g.S.Sink.takes (source_of g.R.Input.remaining g.R.Input.gives)
-    g.met.S.Sink.takes_joined _ _ _ _ _ _ _ c.take_from.new.sink _ _ c.take_from.new.self c.reads.invariant.0 c.in-Malformed.why c.in-Malformed.ensures.took
+    g.met.S.Sink.takes_joined _ _ _ _ _ _ _ c.take_from.new.sink _ _ c.take_from.new.self c.reads.invariant.0 c.in-Fault.why c.in-Fault.ensures.took
 
 pub returns-in-More-clause-body : goal.returns-in-More-clause-body
 returns-in-More-clause-body g c =

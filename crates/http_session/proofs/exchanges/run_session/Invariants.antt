@@ -1,6 +1,6 @@
 use Rattle.std.proofs.Common.{◌≡◌, ◌*◌, ◌-◌, false}
 use Rattle.session_devices.specs.declared.limits.TheConstants.{MAX_READS}
-use Rattle.http_requests.specs.declared.room.TheConstants.{PIECE}
+use Rattle.http_requests.specs.declared.room.TheConstants.{READ_BYTES}
 use Rattle.http_session.specs.ResponseOrder.{line_of}
 use Rattle.http_session.specs.SessionRuns.{store_of}
 use Rattle.http_session.specs.Pieces.{Underway, CanContinue}
@@ -17,4 +17,4 @@ invariant-requests g l =
 
 -- a response more is written by each piece, and there is a limit to them
 abbrev pub decreases-requests : goal.decreases-requests
-decreases-requests g l = PIECE * MAX_READS - l.session.answered
+decreases-requests g l = READ_BYTES * MAX_READS - l.session.answered

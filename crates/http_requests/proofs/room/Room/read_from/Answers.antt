@@ -2,7 +2,7 @@ use Rattle.std.proofs.Common.{◌≡◌, ℕ, List, ◌≤◌, ◌+◌, ◌-◌,
 use Rattle.std.proofs.lemmas.List.{with_items_is, places}
 use Rattle.std.specs.Vec.{with_items}
 use borrow.Rule.Slice.PartMut.{put_mid}
-use Rattle.http_requests.specs.declared.room.TheConstants.{PIECE}
+use Rattle.http_requests.specs.declared.room.TheConstants.{READ_BYTES}
 use Rattle.http_requests.proofs.Rooms.{grown, kept}
 use Rattle.http_requests.proofs.AwaitedReads.{any_err}
 use Rattle.http_requests.proofs.room.Room.read_from.Goals as goal
@@ -11,7 +11,7 @@ pub returns-in_err-count-clause-same : goal.returns-in_err-count-clause-same
 returns-in_err-count-clause-same g c =
     let r = c.args.self.now in
     let all = c.as_mut_slice.result.now in
-    let size = r.end + PIECE - r.end in
+    let size = r.end + READ_BYTES - r.end in
     let after = put_mid r.end size all c.read.new.buf in
     let whole : (with_items r.bytes after).items ≡ after = with_items_is r.bytes after (search (rules, places)) in
     let same : after ≡ put_mid r.end size r.bytes.items c.read.new.buf =
@@ -26,9 +26,9 @@ returns-clause-ok g c =
     let n = c.in_ok-count.count in
     let bound = c.in_ok-count.ensures.bound in
     let bytes = c.in_ok-count.ensures.bytes in
-    let long : length c.read.new.buf ≡ PIECE = search rules in
+    let long : length c.read.new.buf ≡ READ_BYTES = search rules in
     let all = c.as_mut_slice.result.now in
-    let size = r.end + PIECE - r.end in
+    let size = r.end + READ_BYTES - r.end in
     let after = put_mid r.end size all c.read.new.buf in
     let whole : (with_items r.bytes after).items ≡ after = with_items_is r.bytes after (search (rules, places)) in
     let same : after ≡ put_mid r.end size r.bytes.items c.read.new.buf =

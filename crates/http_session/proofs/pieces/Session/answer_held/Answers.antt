@@ -50,19 +50,19 @@ pub returns-in-Err-write_reply-clause-goes_on : goal.returns-in-Err-write_reply-
 returns-in-Err-write_reply-clause-goes_on g c =
     let two = two_way g.met.C.Connection.reads_leave g.met.C.Connection.writes_leave in
     let kept = promises_of g.met.B.Backend.submit_knows g.met.B.Backend.read_knows in
-    let found = rw (c.in-Ok-Some.field-0-is, c.in-Malformed.is) at c.in-Ok-Some.ensures.incoming in
+    let found = rw (c.in-Ok-Some.field-0-is, c.in-NoRequest.is) at c.in-Ok-Some.ensures.incoming in
     rw c.after.ensures (parts_not _ kept _ two _ _ _ _ _ _ _ _ found (rw c.requires.output_works at c.in-Err-write_reply.ensures.wrote)
     c.in-Err-write_reply.ensures.took c.requires.input_works)
 
-pub returns-in-Malformed-clause-goes_on : goal.returns-in-Malformed-clause-goes_on
-returns-in-Malformed-clause-goes_on g c =
+pub returns-in-NoRequest-clause-goes_on : goal.returns-in-NoRequest-clause-goes_on
+returns-in-NoRequest-clause-goes_on g c =
     let two = two_way g.met.C.Connection.reads_leave g.met.C.Connection.writes_leave in
     let kept = promises_of g.met.B.Backend.submit_knows g.met.B.Backend.read_knows in
-    let found = rw (c.in-Ok-Some.field-0-is, c.in-Malformed.is) at c.in-Ok-Some.ensures.incoming in
+    let found = rw (c.in-Ok-Some.field-0-is, c.in-NoRequest.is) at c.in-Ok-Some.ensures.incoming in
     parts _ kept _ two _ _ _ _ _ _ _ found c.in_default.ensures.wrote.0 c.in_default.ensures.took
 
-pub returns-in-Malformed-clause-works : goal.returns-in-Malformed-clause-works
-returns-in-Malformed-clause-works g c =
+pub returns-in-NoRequest-clause-works : goal.returns-in-NoRequest-clause-works
+returns-in-NoRequest-clause-works g c =
     let two = two_way g.met.C.Connection.reads_leave g.met.C.Connection.writes_leave in
     works_said _ two _ _ _ c.in_default.ensures.took c.in_default.ensures.wrote.1 (c.requires.input_works, c.requires.output_works)
 
@@ -70,7 +70,7 @@ pub returns-in-Err-said-clause-goes_on : goal.returns-in-Err-said-clause-goes_on
 returns-in-Err-said-clause-goes_on g c =
     let two = two_way g.met.C.Connection.reads_leave g.met.C.Connection.writes_leave in
     let kept = promises_of g.met.B.Backend.submit_knows g.met.B.Backend.read_knows in
-    let found = rw (c.in-Ok-Some.field-0-is, c.in-One.is) at c.in-Ok-Some.ensures.incoming in
+    let found = rw (c.in-Ok-Some.field-0-is, c.in-Request.is) at c.in-Ok-Some.ensures.incoming in
     rw c.after-in-Err-said.ensures
     (answers_not _ kept _ two _ _ _ _ _ _ _ _ _ _ _ (λ text incoming. (found text incoming).0) c.answer-reply.ensures c.closes_after-close.ensures
     _ (rw c.requires.output_works at c.in-Err-said.ensures.wrote) c.in-Err-said.ensures.took c.requires.input_works c.in-Err-said.ensures.spared)
@@ -79,7 +79,7 @@ pub returns-then-close-clause-goes_on : goal.returns-then-close-clause-goes_on
 returns-then-close-clause-goes_on g c =
     let two = two_way g.met.C.Connection.reads_leave g.met.C.Connection.writes_leave in
     let kept = promises_of g.met.B.Backend.submit_knows g.met.B.Backend.read_knows in
-    let found = rw (c.in-Ok-Some.field-0-is, c.in-One.is) at c.in-Ok-Some.ensures.incoming in
+    let found = rw (c.in-Ok-Some.field-0-is, c.in-Request.is) at c.in-Ok-Some.ensures.incoming in
     answers_last _ kept _ two _ _ _ _ _ _ _ _ _ _ _ (λ text incoming. (found text incoming).0) c.answer-reply.ensures c.closes_after-close.ensures
     c.in_default-said.ensures.wrote.0 c.in_default-said.ensures.took c.if-close.true
 
@@ -92,7 +92,7 @@ pub returns-clause-goes_on : goal.returns-clause-goes_on
 returns-clause-goes_on g c =
     let two = two_way g.met.C.Connection.reads_leave g.met.C.Connection.writes_leave in
     let kept = promises_of g.met.B.Backend.submit_knows g.met.B.Backend.read_knows in
-    let found = rw (c.in-Ok-Some.field-0-is, c.in-One.is) at c.in-Ok-Some.ensures.incoming in
+    let found = rw (c.in-Ok-Some.field-0-is, c.in-Request.is) at c.in-Ok-Some.ensures.incoming in
     let next = (found c.requires.ready.text c.requires.ready.incoming).1 in
     rw next (answers_open _ kept _ two _ _ _ _ _ _ _ _ _ _ (λ text incoming. (found text incoming).0) c.answer-reply.ensures c.closes_after-close.ensures
     c.in_default-said.ensures.wrote.0 c.in_default-said.ensures.took c.if-close.false)
@@ -106,7 +106,7 @@ pub returns-clause-open : goal.returns-clause-open
 returns-clause-open g c =
     let two = two_way g.met.C.Connection.reads_leave g.met.C.Connection.writes_leave in
     let kept = promises_of g.met.B.Backend.submit_knows g.met.B.Backend.read_knows in
-    let found = rw (c.in-Ok-Some.field-0-is, c.in-One.is) at c.in-Ok-Some.ensures.incoming in
+    let found = rw (c.in-Ok-Some.field-0-is, c.in-Request.is) at c.in-Ok-Some.ensures.incoming in
     let next = (found c.requires.ready.text c.requires.ready.incoming).1 in
     rw next (still_continues _ kept _ two _ _ c.args.backend.now c.args.backend.now _ _ _ _ c.answer-reply.result c.closes_after-close.result
     (λ text incoming. (found text incoming).0) _
@@ -124,8 +124,8 @@ returns-in-Clean-clause-asks g c = inl refl
 pub returns-in-Err-write_reply-clause-asks : goal.returns-in-Err-write_reply-clause-asks
 returns-in-Err-write_reply-clause-asks g c = inl refl
 
-pub returns-in-Malformed-clause-asks : goal.returns-in-Malformed-clause-asks
-returns-in-Malformed-clause-asks g c = inl refl
+pub returns-in-NoRequest-clause-asks : goal.returns-in-NoRequest-clause-asks
+returns-in-NoRequest-clause-asks g c = inl refl
 
 pub returns-in-Err-said-clause-asks : goal.returns-in-Err-said-clause-asks
 returns-in-Err-said-clause-asks g c = inr (_, _, c.answer-reply.ensures)

@@ -6,9 +6,9 @@ pub returns-in-Whole-clause-part : goal.returns-in-Whole-clause-part
 returns-in-Whole-clause-part c =
     λ text part. receives_whole c.args.self.now c.take_from.new.self text _ _ part c.in-Whole.ensures.closes c.in-Whole.ensures.took
 
-pub returns-in-Malformed-clause-part : goal.returns-in-Malformed-clause-part
-returns-in-Malformed-clause-part c =
-    λ text part. receives_malformed c.args.self.now c.take_from.new.self text _ _ part c.in-Malformed.bad_request c.in-Malformed.ensures.took
+pub returns-in-Fault-clause-part : goal.returns-in-Fault-clause-part
+returns-in-Fault-clause-part c =
+    λ text part. receives_malformed c.args.self.now c.take_from.new.self text _ _ part c.in-Fault.fault c.in-Fault.ensures.took
 
 pub returns-in-More-clause-part : goal.returns-in-More-clause-part
 returns-in-More-clause-part c = λ text part.

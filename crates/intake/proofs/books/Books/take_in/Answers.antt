@@ -9,7 +9,7 @@ use Rattle.intake.proofs.books.Books.take_in.Goals as goal
 
 pub returns-then-has_taken-clause-whole : goal.returns-then-has_taken-clause-whole
 returns-then-has_taken-clause-whole g c =
-    let l = c.observe.ensures in
+    let l = c.learn_queue.ensures in
     subst (λ (t : InboxValue). AllTaken c.args.seat.now.seat c.args.seat.now.jobs t.taken) (sym l.same)
     (taken-already c.end.new.self.ended c.args.seat.now.seat c.submitted-last.result c.args.seat.now.jobs c.end.new.self.taken l.waits.0 c.end.ensures.ended
     l.waits.1 (search rules) (search rules))
@@ -31,7 +31,7 @@ returns-in_default-clause-others_whole g c =
 pub returns-then-is_last-clause-whole : goal.returns-then-is_last-clause-whole
 returns-then-is_last-clause-whole g c =
     let p = c.in-Some-pop.ensures in
-    let l = c.observe-then-is_last.ensures in
+    let l = c.learn_queue-then-is_last.ensures in
     let items = l.waits.0 in
     subst (λ (t : InboxValue). AllTaken c.args.seat.now.seat c.args.seat.now.jobs t.taken) (sym (l.same ∙ p))
     (finished c.loop.self.inbox.ended c.args.seat.now.seat c.args.seat.now.jobs c.loop.self.inbox.taken c.in-Some-pop.job items c.loop.invariant.1
@@ -46,14 +46,14 @@ returns-then-is_last-clause-moved g c =
     let not : has_job seat.seat c.submitted-last.result before.inbox.taken ≡ false = search rules in
     moves-one seat.seat c.submitted-last.result seat.jobs c.args.self.now.inbox.taken (map arc_value c.args.self.now.left.items) before.inbox.taken
     (map arc_value before.left.items)
-    c.observe-then-is_last.new.self.taken (map arc_value c.push_reserved.new.self.items) c.in-Some-pop.job i.3 (search rules) i.5 not (search rules)
+    c.learn_queue-then-is_last.new.self.taken (map arc_value c.push_reserved.new.self.items) c.in-Some-pop.job i.3 (search rules) i.5 not (search rules)
     (left-more arc_value before.left.items c.reserve.new.self.items c.push_reserved.new.self.items c.into_entry-entry.result c.in-Some-pop.job
     c.push_reserved.ensures.items (search rules) (c.into_entry-entry.ensures ∙ c.split-entry.ensures.entry))
 
 pub returns-then-is_last-clause-others_whole : goal.returns-then-is_last-clause-others_whole
 returns-then-is_last-clause-others_whole g c =
     let p = c.in-Some-pop.ensures in
-    let l = c.observe-then-is_last.ensures in
+    let l = c.learn_queue-then-is_last.ensures in
     let i = c.loop.invariant in
     let seat = c.args.seat.now in
     let old = c.args.self.now in

@@ -46,13 +46,13 @@ impl<N: StoreName> JobOutcome<N> {
     }
 }
 
-/// A cell for the outcome of one entry, and of no other. Contracts see the entry, which it doesn't hold.
+/// A slot for the outcome of one entry, and of no other. Contracts see the entry, which it doesn't hold.
 #[derive(Drop)]
-pub(crate) struct Cell<N: StoreName> {
+pub(crate) struct ReplySlot<N: StoreName> {
     slot: Counted<Option<JobOutcome<N>>>,
 }
 
-impl<N: StoreName> Model for Cell<N> {
+impl<N: StoreName> Model for ReplySlot<N> {
     ghost use Rattle.trace_model.specs.declared.entry.Entry.{Entry};
 
     ghost Value = { Entry };
@@ -60,17 +60,17 @@ impl<N: StoreName> Model for Cell<N> {
     ghost view = { λ c. c.slot };
 }
 
-impl<N: StoreName> Cell<N> {
-    /// Makes an empty cell for the entry.
-    pub(crate) fn new(entry: &Entry) -> Cell<N>
+impl<N: StoreName> ReplySlot<N> {
+    /// Makes an empty slot for the entry.
+    pub(crate) fn new(entry: &Entry) -> ReplySlot<N>
         ensures { result ≡ entry.now }
     {
-        Cell {
+        ReplySlot {
             slot: Counted::new(None, entry),
         }
     }
 
-    /// Stores the entry's outcome, unless the cell has one.
+    /// Stores the entry's outcome, unless the slot has one.
     pub(crate) fn store_outcome(&self, outcome: JobOutcome<N>)
         requires answered { IfOk outcome.answer (λ a.
             AnsweredAt (arc_value a.receipt).entries a.place self.now) }
