@@ -10,7 +10,7 @@ ghost use Rattle.arrival_journal.specs.Outlines.{outline_in, with_outline};
 
 use crate::outline::Outline;
 use crate::record::Record;
-use crate::seats::{SEATS, set_last_number};
+use crate::seats::{SEAT_NUMBERS, set_last_number};
 use sent_batches::{BatchKeys, SentBatches};
 use std::alloc::{AllocError, Global};
 use std::hash::RandomState;
@@ -105,7 +105,7 @@ impl Journal {
         } else {
             Vec::new(alloc)
         };
-        let last_numbers = Vec::with_capacity(alloc, SEATS)?;
+        let last_numbers = Vec::with_capacity(alloc, SEAT_NUMBERS)?;
         let sent = SentBatches::with_room(alloc, BatchKeys::new(keys), limits.batches)?;
         Ok(Journal {
             limits,

@@ -2,7 +2,7 @@
 use Rattle.std.proofs.Common.{◌≡◌, List, [], ◌∷◌, ◌++◌, map, Option, Some, None, refl, ap, ◌∙◌, codes}
 use Rattle.std.specs.Prelude.{flat_map, option_map}
 use Rattle.jaeger_model.specs.declared.placed.Placed.{Placed}
-use Rattle.trace_model.specs.declared.answer.AdjustedSpan.{AdjustedSpan}
+use Rattle.trace_model.specs.declared.answer.Shown.{Shown}
 use Rattle.trace_model.specs.Adjusting.{unadjusted}
 use Rattle.commands.specs.GetRuns.{shown_line, span_line, trace_lines}
 
@@ -10,14 +10,14 @@ same_lines : (ps : List Placed) → flat_map shown_line (map unadjusted ps) ≡ 
 same_lines [] = refl
 same_lines (p ∷ ps) = ap (λ t. span_line p ++ t) (same_lines ps)
 
-lines_of_found : (found : Option (List Placed)) (spans : List AdjustedSpan) → Some spans ≡ option_map (map unadjusted) found
+lines_of_found : (found : Option (List Placed)) (spans : List Shown) → Some spans ≡ option_map (map unadjusted) found
     → flat_map shown_line spans ≡ trace_lines found
 lines_of_found None spans is = absurd cc
 lines_of_found (Some ps) spans is =
     let same : spans ≡ map unadjusted ps = cc in
     ap (flat_map shown_line) same ∙ same_lines ps
 
-pub text_found : (found : Option (List Placed)) (spans now : List AdjustedSpan) → now ≡ spans → Some spans ≡ option_map (map unadjusted) found
+pub text_found : (found : Option (List Placed)) (spans now : List Shown) → now ≡ spans → Some spans ≡ option_map (map unadjusted) found
     → flat_map shown_line now ≡ trace_lines found
 text_found found spans now same is = ap (flat_map shown_line) same ∙ lines_of_found found spans is
 

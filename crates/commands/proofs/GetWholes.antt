@@ -13,7 +13,7 @@ use Rattle.text_lines.specs.HandledLines.{AllAnswered, SomeAnswered, LineReply, 
 use Rattle.text_lines.specs.LineResults.{LineResult}
 use Rattle.text_lines.proofs.LineResults.{lines_come_to, said_append}
 use Rattle.text_lines.proofs.CompleteRuns.{some_after, some_more, stops_all, stops_some}
-use Rattle.commands.specs.GetRuns.{TakesBatch, all_lines, found_in, line_result, nothing_held, output_of, status_by as status_at, status_of, trace_lines}
+use Rattle.commands.specs.GetRuns.{TakesBatch, all_lines, trace_by_id, line_result, nothing_held, output_of, status_by as status_at, status_of, trace_lines}
 
 -- what lines come to, taken one after the other
 lines_judged : (s : LimitedHistory) (limits : Limits) (lines : List (List ℕ)) (reply : LineReply) (t : LimitedHistory) → s ≡ nothing_held limits
@@ -27,7 +27,7 @@ lines_judged s limits lines reply t start e = lines_come_to line_result (λ (a b
 
 module _ (in0 in1 out0 out1 out2 : Option (List ℕ)) (i o : Bool) (limits : Limits) (id : TraceId) (held0 held1 : LimitedHistory) (faulty : Bool) where
   pub finishes : held0 ≡ nothing_held limits → AllAnswered TakesBatch in0 in1 out0 out1 held0 held1 faulty → (found : Bool) (status : ExitStatus)
-      → found ≡ is_some (found_in held1 id) → Appends out1 out2 (trace_lines (found_in held1 id)) → status ≡ status_at faulty found → i ≡ false → o ≡ false
+      → found ≡ is_some (trace_by_id held1 id) → Appends out1 out2 (trace_lines (trace_by_id held1 id)) → status ≡ status_at faulty found → i ≡ false → o ≡ false
       → Finishes in0 in1 out0 out2 i o (output_of limits id) (status_of limits id) status
   finishes start a found status f reply s ie oe =
       let lines = lines_of a.all.input in
@@ -37,22 +37,22 @@ module _ (in0 in1 out0 out1 out2 : Option (List ℕ)) (i o : Bool) (limits : Lim
         input = a.all.input;
         read = a.all.read;
         whole = a.all.whole;
-        written = subst (Appends out0 out2) (λ k. (r.1 k).text ++ trace_lines (found_in (r.0 k) id)) (Appends-trans out0 out1 out2 _ _ a.written reply);
+        written = subst (Appends out0 out2) (λ k. (r.1 k).text ++ trace_lines (trace_by_id (r.0 k) id)) (Appends-trans out0 out1 out2 _ _ a.written reply);
         status_is =
             s ∙ ap (λ b. status_at b found) (a.all.faulty_is ∙ ap (λ (x : LineReply). x.faulty) r.1)
-            ∙ ap (status_at all.reply.faulty) (f ∙ ap (λ x. is_some (found_in x id)) r.0);
+            ∙ ap (status_at all.reply.faulty) (f ∙ ap (λ x. is_some (trace_by_id x id)) r.0);
         input_works = ie;
         output_works = oe;
       }
 
   -- the lines of the trace were not written whole
   pub stops_late : held0 ≡ nothing_held limits → AllAnswered TakesBatch in0 in1 out0 out1 held0 held1 faulty → (h : RunError)
-      → WritesSome out1 out2 (trace_lines (found_in held1 id)) → IsWhyOf h o → i ≡ false
+      → WritesSome out1 out2 (trace_lines (trace_by_id held1 id)) → IsWhyOf h o → i ≡ false
       → StopsShort in0 in1 out0 out2 i o (output_of limits id) (status_by h)
   stops_late start a h some why ie =
       let r = lines_judged held0 limits (lines_of a.all.input) a.all.reply held1 start a.all.each in
-      let whole : a.all.reply.text ++ trace_lines (found_in held1 id) ≡ output_of limits id a.all.input =
-      λ k. (r.1 k).text ++ trace_lines (found_in (r.0 k) id) in
+      let whole : a.all.reply.text ++ trace_lines (trace_by_id held1 id) ≡ output_of limits id a.all.input =
+      λ k. (r.1 k).text ++ trace_lines (trace_by_id (r.0 k) id) in
       stops_all TakesBatch in0 in1 out0 out1 out2 held0 held1 faulty i o h (output_of limits id) a
       (subst (WritesSome out0 out2) whole (some_after out0 out1 out2 _ _ a.written some)) why ie
 
@@ -63,7 +63,7 @@ module _ (in0 in1 out0 out1 out2 : Option (List ℕ)) (i o : Bool) (limits : Lim
       let all = a.first.taken ++ a.first.rest in
       let r = lines_judged held0 limits a.first.lines a.first.reply a.first.last start a.first.each in
       let more = said_append line_result 1 (nothing_held limits) a.first.lines a.first.others in
-      let tail = trace_lines (found_in (all_lines limits (lines_of all)).held id) in
+      let tail = trace_lines (trace_by_id (all_lines limits (lines_of all)).held id) in
       let whole : output_of limits id all ≡ a.first.reply.text ++ (more.0 ++ tail) =
       ap (λ ls. (all_lines limits ls).reply.text ++ tail) a.first.split ∙ ap (λ x. x ++ tail) more.1
       ∙ append_assoc (all_lines limits a.first.lines).reply.text more.0 tail

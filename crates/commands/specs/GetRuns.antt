@@ -4,7 +4,7 @@ use Rattle.std.specs.Fmt.{decimal, signed_decimal}
 use Rattle.jaeger_model.specs.declared.ids.TraceId.{TraceId}
 use Rattle.jaeger_model.specs.declared.placed.Placed.{Placed}
 use Rattle.jaeger_model.specs.Ids.{trace_text, span_text}
-use Rattle.trace_model.specs.declared.answer.AdjustedSpan.{AdjustedSpan}
+use Rattle.trace_model.specs.declared.answer.Shown.{Shown}
 use Rattle.trace_model.specs.declared.limits.Limits.{Limits}
 use Rattle.trace_model.specs.LimitedHistories.{LimitedHistory}
 use Rattle.trace_model.specs.Histories.{events}
@@ -50,15 +50,15 @@ names_text p = p.process.service ++ codes " " ++ p.span.operation ++ codes "\n"
 abbrev pub span_line : Placed → List ℕ
 span_line p = ids_text p ++ times_text p ++ names_text p
 
-abbrev pub shown_line : AdjustedSpan → List ℕ
+abbrev pub shown_line : Shown → List ℕ
 shown_line s = span_line s.placed
 
 abbrev pub trace_lines : Option (List Placed) → List ℕ
 trace_lines None = codes "trace not found\n"
 trace_lines (Some spans) = flat_map span_line spans
 
-abbrev pub found_in : LimitedHistory → TraceId → Option (List Placed)
-found_in held id = trace_found held.limits.traces (events held.entries) id
+abbrev pub trace_by_id : LimitedHistory → TraceId → Option (List Placed)
+trace_by_id held id = trace_found held.limits.traces (events held.entries) id
 
 -- ---- the complete run
 
@@ -73,7 +73,7 @@ all_lines limits lines = result_of_lines line_result 1 (nothing_held limits) lin
 abbrev pub output_of : Limits → TraceId → List ℕ → List ℕ
 output_of limits id input =
     let all = all_lines limits (lines_of input) in
-    all.reply.text ++ trace_lines (found_in all.held id)
+    all.reply.text ++ trace_lines (trace_by_id all.held id)
 
 -- a line couldn't be used; otherwise whether the trace was found
 abbrev pub status_by : Bool → Bool → ExitStatus
@@ -84,4 +84,4 @@ status_by false false = NotFound
 abbrev pub status_of : Limits → TraceId → List ℕ → ExitStatus
 status_of limits id input =
     let all = all_lines limits (lines_of input) in
-    status_by all.reply.faulty (is_some (found_in all.held id))
+    status_by all.reply.faulty (is_some (trace_by_id all.held id))

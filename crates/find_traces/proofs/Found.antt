@@ -1,4 +1,4 @@
--- The traces at the places are those that a search finds.
+-- The traces at the indices are those that a search finds.
 use Rattle.std.proofs.Common.{◌≡◌, ℕ, ◌+◌, true, false, cond, List, [], ◌∷◌, ◌++◌, map, length, take, refl, sym, ap, subst, ◌∙◌, arith, ◌<◌, ◌≤◌}
 use Rattle.std.specs.Prelude.{filter, if◌then◌else◌, ◌==◌}
 use Rattle.std.specs.List.{list_any, All, filter_map, cons_option, enumerate_from}
@@ -11,12 +11,12 @@ use Rattle.trace_model.specs.declared.query.Find.{Find}
 use Rattle.trace_model.specs.Searching.{matches, matching, first_start, first_id, ids_of, ranked_by_start, cut, found_in}
 use Rattle.trace_model.proofs.Lists.{map_agree, all_cut}
 use Rattle.trace_model.proofs.RankedLists.{ranked-permutation, ranked-map}
-use Rattle.find_traces.specs.Places.{is_hit, start_of, hits, places_found, trace_at, id_at}
-use Rattle.find_traces.specs.Keys.{reverse_key_of, reverse_key_place}
+use Rattle.find_traces.specs.FoundIndices.{is_hit, start_of, hits, indices_found, trace_at, id_at}
+use Rattle.find_traces.specs.Keys.{reverse_key_of, reverse_key_index}
 use Rattle.std.proofs.lemmas.List.FromFn.{get_or-enumerate_from, length-enumerate_from}
 
-abbrev place : ℕ × List Placed → ℕ
-place e = e.0
+abbrev index : ℕ × List Placed → ℕ
+index e = e.0
 
 abbrev trace : ℕ × List Placed → List Placed
 trace e = e.1
@@ -25,12 +25,12 @@ pub map_cut : {X Y : Type 0} (f : X → Y) (n : ℕ) (xs : List X) → map f (cu
 map_cut f n xs =
     elim (n == 0) as (λ b. map f (if b then xs else take n xs) ≡ (if b then map f xs else take n (map f xs))) [ true ↦ refl | false ↦ sym (take-map f n xs) ]
 
--- the places of the sorted and cut hits
-pub places_of_hits : (q : Find) (ts : List (List Placed))
-    → map reverse_key_place (cut q.limit (map reverse_key_of (ranked_by_start start_of (hits q ts)))) ≡ places_found q ts
-places_of_hits q ts =
-    ap (map reverse_key_place) (sym (map_cut reverse_key_of q.limit (ranked_by_start start_of (hits q ts))))
-    ∙ map-map reverse_key_place reverse_key_of (cut q.limit (ranked_by_start start_of (hits q ts)))
+-- the indices of the sorted and cut hits
+pub indices_of_hits : (q : Find) (ts : List (List Placed))
+    → map reverse_key_index (cut q.limit (map reverse_key_of (ranked_by_start start_of (hits q ts)))) ≡ indices_found q ts
+indices_of_hits q ts =
+    ap (map reverse_key_index) (sym (map_cut reverse_key_of q.limit (ranked_by_start start_of (hits q ts))))
+    ∙ map-map reverse_key_index reverse_key_of (cut q.limit (ranked_by_start start_of (hits q ts)))
 
 -- ---- each number leads back to its trace
 abbrev pub Leads : List (List Placed) → List (ℕ × List Placed) → Type 0
@@ -40,8 +40,8 @@ pub all_lead : (ts : List (List Placed)) → Leads ts (enumerate_from 0 ts)
 all_lead ts =
     All-from_get_or (λ (e : ℕ × List Placed). trace_at ts e.0 ≡ e.1) (enumerate_from 0 ts) (0, []) (λ i l.
     let within : i < length ts = omega (arith, l, length-enumerate_from 0 ts) in
-    let place : 0 + i ≡ i = omega arith in
-    subst (λ (e : ℕ × List Placed). trace_at ts e.0 ≡ e.1) (sym (get_or-enumerate_from 0 ts i (0, []) within)) (ap (trace_at ts) place))
+    let index : 0 + i ≡ i = omega arith in
+    subst (λ (e : ℕ × List Placed). trace_at ts e.0 ≡ e.1) (sym (get_or-enumerate_from 0 ts i (0, []) within)) (ap (trace_at ts) index))
 
 hits_lead : (q : Find) (ts : List (List Placed)) → All (λ (e : ℕ × List Placed). trace_at ts e.0 ≡ e.1) (cut q.limit (ranked_by_start start_of (hits q ts)))
 hits_lead q ts =
@@ -62,10 +62,10 @@ hits_match q n (t ∷ ts) =
       | false ↦ hits_match q (n + 1) ts
     ]
 
-pub traces_found : (q : Find) (ts : List (List Placed)) → map (trace_at ts) (places_found q ts) ≡ found_in q ts
+pub traces_found : (q : Find) (ts : List (List Placed)) → map (trace_at ts) (indices_found q ts) ≡ found_in q ts
 traces_found q ts =
-    map-map (trace_at ts) place (cut q.limit (ranked_by_start start_of (hits q ts)))
-    ∙ map_agree (λ e. trace_at ts (place e)) trace (cut q.limit (ranked_by_start start_of (hits q ts))) (hits_lead q ts)
+    map-map (trace_at ts) index (cut q.limit (ranked_by_start start_of (hits q ts)))
+    ∙ map_agree (λ e. trace_at ts (index e)) trace (cut q.limit (ranked_by_start start_of (hits q ts))) (hits_lead q ts)
     ∙ map_cut trace q.limit (ranked_by_start start_of (hits q ts))
     ∙ ap (cut q.limit) (ranked-map trace first_start (hits q ts) ∙ ap (ranked_by_start first_start) (hits_match q 0 ts))
 

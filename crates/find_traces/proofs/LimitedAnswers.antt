@@ -19,12 +19,12 @@ use Rattle.trace_model.specs.Searching.{matches, ranked_by_start, cut}
 use Rattle.trace_model.proofs.Lists.{each_front}
 use Rattle.trace_model.proofs.RankedLists.{ranked-permutation, ranked-filter}
 use Rattle.find_traces.specs.declared.key.Key.{Key}
-use Rattle.find_traces.specs.Places.{is_hit, start_of, hits, places_found, trace_at}
-use Rattle.find_traces.specs.Keys.{found_at, key_of, reversed, reverse_key_of, reverse_key_place, reverse_key_cmp}
+use Rattle.find_traces.specs.FoundIndices.{is_hit, start_of, hits, indices_found, trace_at}
+use Rattle.find_traces.specs.Keys.{found_at, key_of, reversed, reverse_key_of, reverse_key_index, reverse_key_cmp}
 use Rattle.find_traces.specs.BestKeys.{ranking, is_match, is_match_after, IsLast}
 use Rattle.find_traces.proofs.Order.{ranked_rises, reverse_total, strict_map}
 use Rattle.find_traces.proofs.OfferedKeys.{best_of, is_wanted}
-use Rattle.find_traces.proofs.Found.{Leads, all_lead, places_of_hits}
+use Rattle.find_traces.proofs.Found.{Leads, all_lead, indices_of_hits}
 
 -- ---- filters
 filter_through : {X Y : Type 0} (f : X → Y) (p : Y → Bool) (q : X → Bool) (xs : List X) → All (λ x. p (f x) ≡ q x) xs
@@ -46,7 +46,7 @@ wanted_ranked q ts last =
     ap (map reverse_key_of) (sym (ranked-filter start_of (is_wanted q ts last) all))
     ∙ sym (filter_through reverse_key_of (is_match_after q ts last) (is_wanted q ts last) (ranked_by_start start_of all) (λ k d h. refl))
 
--- judging by place is judging the trace
+-- judging by index is judging the trace
 ranked_judged : (q : Find) (ts : List (List Placed)) (es : List (ℕ × List Placed)) → Leads ts es
     → All (λ (e : ℕ × List Placed). found_at q ts e.0 ≡ is_hit q e) (ranked_by_start start_of es)
 ranked_judged q ts es lead =
@@ -60,8 +60,8 @@ hits_ranked q ts =
     ∙ ap (map reverse_key_of) (ranked-filter start_of (is_hit q) all)
 
 -- the answer, by the ranking
-pub answer_ranked : (q : Find) (ts : List (List Placed)) → map reverse_key_place (cut q.limit (filter (is_match q ts) (ranking ts))) ≡ places_found q ts
-answer_ranked q ts = ap (λ l. map reverse_key_place (cut q.limit l)) (hits_ranked q ts) ∙ places_of_hits q ts
+pub answer_ranked : (q : Find) (ts : List (List Placed)) → map reverse_key_index (cut q.limit (filter (is_match q ts) (ranking ts))) ≡ indices_found q ts
+answer_ranked q ts = ap (λ l. map reverse_key_index (cut q.limit l)) (hits_ranked q ts) ∙ indices_of_hits q ts
 
 -- ---- what is after the first ones of an ascending list
 module _ {K : Type 0} {cmp : K → K → Ordering} (o : IsTotalOrder cmp) (p : K → Bool) where
@@ -103,16 +103,16 @@ pub ranking_rises : (ts : List (List Placed)) → IsStrictlySortedBy reverse_key
 ranking_rises ts = strict_map reverse_key_of reverse_key_cmp (ranked_by_start start_of (enumerate_from 0 ts)) (ranked_rises start_of ts)
 
 -- ---- one more key
-module _ {X : Type 0} (p : X → Bool) (place : X → ℕ) (xs all rest : List X) (x : X) (split : all ≡ xs ++ x ∷ rest) where
+module _ {X : Type 0} (p : X → Bool) (index : X → ℕ) (xs all rest : List X) (x : X) (split : all ≡ xs ++ x ∷ rest) where
   pub one_more : all ≡ (xs ++ x ∷ []) ++ rest
   one_more = split ∙ sym (append_assoc xs (x ∷ []) rest)
 
-  pub one_match : p x ≡ true → map place (filter p (xs ++ x ∷ [])) ≡ map place (filter p xs) ++ place x ∷ []
+  pub one_match : p x ≡ true → map index (filter p (xs ++ x ∷ [])) ≡ map index (filter p xs) ++ index x ∷ []
   one_match e =
-      ap (map place) (filter-append p xs (x ∷ []) ∙ ap (λ b. filter p xs ++ cond b (x ∷ []) []) e) ∙ map_push place (filter p xs) x
+      ap (map index) (filter-append p xs (x ∷ []) ∙ ap (λ b. filter p xs ++ cond b (x ∷ []) []) e) ∙ map_push index (filter p xs) x
 
-  pub no_match : p x ≡ false → map place (filter p (xs ++ x ∷ [])) ≡ map place (filter p xs)
-  no_match e = ap (map place) (filter-append p xs (x ∷ []) ∙ ap (λ b. filter p xs ++ cond b (x ∷ []) []) e ∙ append-nil (filter p xs))
+  pub no_match : p x ≡ false → map index (filter p (xs ++ x ∷ [])) ≡ map index (filter p xs)
+  no_match e = ap (map index) (filter-append p xs (x ∷ []) ∙ ap (λ b. filter p xs ++ cond b (x ∷ []) []) e ∙ append-nil (filter p xs))
 
 -- ---- how many match
 pub fewer : {X : Type 0} (p : X → Bool) (xs : List X) → length (filter p xs) ≤ length xs
@@ -141,42 +141,42 @@ module _ (q : Find) (ts : List (List Placed)) (n : ℕ) (limited : q.limit ≡ n
       by true e = let none = eqb-true n 0 e in absurd (omega (arith, some, none))
       by false e = refl
 
-  pub at_most : length (map reverse_key_place latest) ≤ n
-  at_most = omega (arith, length-map latest reverse_key_place, fewer (is_match q ts) (take n all), length-take n all)
+  pub at_most : length (map reverse_key_index latest) ≤ n
+  at_most = omega (arith, length-map latest reverse_key_index, fewer (is_match q ts) (take n all), length-take n all)
 
   answered : (more : ℕ) (others : List (Reverse Key)) → length latest + more ≡ n → others ≡ take more (filter (is_match q ts) (drop n all))
-      → map reverse_key_place (latest ++ others) ≡ places_found q ts
+      → map reverse_key_index (latest ++ others) ≡ indices_found q ts
   answered more others full is =
-      ap (λ l. map reverse_key_place (latest ++ l)) is
-      ∙ ap (map reverse_key_place) (sym (take-append-add latest (filter (is_match q ts) (drop n all)) more))
-      ∙ ap (λ m. map reverse_key_place (take m (latest ++ filter (is_match q ts) (drop n all)))) full
-      ∙ ap (λ l. map reverse_key_place (take n l)) (sym matches_split)
-      ∙ ap (map reverse_key_place) (sym (cut_some (filter (is_match q ts) all)))
+      ap (λ l. map reverse_key_index (latest ++ l)) is
+      ∙ ap (map reverse_key_index) (sym (take-append-add latest (filter (is_match q ts) (drop n all)) more))
+      ∙ ap (λ m. map reverse_key_index (take m (latest ++ filter (is_match q ts) (drop n all)))) full
+      ∙ ap (λ l. map reverse_key_index (take n l)) (sym matches_split)
+      ∙ ap (map reverse_key_index) (sym (cut_some (filter (is_match q ts) all)))
       ∙ answer_ranked q ts
 
   -- all of the traces are among those
-  pub all_latest : length (take n all) < n → map reverse_key_place latest ≡ places_found q ts
+  pub all_latest : length (take n all) < n → map reverse_key_index latest ≡ indices_found q ts
   all_latest few =
       let short : length all < n = omega (arith, few, length-take n all) in
       let more : ℕ = n - length latest in
       let none : drop n all ≡ [] = drop_all n all (omega (arith, short)) in
       let count : length latest + more ≡ n = omega (arith, fewer (is_match q ts) (take n all), few) in
-      ap (map reverse_key_place) (sym (append-nil latest))
+      ap (map reverse_key_index) (sym (append-nil latest))
       ∙ answered more [] count (sym (ap (λ l. take more (filter (is_match q ts) l)) none ∙ take-nil more))
 
   -- enough of them match
-  pub enough_latest : length (map reverse_key_place latest) ≡ n → map reverse_key_place latest ≡ places_found q ts
+  pub enough_latest : length (map reverse_key_index latest) ≡ n → map reverse_key_index latest ≡ indices_found q ts
   enough_latest full =
-      ap (map reverse_key_place) (sym (append-nil latest))
-      ∙ answered 0 [] (omega (arith, full, length-map latest reverse_key_place)) refl
+      ap (map reverse_key_index) (sym (append-nil latest))
+      ∙ answered 0 [] (omega (arith, full, length-map latest reverse_key_index)) refl
 
   -- the others are added
-  pub others_added : (last : Key) (more : ℕ) → IsLast (take n all) last → length (map reverse_key_place latest) + more ≡ n
-      → map reverse_key_place latest ++ map reverse_key_place (take more (filter (is_match_after q ts last) all)) ≡ places_found q ts
+  pub others_added : (last : Key) (more : ℕ) → IsLast (take n all) last → length (map reverse_key_index latest) + more ≡ n
+      → map reverse_key_index latest ++ map reverse_key_index (take more (filter (is_match_after q ts last) all)) ≡ indices_found q ts
   others_added last more is full =
       let after : filter (is_match_after q ts last) all ≡ filter (is_match q ts) (drop n all) =
       ap (filter (is_match_after q ts last)) (sym (take-append-drop n all))
       ∙ after_last reverse_total (is_match q ts) (take n all) (drop n all) (reversed last)
       (subst (IsStrictlySortedBy reverse_key_cmp) (sym (take-append-drop n all)) (ranking_rises ts)) is in
-      sym (map-append reverse_key_place latest (take more (filter (is_match_after q ts last) all)))
-      ∙ answered more (take more (filter (is_match_after q ts last) all)) (omega (arith, full, length-map latest reverse_key_place)) (ap (take more) after)
+      sym (map-append reverse_key_index latest (take more (filter (is_match_after q ts last) all)))
+      ∙ answered more (take more (filter (is_match_after q ts last) all)) (omega (arith, full, length-map latest reverse_key_index)) (ap (take more) after)

@@ -14,7 +14,7 @@ use Rattle.trace_model.specs.declared.query.Find.{Find}
 use Rattle.trace_model.specs.Searching.{put_by_start, ranked_by_start}
 use Rattle.trace_model.proofs.RankedLists.{ranked-permutation}
 use Rattle.find_traces.specs.declared.key.Key.{Key}
-use Rattle.find_traces.specs.Places.{start_of, trace_at}
+use Rattle.find_traces.specs.FoundIndices.{start_of, trace_at}
 use Rattle.find_traces.specs.Keys.{reverse_key_of, reverse_key_cmp}
 use Rattle.find_traces.specs.BestKeys.{is_match_after}
 use Rattle.find_traces.proofs.Order.{After, rank_cmp, rank_total, earlier, later, places_after}
@@ -60,7 +60,7 @@ offered n keys x es a is =
     ∙ take_insert reverse_key_cmp n (best_of es) (reverse_key_of x)
     ∙ ap (take n) (put_key x (ranked_by_start start_of es) (after_ranked x es a))
 
--- ---- the traces from a place on
+-- ---- the traces from an index on
 abbrev pub from_place : List (List Placed) → ℕ → List (ℕ × List Placed)
 from_place ts i = enumerate_from i (drop i ts)
 
@@ -77,7 +77,7 @@ kept_after p ts i =
     recursion_from_All (λ (e : ℕ × List Placed). i < e.0) _
     (All-filter p (λ (e : ℕ × List Placed). i < e.0) (from_place ts (i + 1)) (All-from_recursion (λ (e : ℕ × List Placed). i < e.0) _ (all_after ts i)))
 
--- ---- the trace at a place is offered after those behind it
+-- ---- the trace at an index is offered after those behind it
 module _ (q : Find) (ts : List (List Placed)) (last : Key) (n : ℕ) (keys : List (Reverse Key)) (i : ℕ) (below : i < length ts)
     (kept : keys ≡ take n (best_of (filter (is_wanted q ts last) (from_place ts (i + 1))))) where
   abbrev here : ℕ × List Placed

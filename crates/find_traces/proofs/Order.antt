@@ -1,4 +1,4 @@
--- Numbered elements, once ranked, are in strictly ascending order by start and then place, best first.
+-- Numbered elements, once ranked, are in strictly ascending order by start and then index, best first.
 use Rattle.std.proofs.Common.{◌≡◌, ℕ, ℤ, ◌+◌, ◌<◌, ◌≤◌, true, false, cond, List, [], ◌∷◌, map, refl, sym, ap, ◌∙◌, arith}
 use Rattle.std.specs.Prelude.{if◌then◌else◌, ◌==◌, int_lt}
 use Rattle.std.specs.List.{AllByRecursion, enumerate_from}
@@ -21,13 +21,13 @@ use Rattle.find_traces.specs.declared.key.Key.{Key}
 use Rattle.find_traces.specs.Keys.{best_cmp, reverse_key_cmp}
 
 pub best_total : IsTotalOrder best_cmp
-best_total = then_total (on_total (λ (k : Key). k.start) (back_total int_cmp_total)) (on_total (λ (k : Key). k.place) (back_total nat_cmp_total))
+best_total = then_total (on_total (λ (k : Key). k.start) (back_total int_cmp_total)) (on_total (λ (k : Key). k.index) (back_total nat_cmp_total))
 
 pub best_exact : IsAntisymmetric best_cmp
-best_exact a b e = both_equal (int_cmp b.start a.start) (nat_cmp b.place a.place) e (λ s p.
+best_exact a b e = both_equal (int_cmp b.start a.start) (nat_cmp b.index a.index) e (λ s p.
     let ss : b.start ≡ a.start = int_cmp-IsAntisymmetric b.start a.start s in
-    let ps : b.place ≡ a.place = nat_cmp-IsAntisymmetric b.place a.place p in
-    λ i. record { start = sym ss i; place = sym ps i })
+    let ps : b.index ≡ a.index = nat_cmp-IsAntisymmetric b.index a.index p in
+    λ i. record { start = sym ss i; index = sym ps i })
 
 pub reverse_total : IsTotalOrder reverse_key_cmp
 reverse_total = on_total (λ (r : Reverse Key). r.0) best_total
@@ -36,7 +36,7 @@ pub reverse_exact : IsAntisymmetric reverse_key_cmp
 reverse_exact a b e = λ i. record { 0 = best_exact a.0 b.0 e i }
 
 module _ {X : Type 0} (start : ℕ × X → ℤ) where
-  -- latest start first, and of equal starts the later place first
+  -- latest start first, and of equal starts the later index first
   abbrev pub rank_cmp : ℕ × X → ℕ × X → Ordering
   rank_cmp a b = ordering_then (int_cmp (start b) (start a)) (nat_cmp b.0 a.0)
 
@@ -46,9 +46,9 @@ module _ {X : Type 0} (start : ℕ × X → ℤ) where
   abbrev pub After : ℕ × X → List (ℕ × X) → Type 0
   After x es = AllByRecursion (λ (e : ℕ × X). x.0 < e.0) es
 
-  abbrev PlacesRise : List (ℕ × X) → Type 0
-  PlacesRise [] = Unit {0}
-  PlacesRise (x ∷ es) = After x es × PlacesRise es
+  abbrev IndicesRise : List (ℕ × X) → Type 0
+  IndicesRise [] = Unit {0}
+  IndicesRise (x ∷ es) = After x es × IndicesRise es
 
   pub earlier : (x y : ℕ × X) → int_lt (start y) (start x) ≡ true → rank_cmp x y ≡ Less
   earlier x y e = ap (λ b. ordering_then (cond b Less (cond (int_lt (start x) (start y)) Greater Equal)) (nat_cmp y.0 x.0)) e
@@ -79,7 +79,7 @@ module _ {X : Type 0} (start : ℕ × X → ℤ) where
         | false ↦ λ e. (below_put y x es (later x y e a.0) h.0, strict_put x es a.1 h.1)
       ] refl
 
-  strict_ranked : (es : List (ℕ × X)) → PlacesRise es → IsStrictlySortedBy rank_cmp (ranked_by_start start es)
+  strict_ranked : (es : List (ℕ × X)) → IndicesRise es → IsStrictlySortedBy rank_cmp (ranked_by_start start es)
   unfolding IsStrictlySortedBy
   strict_ranked [] r = tt
   strict_ranked (x ∷ es) r =
@@ -89,7 +89,7 @@ module _ {X : Type 0} (start : ℕ × X → ℤ) where
       (All-from_recursion (λ (e : ℕ × X). x.0 < e.0) es r.0)))
       (strict_ranked es r.1)
 
-  -- the places of what is numbered are ascending
+  -- the indices of what is numbered are ascending
   weaker : (n : ℕ) (es : List (ℕ × X)) → AllByRecursion (λ (e : ℕ × X). n + 1 ≤ e.0) es → AllByRecursion (λ (e : ℕ × X). n ≤ e.0) es
   weaker n [] a = tt
   weaker n (x ∷ es) a = (let b = a.0 in omega arith, weaker n es a.1)
@@ -98,20 +98,20 @@ module _ {X : Type 0} (start : ℕ × X → ℤ) where
   above n [] a = tt
   above n (x ∷ es) a = (let b = a.0 in omega arith, above n es a.1)
 
-  places_above : (n : ℕ) (xs : List X) → AllByRecursion (λ (e : ℕ × X). n ≤ e.0) (enumerate_from n xs)
-  places_above n [] = tt
-  places_above n (x ∷ xs) = (omega arith, weaker n (enumerate_from (n + 1) xs) (places_above (n + 1) xs))
+  indices_above : (n : ℕ) (xs : List X) → AllByRecursion (λ (e : ℕ × X). n ≤ e.0) (enumerate_from n xs)
+  indices_above n [] = tt
+  indices_above n (x ∷ xs) = (omega arith, weaker n (enumerate_from (n + 1) xs) (indices_above (n + 1) xs))
 
-  places_rise : (n : ℕ) (xs : List X) → PlacesRise (enumerate_from n xs)
-  places_rise n [] = tt
-  places_rise n (x ∷ xs) = (above n (enumerate_from (n + 1) xs) (places_above (n + 1) xs), places_rise (n + 1) xs)
+  indices_rise : (n : ℕ) (xs : List X) → IndicesRise (enumerate_from n xs)
+  indices_rise n [] = tt
+  indices_rise n (x ∷ xs) = (above n (enumerate_from (n + 1) xs) (indices_above (n + 1) xs), indices_rise (n + 1) xs)
 
   -- those that are numbered from the next number on
   pub places_after : (x : ℕ × X) (xs : List X) → After x (enumerate_from (x.0 + 1) xs)
-  places_after x xs = above x.0 (enumerate_from (x.0 + 1) xs) (places_above (x.0 + 1) xs)
+  places_after x xs = above x.0 (enumerate_from (x.0 + 1) xs) (indices_above (x.0 + 1) xs)
 
   pub ranked_rises : (xs : List X) → IsStrictlySortedBy rank_cmp (ranked_by_start start (enumerate_from 0 xs))
-  ranked_rises xs = strict_ranked (enumerate_from 0 xs) (places_rise 0 xs)
+  ranked_rises xs = strict_ranked (enumerate_from 0 xs) (indices_rise 0 xs)
 
 -- ---- and so does what they are mapped to, if that is in the same order
 module _ {X Y : Type 0} (f : X → Y) (cmp : Y → Y → Ordering) where

@@ -1,4 +1,4 @@
--- The sorted traces, and their places, are the ranking.
+-- The sorted traces, and their indices, are the ranking.
 use Rattle.std.proofs.Common.{◌≡◌, ℕ, List, map, subst}
 use Rattle.std.specs.declared.cmp.Reverse.{Reverse}
 use Rattle.std.specs.List.Sorted.{IsSorted, IsStrictlySortedBy, IsPermutation}
@@ -9,7 +9,7 @@ use Rattle.trace_model.specs.declared.query.Find.{Find}
 use Rattle.trace_model.specs.Searching.{ranked_by_start}
 use Rattle.trace_model.proofs.RankedLists.{ranked-permutation, ranked-filter}
 use Rattle.find_traces.specs.declared.key.Key.{Key}
-use Rattle.find_traces.specs.Places.{is_hit, start_of, hits}
+use Rattle.find_traces.specs.FoundIndices.{is_hit, start_of, hits}
 use Rattle.std.specs.List.{enumerate_from}
 use Rattle.find_traces.specs.Keys.{reverse_key_of, reverse_key_cmp}
 use Rattle.find_traces.proofs.Order.{rank_cmp, ranked_rises, reverse_total, reverse_exact, strict_map}

@@ -7,8 +7,8 @@ use Rattle.jaeger_model.specs.declared.placed.Placed.{Placed}
 use Rattle.trace_model.specs.declared.query.Find.{Find}
 use Rattle.trace_model.specs.Searching.{ranked_by_start}
 use Rattle.find_traces.specs.declared.key.Key.{Key}
-use Rattle.find_traces.specs.Places.{start_of}
-use Rattle.find_traces.specs.Keys.{key_cmp, reversed, reverse_key_of, reverse_key_place, found_at}
+use Rattle.find_traces.specs.FoundIndices.{start_of}
+use Rattle.find_traces.specs.Keys.{key_cmp, reversed, reverse_key_of, reverse_key_index, found_at}
 
 -- the keys of the traces, the best first
 abbrev pub ranking : List (List Placed) → List (Reverse Key)
@@ -16,7 +16,7 @@ ranking ts = map reverse_key_of (ranked_by_start start_of (enumerate_from 0 ts))
 
 -- the trace of the key matches
 abbrev pub is_match : Find → List (List Placed) → Reverse Key → Bool
-is_match q ts r = found_at q ts (reverse_key_place r)
+is_match q ts r = found_at q ts (reverse_key_index r)
 
 -- the key ranks after the last one
 abbrev pub is_after : Key → Reverse Key → Bool

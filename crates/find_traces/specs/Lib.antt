@@ -1,4 +1,4 @@
-pub mod Places
+pub mod FoundIndices
 pub mod Keys
 pub mod BestKeys
 pub mod RequestedPairs

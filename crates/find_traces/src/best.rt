@@ -4,8 +4,8 @@
 ghost use Rattle.std.specs.Prelude.{◌≡◌, ◌++◌, ◌<◌, ◌≤◌, true, IfOk, OnOk, map, filter, length, take};
 ghost use Rattle.std.specs.Bool.{OnTrue, OnFalse};
 ghost use Rattle.std.specs.BTreeSet.{insert_key};
-ghost use Rattle.find_traces.specs.Places.{places_found};
-ghost use Rattle.find_traces.specs.Keys.{reversed, reverse_key_place, reverse_key_cmp};
+ghost use Rattle.find_traces.specs.FoundIndices.{indices_found};
+ghost use Rattle.find_traces.specs.Keys.{reversed, reverse_key_index, reverse_key_cmp};
 ghost use Rattle.find_traces.specs.BestKeys.{ranking, is_match, is_match_after};
 
 use crate::best_keys::BestKeys;
@@ -19,30 +19,30 @@ fn latest_keys<T: Searched>(alloc: Global, traces: &T, most: usize) -> Result<Be
     ensures most { IfOk result (λ latest. latest.most ≡ most) }
 {
     let mut latest = BestKeys::new(alloc, most);
-    for place in (0..traces.count()).rev() {
-        latest.offer(key_at(traces, place))?;
+    for index in (0..traces.count()).rev() {
+        latest.offer(key_at(traces, index))?;
     }
     Ok(latest)
 }
 
-/// Returns the places of those traces with these keys that match, in the order of the keys.
+/// Returns the indices of those traces with these keys that match, in the order of the keys.
 fn judge_in_order<T: Searched>(
     alloc: Global,
     traces: &mut T,
     mut keys: BestKeys,
 ) -> Result<Vec<usize>, AllocError>
-    ensures places { IfOk result (λ v. v.items ≡ map reverse_key_place
+    ensures indices { IfOk result (λ v. v.items ≡ map reverse_key_index
         (filter (is_match (T.query traces.old) (T.traces traces.old)) keys.keys.keys)) }
     ensures same_traces { T.traces traces.new ≡ T.traces traces.old }
     ensures same_query { T.query traces.new ≡ T.query traces.old }
 {
-    let mut places = Vec::new(alloc);
+    let mut indices = Vec::new(alloc);
     while let Some(key) = keys.pop() {
-        if traces.is_found_at(alloc, key.place)? {
-            places.push(key.place)?;
+        if traces.is_found_at(alloc, key.index)? {
+            indices.push(key.index)?;
         }
     }
-    Ok(places)
+    Ok(indices)
 }
 
 /// Whether the trace with a key ranks after another one, would be kept among the best, and matches. Only then is it
@@ -67,7 +67,7 @@ fn is_chosen<T: Searched>(
     if key >= last || !best.would_keep(key) {
         return Ok(false);
     }
-    traces.is_found_at(alloc, key.place)
+    traces.is_found_at(alloc, key.index)
 }
 
 /// Returns the keys of the best matches that rank after a key, at most `most` of them. The trace opened last is
@@ -85,8 +85,8 @@ fn best_after<T: Searched>(
     ensures same_query { T.query traces.new ≡ T.query traces.old }
 {
     let mut best = BestKeys::new(alloc, most);
-    for place in (0..traces.count()).rev() {
-        let key = key_at(traces, place);
+    for index in (0..traces.count()).rev() {
+        let key = key_at(traces, index);
         if is_chosen(alloc, traces, last, &best, key)? {
             best.offer(key)?;
         }
@@ -94,38 +94,38 @@ fn best_after<T: Searched>(
     Ok(best)
 }
 
-/// Appends the places of the keys, in their order.
-fn push_places(places: &mut Vec<usize>, mut keys: BestKeys) -> Result<(), AllocError>
-    ensures { OnOk result (places.new.items ≡
-        places.old.items ++ map reverse_key_place keys.keys.keys) }
+/// Appends the indices of the keys, in their order.
+fn push_places(indices: &mut Vec<usize>, mut keys: BestKeys) -> Result<(), AllocError>
+    ensures { OnOk result (indices.new.items ≡
+        indices.old.items ++ map reverse_key_index keys.keys.keys) }
 {
     while let Some(key) = keys.pop() {
-        places.push(key.place)?;
+        indices.push(key.index)?;
     }
     Ok(())
 }
 
-/// Returns the places of the best traces that match, in the order of the answer.
+/// Returns the indices of the best traces that match, in the order of the answer.
 pub(crate) fn find_best<T: Searched>(
     alloc: Global,
     traces: &mut T,
 ) -> Result<Vec<usize>, AllocError>
     requires { 0 < (T.query traces.old).limit }
-    ensures places { IfOk result (λ v. v.items ≡
-        places_found (T.query traces.old) (T.traces traces.old)) }
+    ensures indices { IfOk result (λ v. v.items ≡
+        indices_found (T.query traces.old) (T.traces traces.old)) }
     ensures same_traces { T.traces traces.new ≡ T.traces traces.old }
     ensures same_query { T.query traces.new ≡ T.query traces.old }
 {
     let limit = traces.limit() as usize;
     let latest = latest_keys(alloc, traces, limit)?;
     let last = latest.last_if_full();
-    let mut places = judge_in_order(alloc, traces, latest)?;
+    let mut indices = judge_in_order(alloc, traces, latest)?;
     if let Some(last) = last {
-        let room = limit - places.len();
+        let room = limit - indices.len();
         if room != 0 {
             let others = best_after(alloc, traces, last, room)?;
-            push_places(&mut places, others)?;
+            push_places(&mut indices, others)?;
         }
     }
-    Ok(places)
+    Ok(indices)
 }

@@ -1,5 +1,5 @@
 ghost use Rattle.std.specs.Prelude.{◌≡◌, IfOk, map};
-ghost use Rattle.find_traces.specs.Places.{places_found, trace_at};
+ghost use Rattle.find_traces.specs.FoundIndices.{indices_found, trace_at};
 ghost use Rattle.trace_model.specs.Searching.{found_in, ids_of};
 
 use crate::best::find_best;
@@ -8,7 +8,7 @@ use crate::searched::Searched;
 use jaeger_model::TraceId;
 use std::alloc::{AllocError, Global};
 
-/// Returns the places of the traces that a search finds, in the order of its answer: latest first start first, of
+/// Returns the indices of the traces that a search finds, in the order of its answer: latest first start first, of
 /// equal starts the trace opened later, and no more than the limit. With a limit, no more keys than that are kept at
 /// once, and first as many traces as the limit are judged, those that start last. Only if some of these don't match are
 /// others judged. Without a limit, only those that match are sorted.
@@ -17,8 +17,8 @@ use std::alloc::{AllocError, Global};
 ///
 /// Out of memory, and nothing else.
 pub fn find<T: Searched>(alloc: Global, traces: &mut T) -> Result<Vec<usize>, AllocError>
-    ensures places { IfOk result (λ v. v.items ≡
-        places_found (T.query traces.old) (T.traces traces.old)) }
+    ensures indices { IfOk result (λ v. v.items ≡
+        indices_found (T.query traces.old) (T.traces traces.old)) }
     ensures traces { IfOk result (λ v. map (trace_at (T.traces traces.old)) v.items ≡
         found_in (T.query traces.old) (T.traces traces.old)) }
     ensures same_traces { T.traces traces.new ≡ T.traces traces.old }
@@ -40,9 +40,9 @@ pub fn find_ids<T: Searched>(alloc: Global, traces: &mut T) -> Result<Vec<TraceI
         ids_of (found_in (T.query traces.old) (T.traces traces.old))) }
 {
     let mut ids = Vec::new(alloc);
-    let places = find(alloc, traces)?;
-    for place in &places {
-        if let Some(id) = traces.id_at(*place) {
+    let indices = find(alloc, traces)?;
+    for index in &indices {
+        if let Some(id) = traces.id_at(*index) {
             ids.push(id)?;
         }
     }

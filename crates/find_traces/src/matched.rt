@@ -1,8 +1,8 @@
 //! Searches without a limit: every trace is judged, and those that match are sorted.
 
 ghost use Rattle.std.specs.Prelude.{◌≡◌, IfOk, map};
-ghost use Rattle.find_traces.specs.Places.{hits, places_found};
-ghost use Rattle.find_traces.specs.Keys.{reverse_key_of, reverse_key_place};
+ghost use Rattle.find_traces.specs.FoundIndices.{hits, indices_found};
+ghost use Rattle.find_traces.specs.Keys.{reverse_key_of, reverse_key_index};
 
 use crate::key::{Key, key_at};
 use crate::searched::Searched;
@@ -18,33 +18,33 @@ fn all_hits<T: Searched>(alloc: Global, traces: &mut T) -> Result<Vec<Reverse<Ke
     ensures same_query { T.query traces.new ≡ T.query traces.old }
 {
     let mut found = Vec::new(alloc);
-    for place in 0..traces.count() {
-        if traces.is_found_at(alloc, place)? {
-            found.push(Reverse(key_at(traces, place)))?;
+    for index in 0..traces.count() {
+        if traces.is_found_at(alloc, index)? {
+            found.push(Reverse(key_at(traces, index)))?;
         }
     }
     Ok(found)
 }
 
-fn places_of(alloc: Global, hits: &[Reverse<Key>]) -> Result<Vec<usize>, AllocError>
-    ensures { IfOk result (λ v. v.items ≡ map reverse_key_place hits.now) }
+fn indices_of(alloc: Global, hits: &[Reverse<Key>]) -> Result<Vec<usize>, AllocError>
+    ensures { IfOk result (λ v. v.items ≡ map reverse_key_index hits.now) }
 {
-    let mut places = Vec::new(alloc);
+    let mut indices = Vec::new(alloc);
     for hit in hits {
-        places.push(hit.0.place)?;
+        indices.push(hit.0.index)?;
     }
-    Ok(places)
+    Ok(indices)
 }
 
-/// Returns the places of all traces that match, in the order of the answer. Sorts only those that match.
+/// Returns the indices of all traces that match, in the order of the answer. Sorts only those that match.
 pub(crate) fn find_all<T: Searched>(alloc: Global, traces: &mut T) -> Result<Vec<usize>, AllocError>
     requires { (T.query traces.old).limit ≡ 0 }
-    ensures places { IfOk result (λ v. v.items ≡
-        places_found (T.query traces.old) (T.traces traces.old)) }
+    ensures indices { IfOk result (λ v. v.items ≡
+        indices_found (T.query traces.old) (T.traces traces.old)) }
     ensures same_traces { T.traces traces.new ≡ T.traces traces.old }
     ensures same_query { T.query traces.new ≡ T.query traces.old }
 {
     let mut found = all_hits(alloc, traces)?;
     found.sort_unstable();
-    places_of(alloc, &found)
+    indices_of(alloc, &found)
 }

@@ -1,12 +1,12 @@
 ghost use Rattle.std.specs.Prelude.{◌≡◌, IfOk, length};
 ghost use Rattle.std.specs.List.{list_any};
 ghost use Rattle.trace_model.specs.Searching.{matches, first_start};
-ghost use Rattle.find_traces.specs.Places.{trace_at, id_at};
+ghost use Rattle.find_traces.specs.FoundIndices.{trace_at, id_at};
 
 use jaeger_model::TraceId;
 use std::alloc::{AllocError, Global};
 
-/// A search, and traces that it judges one by one, wherever their spans are. A trace has a place among them; the
+/// A search, and traces that it judges one by one, wherever their spans are. A trace has an index among them; the
 /// one opened first is at 0.
 pub trait Searched {
     ghost use Rattle.std.specs.Prelude.{List};
@@ -28,12 +28,12 @@ pub trait Searched {
         ensures { result ≡ length (traces self.now) };
 
     /// Returns the start of the trace's first span, or 0 if there is none.
-    fn start_at(&self, place: usize) -> i64
-        ensures { result ≡ first_start (trace_at (traces self.now) place) };
+    fn start_at(&self, index: usize) -> i64
+        ensures { result ≡ first_start (trace_at (traces self.now) index) };
 
     /// Returns the id of the trace's first span.
-    fn id_at(&self, place: usize) -> Option<TraceId>
-        ensures { result ≡ id_at (traces self.now) place };
+    fn id_at(&self, index: usize) -> Option<TraceId>
+        ensures { result ≡ id_at (traces self.now) index };
 
     /// Whether one span of the trace meets every condition of the search. May cache results for the traces that are
     /// judged later.
@@ -41,9 +41,9 @@ pub trait Searched {
     /// # Errors
     ///
     /// Out of memory, and nothing else.
-    fn is_found_at(&mut self, alloc: Global, place: usize) -> Result<bool, AllocError>
+    fn is_found_at(&mut self, alloc: Global, index: usize) -> Result<bool, AllocError>
         ensures found { IfOk result (λ found. found ≡
-            list_any (matches (query self.old)) (trace_at (traces self.old) place)) }
+            list_any (matches (query self.old)) (trace_at (traces self.old) index)) }
         ensures same_traces { traces self.new ≡ traces self.old }
         ensures same_query { query self.new ≡ query self.old };
 }

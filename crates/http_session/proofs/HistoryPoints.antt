@@ -9,7 +9,7 @@ use Rattle.trace_model.specs.declared.answer.Answer.{Answer}
 use Rattle.trace_model.specs.declared.refusal.Refusal.{Refusal}
 use Rattle.trace_model.specs.Histories.{IsLegal}
 use Rattle.trace_model.specs.Answers.{answer}
-use Rattle.trace_model.specs.StoreKnowledge.{History, IsPrefixOf, HasAt, Known, reached, lists_of, Keeps, Places, AnswersAt, SubmitKnows, ReadKnows}
+use Rattle.trace_model.specs.StoreKnowledge.{History, IsPrefixOf, HasAt, KnownList, reached, lists_of, ForgetsNothing, Places, AnswersAt, SubmitKnows, ReadKnows}
 use Rattle.http_session.specs.Sessions.{Exchange, Submits, Reads, Step, Run}
 use Rattle.http_session.specs.HistoryPoints.{Seen, IsPoint, Gets, Related, nothing_seen}
 use Rattle.http_session.specs.declared.verdict.Verdict.{Verdict}
@@ -28,7 +28,7 @@ still_has h long place b has goes = record {
   whole = goes.1 ∙ ap (λ l. l ++ goes.0) has.whole ∙ append_assoc has.before (has.entry ∷ has.after) goes.0;
 }
 
-module _ {S : Type 0} (limits : S → Limits) (knows : S → Known → Type 0) (submits : Submits S) (reads : Reads S)
+module _ {S : Type 0} (limits : S → Limits) (knows : S → KnownList → Type 0) (submits : Submits S) (reads : Reads S)
     (submit_knows : (s : S) (b : Batch) (r : Result ℕ Refusal) (t : S) → submits s b r t → SubmitKnows limits knows s b r t)
     (read_knows : (s : S) (q : Query) (r : Result Answer Refusal) (t : S) → reads s q r t → ReadKnows limits knows s q r t) where
   abbrev pub Placed : S → Batch × ℕ → Type 0
@@ -40,11 +40,11 @@ module _ {S : Type 0} (limits : S → Limits) (knows : S → Known → Type 0) (
     pub last : IfSome seen.point (lists_of knows s)
     pub placed : All (Placed s) seen.accepted
 
-  last_kept : (s t : S) → Keeps limits knows s t → (o : Option History) → IfSome o (lists_of knows s) → IfSome o (lists_of knows t)
+  last_kept : (s t : S) → ForgetsNothing limits knows s t → (o : Option History) → IfSome o (lists_of knows s) → IfSome o (lists_of knows t)
   last_kept s t keeps None k = tt
   last_kept s t keeps (Some h) k = keeps.knowledge (reached h) k
 
-  kept : (under : Limits) (knew : History → Type 0) (s t : S) (seen : Seen) → Holds under knew s seen → Keeps limits knows s t → Holds under knew t seen
+  kept : (under : Limits) (knew : History → Type 0) (s t : S) (seen : Seen) → Holds under knew s seen → ForgetsNothing limits knows s t → Holds under knew t seen
   kept under knew s t seen holds keeps = record {
     same = keeps.same_limits ∙ holds.same;
     old = λ h k. keeps.knowledge (reached h) (holds.old h k);
@@ -58,7 +58,7 @@ module _ {S : Type 0} (limits : S → Limits) (knows : S → Known → Type 0) (
   behind knew s None h old last all = λ l k. all l (old l k)
   behind knew s (Some before) h old last all = all before last
 
-  accepted : (under : Limits) (knew : History → Type 0) (s t : S) (seen : Seen) (b : Batch) (place : ℕ) → Holds under knew s seen → Keeps limits knows s t
+  accepted : (under : Limits) (knew : History → Type 0) (s t : S) (seen : Seen) (b : Batch) (place : ℕ) → Holds under knew s seen → ForgetsNothing limits knows s t
       → Places limits knows b place t
       → Holds under knew t (record seen { accepted = (b, place) ∷ seen.accepted })
   accepted under knew s t seen b place holds keeps places =
@@ -70,7 +70,7 @@ module _ {S : Type 0} (limits : S → Limits) (knows : S → Known → Type 0) (
         placed = All-cons (Placed t) (b, place) seen.accepted (places.history, places.has, places.known) now.placed;
       }
 
-  pointed : (under : Limits) (knew : History → Type 0) (s t : S) (seen : Seen) (q : Query) (a : Answer) → Holds under knew s seen → Keeps limits knows s t
+  pointed : (under : Limits) (knew : History → Type 0) (s t : S) (seen : Seen) (q : Query) (a : Answer) → Holds under knew s seen → ForgetsNothing limits knows s t
       → AnswersAt limits knows s q a t
       → (next : Seen) × Gets knew under seen (Ask q) (Answered a) next × Holds under knew t next
   pointed under knew s t seen q a holds keeps at =

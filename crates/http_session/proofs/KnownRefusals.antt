@@ -4,7 +4,7 @@ use Rattle.std.proofs.lemmas.List.Elements.{All-weaker, All-cons, All-nil}
 use Rattle.jaeger_model.specs.declared.batch.Batch.{Batch}
 use Rattle.trace_model.specs.declared.refusal.Refusal.{Refusal}
 use Rattle.trace_model.specs.declared.refusal.Refusal.TheVariants.{JournalFull, Stale, Conflict}
-use Rattle.trace_model.specs.StoreKnowledge.{refused, Keeps, KnowsRefusal}
+use Rattle.trace_model.specs.StoreKnowledge.{refused, ForgetsNothing, KnowsRefusal}
 use Rattle.http_session.specs.Sessions.{Exchange, Step, Run}
 use Rattle.http_session.specs.ResponseOrder.{Line}
 use Rattle.http_session.specs.SessionRuns.{Store}
@@ -17,18 +17,18 @@ use Rattle.http_session.specs.declared.reply.Reply.TheVariants.{Refused}
 use Rattle.http_session.proofs.SessionPieces.{Promises, shared_promises, keeps_all, keeps_on, step_keeps}
 
 module _ {S : Type 0} (store : Store S) where
-  still_known : (s t : S) (b : Batch) (why : Refusal) → Keeps store.limits store.knows s t → KnowsRefusal store.knows b why s → KnowsRefusal store.knows b why t
+  still_known : (s t : S) (b : Batch) (why : Refusal) → ForgetsNothing store.limits store.knows s t → KnowsRefusal store.knows b why s → KnowsRefusal store.knows b why t
   still_known s t b (JournalFull batches spans) keeps known = (known.0, keeps.knowledge (refused b (JournalFull batches spans) known.0) known.1)
   still_known s t b (Stale last) keeps known = (known.0, keeps.knowledge (refused b (Stale last) known.0) known.1)
   still_known s t b (Conflict place) keeps known = (known.0, keeps.knowledge (refused b (Conflict place) known.0) known.1)
   still_known s t b _ keeps known = tt
 
-  kept_of_one : (s t : S) (v : Verdict) (reply : Reply) → Keeps store.limits store.knows s t → RefusalIsKnown store.knows s v reply
+  kept_of_one : (s t : S) (v : Verdict) (reply : Reply) → ForgetsNothing store.limits store.knows s t → RefusalIsKnown store.knows s v reply
       → RefusalIsKnown store.knows t v reply
   kept_of_one s t (Submit b) (Refused why) keeps known = still_known s t b why keeps known
   kept_of_one s t _ _ keeps known = tt
 
-  kept_of_all : (s t : S) (xs : List Exchange) → Keeps store.limits store.knows s t → RefusalsAreKnown store.knows s xs → RefusalsAreKnown store.knows t xs
+  kept_of_all : (s t : S) (xs : List Exchange) → ForgetsNothing store.limits store.knows s t → RefusalsAreKnown store.knows s xs → RefusalsAreKnown store.knows t xs
   kept_of_all s t xs keeps known =
       All-weaker (λ (x : Exchange). RefusalIsKnown store.knows s x.verdict x.reply)
       (λ (x : Exchange). RefusalIsKnown store.knows t x.verdict x.reply)
@@ -39,8 +39,8 @@ module _ {S : Type 0} (store : Store S) where
     known_of_step s t (Submit b) (Refused why) step = (promises.submit_knows s b (Err why) t step).1
     known_of_step s t _ _ step = tt
 
-    run_keeps : (s t : S) (xs : List Exchange) → Run store.submits store.reads s xs t → Keeps store.limits store.knows s t
-    run_keeps s t [] run = subst (λ (x : S). Keeps store.limits store.knows s x) (sym run) (keeps_all store s)
+    run_keeps : (s t : S) (xs : List Exchange) → Run store.submits store.reads s xs t → ForgetsNothing store.limits store.knows s t
+    run_keeps s t [] run = subst (λ (x : S). ForgetsNothing store.limits store.knows s x) (sym run) (keeps_all store s)
     run_keeps s t (x ∷ xs) run =
         keeps_on store s run.0 t (step_keeps store promises s run.0 x.verdict x.reply run.1) (run_keeps run.0 t xs run.2)
 

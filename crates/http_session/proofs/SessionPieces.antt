@@ -8,7 +8,7 @@ use Rattle.trace_model.specs.declared.limits.Limits.{Limits}
 use Rattle.trace_model.specs.declared.query.Query.{Query}
 use Rattle.trace_model.specs.declared.answer.Answer.{Answer}
 use Rattle.trace_model.specs.declared.refusal.Refusal.{Refusal}
-use Rattle.trace_model.specs.StoreKnowledge.{Known, reached, Keeps, SubmitKnows, ReadKnows}
+use Rattle.trace_model.specs.StoreKnowledge.{KnownList, reached, ForgetsNothing, SubmitKnows, ReadKnows}
 use Rattle.http_requests.specs.declared.read_buffer.ReadError.{ReadError}
 use Rattle.http_requests.specs.declared.request.RequestFault.{RequestFault}
 use Rattle.http_requests.specs.declared.read_buffer.ReadError.TheVariants as why
@@ -23,7 +23,7 @@ use Rattle.http_session.specs.Replies.{closes, takes_no_memory, response_of}
 use Rattle.http_session.specs.Sessions.{Submits, Reads, Step, WritesResponse, cause_by}
 use Rattle.http_session.specs.ResponseOrder.{Line, IsTwoWay, EndsOver, FailsOver}
 use Rattle.http_session.specs.SessionRuns.{Store, store_of, EndsServed, FailsServed}
-use Rattle.http_session.specs.Pieces.{AsksOnce, AnswersSoFar, StaysUnderway, OutlastsWrites, ForgetsNothing, SubmitsSome, ReadsSome, no_requests_yet}
+use Rattle.http_session.specs.Pieces.{AsksOnce, AnswersSoFar, StaysUnderway, OutlastsWrites, SubmitsSome, ReadsSome, no_requests_yet}
 use Rattle.http_session.specs.Pieces.{CanContinue, AwaitsMore, shared, Underway, ComesTo, UnderwayAmong, GoesOn}
 use Rattle.http_session.specs.declared.pieces.Session.{Session}
 use Rattle.http_session.specs.declared.receiving.SessionStage.{SessionStage}
@@ -46,27 +46,27 @@ pub record Promises {S : Type 0} (store : Store S) : Type 0 where
   pub submit_knows : (s : S) (b : Batch) (r : Result ℕ Refusal) (t : S) → store.submits s b r t → SubmitKnows store.limits store.knows s b r t
   pub read_knows : (s : S) (q : Query) (r : Result Answer Refusal) (t : S) → store.reads s q r t → ReadKnows store.limits store.knows s q r t
 
-pub promises_of : {S : Type 0} {submits : Submits S} {reads : Reads S} {knows : S → Known → Type 0} {limits : S → Limits}
+pub promises_of : {S : Type 0} {submits : Submits S} {reads : Reads S} {knows : S → KnownList → Type 0} {limits : S → Limits}
     → ((s : S) (b : Batch) (r : Result ℕ Refusal) (t : S) → submits s b r t → SubmitKnows limits knows s b r t)
     → ((s : S) (q : Query) (r : Result Answer Refusal) (t : S) → reads s q r t → ReadKnows limits knows s q r t)
     → Promises (store_of submits reads knows limits)
 promises_of submit_knows read_knows = record { submit_knows = submit_knows; read_knows = read_knows }
 
 module _ {S : Type 0} (store : Store S) where
-  pub keeps_all : (s : S) → Keeps store.limits store.knows s s
+  pub keeps_all : (s : S) → ForgetsNothing store.limits store.knows s s
   keeps_all s = record { same_limits = refl; knowledge = λ h k. k }
 
-  pub keeps_on : (s m t : S) → Keeps store.limits store.knows s m → Keeps store.limits store.knows m t → Keeps store.limits store.knows s t
+  pub keeps_on : (s m t : S) → ForgetsNothing store.limits store.knows s m → ForgetsNothing store.limits store.knows m t → ForgetsNothing store.limits store.knows s t
   keeps_on s m t one two = record { same_limits = two.same_limits ∙ one.same_limits; knowledge = λ h k. two.knowledge h (one.knowledge h k) }
 
   -- a step that comes later
-  stepped : (m t u : S) (v : Verdict) (reply : Reply) → Keeps store.limits store.knows m t → Step store.submits store.reads t v reply u
-      → (n : S) × Step (shared store).submits (shared store).reads m v reply n × Keeps store.limits store.knows n u
+  stepped : (m t u : S) (v : Verdict) (reply : Reply) → ForgetsNothing store.limits store.knows m t → Step store.submits store.reads t v reply u
+      → (n : S) × Step (shared store).submits (shared store).reads m v reply n × ForgetsNothing store.limits store.knows n u
   stepped m t u (Submit b) Accepted keeps step = (u, (step.0, (t, keeps, step.1)), keeps_all u)
   stepped m t u (Submit b) (Refused r) keeps step = (u, (t, keeps, step), keeps_all u)
   stepped m t u (Ask q) (Answered a) keeps step = (u, (t, keeps, step), keeps_all u)
   stepped m t u (Ask q) (Refused r) keeps step = (u, (t, keeps, step), keeps_all u)
-  stepped m t u (Reject error) (Error said) keeps step = (m, (step.0, refl), subst (λ (x : S). Keeps store.limits store.knows m x) (sym step.1) keeps)
+  stepped m t u (Reject error) (Error said) keeps step = (m, (step.0, refl), subst (λ (x : S). ForgetsNothing store.limits store.knows m x) (sym step.1) keeps)
   stepped m t u _ _ keeps step = absurd step
 
   module _ (promises : Promises store) where
@@ -353,26 +353,26 @@ module _ {S C : Type 0} (store : Store S) (line : Line C) (two : IsTwoWay line) 
 -- ---- what a step keeps
 
 module _ {S : Type 0} (store : Store S) (promises : Promises store) where
-  pub submit_keeps : (t u : S) (b : Batch) (r : Result ℕ Refusal) → store.submits t b r u → Keeps store.limits store.knows t u
+  pub submit_keeps : (t u : S) (b : Batch) (r : Result ℕ Refusal) → store.submits t b r u → ForgetsNothing store.limits store.knows t u
   submit_keeps t u b (Ok place) step = (promises.submit_knows t b (Ok place) u step).0
   submit_keeps t u b (Err why) step = (promises.submit_knows t b (Err why) u step).0
 
-  pub read_keeps : (t u : S) (q : Query) (r : Result Answer Refusal) → store.reads t q r u → Keeps store.limits store.knows t u
+  pub read_keeps : (t u : S) (q : Query) (r : Result Answer Refusal) → store.reads t q r u → ForgetsNothing store.limits store.knows t u
   read_keeps t u q (Ok a) step = (promises.read_knows t q (Ok a) u step).0
   read_keeps t u q (Err why) step = promises.read_knows t q (Err why) u step
 
-  pub step_keeps : (t u : S) (v : Verdict) (reply : Reply) → Step store.submits store.reads t v reply u → Keeps store.limits store.knows t u
+  pub step_keeps : (t u : S) (v : Verdict) (reply : Reply) → Step store.submits store.reads t v reply u → ForgetsNothing store.limits store.knows t u
   step_keeps t u (Submit b) Accepted step = submit_keeps t u b (Ok step.0) step.1
   step_keeps t u (Submit b) (Refused r) step = submit_keeps t u b (Err r) step
   step_keeps t u (Ask q) (Answered a) step = read_keeps t u q (Ok a) step
   step_keeps t u (Ask q) (Refused r) step = read_keeps t u q (Err r) step
-  step_keeps t u (Reject error) (Error said) step = subst (λ (x : S). Keeps store.limits store.knows t x) (sym step.1) (keeps_all store t)
+  step_keeps t u (Reject error) (Error said) step = subst (λ (x : S). ForgetsNothing store.limits store.knows t x) (sym step.1) (keeps_all store t)
   step_keeps t u _ _ step = absurd step
 
 -- ---- in a pause
 
 module _ {S C : Type 0} (store : Store S) (promises : Promises store) (line : Line C) where
-  pub others_forget_nothing : StaysUnderway store line (ForgetsNothing store)
+  pub others_forget_nothing : StaysUnderway store line (ForgetsNothing store.limits store.knows)
   others_forget_nothing c0 c1 s t u session under keeps = (under.0, under.1, keeps_on store under.0 t u under.2 keeps)
 
   pub others_submit : StaysUnderway store line (SubmitsSome store)

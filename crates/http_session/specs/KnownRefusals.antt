@@ -1,6 +1,6 @@
 -- By which lists the batches of a session were refused, and that the store still knows it later.
 use Rattle.std.specs.Prelude.{List, ◌++◌, All, Option, Some, None, Result, Ok, Err}
-use Rattle.trace_model.specs.StoreKnowledge.{Known, KnowsRefusal}
+use Rattle.trace_model.specs.StoreKnowledge.{KnownList, KnowsRefusal}
 use Rattle.http_session.specs.Sessions.{Exchange, last_of, exchange_due}
 use Rattle.http_session.specs.ResponseOrder.{Line}
 use Rattle.http_session.specs.SessionRuns.{Store}
@@ -14,12 +14,12 @@ use Rattle.http_session.specs.declared.reply.Reply.{Reply}
 use Rattle.http_session.specs.declared.reply.Reply.TheVariants.{Refused}
 
 -- if a batch was refused by 20, 21 or 29, the store knows by which list
-abbrev pub RefusalIsKnown : {S : Type 0} → (S → Known → Type 0) → S → Verdict → Reply → Type 0
+abbrev pub RefusalIsKnown : {S : Type 0} → (S → KnownList → Type 0) → S → Verdict → Reply → Type 0
 RefusalIsKnown knows t (Submit b) (Refused why) = KnowsRefusal knows b why t
 RefusalIsKnown knows t _ _ = Unit {0}
 
 -- of each exchange
-abbrev pub RefusalsAreKnown : {S : Type 0} → (S → Known → Type 0) → S → List Exchange → Type 0
+abbrev pub RefusalsAreKnown : {S : Type 0} → (S → KnownList → Type 0) → S → List Exchange → Type 0
 RefusalsAreKnown knows t xs = All (λ (x : Exchange). RefusalIsKnown knows t x.verdict x.reply) xs
 
 -- the exchanges of a session so far, or all if it has ended or failed

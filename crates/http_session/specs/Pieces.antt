@@ -9,7 +9,7 @@ use Rattle.jaeger_model.specs.declared.batch.Batch.{Batch}
 use Rattle.trace_model.specs.declared.query.Query.{Query}
 use Rattle.trace_model.specs.declared.answer.Answer.{Answer}
 use Rattle.trace_model.specs.declared.refusal.Refusal.{Refusal}
-use Rattle.trace_model.specs.StoreKnowledge.{lists_of, Keeps}
+use Rattle.trace_model.specs.StoreKnowledge.{lists_of, ForgetsNothing}
 use Rattle.http_session.specs.Sessions.{Submits, Reads, Step}
 use Rattle.http_session.specs.ResponseOrder.{Line}
 use Rattle.http_session.specs.UnderwaySessions.{SoFar}
@@ -75,11 +75,11 @@ IfOpen (Err error) P = Unit {0}
 
 -- a batch is submitted, perhaps after others used the store, which has forgotten nothing
 abbrev pub later_submits : {S : Type 0} → Store S → Submits S
-later_submits {S = S} store s b r t = (m : S) × Keeps store.limits store.knows s m × store.submits m b r t
+later_submits {S = S} store s b r t = (m : S) × ForgetsNothing store.limits store.knows s m × store.submits m b r t
 
 -- a query is asked, perhaps after others used the store, which has forgotten nothing
 abbrev pub later_reads : {S : Type 0} → Store S → Reads S
-later_reads {S = S} store s q r t = (m : S) × Keeps store.limits store.knows s m × store.reads m q r t
+later_reads {S = S} store s q r t = (m : S) × ForgetsNothing store.limits store.knows s m × store.reads m q r t
 
 -- a store that others may use before each step of this session
 abbrev pub shared : {S : Type 0} → Store S → Store S
@@ -105,7 +105,7 @@ ComesTo store line c0 c1 s t session (Err error) = FailsServed store line c0 c1 
 -- steps.
 abbrev pub UnderwayAmong : {S C : Type 0} → Store S → Line C → C → C → S → S → Session → Type 0
 UnderwayAmong {S = S} store line c0 c1 s t session =
-    (m : S) × Underway (shared store) line c0 c1 s m session × Keeps store.limits store.knows m t
+    (m : S) × Underway (shared store) line c0 c1 s m session × ForgetsNothing store.limits store.knows m t
 
 -- the answers to such a session belong to one growing history
 abbrev pub AnswersSoFar : {S C : Type 0} → Store S → Line C → Type 0
@@ -114,9 +114,6 @@ AnswersSoFar {S = S} {C = C} store line =
     → Related (lists_of store.knows s) (store.limits s) nothing_seen under.1.so_far.opens
 
 -- ---- what others do in a pause
-
-abbrev pub ForgetsNothing : {S : Type 0} → Store S → S → S → Type 0
-ForgetsNothing store s t = Keeps store.limits store.knows s t
 
 -- someone submits a batch
 abbrev pub SubmitsSome : {S : Type 0} → Store S → S → S → Type 0
@@ -148,7 +145,7 @@ OutlastsWrites {S = S} {C = C} store line =
 -- what became of a session over such a store
 abbrev pub ComesToAmong : {S C : Type 0} → Store S → Line C → C → C → S → S → Session → Result (Option Ended) SessionError → Type 0
 ComesToAmong {S = S} store line c0 c1 s t session result =
-    (m : S) × ComesTo (shared store) line c0 c1 s m session result × Keeps store.limits store.knows m t
+    (m : S) × ComesTo (shared store) line c0 c1 s m session result × ForgetsNothing store.limits store.knows m t
 
 -- What one piece does: from wherever the session began, this is what became of it.
 pub record GoesOn {S C : Type 0} (store : Store S) (line : Line C) (c1 c2 : C) (t u : S) (old new : Session)

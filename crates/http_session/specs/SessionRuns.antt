@@ -1,7 +1,7 @@
 -- Sessions between an input and an output, and over a connection, in terms of what is known about these and the store.
 use Rattle.std.specs.Prelude.{ℕ, Bool, List, ◌++◌, Option}
 use Rattle.trace_model.specs.declared.limits.Limits.{Limits}
-use Rattle.trace_model.specs.StoreKnowledge.{Known, lists_of}
+use Rattle.trace_model.specs.StoreKnowledge.{KnownList, lists_of}
 use Rattle.http_requests.specs.AwaitedReads.{Gives, Source, source_of}
 use Rattle.http_session.specs.Sessions.{Submits, Reads, Exchange, EndsAs, FailsAs, last_of, exchange_due}
 use Rattle.http_session.specs.ReadTurns.{ReadsInTurn, ReadsInTurnUpTo}
@@ -14,10 +14,10 @@ use Rattle.http_session.specs.declared.exchanges.SessionError.{SessionError}
 pub record Store (S : Type 0) : Type 1 where
   pub submits : Submits S
   pub reads : Reads S
-  pub knows : S → Known → Type 0
+  pub knows : S → KnownList → Type 0
   pub limits : S → Limits
 
-abbrev pub store_of : {S : Type 0} → Submits S → Reads S → (S → Known → Type 0) → (S → Limits) → Store S
+abbrev pub store_of : {S : Type 0} → Submits S → Reads S → (S → KnownList → Type 0) → (S → Limits) → Store S
 store_of submits reads knows limits = record { submits = submits; reads = reads; knows = knows; limits = limits }
 
 -- what is known about an input and an output in each of their states

@@ -2,8 +2,9 @@
 
 ghost use Rattle.http_session.specs.ResponseOrder.{line_of};
 ghost use Rattle.http_session.specs.SessionRuns.{store_of};
+ghost use Rattle.trace_model.specs.StoreKnowledge.{ForgetsNothing};
 ghost use Rattle.http_session.specs.Pieces.{no_requests_yet, CanContinue, Underway, UnderwayAmong, AnswersSoFar, StaysUnderway, OutlastsWrites, SubmitsSome};
-ghost use Rattle.http_session.specs.Pieces.{ReadsSome, AsksOnce, ForgetsNothing};
+ghost use Rattle.http_session.specs.Pieces.{ReadsSome, AsksOnce};
 ghost use Rattle.http_session.specs.KnownRefusals.{RefusalsStayKnown, RefusalsStayKnownAmong};
 
 use session_devices::Connection;
@@ -40,7 +41,7 @@ pub fn a_pause_keeps_a_session_underway<T, C: Connection, B: Backend<T>>()
 
     ensures others { StaysUnderway (store_of B.submits B.reads B.knows B.limits)
         (line_of C.remaining C.gives C.Input.has_failed C.contents C.takes C.Output.has_failed)
-        (ForgetsNothing (store_of B.submits B.reads B.knows B.limits)) }
+        (ForgetsNothing B.limits B.knows) }
 {}
 
 /// A session stays underway while its connection writes the waiting part of a response: nothing new is handed over, and

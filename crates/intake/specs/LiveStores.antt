@@ -14,7 +14,7 @@ use Rattle.trace_model.specs.Answers.{answer}
 use Rattle.read_side.specs.Receipts.{AnsweredAt}
 use Rattle.intake.specs.Seats.{SeatValue, IsNotTaken, next_job, with_job}
 use Rattle.intake.specs.Denials.{IsLeftOut}
-use Rattle.trace_model.specs.StoreKnowledge.{Known, reached, refused, RefusesBatch}
+use Rattle.trace_model.specs.StoreKnowledge.{KnownList, reached, refused, RefusesBatch}
 
 -- the seat, the longest list that the pass knows, and the longest list by which one of its batches was refused, or what
 -- the pass knew at first
@@ -32,7 +32,7 @@ pub record SeatGoesOn (s t : SeatValue) : Type 0 where
 
 -- a prefix of the longest list that the pass knows; or a legal prefix of the longest list that refused, which refuses the
 -- batch for this reason
-abbrev pub LiveKnows : Limits → LiveValue → Known → Type 0
+abbrev pub LiveKnows : Limits → LiveValue → KnownList → Type 0
 LiveKnows limits s (reached h) = IsPrefix h s.known
 LiveKnows limits s (refused b why h) = IsPrefix h s.refused_by × IsLegal limits h × RefusesBatch limits h b why
 

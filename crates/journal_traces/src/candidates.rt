@@ -13,7 +13,7 @@ use trace_assembly::Spots;
 /// A search, and the traces that it considers, by the spots of their spans in the journal. Numbers tell which
 /// entries are of its service.
 #[derive(Clone, Copy)]
-pub struct Candidates<'a> {
+pub struct CandidateSearch<'a> {
     pub journal: &'a Journal,
     /// The numbers of the services of the journal's entries.
     pub reported: &'a ServicePlaces,
@@ -26,7 +26,7 @@ pub struct Candidates<'a> {
         service } by { Prim.hlevel props },
 }
 
-impl<'a> Searched for Candidates<'a> {
+impl<'a> Searched for CandidateSearch<'a> {
     ghost use Rattle.journal_traces.specs.CandidateTraces.{traces_of, query_of};
 
     ghost traces = { traces_of };
@@ -41,22 +41,22 @@ impl<'a> Searched for Candidates<'a> {
         self.spots.len()
     }
 
-    fn start_at(&self, place: usize) -> i64 {
-        match self.spots.get(place) {
+    fn start_at(&self, index: usize) -> i64 {
+        match self.spots.get(index) {
             Some(spots) => first_start(self.journal, spots.again()),
             None => 0,
         }
     }
 
-    fn id_at(&self, place: usize) -> Option<TraceId> {
-        match self.spots.get(place) {
+    fn id_at(&self, index: usize) -> Option<TraceId> {
+        match self.spots.get(index) {
             Some(spots) => first_id(self.journal, spots.again()),
             None => None,
         }
     }
 
-    fn is_found_at(&mut self, alloc: Global, place: usize) -> Result<bool, AllocError> {
-        match self.spots.get(place) {
+    fn is_found_at(&mut self, alloc: Global, index: usize) -> Result<bool, AllocError> {
+        match self.spots.get(index) {
             Some(spots) => {
                 let judging = Judging::new(
                     self.journal,

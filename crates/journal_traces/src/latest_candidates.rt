@@ -26,10 +26,10 @@ pub fn spots_after<'a>(
         IfOk result (λ v. v.items ≡ map (spots_of assembly.now)
         (filter (λ t. int_lt time (start t)) assembly.now.newest.ids)) }
 {
-    let places = starts.places_after(alloc, time)?;
-    let mut spots = Vec::with_capacity(alloc, places.len())?;
-    for place in &places {
-        spots.push(assembly.spots_at(*place))?;
+    let indices = starts.places_after(alloc, time)?;
+    let mut spots = Vec::with_capacity(alloc, indices.len())?;
+    for index in &indices {
+        spots.push(assembly.spots_at(*index))?;
     }
     Ok(spots)
 }

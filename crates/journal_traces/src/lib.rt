@@ -54,7 +54,7 @@ mod window_candidates;
 mod window_taking;
 mod window_traces;
 
-pub use candidates::Candidates;
+pub use candidates::CandidateSearch;
 pub use gathering::gather;
 pub use latest_candidates::spots_after;
 pub use search_candidates::spots_along;

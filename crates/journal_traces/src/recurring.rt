@@ -35,10 +35,10 @@ impl Recurring {
         }
     }
 
-    fn add_key(&mut self, key: u32, place: usize) -> Result<(), AllocError> {
+    fn add_key(&mut self, key: u32, index: usize) -> Result<(), AllocError> {
         let seen = match self.seen.get(&key).copied() {
-            None => SeenIn::One(place),
-            Some(SeenIn::One(one)) if one != place => SeenIn::Several,
+            None => SeenIn::One(index),
+            Some(SeenIn::One(one)) if one != index => SeenIn::Several,
             Some(_) => return Ok(()),
         };
         self.seen.insert(key, seen)?;
@@ -47,7 +47,7 @@ impl Recurring {
 
     /// Adds the spans of the trace at a place. A trace of one entry is ignored, since no process is compared in it.
     /// Of consecutive spans with one key, only the first is looked up.
-    pub(crate) fn add(&mut self, spans: &[TakenSpan], place: usize) -> Result<(), AllocError> {
+    pub(crate) fn add(&mut self, spans: &[TakenSpan], index: usize) -> Result<(), AllocError> {
         if have_one_key(spans) {
             return Ok(());
         }
@@ -55,7 +55,7 @@ impl Recurring {
         for span in spans {
             let key = span.process_key();
             if before != Some(key) {
-                self.add_key(key, place)?;
+                self.add_key(key, index)?;
                 before = Some(key);
             }
         }

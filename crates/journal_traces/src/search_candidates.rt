@@ -44,8 +44,8 @@ fn mark_trace(marks: &mut [bool], ring: &Ring, row: u32, trace: TraceId)
     ensures { (p : TraceIdValue → Bool) → marks.old ≡ map p ring.now.ids →
         marks.new ≡ map (λ t. p t || same_trace t trace) ring.now.ids }
 {
-    if let Some(place) = ring.place_with_guess(row, trace) {
-        marks[place] = true;
+    if let Some(index) = ring.position_with_guess(row, trace) {
+        marks[index] = true;
     }
 }
 
@@ -189,9 +189,9 @@ fn marked_spots<'a>(
         map (spots_of assembly.now) (filter p assembly.now.newest.ids)) }
 {
     let mut spots = Vec::new(alloc);
-    for place in 0..assembly.ring().len() {
-        if marks[place] {
-            spots.push(assembly.spots_at(place))?;
+    for index in 0..assembly.ring().len() {
+        if marks[index] {
+            spots.push(assembly.spots_at(index))?;
         }
     }
     Ok(spots)

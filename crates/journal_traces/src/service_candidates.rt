@@ -58,8 +58,8 @@ pub fn spots_reported<'a>(
         (spots_of assembly.now t)) assembly.now.newest.ids)) }
 {
     let mut found = Vec::new(alloc);
-    for place in 0..assembly.ring().len() {
-        let spots = assembly.spots_at(place);
+    for index in 0..assembly.ring().len() {
+        let spots = assembly.spots_at(index);
         if are_reported(journal, reported, service, spots.again()) {
             found.push(spots)?;
         }

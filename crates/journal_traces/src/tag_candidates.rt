@@ -242,11 +242,11 @@ impl<'q> TagCandidates<'q> {
     }
 
     /// Returns the spots of the trace at a place, which counts from 0; none if there is no such trace.
-    fn spots(&self, place: usize) -> &[TakenSpot]
+    fn spots(&self, index: usize) -> &[TakenSpot]
         ensures { trace_spotted self.now.entries result.now ≡
-            slice_index_or self.now.traces place [] }
+            slice_index_or self.now.traces index [] }
     {
-        trace_part(&self.spots, &self.starts, place)
+        trace_part(&self.spots, &self.starts, index)
     }
 
     /// Adds an entry, and whether one of its spans may meet the search.
@@ -323,8 +323,8 @@ impl<'q> TagCandidates<'q> {
         if !may_any_meet(&flags) {
             return Ok(traces);
         }
-        for place in 0..self.starts.len() {
-            let spots = self.spots(place);
+        for index in 0..self.starts.len() {
+            let spots = self.spots(index);
             if may_spots_meet(&flags, spots) {
                 take_spots(&mut traces, &self.entries, spots)?;
             }

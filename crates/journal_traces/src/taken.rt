@@ -49,10 +49,10 @@ impl TakenTraces {
     }
 
     /// Returns the spans of the trace at a place, which counts from 0; none if there is no such trace.
-    pub fn trace(&self, place: usize) -> &[TakenSpan]
-        ensures { result.now ≡ slice_index_or self.now place [] }
+    pub fn trace(&self, index: usize) -> &[TakenSpan]
+        ensures { result.now ≡ slice_index_or self.now index [] }
     {
-        trace_part(&self.spans, &self.starts, place)
+        trace_part(&self.spans, &self.starts, index)
     }
 
     /// Appends a trace with no spans.

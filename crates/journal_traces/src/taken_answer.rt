@@ -78,16 +78,16 @@ fn kept_trace<'a>(
 fn kept_at<'a>(
     alloc: Global,
     traces: &'a TakenTraces,
-    place: usize,
+    index: usize,
     limits: Limits,
     classes: &mut ProcessClasses<'a>,
 ) -> Result<AnsweredTrace, AllocError>
     requires { ShareByClass traces.now classes.old }
     ensures trace { IfOk result (λ s. s ≡ adjusted limits.max_skew
-        (slice_index_or (map placed_taken traces.now) place [])) }
+        (slice_index_or (map placed_taken traces.now) index [])) }
     ensures classes { OnOk result (ShareByClass traces.now classes.new) }
 {
-    let trace = kept_trace(alloc, traces.trace(place), limits, classes)?;
+    let trace = kept_trace(alloc, traces.trace(index), limits, classes)?;
     Ok(AnsweredTrace::kept(trace))
 }
 
@@ -95,11 +95,11 @@ fn kept_at<'a>(
 fn recurring_at(
     alloc: Global,
     traces: &TakenTraces,
-    places: &[usize],
+    indices: &[usize],
 ) -> Result<Recurring, AllocError> {
     let mut recurring = Recurring::new(alloc);
-    for place in places {
-        recurring.add(traces.trace(*place), *place)?;
+    for index in indices {
+        recurring.add(traces.trace(*index), *index)?;
     }
     Ok(recurring)
 }
@@ -107,8 +107,8 @@ fn recurring_at(
 /// Returns the keys that are in several of the traces.
 fn recurring_in(alloc: Global, traces: &TakenTraces) -> Result<Recurring, AllocError> {
     let mut recurring = Recurring::new(alloc);
-    for place in 0..traces.count() {
-        recurring.add(traces.trace(place), place)?;
+    for index in 0..traces.count() {
+        recurring.add(traces.trace(index), index)?;
     }
     Ok(recurring)
 }
@@ -118,18 +118,18 @@ fn recurring_in(alloc: Global, traces: &TakenTraces) -> Result<Recurring, AllocE
 fn all_kept(
     alloc: Global,
     traces: &TakenTraces,
-    places: &[usize],
+    indices: &[usize],
     limits: Limits,
 ) -> Result<Vec<AnsweredTrace>, AllocError>
     requires { ShareByNumber traces.now }
     ensures { IfOk result (λ v. v.items ≡ map (λ i. adjusted limits.max_skew
-        (slice_index_or (map placed_taken traces.now) i [])) places.now) }
+        (slice_index_or (map placed_taken traces.now) i [])) indices.now) }
 {
-    let recurring = recurring_at(alloc, traces, places)?;
+    let recurring = recurring_at(alloc, traces, indices)?;
     let mut classes = ProcessClasses::new(alloc, recurring);
-    let mut kept = Vec::with_capacity(alloc, places.len())?;
-    for place in places {
-        kept.push(kept_at(alloc, traces, *place, limits, &mut classes)?)?;
+    let mut kept = Vec::with_capacity(alloc, indices.len())?;
+    for index in indices {
+        kept.push(kept_at(alloc, traces, *index, limits, &mut classes)?)?;
     }
     Ok(kept)
 }
@@ -148,9 +148,9 @@ pub fn find_kept(
     ensures { IfOk result (λ v. v.items ≡ map (adjusted limits.max_skew)
         (found_in (query_taken search.old) (traces_taken search.old))) }
 {
-    let places = find_traces::find(alloc, search)?;
+    let indices = find_traces::find(alloc, search)?;
     // For the prover: the binding lets the clauses of `all_kept` be used for the result.
-    let kept = all_kept(alloc, search.traces(), &places, limits)?;
+    let kept = all_kept(alloc, search.traces(), &indices, limits)?;
     Ok(kept)
 }
 
@@ -188,8 +188,8 @@ pub fn keep_all(
     let recurring = recurring_in(alloc, traces)?;
     let mut classes = ProcessClasses::new(alloc, recurring);
     let mut kept = Vec::with_capacity(alloc, traces.count())?;
-    for place in 0..traces.count() {
-        kept.push(kept_at(alloc, traces, place, limits, &mut classes)?)?;
+    for index in 0..traces.count() {
+        kept.push(kept_at(alloc, traces, index, limits, &mut classes)?)?;
     }
     Ok(kept)
 }

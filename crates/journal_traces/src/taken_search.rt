@@ -129,22 +129,22 @@ impl<'a> Searched for TakenSearch<'a> {
         self.traces.count()
     }
 
-    fn start_at(&self, place: usize) -> i64 {
-        match self.traces.trace(place).first() {
+    fn start_at(&self, index: usize) -> i64 {
+        match self.traces.trace(index).first() {
             Some(span) => span.reported().span.start,
             None => 0,
         }
     }
 
-    fn id_at(&self, place: usize) -> Option<TraceId> {
-        match self.traces.trace(place).first() {
+    fn id_at(&self, index: usize) -> Option<TraceId> {
+        match self.traces.trace(index).first() {
             Some(span) => Some(span.reported().span.trace),
             None => None,
         }
     }
 
-    fn is_found_at(&mut self, alloc: Global, place: usize) -> Result<bool, AllocError> {
+    fn is_found_at(&mut self, alloc: Global, index: usize) -> Result<bool, AllocError> {
         let traces = self.traces;
-        is_found(alloc, self.prepared, &mut self.judged, traces.trace(place))
+        is_found(alloc, self.prepared, &mut self.judged, traces.trace(index))
     }
 }

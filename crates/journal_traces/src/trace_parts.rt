@@ -4,11 +4,11 @@ ghost use Rattle.std.specs.Prelude.{◌≡◌, ◌+◌, ◌<◌, ◌≤◌, [], 
 ghost use Rattle.journal_traces.specs.TraceParts.{cut_at, AreStarts};
 
 /// Returns the start of the trace after the one at a place, or the end.
-fn next_start(starts: &[usize], place: usize, end: usize) -> usize
-    requires { place < length starts.now }
-    ensures { result ≡ slice_index_or starts.now (place + 1) end }
+fn next_start(starts: &[usize], index: usize, end: usize) -> usize
+    requires { index < length starts.now }
+    ensures { result ≡ slice_index_or starts.now (index + 1) end }
 {
-    match starts.get(place + 1) {
+    match starts.get(index + 1) {
         Some(next) => *next,
         None => end,
     }
@@ -23,14 +23,14 @@ fn part<T>(items: &[T], start: usize, end: usize) -> &[T]
 }
 
 /// Returns the items of the trace at a place, which counts from 0; none if there is no such trace.
-pub(crate) fn trace_part<'a, T>(items: &'a [T], starts: &[usize], place: usize) -> &'a [T]
+pub(crate) fn trace_part<'a, T>(items: &'a [T], starts: &[usize], index: usize) -> &'a [T]
     requires { AreStarts (length items.now) starts.now }
-    ensures { result.now ≡ slice_index_or (cut_at items.now starts.now) place [] }
+    ensures { result.now ≡ slice_index_or (cut_at items.now starts.now) index [] }
 {
-    if place >= starts.len() {
+    if index >= starts.len() {
         return &[];
     }
-    let start = starts[place];
-    let end = next_start(starts, place, items.len());
+    let start = starts[index];
+    let end = next_start(starts, index, items.len());
     part(items, start, end)
 }

@@ -27,10 +27,10 @@ pub fn spots_within<'a>(
         filter p (map (spots_of assembly.now) assembly.now.newest.ids)) }
 {
     let mut spots = Vec::new(alloc);
-    let mut place = starts.next_within(0, window);
-    while place < starts.len() {
-        spots.push(assembly.spots_at(place))?;
-        place = starts.next_within(place + 1, window);
+    let mut index = starts.next_within(0, window);
+    while index < starts.len() {
+        spots.push(assembly.spots_at(index))?;
+        index = starts.next_within(index + 1, window);
     }
     Ok(spots)
 }

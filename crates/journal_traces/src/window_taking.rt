@@ -169,13 +169,13 @@ pub fn take_within(
     let window = window_of(end_ms, lookback_ms);
     let mut taken = WindowSpots::new(alloc);
     let mut numbers = EntryNumbers::new(alloc, journal.entries().len())?;
-    let mut place = starts.next_within(0, window);
-    while place < starts.len() {
-        let spots = assembly.spots_at(place);
+    let mut index = starts.next_within(0, window);
+    while index < starts.len() {
+        let spots = assembly.spots_at(index);
         if reaches_window(journal, spots.again(), end_ms, lookback_ms) {
             take_spots(&mut taken, &mut numbers, journal, reported, spots)?;
         }
-        place = starts.next_within(place + 1, window);
+        index = starts.next_within(index + 1, window);
     }
     Ok(WindowTraces::new(taken))
 }

@@ -84,12 +84,12 @@ impl WindowSpots {
 }
 
 /// Returns the spots of the trace at a place, which counts from 0; none if there is no such trace.
-fn spots_of(taken: &WindowSpots, place: usize) -> &[TakenSpot]
+fn spots_of(taken: &WindowSpots, index: usize) -> &[TakenSpot]
     requires { AreStarts (length taken.now.spots.items) taken.now.starts.items }
     ensures { result.now ≡
-        slice_index_or (cut_at taken.now.spots.items taken.now.starts.items) place [] }
+        slice_index_or (cut_at taken.now.spots.items taken.now.starts.items) index [] }
 {
-    trace_part(&taken.spots, &taken.starts, place)
+    trace_part(&taken.spots, &taken.starts, index)
 }
 
 /// Returns the span at a spot, with the number of its service.
@@ -138,9 +138,9 @@ impl WindowTraces {
     /// # Errors
     ///
     /// Out of memory, and nothing else.
-    pub fn spans(&self, alloc: Global, place: usize) -> Result<Vec<NumberedSpan<'_>>, AllocError>
-        ensures { IfOk result (λ v. v.items ≡ slice_index_or self.now place []) }
+    pub fn spans(&self, alloc: Global, index: usize) -> Result<Vec<NumberedSpan<'_>>, AllocError>
+        ensures { IfOk result (λ v. v.items ≡ slice_index_or self.now index []) }
     {
-        spans_at(alloc, &self.taken.entries, spots_of(&self.taken, place))
+        spans_at(alloc, &self.taken.entries, spots_of(&self.taken, index))
     }
 }

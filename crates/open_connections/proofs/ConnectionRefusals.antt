@@ -1,6 +1,6 @@
 -- What a store knows of the refusals of a connection stays known.
 use Rattle.std.proofs.Common.{Some, None, Ok, Err}
-use Rattle.trace_model.specs.StoreKnowledge.{Keeps}
+use Rattle.trace_model.specs.StoreKnowledge.{ForgetsNothing}
 use Rattle.http_session.specs.ResponseOrder.{Line}
 use Rattle.http_session.specs.SessionRuns.{Store}
 use Rattle.http_session.specs.Pieces.{UnderwayAmong}
@@ -14,7 +14,7 @@ use Rattle.open_connections.specs.declared.outbox.Outbox.{Outbox}
 use Rattle.open_connections.specs.declared.open.ConnectionProgress.TheVariants.{Answered, HoldsMore, Paused, Writing, Ended, Closing, Failed, Undelivered}
 
 module _ {S C : Type 0} (store : Store S) (promises : Promises store) (line : Line (Outbox C)) (now later : S) (it : OpenConnection C)
-    (keeps : Keeps store.limits store.knows now later) where
+    (keeps : ForgetsNothing store.limits store.knows now later) where
   of_underway : (then : S) (under : UnderwayAmong store line it.began.value it.connection then now it.session)
       → RefusalsAreKnown store.knows later under.1.so_far.opens
   of_underway then under =

@@ -5,7 +5,8 @@ use Rattle.slab.specs.Slab.{Slab, get, Updates}
 use Rattle.std.specs.Io.KnownBytes.{append_known}
 use Rattle.http_session.specs.ResponseOrder.{Line, IsTwoWay}
 use Rattle.http_session.specs.SessionRuns.{Store, EndsServed, FailsServed}
-use Rattle.http_session.specs.Pieces.{AsksOnce, ForgetsNothing, CanContinue, GoesOn, UnderwayAmong, OutlastsWrites, IfOpen, no_requests_yet, piece_of, shared}
+use Rattle.trace_model.specs.StoreKnowledge.{ForgetsNothing}
+use Rattle.http_session.specs.Pieces.{AsksOnce, CanContinue, GoesOn, UnderwayAmong, OutlastsWrites, IfOpen, no_requests_yet, piece_of, shared}
 use Rattle.http_session.specs.declared.pieces.Progress.{Progress as Piece}
 use Rattle.http_session.specs.declared.pieces.Progress.TheVariants.{Ended as EndedBy}
 use Rattle.http_session.specs.declared.pieces.Session.{Session}
@@ -36,7 +37,7 @@ module _ {S C : Type 0} (store : Store S) (promises : Promises store) (line : Li
   all_open_still t u set asks all key it e = open_still t u it asks (all key it e)
 
   -- whatever was done with the store, as long as it has forgotten nothing
-  pub all_open_later : (t u : S) (set : Slab (OpenConnection C)) → ForgetsNothing store t u → AllOpen store line t set → AllOpen store line u set
+  pub all_open_later : (t u : S) (set : Slab (OpenConnection C)) → ForgetsNothing store.limits store.knows t u → AllOpen store line t set → AllOpen store line u set
   all_open_later t u set keeps all key it e =
       let is = all key it e in
       record {

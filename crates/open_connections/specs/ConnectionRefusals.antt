@@ -1,6 +1,6 @@
 -- By which lists the batches of a connection were refused, and that the store still knows it later.
 use Rattle.std.specs.Prelude.{List, ◌++◌}
-use Rattle.trace_model.specs.StoreKnowledge.{Keeps}
+use Rattle.trace_model.specs.StoreKnowledge.{ForgetsNothing}
 use Rattle.http_session.specs.Sessions.{Exchange, last_of, exchange_due}
 use Rattle.http_session.specs.ResponseOrder.{Line}
 use Rattle.http_session.specs.SessionRuns.{Store}
@@ -27,5 +27,5 @@ exchanges_of store line now it Undelivered came = came.underway.1.so_far.opens
 abbrev pub RefusalsStayKnown : {S C : Type 0} → Store S → Line (Outbox C) → Type 0
 RefusalsStayKnown {S = S} {C = C} store line =
     (now later : S) (it : OpenConnection C) (progress : ConnectionProgress) (came : HasCome store line now it progress)
-    → Keeps store.limits store.knows now later
+    → ForgetsNothing store.limits store.knows now later
     → RefusalsAreKnown store.knows later (exchanges_of store line now it progress came)

@@ -3,7 +3,7 @@ use Rattle.std.specs.Prelude.{◌≡◌, ◌⊎◌, ℕ, List, [], Bool, Option,
 use Rattle.std.specs.Io.KnownBytes.{Keeps as KeepsBytes}
 use Rattle.std.specs.Option.{option_map}
 use Rattle.slab.specs.Slab.{Slab, get}
-use Rattle.trace_model.specs.StoreKnowledge.{Keeps}
+use Rattle.trace_model.specs.StoreKnowledge.{ForgetsNothing}
 use Rattle.http_session.specs.ResponseOrder.{Line}
 use Rattle.http_session.specs.SessionRuns.{Store, EndsServed, FailsServed}
 use Rattle.http_session.specs.Pieces.{CanContinue, UnderwayAmong, shared}
@@ -33,7 +33,7 @@ pub record HasEnded {S C : Type 0} (store : Store S) (line : Line (Outbox C)) (n
   pub last : S
   pub ended : EndedSession
   pub served : EndsServed (shared store) line it.began.value it.connection then last ended
-  pub keeps : Keeps store.limits store.knows last now
+  pub keeps : ForgetsNothing store.limits store.knows last now
 
 -- its session has failed, as one that began with the connection
 pub record HasFailed {S C : Type 0} (store : Store S) (line : Line (Outbox C)) (now : S) (it : OpenConnection C) : Type 0 where
@@ -41,7 +41,7 @@ pub record HasFailed {S C : Type 0} (store : Store S) (line : Line (Outbox C)) (
   pub last : S
   pub error : SessionError
   pub served : FailsServed (shared store) line it.began.value it.connection then last error
-  pub keeps : Keeps store.limits store.knows last now
+  pub keeps : ForgetsNothing store.limits store.knows last now
 
 -- its session is underway, and the connection failed before the client took the last response
 pub record HasBroken {S C : Type 0} (store : Store S) (line : Line (Outbox C)) (now : S) (it : OpenConnection C) : Type 0 where

@@ -12,10 +12,10 @@ use Rattle.trace_model.specs.Refusals.{place_of, with_admitted}
 use Rattle.trace_model.specs.Answers.{answer}
 use Rattle.arrival_journal.specs.Journals.{admission_by, turned_away_by}
 use Rattle.span_store.specs.NextEntry.{next_entry}
-use Rattle.trace_model.specs.StoreKnowledge.{Known, reached, refused, IsPrefixOf, RefusesBatch}
+use Rattle.trace_model.specs.StoreKnowledge.{KnownList, reached, refused, IsPrefixOf, RefusesBatch}
 
 -- prefixes of the entries, and which of them refuse a batch
-abbrev pub DirectKnows : LimitedHistory → Known → Type 0
+abbrev pub DirectKnows : LimitedHistory → KnownList → Type 0
 DirectKnows s (reached h) = IsPrefixOf h s.entries
 DirectKnows s (refused b why h) = IsPrefixOf h s.entries × RefusesBatch s.limits h b why
 

@@ -12,18 +12,18 @@ use Rattle.trace_model.specs.declared.refusal.Refusal.{Refusal}
 use Rattle.trace_model.specs.declared.refusal.Refusal.TheVariants.{JournalFull, Stale, NoMemory, Conflict}
 use Rattle.trace_model.specs.LimitedHistories.{LimitedHistory}
 use Rattle.trace_model.specs.Refusals.{with_admitted}
-use Rattle.trace_model.specs.StoreKnowledge.{Known, reached, refused, HasAt, Keeps, RefusesBatch, KnowsRefusal, SubmitKnows, ReadKnows}
+use Rattle.trace_model.specs.StoreKnowledge.{KnownList, reached, refused, HasAt, ForgetsNothing, RefusesBatch, KnowsRefusal, SubmitKnows, ReadKnows}
 use Rattle.arrival_journal.specs.Journals.{refusal_by}
 use Rattle.span_store.specs.NextEntry.{next_entry}
 use Rattle.pipe_session.specs.DirectLemmas.{grows, limits_stay, has_batch}
 use Rattle.pipe_session.specs.DirectCalls.{DirectKnows, DirectSubmits, DirectReads}
 
-keeps : (s t : LimitedHistory) → t ≡ s → Keeps (λ (x : LimitedHistory). x.limits) DirectKnows s t
+keeps : (s t : LimitedHistory) → t ≡ s → ForgetsNothing (λ (x : LimitedHistory). x.limits) DirectKnows s t
 keeps s t e = record { same_limits = ap (λ (x : LimitedHistory). x.limits) e; knowledge = λ it k. subst (λ (x : LimitedHistory). DirectKnows x it) (sym e) k }
 
 -- what is known of the entries is known of more entries
 knows_more : (s t : LimitedHistory) (more : List Entry) → t.limits ≡ s.limits → t.entries ≡ s.entries ++ more
-    → (it : Known) → DirectKnows s it → DirectKnows t it
+    → (it : KnownList) → DirectKnows s it → DirectKnows t it
 knows_more s t more limits entries (reached h) k = (k.0 ++ more, entries ∙ ap (λ x. x ++ more) k.1 ∙ append_assoc h k.0 more)
 knows_more s t more limits entries (refused b why h) k = (
   (k.0.0 ++ more, entries ∙ ap (λ x. x ++ more) k.0.1 ∙ append_assoc h k.0.0 more),

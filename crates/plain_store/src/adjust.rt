@@ -12,7 +12,7 @@ use crate::clock::{clock_below, root_clock, shifted};
 use jaeger_model::{Placed, Seq, SpanId, parent_of};
 use span_steps::{unadjusted, with_parent_first};
 use std::alloc::{AllocError, Global};
-use trace_model::{AdjustedSpan, Clock};
+use trace_model::{Clock, Shown};
 
 /// Moves the references to parents to the front.
 #[tactic(auto, using(std::proofs::lemmas::List::map_push))]
@@ -159,7 +159,7 @@ fn shown_after(
     placed: &Placed,
     clock: Option<Clock>,
     max_skew: u64,
-) -> Result<AdjustedSpan, AllocError>
+) -> Result<Shown, AllocError>
     ensures { IfOk result (λ s. s ≡ (if list_any (has_id placed.now.span.id) before.now
         then unadjusted placed.now else shifted_by max_skew placed.now clock)) }
 {
@@ -172,11 +172,7 @@ fn shown_after(
     }
 }
 
-fn without_skew(
-    alloc: Global,
-    trace: &[Placed],
-    max_skew: u64,
-) -> Result<Vec<AdjustedSpan>, AllocError>
+fn without_skew(alloc: Global, trace: &[Placed], max_skew: u64) -> Result<Vec<Shown>, AllocError>
     ensures { IfOk result (λ v. v.items ≡ skew_adjusted max_skew trace.now) }
 {
     let parents = parent_places(alloc, trace)?;
@@ -198,7 +194,7 @@ pub fn adjusted_trace(
     alloc: Global,
     trace: Seq<Placed>,
     max_skew: u64,
-) -> Result<Seq<AdjustedSpan>, AllocError>
+) -> Result<Seq<Shown>, AllocError>
     ensures { IfOk result (λ s. s ≡ adjusted max_skew trace) }
 {
     let trace = with_parents_first(alloc, trace)?;

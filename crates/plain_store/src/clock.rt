@@ -7,7 +7,7 @@ ghost use Rattle.trace_model.specs.Adjusting.{host_of, new_delta, clock_at, is_e
 use jaeger_model::{Placed, Span, Text};
 use span_steps::{delta_between, host_named, shift, start_at, unadjusted};
 use std::alloc::{AllocError, Global};
-use trace_model::{AdjustedSpan, Clock};
+use trace_model::{Clock, Shown};
 
 /// Returns the host of a span: the one that its process names.
 ///
@@ -91,7 +91,7 @@ pub(crate) fn shifted(
     placed: Placed,
     delta: i128,
     max_skew: u64,
-) -> Result<AdjustedSpan, AllocError>
+) -> Result<Shown, AllocError>
     ensures { IfOk result (λ s. s ≡ shifted max_skew delta placed) }
 {
     let mut shown = unadjusted(alloc, placed);

@@ -20,7 +20,7 @@ use jaeger_model::{Placed, Seq, TraceId, domain};
 use span_steps::all_unadjusted;
 use std::alloc::{AllocError, Global};
 use std::sync::Arc;
-use trace_model::{AdjustedSpan, AdjustedTrace, Answer, AnsweredTrace, Entry, Limits, Query, Work};
+use trace_model::{Answer, AnsweredTrace, Entry, Limits, Query, Shown, ShownTrace, Work};
 
 /// Returns the events of these spans.
 #[tactic(auto, using(std::proofs::lemmas::List::map_push))]
@@ -114,10 +114,10 @@ pub fn get_trace(
 }
 
 /// Makes a trace of an answer of these spans.
-fn made(alloc: Global, spans: Seq<AdjustedSpan>) -> AnsweredTrace
+fn made(alloc: Global, spans: Seq<Shown>) -> AnsweredTrace
     ensures { result ≡ spans }
 {
-    AnsweredTrace::made(AdjustedTrace::without_keys(alloc, spans))
+    AnsweredTrace::made(ShownTrace::without_keys(alloc, spans))
 }
 
 /// Returns the spans of a trace as they are shown: as reported if `raw` is set, else adjusted.

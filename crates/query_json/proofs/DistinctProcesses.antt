@@ -8,7 +8,7 @@ use Rattle.std.proofs.lemmas.List.Folds.{list_any-append}
 use Rattle.jaeger_model.specs.declared.batch.Process.{Process}
 use Rattle.jaeger_model.specs.Sameness.{same_process}
 use Rattle.jaeger_model.specs.SameLaws.{same_process-decides}
-use Rattle.trace_model.specs.declared.answer.AdjustedSpan.{AdjustedSpan}
+use Rattle.trace_model.specs.declared.answer.Shown.{Shown}
 use Rattle.query_json.specs.ProcessNames.{added, among, distinct, others, place}
 use Rattle.query_json.specs.ProcessNumbers.{place_among}
 use Rattle.query_json.specs.Trees.{process_of, processes_of}
@@ -63,7 +63,7 @@ distinct_push (x ∷ xs) p = by (same_process p x) (among p (distinct xs)) refl 
     by false false e f h = rw (h, e, among_others p x (distinct xs) e, f, split, others_one x p false (unlike_back p x e)) refl
 
 -- one more span
-pub processes_more : (known : List Process) (front : List AdjustedSpan) (s : AdjustedSpan) → known ≡ processes_of front
+pub processes_more : (known : List Process) (front : List Shown) (s : Shown) → known ≡ processes_of front
     → processes_of (front ++ s ∷ []) ≡ added s.placed.process known
 processes_more known front s e =
     ap distinct (map-append process_of front (s ∷ [])) ∙ distinct_push (map process_of front) s.placed.process ∙ ap (added s.placed.process) (sym e)
@@ -96,11 +96,11 @@ among_stays p q ps e = by (among q ps) refl
     by false seen = list_any-append (same_process p) ps (q ∷ []) ∙ rw e refl
 
 -- the process of the last span is among them
-pub among_itself : (front : List AdjustedSpan) (s : AdjustedSpan) → among s.placed.process (processes_of (front ++ s ∷ [])) ≡ true
+pub among_itself : (front : List Shown) (s : Shown) → among s.placed.process (processes_of (front ++ s ∷ [])) ≡ true
 among_itself front s = ap (among s.placed.process) (processes_more (processes_of front) front s refl) ∙ among_added s.placed.process (processes_of front)
 
 -- later spans don't change the places of earlier processes
-processes_grow : (front rest : List AdjustedSpan) → (more : List Process) × (processes_of (front ++ rest) ≡ processes_of front ++ more)
+processes_grow : (front rest : List Shown) → (more : List Process) × (processes_of (front ++ rest) ≡ processes_of front ++ more)
 processes_grow front [] = ([], ap processes_of (append-nil front) ∙ sym (append-nil (processes_of front)))
 processes_grow front (s ∷ rest) =
     let later = processes_grow (front ++ s ∷ []) rest in
@@ -116,7 +116,7 @@ processes_grow front (s ∷ rest) =
     by false later e = (s.placed.process ∷ later, e ∙ append_assoc (processes_of front) (s.placed.process ∷ []) later)
 
 -- a process keeps its place
-pub place_stays : (front rest : List AdjustedSpan) (s : AdjustedSpan)
+pub place_stays : (front rest : List Shown) (s : Shown)
     → place s.placed.process (processes_of ((front ++ s ∷ []) ++ rest)) ≡ place s.placed.process (processes_of (front ++ s ∷ []))
 place_stays front rest s =
     let grown = processes_grow (front ++ s ∷ []) rest in
@@ -188,7 +188,7 @@ place_more p ps e q = by (same_process p q) refl
     by false unlike = other (among q ps) refl (unlike_back p q unlike) ∙ sym (ap (λ t. if t then Some (place q (ps ++ p ∷ [])) else None) anywhere)
 
 -- a span's process has a place among them
-pub place_within : (front rest : List AdjustedSpan) (s : AdjustedSpan)
+pub place_within : (front rest : List Shown) (s : Shown)
     → place s.placed.process (processes_of ((front ++ s ∷ []) ++ rest)) < length (processes_of ((front ++ s ∷ []) ++ rest))
 place_within front rest s =
     let p = s.placed.process in

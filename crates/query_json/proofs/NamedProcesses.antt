@@ -9,7 +9,7 @@ use Rattle.std.proofs.lemmas.List.Elements.{All-cons, All-nil}
 use Rattle.std.proofs.lemmas.Map.Lookups.{exact_bytes}
 use Rattle.std.proofs.lemmas.Option.{get_or_from_slice_get, slice_get_within}
 use Rattle.serde_json.specs.Data.{Members, member, null, put}
-use Rattle.trace_model.specs.declared.answer.AdjustedSpan.{AdjustedSpan}
+use Rattle.trace_model.specs.declared.answer.Shown.{Shown}
 use Rattle.query_json.specs.declared.naming.FirstSpan.{FirstSpan}
 use Rattle.query_json.specs.declared.writing.processes.NamedProcess.{NamedProcess}
 use Rattle.query_json.specs.NamedProcesses.{HasSpan, name_of, named_members, process_tree_at, shown_process_tree}
@@ -27,15 +27,15 @@ AreKeyed (e ∷ es) = (e.0.now ≡ name_of e.1) × AreKeyed es
 abbrev cmp : Bor (List ℕ) → Bor (List ℕ) → Ordering
 cmp a b = slice_cmp nat_cmp a.now b.now
 
-abbrev members_of : List AdjustedSpan → List Entry → Members
+abbrev members_of : List Shown → List Entry → Members
 members_of ss es = named_members ss (map (λ e. e.1) es)
 
 -- one of the spans has each
-abbrev pub HaveSpans : List AdjustedSpan → List Entry → Type 0
+abbrev pub HaveSpans : List Shown → List Entry → Type 0
 HaveSpans ss [] = Unit {0}
 HaveSpans ss (e ∷ es) = HasSpan ss e.1 × HaveSpans ss es
 
-pub have_insert : (ss : List AdjustedSpan) (es : List Entry) (k : Bor (List ℕ)) (p : NamedProcess) → HasSpan ss p → HaveSpans ss es
+pub have_insert : (ss : List Shown) (es : List Entry) (k : Bor (List ℕ)) (p : NamedProcess) → HasSpan ss p → HaveSpans ss es
     → HaveSpans ss (insert_entry cmp es k p)
 have_insert ss [] k p own h = (own, tt)
 have_insert ss (x ∷ es) k p own h = by (cmp k x.0) (have_insert ss es k p own h.1)
@@ -46,22 +46,22 @@ have_insert ss (x ∷ es) k p own h = by (cmp k x.0) (have_insert ss es k p own 
     by Equal rest = (own, h.1)
     by Greater rest = (h.0, rest)
 
-pub have_all : (ss : List AdjustedSpan) (es : List Entry) → HaveSpans ss es → All (HasSpan ss) (map (λ e. e.1) es)
+pub have_all : (ss : List Shown) (es : List Entry) → HaveSpans ss es → All (HasSpan ss) (map (λ e. e.1) es)
 have_all ss [] h = All-nil (HasSpan ss)
 have_all ss (e ∷ es) h = All-cons (HasSpan ss) e.1 (map (λ x. x.1) es) h.0 (have_all ss es h.1)
 
 -- the first span that has a process
-pub first_within : (ss : List AdjustedSpan) (f : FirstSpan) → IsFirst ss f → f.span < length ss
+pub first_within : (ss : List Shown) (f : FirstSpan) → IsFirst ss f → f.span < length ss
 first_within ss f is = by (slice_get ss f.span) refl is
   where
-    by : (o : Option AdjustedSpan) → slice_get ss f.span ≡ o → option_map process_of o ≡ Some f.process.now → f.span < length ss
+    by : (o : Option Shown) → slice_get ss f.span ≡ o → option_map process_of o ≡ Some f.process.now → f.span < length ss
     by None at e = absurd (cc (e))
     by (Some s) at e = slice_get_within ss f.span s at
 
-pub first_tree : (ss : List AdjustedSpan) (f : FirstSpan) → IsFirst ss f → process_tree_at ss f.span ≡ process_tree f.process.now
+pub first_tree : (ss : List Shown) (f : FirstSpan) → IsFirst ss f → process_tree_at ss f.span ≡ process_tree f.process.now
 first_tree ss f is = by (slice_get ss f.span) refl is
   where
-    by : (o : Option AdjustedSpan) → slice_get ss f.span ≡ o → option_map process_of o ≡ Some f.process.now → process_tree_at ss f.span ≡ process_tree f.process.now
+    by : (o : Option Shown) → slice_get ss f.span ≡ o → option_map process_of o ≡ Some f.process.now → process_tree_at ss f.span ≡ process_tree f.process.now
     by None at e = absurd (cc (e))
     by (Some s) at e =
         let own : process_of s ≡ f.process.now = cc (e) in
@@ -79,7 +79,7 @@ keyed_insert (x ∷ es) k p e h = by (cmp k x.0) refl (keyed_insert es k p e h.1
     by Greater is rest = (h.0, rest)
 
 -- the map's insert is the object's
-pub named_insert : (ss : List AdjustedSpan) (es : List Entry) (k : Bor (List ℕ)) (p : NamedProcess) → k.now ≡ name_of p → AreKeyed es
+pub named_insert : (ss : List Shown) (es : List Entry) (k : Bor (List ℕ)) (p : NamedProcess) → k.now ≡ name_of p → AreKeyed es
     → members_of ss (insert_entry cmp es k p) ≡ put (name_of p) (process_tree_at ss p.span) (members_of ss es)
 named_insert ss [] k p e h = refl
 named_insert ss (x ∷ es) k p e h =

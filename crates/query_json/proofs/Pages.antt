@@ -10,7 +10,7 @@ use Rattle.json.specs.Print.{quoted}
 use Rattle.serde_json.specs.Data.{Data, null, boolean, number, string, array, object, Members, no_members, member}
 use Rattle.serde_json.specs.View.{items_of}
 use Rattle.serde_json.specs.Written.{compact_text, items_text, members_text}
-use Rattle.trace_model.specs.declared.answer.AdjustedSpan.{AdjustedSpan}
+use Rattle.trace_model.specs.declared.answer.Shown.{Shown}
 use Rattle.query_json.specs.declared.writing.page.Page.{Page}
 use Rattle.query_json.specs.declared.writing.processes.NamedProcess.{NamedProcess}
 use Rattle.query_json.specs.NamedProcesses.{name_of, named_members, named_text, process_tree_at}
@@ -128,7 +128,7 @@ pub items_rest : {X : Type 0} (f : X → Data) (xs : List X) → rest_text (λ x
 items_rest f [] = refl
 items_rest f (x ∷ xs) = ap (λ (l : List ℕ). 44 ∷ (compact_text (f x) ++ l)) (items_rest f xs)
 
-pub members_rest : (ss : List AdjustedSpan) (ps : List NamedProcess) → rest_text (named_text ss) 125 ps ≡ members_text true (named_members ss ps)
+pub members_rest : (ss : List Shown) (ps : List NamedProcess) → rest_text (named_text ss) 125 ps ≡ members_text true (named_members ss ps)
 members_rest ss [] = refl
 members_rest ss (p ∷ ps) =
     let tree : List ℕ = compact_text (process_tree_at ss p.span) in

@@ -4,7 +4,7 @@ use Rattle.std.specs.Prelude.{Option, Some, None, option_and_then, slice_get, if
 use Rattle.std.proofs.lemmas.List.{get_or-map, map_push, take_more}
 use Rattle.std.proofs.lemmas.Option.{get_or_from_slice_get, slice_get_cases, slice_get_within}
 use Rattle.jaeger_model.specs.declared.placed.Placed.{Placed}
-use Rattle.trace_model.specs.declared.answer.AdjustedSpan.{AdjustedSpan}
+use Rattle.trace_model.specs.declared.answer.Shown.{Shown}
 use Rattle.trace_model.specs.Adjusting.{spans_of}
 use Rattle.trace_model.specs.SharedProcesses.{ShareProcesses}
 use Rattle.query_json.specs.ProcessNames.{among, place}
@@ -13,9 +13,9 @@ use Rattle.query_json.specs.Trees.{processes_of}
 use Rattle.query_json.specs.TraceProcesses.{process_place}
 use Rattle.query_json.proofs.DistinctProcesses.{added_known, among_itself, among_stays, processes_more}
 
-module _ (spans : List AdjustedSpan) (keys : List ℕ) (i : ℕ) (s : AdjustedSpan) (key : Option ℕ) (next : ComesNext spans keys i s key) where
+module _ (spans : List Shown) (keys : List ℕ) (i : ℕ) (s : Shown) (key : Option ℕ) (next : ComesNext spans keys i s key) where
   process_there : (d : Placed) → (get_or (spans_of spans) i d).process ≡ s.placed.process
-  process_there d = ap (λ (p : Placed). p.process) (get_or-map (λ (x : AdjustedSpan). x.placed) spans i s d next.within ∙ ap (λ (x : AdjustedSpan). x.placed) (sym next.is))
+  process_there d = ap (λ (p : Placed). p.process) (get_or-map (λ (x : Shown). x.placed) spans i s d next.within ∙ ap (λ (x : Shown). x.placed) (sym next.is))
 
   pub one_more : take (i + 1) spans ≡ take i spans ++ s ∷ []
   one_more = take_more spans i s next.within ∙ ap (λ y. take i spans ++ y ∷ []) (sym next.is)
@@ -27,7 +27,7 @@ module _ (spans : List AdjustedSpan) (keys : List ℕ) (i : ℕ) (s : AdjustedSp
     stands = k.stands;
     counted = λ d.
         let p = (get_or (spans_of spans) k.index d).process in
-        ap (λ (l : List AdjustedSpan). among p (processes_of l)) one_more ∙ ap (among p) (processes_more (processes_of (take i spans)) (take i spans) s refl)
+        ap (λ (l : List Shown). among p (processes_of l)) one_more ∙ ap (among p) (processes_more (processes_of (take i spans)) (take i spans) s refl)
         ∙ among_stays p s.placed.process (processes_of (take i spans)) (k.counted d);
     place = k.place;
   }
@@ -47,7 +47,7 @@ module _ (spans : List AdjustedSpan) (keys : List ℕ) (i : ℕ) (s : AdjustedSp
         before = omega arith;
         stands = sym at;
         counted = λ d.
-            ap (λ p. among p (processes_of (take (i + 1) spans))) (process_there d) ∙ ap (λ (l : List AdjustedSpan). among s.placed.process (processes_of l)) one_more
+            ap (λ p. among p (processes_of (take (i + 1) spans))) (process_there d) ∙ ap (λ (l : List Shown). among s.placed.process (processes_of l)) one_more
             ∙ among_itself (take i spans) s;
         place = λ d. found ∙ ap (λ p. place p (processes_of spans)) (sym (process_there d));
       }
@@ -107,8 +107,8 @@ module _ (spans : List AdjustedSpan) (keys : List ℕ) (i : ℕ) (s : AdjustedSp
       put ∙ ap₂ (λ ps p. ps ++ p ∷ []) are found ∙ sym (map_push place_of (take i spans) s) ∙ sym (ap (map place_of) one_more)
 
 -- what follows from the span at an index
-pub come_next : (spans : List AdjustedSpan) (keys : List ℕ) (i : ℕ) (key : Option ℕ) (P : Type 0) → i < length spans → key ≡ slice_get keys i
-    → ShareProcesses (spans_of spans) keys → ((s : AdjustedSpan) → ComesNext spans keys i s key → P) → P
+pub come_next : (spans : List Shown) (keys : List ℕ) (i : ℕ) (key : Option ℕ) (P : Type 0) → i < length spans → key ≡ slice_get keys i
+    → ShareProcesses (spans_of spans) keys → ((s : Shown) → ComesNext spans keys i s key → P) → P
 come_next spans keys i key P within stands shares follows =
     ⊎_elim (λ found. follows found.0 (record { within = within; is = sym found.3; stands = stands; shares = shares }))
     (λ past. absurd (omega (arith, within, past.0))) (slice_get_cases spans i).1

@@ -3,14 +3,14 @@ use Rattle.std.proofs.Common.{◌≡◌, ◌∙◌, ◌+◌, ◌<◌, ◌^◌, �
 use Rattle.std.specs.List.{list_all}
 use Rattle.std.proofs.lemmas.Bool.{and_parts}
 use Rattle.std.proofs.lemmas.List.{get_or-map}
-use Rattle.trace_model.specs.declared.answer.AdjustedSpan.{AdjustedSpan}
+use Rattle.trace_model.specs.declared.answer.Shown.{Shown}
 use Rattle.query_json.specs.declared.writing.processes.NamedProcess.{NamedProcess}
 use Rattle.query_json.specs.LentTraces.{IsNumbered}
 use Rattle.query_json.specs.NamedProcesses.{AreNamed, first_named}
 use Rattle.query_json.specs.Trees.{processes_of}
 use Rattle.query_json.specs.TraceProcesses.{process_place}
 
-pub numbered : (ss : List AdjustedSpan) (places : List ℕ) (ps : List NamedProcess) → places ≡ map (process_place (processes_of ss)) ss
+pub numbered : (ss : List Shown) (places : List ℕ) (ps : List NamedProcess) → places ≡ map (process_place (processes_of ss)) ss
     → AreNamed ss (processes_of ss) ps → length ps + length ss < 2 ^ 62 → IsNumbered ss places ps
 numbered ss places ps at named few = record {
   places =
@@ -25,7 +25,7 @@ zeros (p ∷ ps) all zero = eqb-true p 0 (and_parts (p == 0) (list_all (λ q. q 
 zeros (p ∷ ps) all (suc k) = zeros ps (and_parts (p == 0) (list_all (λ q. q == 0) ps) all).1 k
 
 -- if the process of the first span is the only one, no place is needed
-pub one_numbered : (ss : List AdjustedSpan) (places : List ℕ) (ps : List NamedProcess) → IsNumbered ss places ps → ps ≡ first_named ∷ []
+pub one_numbered : (ss : List Shown) (places : List ℕ) (ps : List NamedProcess) → IsNumbered ss places ps → ps ≡ first_named ∷ []
     → ((k : ℕ) → get_or places k 0 ≡ 0) → IsNumbered ss [] (first_named ∷ [])
 one_numbered ss places ps known alone none = record {
   places = λ k s within is. sym (none k) ∙ known.places k s within is;

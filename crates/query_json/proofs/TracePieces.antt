@@ -6,7 +6,7 @@ use Rattle.std.proofs.lemmas.List.{get_or-append_right, get_or-map, get_or_appen
 use Rattle.json.specs.Print.{escape_byte, quoted}
 use Rattle.serde_json.specs.Data.{Data, object, string}
 use Rattle.serde_json.specs.Written.{compact_text}
-use Rattle.trace_model.specs.declared.answer.AdjustedSpan.{AdjustedSpan}
+use Rattle.trace_model.specs.declared.answer.Shown.{Shown}
 use Rattle.query_json.specs.declared.writing.processes.NamedProcess.{NamedProcess}
 use Rattle.query_json.specs.NamedProcesses.{AreNamed, name_of, named_members, named_text, process_tree_at}
 use Rattle.query_json.specs.Runs.{joined, separator}
@@ -34,7 +34,7 @@ list_pieces f (x ∷ xs) =
     (append_assoc (compact_text (f x)) (joined (map (λ u. 44 ∷ u) texts)) (93 ∷ [])
     ∙ ap (λ (l : List ℕ). compact_text (f x) ++ l) (wrapped texts 93 ∙ rest_of_texts (λ y. compact_text (f y)) 93 xs ∙ items_rest f xs))
 
-object_pieces : (ss : List AdjustedSpan) (ps : List NamedProcess)
+object_pieces : (ss : List Shown) (ps : List NamedProcess)
     → 123 ∷ (joined (with_commas (map (named_text ss) ps)) ++ 125 ∷ []) ≡ compact_text (object (named_members ss ps))
 object_pieces ss [] = refl
 object_pieces ss (p ∷ ps) =
@@ -95,13 +95,13 @@ joined_parts : (ts : List (List ℕ)) (rest : List (List ℕ)) → joined (ts ++
 joined_parts [] rest = refl
 joined_parts (t ∷ ts) rest = ap (λ (l : List ℕ). t ++ l) (joined_parts ts rest) ∙ sym (append_assoc t (joined ts) (joined rest))
 
-tree_text : (ss : List AdjustedSpan) → tail_of
+tree_text : (ss : List Shown) → tail_of
     ((((before_processes ++ compact_text (processes_tree (processes_of ss))) ++ before_spans) ++ compact_text (list (map (span_tree (processes_of ss)) ss))))
     (compact_text (string (trace_id_text ss))) ++ 125 ∷ [] ≡ compact_text (trace_tree ss)
 unfolding escape_byte
 tree_text ss = put_tree-text (trace_tree ss)
 
-pub trace_text : (ss : List AdjustedSpan) (ps : List NamedProcess) → AreNamed ss (processes_of ss) ps → joined (pieces_of ps ss) ≡ compact_text (trace_tree ss)
+pub trace_text : (ss : List Shown) (ps : List NamedProcess) → AreNamed ss (processes_of ss) ps → joined (pieces_of ps ss) ≡ compact_text (trace_tree ss)
 trace_text ss ps named =
     let p : List ℕ = joined (with_commas (map (named_text ss) ps)) in
     let s : List ℕ = joined (with_commas (map (span_text_in ss) ss)) in

@@ -5,7 +5,7 @@ use Rattle.json.specs.Print.{quoted}
 use Rattle.serde_json.specs.Data.{Data, Members, no_members, member, null}
 use Rattle.serde_json.specs.Written.{compact_text}
 use Rattle.jaeger_model.specs.declared.batch.Process.{Process}
-use Rattle.trace_model.specs.declared.answer.AdjustedSpan.{AdjustedSpan}
+use Rattle.trace_model.specs.declared.answer.Shown.{Shown}
 use Rattle.query_json.specs.declared.writing.processes.NamedProcess.{NamedProcess}
 use Rattle.query_json.specs.Trees.{named, process_of, process_tree}
 
@@ -17,27 +17,27 @@ abbrev pub first_named : NamedProcess
 first_named = record { number = 1; span = 0 }
 
 -- the tree of the process of a span
-abbrev pub shown_process_tree : AdjustedSpan → Data
+abbrev pub shown_process_tree : Shown → Data
 shown_process_tree s = process_tree (process_of s)
 
 -- the tree of the process of the span at the index
-abbrev pub process_tree_at : List AdjustedSpan → ℕ → Data
+abbrev pub process_tree_at : List Shown → ℕ → Data
 process_tree_at spans k = get_or (map shown_process_tree spans) k null
 
 -- the members of an object of these, in their order
-abbrev pub named_members : List AdjustedSpan → List NamedProcess → Members
+abbrev pub named_members : List Shown → List NamedProcess → Members
 named_members spans [] = no_members
 named_members spans (p ∷ ps) = member (name_of p) (process_tree_at spans p.span) (named_members spans ps)
 
 -- one of them as the member of an object
-abbrev pub named_text : List AdjustedSpan → NamedProcess → List ℕ
+abbrev pub named_text : List Shown → NamedProcess → List ℕ
 named_text spans p = quoted (name_of p) ++ 58 ∷ compact_text (process_tree_at spans p.span)
 
 -- one of the spans has it
-abbrev pub HasSpan : List AdjustedSpan → NamedProcess → Type 0
+abbrev pub HasSpan : List Shown → NamedProcess → Type 0
 HasSpan spans p = p.span < length spans
 
 -- the processes, each once, in the order of their names
-pub record AreNamed (spans : List AdjustedSpan) (processes : List Process) (ps : List NamedProcess) : Type 0 where
+pub record AreNamed (spans : List Shown) (processes : List Process) (ps : List NamedProcess) : Type 0 where
   pub have_spans : All (HasSpan spans) ps
   pub members : named_members spans ps ≡ named 0 processes no_members

@@ -3,7 +3,7 @@ use Rattle.std.specs.Prelude.{◌≡◌, ℕ, List, map, Option, Some, None, opt
 use Rattle.std.specs.Ordering.{on}
 use Rattle.std.specs.BTreeMap.{get}
 use Rattle.jaeger_model.specs.declared.batch.Process.{Process}
-use Rattle.trace_model.specs.declared.answer.AdjustedSpan.{AdjustedSpan}
+use Rattle.trace_model.specs.declared.answer.Shown.{Shown}
 use Rattle.jaeger_model.specs.declared.process_order.ByContent.{ByContent}
 use Rattle.query_json.specs.declared.naming.FirstSpan.{FirstSpan}
 use Rattle.query_json.specs.declared.naming.Numbering.{Numbering}
@@ -19,7 +19,7 @@ abbrev pub numbered : Numbering → List Process
 numbered n = map first_process n.processes.items
 
 -- its process is that of the span at its index
-abbrev pub IsFirst : List AdjustedSpan → FirstSpan → Type 0
+abbrev pub IsFirst : List Shown → FirstSpan → Type 0
 IsFirst spans f = option_map process_of (slice_get spans f.span) ≡ Some f.process.now
 
 -- the place of p if it is among ps

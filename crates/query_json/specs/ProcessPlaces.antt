@@ -3,7 +3,7 @@ use Rattle.std.specs.Prelude.{◌≡◌, ◌==◌, ℕ, ◌+◌, ◌<◌, true, 
 use Rattle.std.specs.Ordering.{nat_cmp}
 use Rattle.std.specs.BTreeMap.{get}
 use Rattle.jaeger_model.specs.declared.placed.Placed.{Placed}
-use Rattle.trace_model.specs.declared.answer.AdjustedSpan.{AdjustedSpan}
+use Rattle.trace_model.specs.declared.answer.Shown.{Shown}
 use Rattle.trace_model.specs.Adjusting.{spans_of}
 use Rattle.trace_model.specs.SharedProcesses.{ShareProcesses}
 use Rattle.query_json.specs.declared.naming.Placing.{Placing}
@@ -18,7 +18,7 @@ kept_under None number old key = old key
 kept_under (Some own) number old key = if own == key then Some number else old key
 
 -- the number is the place of the process of one of the first spans, which has that key
-pub record IsKnown (spans : List AdjustedSpan) (keys : List ℕ) (i key number : ℕ) : Type 0 where
+pub record IsKnown (spans : List Shown) (keys : List ℕ) (i key number : ℕ) : Type 0 where
   pub index : ℕ
   pub before : index < i
   pub stands : slice_get keys index ≡ Some key
@@ -26,11 +26,11 @@ pub record IsKnown (spans : List AdjustedSpan) (keys : List ℕ) (i key number :
   pub place : (d : Placed) → number ≡ place (get_or (spans_of spans) index d).process (processes_of spans)
 
 -- whatever the map has for a key
-abbrev pub AreKnown : List AdjustedSpan → List ℕ → ℕ → (ℕ → Option ℕ) → Type 0
+abbrev pub AreKnown : List Shown → List ℕ → ℕ → (ℕ → Option ℕ) → Type 0
 AreKnown spans keys i known = (key number : ℕ) → known key ≡ Some number → IsKnown spans keys i key number
 
 -- n of the spans have been added
-pub record HasPlaces (spans : List AdjustedSpan) (keys : List ℕ) (i : ℕ) (p : Placing) : Type 0 where
+pub record HasPlaces (spans : List Shown) (keys : List ℕ) (i : ℕ) (p : Placing) : Type 0 where
   pub by_place : IsByPlace p.numbering
   pub processes : numbered p.numbering ≡ processes_of (take i spans)
   pub firsts : All (IsFirst spans) p.numbering.processes.items
@@ -38,7 +38,7 @@ pub record HasPlaces (spans : List AdjustedSpan) (keys : List ℕ) (i : ℕ) (p 
   pub known : AreKnown spans keys i (get nat_cmp p.known)
 
 -- the process of s, the span after n others, has been added, and this is its place
-pub record HasPlace (spans : List AdjustedSpan) (keys : List ℕ) (i : ℕ) (s : AdjustedSpan) (p : Placing) (number : ℕ) : Type 0 where
+pub record HasPlace (spans : List Shown) (keys : List ℕ) (i : ℕ) (s : Shown) (p : Placing) (number : ℕ) : Type 0 where
   pub by_place : IsByPlace p.numbering
   pub processes : numbered p.numbering ≡ processes_of (take (i + 1) spans)
   pub firsts : All (IsFirst spans) p.numbering.processes.items
@@ -46,7 +46,7 @@ pub record HasPlace (spans : List AdjustedSpan) (keys : List ℕ) (i : ℕ) (s :
   pub place : number ≡ process_place (processes_of spans) s
 
 -- s is the span at the index, and this is its key
-pub record ComesNext (spans : List AdjustedSpan) (keys : List ℕ) (i : ℕ) (s : AdjustedSpan) (key : Option ℕ) : Type 0 where
+pub record ComesNext (spans : List Shown) (keys : List ℕ) (i : ℕ) (s : Shown) (key : Option ℕ) : Type 0 where
   pub within : i < length spans
   pub is : s ≡ get_or spans i s
   pub stands : key ≡ slice_get keys i

@@ -2,14 +2,14 @@
 use Rattle.std.specs.Prelude.{ℕ, List, [], ◌∷◌, ◌++◌, codes, map, string_bytes}
 use Rattle.serde_json.specs.Data.{Data, string}
 use Rattle.serde_json.specs.Written.{compact_text}
-use Rattle.trace_model.specs.declared.answer.AdjustedSpan.{AdjustedSpan}
+use Rattle.trace_model.specs.declared.answer.Shown.{Shown}
 use Rattle.query_json.specs.declared.writing.processes.NamedProcess.{NamedProcess}
 use Rattle.query_json.specs.declared.writing.trace.TraceItem.{TraceItem}
 use Rattle.query_json.specs.declared.writing.trace.TraceItem.TheVariants.{Lent, Made, One}
 use Rattle.query_json.specs.NamedProcesses.{first_named, named_text}
 use Rattle.query_json.specs.Trees.{processes_of, span_tree, trace_id_text, trace_tree}
 
-abbrev pub item_spans : TraceItem → List AdjustedSpan
+abbrev pub item_spans : TraceItem → List Shown
 item_spans (One spans) = spans
 item_spans (Lent t) = t.value.spans
 item_spans (Made t) = t.spans.value
@@ -29,19 +29,19 @@ open_text = 123 ∷ 34 ∷ (codes "processes" ++ 34 ∷ 58 ∷ 123 ∷ [])
 abbrev pub between_text : List ℕ
 between_text = 125 ∷ 44 ∷ 34 ∷ (codes "spans" ++ 34 ∷ 58 ∷ 91 ∷ [])
 
-abbrev pub close_text : List AdjustedSpan → List ℕ
+abbrev pub close_text : List Shown → List ℕ
 close_text ss =
     ((((93 ∷ 44 ∷ 34 ∷ (codes "traceID" ++ 34 ∷ 58 ∷ [])) ++ compact_text (string (trace_id_text ss))) ++ (44 ∷ 34 ∷ (codes "warnings" ++ 34 ∷ 58 ∷ [])))
     ++ codes "null") ++ 125 ∷ []
 
-abbrev pub span_text_in : List AdjustedSpan → AdjustedSpan → List ℕ
+abbrev pub span_text_in : List Shown → Shown → List ℕ
 span_text_in ss s = compact_text (span_tree (processes_of ss) s)
 
 -- the text after the processes
-abbrev pub span_pieces : List AdjustedSpan → List (List ℕ)
+abbrev pub span_pieces : List Shown → List (List ℕ)
 span_pieces ss = between_text ∷ (with_commas (map (span_text_in ss) ss) ++ close_text ss ∷ [])
 
-abbrev pub pieces_of : List NamedProcess → List AdjustedSpan → List (List ℕ)
+abbrev pub pieces_of : List NamedProcess → List Shown → List (List ℕ)
 pieces_of ps ss = open_text ∷ (with_commas (map (named_text ss) ps) ++ span_pieces ss)
 
 abbrev pub trace_pieces : TraceItem → List (List ℕ)

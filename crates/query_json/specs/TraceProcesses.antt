@@ -2,7 +2,7 @@
 use Rattle.std.specs.Prelude.{ℕ, List, map}
 use Rattle.std.specs.List.{range_with_len}
 use Rattle.jaeger_model.specs.declared.batch.Process.{Process}
-use Rattle.trace_model.specs.declared.answer.AdjustedSpan.{AdjustedSpan}
+use Rattle.trace_model.specs.declared.answer.Shown.{Shown}
 use Rattle.query_json.specs.ProcessNames.{place, process_name}
 use Rattle.query_json.specs.Trees.{process_of}
 
@@ -11,5 +11,5 @@ abbrev pub process_names : ℕ → List (List ℕ)
 process_names n = map process_name (range_with_len 0 n)
 
 -- the number of a span's process among these, counted from 0
-abbrev pub process_place : List Process → AdjustedSpan → ℕ
+abbrev pub process_place : List Process → Shown → ℕ
 process_place ps s = place (process_of s) ps

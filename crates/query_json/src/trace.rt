@@ -13,7 +13,7 @@ use jaeger_model::{Text, span_text, trace_text};
 use serde_json::{Map, Value, json, put};
 use std::alloc::{AllocError, Global};
 use trace_adjust::show;
-use trace_model::{AdjustedSpan, AdjustedTrace, AnsweredTrace, TraceForm};
+use trace_model::{AnsweredTrace, Shown, ShownTrace, TraceForm};
 
 /// Returns a list of texts, or null if there are none.
 fn warnings_json(alloc: Global, warnings: &[Text]) -> Result<Value, AllocError>
@@ -26,7 +26,7 @@ fn warnings_json(alloc: Global, warnings: &[Text]) -> Result<Value, AllocError>
 }
 
 /// Returns the tree of a span whose process has this name.
-fn span_json(alloc: Global, process: &str, shown: &AdjustedSpan) -> Result<Value, AllocError>
+fn span_json(alloc: Global, process: &str, shown: &Shown) -> Result<Value, AllocError>
     ensures { (ps : List ProcessValue) →
         process.now ≡ process_name (process_place ps shown.now) →
         IfOk result (λ v. view v ≡ span_tree ps shown.now) }
@@ -58,7 +58,7 @@ fn spans_json(
     alloc: Global,
     names: &[String],
     places: &[u32],
-    spans: &[AdjustedSpan],
+    spans: &[Shown],
 ) -> Result<Value, AllocError>
     requires names { map string_bytes names.now ≡ process_names (length (processes_of spans.now)) }
     requires count { length names.now ≡ length (processes_of spans.now) }
@@ -92,7 +92,7 @@ fn processes_json(alloc: Global, processes: &[FirstSpan]) -> Result<Value, Alloc
 }
 
 /// Returns the id of a trace, that of its first span.
-pub(crate) fn trace_id_text(alloc: Global, spans: &[AdjustedSpan]) -> Result<String, AllocError>
+pub(crate) fn trace_id_text(alloc: Global, spans: &[Shown]) -> Result<String, AllocError>
     ensures { IfOk result (λ s. string_bytes s ≡ trace_id_text spans.now) }
 {
     match spans.first() {
@@ -113,7 +113,7 @@ fn trace_json(
 }
 
 /// The tree of a trace: its spans in order, and their processes by the names that the spans use.
-impl Tree for AdjustedTrace {
+impl Tree for ShownTrace {
     ghost tree = { trace_tree };
 
     fn to_json(&self, alloc: Global) -> Result<Value, AllocError> {

@@ -3,11 +3,11 @@ use Rattle.std.proofs.Common.{◌≡◌, List, [], ◌++◌, Option, Some, refl,
 use Rattle.std.specs.Option.{IsSome}
 use Rattle.logbook.specs.Pages.{Book}
 use Rattle.trace_model.specs.declared.entry.Entry.{Entry}
-use Rattle.read_side.specs.Copies.{Post, Follow, entries_of}
+use Rattle.read_side.specs.Copies.{AddedEntry, Follow, entries_of}
 use Rattle.read_side.specs.Keepers.{of_option}
 
-module _ {W : Type 0} (book : Book) (shown : W → List Entry) (waits : W → List (Option Post)) (before after : Option W) (old new : W)
-    (unsent : List (Option Post)) (entries : List Entry)
+module _ {W : Type 0} (book : Book) (shown : W → List Entry) (waits : W → List (Option AddedEntry)) (before after : Option W) (old new : W)
+    (unsent : List (Option AddedEntry)) (entries : List Entry)
     (was : before ≡ Some old) (is : after ≡ Some new) (same : shown new ≡ shown old) where
   pub has_writer : IsSome after
   has_writer = subst IsSome (sym is) refl

@@ -12,7 +12,7 @@
 //! * `store_copy`: one copy of the store, and what a publish changes in it.
 //! * `rule`: the invariant of the copies and of their readers.
 //! * `prefix`: the [`HistoryPrefix`]. `keeper`: the [`Keeper`]. `receipt`: the [`Receipt`].
-//! * `visitor`: what one reader knows, and how it enters and leaves a copy. `pass`: the [`Pass`]. `held`: the
+//! * `reader_state`: what one reader knows, and how it enters and leaves a copy. `pass`: the [`Pass`]. `held`: the
 //!   [`Held`].
 //! * `opening`: [`open`]. `laws`: what follows from the clauses.
 #![tactic(auto)]
@@ -25,10 +25,10 @@ pub mod laws;
 mod opening;
 mod pass;
 mod prefix;
+mod reader_state;
 mod receipt;
 mod rule;
 mod store_copy;
-mod visitor;
 
 pub use counted_log::{CountedLog, EmptyLog};
 pub use held::Held;

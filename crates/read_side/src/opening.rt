@@ -6,10 +6,10 @@ ghost use Rattle.read_side.specs.Passes.{new_pass};
 
 use crate::counted_log::CountedLog;
 use crate::history::{EmptyHistory, StoreName};
-use crate::keeper::{Copies, Keeper};
+use crate::keeper::{CopyWriter, Keeper};
 use crate::pass::Pass;
+use crate::reader_state::ReaderState;
 use crate::store_copy::StoreCopy;
-use crate::visitor::Visitor;
 use arrival_journal::Journal;
 use left_right::writer::Writer;
 use span_store::SpanStore;
@@ -26,7 +26,7 @@ fn without_memory<T: Drop, R>(made: T) -> Result<R, Refusal>
     Err(Refusal::NoMemory)
 }
 
-/// Opens an empty store under a name, which is consumed, for 1 to 64 readers. The keys are those of the hash by
+/// Opens an empty store over this history, which `N` names, for 1 to 64 readers. The keys are those of the hash by
 /// which it finds traces.
 ///
 /// # Errors
@@ -36,41 +36,41 @@ pub fn open<N: StoreName, R: Wait>(
     rt: &R,
     alloc: Global,
     keys: RandomState,
-    name: EmptyHistory,
+    history: EmptyHistory,
     limits: Limits,
     readers: usize,
 ) -> Result<(Keeper<N>, Vec<Pass<N>>), Refusal>
     requires readers { (1 ≤ readers) × (readers ≤ 64) }
-    requires book { name.seen.book ≡ N.book }
+    requires book { history.seen.book ≡ N.book }
     requires limits { limits ≡ N.limits }
     ensures keeper { IfOk result (λ r. r.0 ≡ no_entries) }
     ensures passes { IfOk result (λ r. All (λ p. p ≡ new_pass) r.1.items) }
     ensures count { IfOk result (λ r. length r.1.items ≡ readers) }
     ensures reason { IfErr result (λ why. why ≡ NoMemory) }
 {
-    let history = CountedLog::new(name);
+    let log = CountedLog::new(history);
     let mut passes = Vec::with_capacity(alloc, readers)?;
     let Ok(journal) = Journal::without_outlines(alloc, keys, limits) else {
-        return without_memory((history, passes));
+        return without_memory((log, passes));
     };
     let Ok(first) = SpanStore::open(alloc, keys, limits) else {
-        return without_memory((history, passes, journal));
+        return without_memory((log, passes, journal));
     };
-    let first = StoreCopy::new(first, history.seen());
+    let first = StoreCopy::new(first, log.seen());
     let Ok(second) = SpanStore::open(alloc, keys, limits) else {
-        return without_memory((history, passes, journal, first));
+        return without_memory((log, passes, journal, first));
     };
-    let second = StoreCopy::new(second, history.seen());
-    let Ok(writer): Result<Copies<N>, _> = Writer::new(alloc, first, second, readers) else {
-        return without_memory((history, passes, journal));
+    let second = StoreCopy::new(second, log.seen());
+    let Ok(writer): Result<CopyWriter<N>, _> = Writer::new(alloc, first, second, readers) else {
+        return without_memory((log, passes, journal));
     };
     for _made in 0..readers {
         let Ok(entrance) = writer.factory().reader() else {
             writer.take(rt);
-            return without_memory((history, passes, journal));
+            return without_memory((log, passes, journal));
         };
-        let pass = Pass::new(Visitor::new(entrance, history.seen()));
+        let pass = Pass::new(ReaderState::new(entrance, log.seen()));
         passes.push_reserved(pass);
     }
-    Ok((Keeper::new(alloc, writer, journal, history), passes))
+    Ok((Keeper::new(alloc, writer, journal, log), passes))
 }

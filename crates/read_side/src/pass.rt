@@ -11,8 +11,8 @@ ghost use Rattle.read_side.specs.contracts.pass.Pass.{the_row};
 use crate::held::Held;
 use crate::history::StoreName;
 use crate::prefix::HistoryPrefix;
+use crate::reader_state::{CopyReading, ReaderState};
 use crate::receipt::Receipt;
-use crate::visitor::{Inside, Visitor};
 use span_store::Collected;
 use std::marker::Model;
 use std::mem;
@@ -55,9 +55,9 @@ impl<'q> Collection<'q> {
 /// has learnt), and whether it is inside. No call shortens the longest. After each call it is outside, except for
 /// one that returns a [`Held`].
 pub struct Pass<N: StoreName> {
-    visitor: Visitor<N>,
+    reader: ReaderState<N>,
     /// The copy that a [`Held`] is inside.
-    inside: Option<Inside<N>>,
+    inside: Option<CopyReading<N>>,
 }
 
 impl<N: StoreName> Model for Pass<N> {
@@ -67,20 +67,17 @@ impl<N: StoreName> Model for Pass<N> {
 
     ghost Value = { PassValue };
 
-    ghost view = { λ p. with_inside p.visitor (is_some p.inside) };
+    ghost view = { λ p. with_inside p.reader (is_some p.inside) };
 
-    ghost invariant = { λ p. IfSome p.inside (λ i. (i.part.value.entries ≡ p.visitor.known)
-        × (i.part.value.limits ≡ N.limits) × (view_at i.place ≡ p.visitor.known)) };
+    ghost invariant = { λ p. IfSome p.inside (λ i. (i.part.value.entries ≡ p.reader.known)
+        × (i.part.value.limits ≡ N.limits) × (view_at i.place ≡ p.reader.known)) };
 }
 
 impl<N: StoreName> Drop for Pass<N> {
     fn drop(self) {
-        let Pass {
-            mut visitor,
-            inside,
-        } = self;
+        let Pass { mut reader, inside } = self;
         if let Some(inside) = inside {
-            visitor.leave(inside);
+            reader.leave(inside);
         }
     }
 }
@@ -89,11 +86,11 @@ impl<N: StoreName> Pass<N> {
     ghost use Rattle.read_side.specs.HeldPasses.{pass_of, list_of, IsInside};
 
     /// Makes a pass that knows only the empty list.
-    pub(crate) fn new(visitor: Visitor<N>) -> Pass<N>
-        ensures { result ≡ with_inside visitor false }
+    pub(crate) fn new(reader: ReaderState<N>) -> Pass<N>
+        ensures { result ≡ with_inside reader false }
     {
         Pass {
-            visitor,
+            reader,
             inside: None,
         }
     }
@@ -102,7 +99,7 @@ impl<N: StoreName> Pass<N> {
     pub fn front(&self) -> u64
         ensures { result ≡ length self.now.known }
     {
-        self.visitor.front()
+        self.reader.front()
     }
 
     /// Returns the longest list that it knows, as a prefix of the store's history. After a read that is the list of
@@ -110,7 +107,7 @@ impl<N: StoreName> Pass<N> {
     pub fn history(&self) -> HistoryPrefix<N>
         ensures { result ≡ self.now.known }
     {
-        self.visitor.history()
+        self.reader.history()
     }
 
     /// Learns a receipt: the pass knows its list from then on.
@@ -123,7 +120,7 @@ impl<N: StoreName> Pass<N> {
         ensures outside { self.new.is_inside ≡ false }
     {
         self.leave();
-        self.visitor.learn(receipt);
+        self.reader.learn(receipt);
     }
 
     /// Enters the published list, of which all that the pass knows is a prefix, and stays inside: until the
@@ -207,7 +204,7 @@ impl<N: StoreName> Pass<N> {
             (self.new.known ≡ self.old.known) ⊎ (self.new.known ≡ receipt.now.entries) }
         ensures outside { self.new.is_inside ≡ false }
     {
-        let front = self.visitor.front();
+        let front = self.reader.front();
         self.learn(receipt);
         if !self.enter() {
             return Err(Refusal::Gone);
@@ -229,7 +226,7 @@ impl<N: StoreName> Pass<N> {
         ensures legal { IsTrue result → IsLegal N.limits self.new.known }
     {
         self.leave();
-        let Some(inside) = self.visitor.enter() else {
+        let Some(inside) = self.reader.enter() else {
             return false;
         };
         // It can't be dropped, so what it replaces is matched: nothing.
@@ -245,7 +242,7 @@ impl<N: StoreName> Pass<N> {
         ensures { self.new ≡ come_out self.old }
     {
         if let Some(inside) = self.inside.take() {
-            self.visitor.leave(inside);
+            self.reader.leave(inside);
         }
     }
 

@@ -39,9 +39,9 @@ pub struct Change {
 
 impl Model for Change {
     ghost use Rattle.std.specs.Prelude.{Option, option_map};
-    ghost use Rattle.read_side.specs.Copies.{Post};
+    ghost use Rattle.read_side.specs.Copies.{AddedEntry};
 
-    ghost Value = { Option Post };
+    ghost Value = { Option AddedEntry };
 
     ghost view = { λ c. option_map (λ e. record { entry = e; log = c.seen.log; book = c.seen.book }) c.entry };
 }

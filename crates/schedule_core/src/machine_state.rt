@@ -123,10 +123,10 @@ impl MachineState {
         ensures { record { outcome = result; machine = self.new } ≡
             by_reader self.old reader (λ r. enters self.old reader r.inside) }
     {
-        let Some(place) = self.readers.get(reader) else {
+        let Some(state) = self.readers.get(reader) else {
             return Outcome::Unknown;
         };
-        if place.inside.is_some() {
+        if state.inside.is_some() {
             return Outcome::Inside;
         }
         let front = self.copies.front();
@@ -148,10 +148,10 @@ impl MachineState {
         ensures { IfOk result (λ o. stays self.now o ≡
             by_reader self.now reader (λ r. reads self.now query.now r.inside)) }
     {
-        let Some(place) = self.readers.get(reader) else {
+        let Some(state) = self.readers.get(reader) else {
             return Ok(Outcome::Unknown);
         };
-        let Some(inside) = place.inside else {
+        let Some(inside) = state.inside else {
             return Ok(Outcome::Outside);
         };
         let answer = answer_inside(&self.copies, self.publishes(), inside, query)?;
@@ -173,16 +173,16 @@ impl MachineState {
         ensures { record { outcome = result; machine = self.new } ≡
             stepped self.old (Learn reader publish) }
     {
-        let Some(place) = self.readers.get(reader) else {
+        let Some(state) = self.readers.get(reader) else {
             return Outcome::Unknown;
         };
         let Some(front) = self.front_of(publish) else {
             return Outcome::Unknown;
         };
-        if place.inside.is_some() {
+        if state.inside.is_some() {
             return Outcome::Inside;
         }
-        let seen = place.seen.max(front);
+        let seen = state.seen.max(front);
         self.readers.set(reader, ReaderState { seen, inside: None });
         Outcome::Learnt { front: seen }
     }
@@ -191,16 +191,16 @@ impl MachineState {
         ensures { record { outcome = result; machine = self.new } ≡
             stepped self.old (Leave reader) }
     {
-        let Some(place) = self.readers.get(reader) else {
+        let Some(state) = self.readers.get(reader) else {
             return Outcome::Unknown;
         };
-        if place.inside.is_none() {
+        if state.inside.is_none() {
             return Outcome::Outside;
         }
         self.readers.set(
             reader,
             ReaderState {
-                seen: place.seen,
+                seen: state.seen,
                 inside: None,
             },
         );

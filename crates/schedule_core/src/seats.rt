@@ -11,7 +11,7 @@ use std::sync::Arc;
 use trace_model::{Entry, Work};
 
 /// The number of seats.
-const SEATS: usize = 64;
+const MAX_SEATS: usize = 64;
 
 /// The jobs that wait, and the last number of each seat.
 #[derive(Drop)]
@@ -45,7 +45,7 @@ impl Seats {
         Ok(Seats {
             alloc,
             waiting: VecDeque::new(alloc),
-            numbers: vec![in alloc; 0u64; SEATS]?,
+            numbers: vec![in alloc; 0u64; MAX_SEATS]?,
         })
     }
 

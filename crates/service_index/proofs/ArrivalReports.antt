@@ -31,7 +31,7 @@ use Rattle.service_index.specs.ServicePlaces.{reporters, service_at, service_num
 use Rattle.trace_model.proofs.LastEntries.{last_of}
 use Rattle.service_index.proofs.ServiceNumbers.{as_many_reporters, service_number_known}
 use Rattle.service_index.specs.ArrivalNumbers.{AreOf}
-use Rattle.service_index.specs.KeptNames.{reports, reported_at, names_of, reports_service}
+use Rattle.service_index.specs.KeptNames.{reports, reported_at, names_of_arrivals, reports_service}
 use Rattle.service_index.specs.ArrivalServices.{arrival_number, numbers_keyed}
 use Rattle.service_index.proofs.NumbersOfEntry.{arrivals_push}
 
@@ -85,7 +85,7 @@ reported_still h e n below =
     ap (λ ls. get_or ls n (service_alone [])) (reports_push h e)
     ∙ get_or_append_left (reports h) (map listed (placed_brought e.work)) (service_alone []) n (omega arith)
 
-pub names_more : (h : List Entry) (e : Entry) → Extends (names_of h) (names_of (h ++ e ∷ []))
+pub names_more : (h : List Entry) (e : Entry) → Extends (names_of_arrivals h) (names_of_arrivals (h ++ e ∷ []))
 names_more h e =
     let l = length-append (arrivals h) (placed_brought e.work) in
     let a = ap (λ (ps : List Placed). length ps) (arrivals_push h e) in
@@ -159,19 +159,19 @@ module _ (h : List Entry) (entry_of firsts : List ℕ) (n : ℕ) (a : AreOf h en
   name_named = ap (λ (l : Listed). l.operation.name) reported_is ∙ name_came e.work index arrival ((a.at n below).within e there)
 
 -- ---- a list and its last entry
-pub extends_last : (h : List Entry) → 0 < length h → Extends (names_of (before_last h)) (names_of h)
+pub extends_last : (h : List Entry) → 0 < length h → Extends (names_of_arrivals (before_last h)) (names_of_arrivals h)
 extends_last h some =
     let last = last_of h some in
-    subst (λ (x : List Entry). Extends (names_of (before_last h)) (names_of x)) last.1 (names_more (before_last h) last.0)
+    subst (λ (x : List Entry). Extends (names_of_arrivals (before_last h)) (names_of_arrivals x)) last.1 (names_more (before_last h) last.0)
 
-pub listed_before : (h : List Entry) (index : Index) (first : ℕ) → 0 < length h → IsIndexed (names_of (before_last h)) index
-    → listing_by (names_of (before_last h)) index ≡ listed_in (arrivals (before_last h))
-    → first ≡ length (arrivals (before_last h)) → listing_by (names_of h) index ≡ sorted_set listed_cmp (take first (reports h))
+pub listed_before : (h : List Entry) (index : Index) (first : ℕ) → 0 < length h → IsIndexed (names_of_arrivals (before_last h)) index
+    → listing_by (names_of_arrivals (before_last h)) index ≡ listed_in (arrivals (before_last h))
+    → first ≡ length (arrivals (before_last h)) → listing_by (names_of_arrivals h) index ≡ sorted_set listed_cmp (take first (reports h))
 listed_before h index first some indexed so_far is =
     let last = last_of h some in
     let before = before_last h in
     let l = length-map (arrivals before) listed in
-    listing_extends (names_of before) (names_of h) index (extends_last h some) indexed ∙ so_far
+    listing_extends (names_of_arrivals before) (names_of_arrivals h) index (extends_last h some) indexed ∙ so_far
     ∙ ap (sorted_set listed_cmp) (sym
     (ap (take first) (ap reports (sym last.1) ∙ reports_push before last.0)
     ∙ take_at (reports before) (map listed (placed_brought last.0.work)) first (omega arith)))
@@ -181,10 +181,10 @@ services_reported s ps =
     any_set listed_exact (λ (l : Listed). same_text s l.service) (map listed ps) ∙ any_map (λ (l : Listed). same_text s l.service) listed ps
 
 -- ---- the number of a requested service
-pub service_numbers_asked : (h : List Entry) (s : List ℕ) → IsServiceNumberOf (names_of h) s (service_number_of h s)
+pub service_numbers_asked : (h : List Entry) (s : List ℕ) → IsServiceNumberOf (names_of_arrivals h) s (service_number_of h s)
 service_numbers_asked h s =
     elim (nat_lt (service_number_in h s) (length (reporters h))) as (λ b. nat_lt (service_number_in h s) (length (reporters h)) ≡ b
-    → IsServiceNumberOf (names_of h) s (cond b (Some (service_number_in h s)) None)) [
+    → IsServiceNumberOf (names_of_arrivals h) s (cond b (Some (service_number_in h s)) None)) [
       | true ↦ λ e n below. numbers_keyed h s (reported_at h n).service (ltb-true (service_number_in h s) (length (reporters h)) e) (arrival_number h n below)
       | false ↦ λ e n below. text_apart s (reported_at h n).service (λ one.
           let w = arrival_number h n below in

@@ -24,7 +24,7 @@ use Rattle.service_index.specs.ListedNames.{Listed, listed}
 use Rattle.service_index.specs.Labels.{IsNumberedByService, service_alone}
 use Rattle.trace_model.proofs.Lists.{is_position}
 use Rattle.service_index.specs.ServicePlaces.{reporters, service_at, service_number_in}
-use Rattle.service_index.specs.KeptNames.{reports, reported_at, names_of}
+use Rattle.service_index.specs.KeptNames.{reports, reported_at, names_of_arrivals}
 
 -- ---- the service of an arrival is one of those of the entries
 any_placed : (p : List ℕ → Bool) (b : Batch) (ss : List Span) → list_any (λ (d : Placed). p d.process.service) (map (placed b) ss) ≡ true
@@ -74,7 +74,7 @@ pub numbers_keyed : (h : List Entry) (s t : List ℕ) → service_number_in h s 
 numbers_keyed h s t a b =
     same_where (service_number_in h s) (service_number_in h t) s t (λ one. service_of_number h s a ∙ ap (service_at h) one ∙ sym (service_of_number h t b)) (ap (service_number_in h))
 
-pub names_numbered : (h : List Entry) → IsNumberedByService (names_of h)
+pub names_numbered : (h : List Entry) → IsNumberedByService (names_of_arrivals h)
 names_numbered h = record {
   same = λ n m below within. numbers_keyed h (reported_at h n).service (reported_at h m).service (arrival_number h n below) (arrival_number h m within);
 }

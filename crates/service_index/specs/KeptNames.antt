@@ -29,8 +29,8 @@ abbrev pub AreKinds : List Entry → List Kind → Type 0
 AreKinds h kinds = map kind_text kinds ≡ map (λ (l : Listed). l.operation.kind) (reports h)
 
 -- the names of the arrivals by their arrival numbers, and the numbers of their services
-abbrev pub names_of : List Entry → Names
-names_of h = record { count = length (arrivals h); at = reported_at h; service_number = λ n. service_number_in h (reported_at h n).service }
+abbrev pub names_of_arrivals : List Entry → Names
+names_of_arrivals h = record { count = length (arrivals h); at = reported_at h; service_number = λ n. service_number_in h (reported_at h n).service }
 
 -- the value of the index
 pub record KeptNames : Type 0 where
@@ -41,8 +41,8 @@ pub record KeptNames : Type 0 where
 pub record AreNamesKept (h : List Entry) (kept : KeptNames) : Type 0 where
   pub numbers : AreOf h kept.numbers.entry_of kept.numbers.firsts
   pub kinds : AreKinds h kept.numbers.kinds
-  pub indexed : IsIndexed (names_of h) kept.index
-  pub listed : listing_by (names_of h) kept.index ≡ listed_in (arrivals h)
+  pub indexed : IsIndexed (names_of_arrivals h) kept.index
+  pub listed : listing_by (names_of_arrivals h) kept.index ≡ listed_in (arrivals h)
   pub used : kept.index.used ≡ length (arrivals h)
 
 -- an arrival is of the service

@@ -139,7 +139,7 @@ impl ServiceIndex {
 
     /// Returns the number of one span of each service, in no particular order.
     /// [`sorted_names`](crate::sorted_names) sorts the services.
-    pub fn service_numbers(&self) -> &[u32]
+    pub fn one_arrival_of_each_service(&self) -> &[u32]
         ensures held { (names : Names) → IsIndexed names self.now →
             AreNumbersBelow names.count result.now }
         ensures services { (names : Names) → IsIndexed names self.now →
@@ -170,7 +170,7 @@ impl ServiceIndex {
     /// # Errors
     ///
     /// Out of memory, and nothing else.
-    pub fn operation_numbers<T: Texts>(
+    pub fn one_arrival_of_each_operation<T: Texts>(
         &self,
         texts: &T,
         service: &str,

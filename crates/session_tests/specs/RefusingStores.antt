@@ -7,10 +7,10 @@ use Rattle.trace_model.specs.declared.query.Query.{Query}
 use Rattle.trace_model.specs.declared.answer.Answer.{Answer}
 use Rattle.trace_model.specs.declared.refusal.Refusal.{Refusal}
 use Rattle.trace_model.specs.declared.refusal.Refusal.TheVariants.{JournalFull, Stale, Conflict}
-use Rattle.trace_model.specs.StoreKnowledge.{Known, reached, refused, KnowsRefusal, SubmitKnows, ReadKnows}
+use Rattle.trace_model.specs.StoreKnowledge.{KnownList, reached, refused, KnowsRefusal, SubmitKnows, ReadKnows}
 
 -- no list is reached, and every list refuses every batch
-abbrev pub KnowsNothing : {S : Type 0} → S → Known → Type 0
+abbrev pub KnowsNothing : {S : Type 0} → S → KnownList → Type 0
 KnowsNothing s (reached h) = ⊥
 KnowsNothing s (refused b why h) = Unit {0}
 

@@ -6,7 +6,7 @@ use Rattle.std.proofs.lemmas.List.{append-nil}
 use Rattle.jaeger_model.specs.declared.placed.Placed.{Placed}
 use Rattle.jaeger_model.specs.declared.span.Span.{Span}
 use Rattle.trace_model.specs.Adjusting.{unadjusted, warned, past_limit, past_times, adjusted_by, all_fit, moved, moved_placed, said_after, shifted}
-use Rattle.trace_model.specs.declared.answer.AdjustedSpan.{AdjustedSpan}
+use Rattle.trace_model.specs.declared.answer.Shown.{Shown}
 use Rattle.span_steps.specs.declared.warning.Warning.{Warning}
 use Rattle.span_steps.specs.declared.warning.Warning.TheVariants.{Adjusted, PastLimit, PastTimes}
 use Rattle.span_steps.specs.Warnings.{warning_of, warning_text, shown_by}
@@ -24,12 +24,12 @@ pub shown_is : (m : ℕ) (d : ℤ) (p : Placed) → shown_by (warning_of m d p.s
 shown_is m d p = by_tests m d p (int_eq d (pos 0)) (nat_le (nat_abs d) m) (all_fit d p.span)
 
 -- a span whose clock's delta is 0 has no warning
-pub nothing_said : (m : ℕ) (d : ℤ) (s : AdjustedSpan) (o : Option Warning) → o ≡ warning_of m d s.placed.span → o ≡ None → s ≡ said_after s (shifted m d s.placed)
+pub nothing_said : (m : ℕ) (d : ℤ) (s : Shown) (o : Option Warning) → o ≡ warning_of m d s.placed.span → o ≡ None → s ≡ said_after s (shifted m d s.placed)
 nothing_said m d s o e none =
     (λ i. record { placed = s.placed; warnings = sym (append-nil s.warnings) i })
     ∙ ap (said_after s) (ap (λ r. shown_by r s.placed) (sym none ∙ e) ∙ shown_is m d s.placed)
 
-said : (m : ℕ) (d : ℤ) (s : AdjustedSpan) (w : Warning) → Some w ≡ warning_of m d s.placed.span
+said : (m : ℕ) (d : ℤ) (s : Shown) (w : Warning) → Some w ≡ warning_of m d s.placed.span
     → said_after s (shown_by (Some w) s.placed) ≡ said_after s (shifted m d s.placed)
 said m d s w e = ap (said_after s) (ap (λ r. shown_by r s.placed) e ∙ shown_is m d s.placed)
 
@@ -38,14 +38,14 @@ unmoved (Adjusted d) p other = absurd (other d refl)
 unmoved (PastLimit d m) p other = refl
 unmoved (PastTimes d) p other = refl
 
-pub unmoved_said : (m : ℕ) (d : ℤ) (s : AdjustedSpan) (w : Warning) (warnings : List (List ℕ)) → Some w ≡ warning_of m d s.placed.span
+pub unmoved_said : (m : ℕ) (d : ℤ) (s : Shown) (w : Warning) (warnings : List (List ℕ)) → Some w ≡ warning_of m d s.placed.span
     → ((by : ℤ) → w ≡ Adjusted by → ⊥) → warnings ≡ s.warnings ++ warning_text w ∷ []
     → record { placed = s.placed; warnings = warnings } ≡ said_after s (shifted m d s.placed)
 unmoved_said m d s w warnings e other put =
     (λ i. record { placed = s.placed; warnings = put i })
     ∙ ap (said_after s) (sym (unmoved w s.placed other)) ∙ said m d s w e
 
-pub moved_said : (m : ℕ) (d by : ℤ) (s : AdjustedSpan) (w : Warning) (span : Span) (warnings : List (List ℕ)) → Some w ≡ warning_of m d s.placed.span
+pub moved_said : (m : ℕ) (d by : ℤ) (s : Shown) (w : Warning) (span : Span) (warnings : List (List ℕ)) → Some w ≡ warning_of m d s.placed.span
     → w ≡ Adjusted by → span ≡ moved by s.placed.span → warnings ≡ s.warnings ++ warning_text w ∷ []
     → record { placed = record { process = s.placed.process; span = span }; warnings = warnings } ≡ said_after s (shifted m d s.placed)
 moved_said m d by s w span warnings e is here put =

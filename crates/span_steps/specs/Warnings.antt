@@ -3,7 +3,7 @@ use Rattle.std.specs.Prelude.{ℕ, ℤ, pos, IsTrue, not, nat_abs, nat_le, List,
 use Rattle.std.specs.Ordering.{int_eq}
 use Rattle.jaeger_model.specs.declared.placed.Placed.{Placed}
 use Rattle.jaeger_model.specs.declared.span.Span.{Span}
-use Rattle.trace_model.specs.declared.answer.AdjustedSpan.{AdjustedSpan}
+use Rattle.trace_model.specs.declared.answer.Shown.{Shown}
 use Rattle.trace_model.specs.Adjusting.{all_fit, moved_placed, unadjusted, warned, past_limit, past_times, adjusted_by}
 use Rattle.span_steps.specs.declared.warning.Warning.{Warning}
 use Rattle.span_steps.specs.declared.warning.Warning.TheVariants.{Adjusted, PastLimit, PastTimes}
@@ -26,7 +26,7 @@ warning_texts None = []
 warning_texts (Some w) = warning_text w ∷ []
 
 -- the span as it is shown, with its warning
-abbrev pub shown_by : Option Warning → Placed → AdjustedSpan
+abbrev pub shown_by : Option Warning → Placed → Shown
 shown_by None p = unadjusted p
 shown_by (Some (Adjusted d)) p = warned (moved_placed d p) (adjusted_by d)
 shown_by (Some (PastLimit d max_skew)) p = warned p (past_limit d max_skew)

@@ -11,7 +11,7 @@ use crate::warning::Warning;
 use jaeger_model::{Log, Placed, Process, Seq, Span, Text, first_text};
 use std::alloc::{AllocError, Global};
 use std::mem;
-use trace_model::AdjustedSpan;
+use trace_model::Shown;
 
 /// Returns the host that a process names: the text of its first tag `ip`, or an empty text.
 ///
@@ -96,10 +96,10 @@ fn move_span(alloc: Global, delta: i128, span: &mut Span)
 }
 
 /// Returns the span as it was reported.
-pub fn unadjusted(alloc: Global, placed: Placed) -> AdjustedSpan
+pub fn unadjusted(alloc: Global, placed: Placed) -> Shown
     ensures { result ≡ unadjusted placed }
 {
-    AdjustedSpan {
+    Shown {
         placed,
         warnings: Seq::new(alloc),
     }
@@ -111,7 +111,7 @@ pub fn unadjusted(alloc: Global, placed: Placed) -> AdjustedSpan
 ///
 /// Out of memory, and nothing else.
 #[tactic(auto, using(std::proofs::lemmas::List::map_push))]
-pub fn all_unadjusted(alloc: Global, spans: Vec<Placed>) -> Result<Seq<AdjustedSpan>, AllocError>
+pub fn all_unadjusted(alloc: Global, spans: Vec<Placed>) -> Result<Seq<Shown>, AllocError>
     ensures { IfOk result (λ s. s ≡ map unadjusted spans.items) }
 {
     let mut shown = Vec::new(alloc);
@@ -130,12 +130,7 @@ pub fn all_unadjusted(alloc: Global, spans: Vec<Placed>) -> Result<Seq<AdjustedS
 /// # Errors
 ///
 /// Running out of memory alone; the span is then unchanged.
-pub fn shift(
-    alloc: Global,
-    shown: &mut AdjustedSpan,
-    delta: i128,
-    max_skew: u64,
-) -> Result<(), AllocError>
+pub fn shift(alloc: Global, shown: &mut Shown, delta: i128, max_skew: u64) -> Result<(), AllocError>
     ensures ok { OnOk result (shown.new ≡
         said_after shown.old (shifted max_skew delta shown.old.placed)) }
     ensures err { OnErr result (shown.new ≡ shown.old) }

@@ -12,7 +12,7 @@ use Rattle.trace_model.specs.Events.{Event, came, limited}
 use Rattle.trace_model.specs.Rings.{holds, newest, arrive}
 use Rattle.trace_model.specs.ShownSpans.{trace_of, ring, limit_after, spans_of_trace, if_any}
 use Rattle.trace_model.specs.Histories.{events}
-use Rattle.trace_model.specs.declared.answer.AdjustedSpan.{AdjustedSpan}
+use Rattle.trace_model.specs.declared.answer.Shown.{Shown}
 use Rattle.trace_model.proofs.ShownByEvents.{ring_more, ring_fewer, limit_came, limit_limited}
 use Rattle.trace_model.proofs.ShownOfTrace.{ring_within, arrive_short}
 use Rattle.trace_ring.specs.RingValues.{RingValue, opened_by}
@@ -90,13 +90,13 @@ pub spots_name : (n : ℕ) (h : List Entry) (newest : RingValue) (spots : TraceI
     → FollowsEvents n (located_events h) newest spots → found ≡ spots t → map (span_at h) found ≡ map Some (spans_of_trace n (events h) t)
 spots_name n h newest spots t found f is = ap (map (span_at h)) (is ∙ f.spots t) ∙ spans_at_shown_law n h t
 
-pub none_found : (f : List Placed → List AdjustedSpan) (h : List Entry) (found : List Spot) (spans : List Placed) → map (span_at h) found ≡ map Some spans
+pub none_found : (f : List Placed → List Shown) (h : List Entry) (found : List Spot) (spans : List Placed) → map (span_at h) found ≡ map Some spans
     → length found ≡ 0 → None ≡ option_map f (if_any spans)
 none_found f h [] [] same none = refl
 none_found f h [] (p ∷ spans) same none = absurd cc
 none_found f h (s ∷ found) spans same none = absurd (omega (arith, none))
 
-pub some_found : (f : List Placed → List AdjustedSpan) (h : List Entry) (found : List Spot) (spans items : List Placed) (shown : List AdjustedSpan)
+pub some_found : (f : List Placed → List Shown) (h : List Entry) (found : List Spot) (spans items : List Placed) (shown : List Shown)
     → map (span_at h) found ≡ map Some spans → items ≡ spans_named h found → 0 < length found → shown ≡ f items → Some shown ≡ option_map f (if_any spans)
 some_found f h [] spans items shown same got some is = absurd (omega arith)
 some_found f h (s ∷ found) [] items shown same got some is = absurd cc

@@ -87,7 +87,7 @@ fn add_span(
     drop_evicted(starts, arrived.evicted);
     // For the prover: `len`'s clause `once` is used below.
     let _once = shown.ring().len();
-    starts.widen(arrived.place, span.start);
+    starts.widen(arrived.position, span.start);
     arrived.row
 }
 

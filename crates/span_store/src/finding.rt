@@ -6,19 +6,23 @@ ghost use Rattle.journal_traces.specs.CandidateTraces.{traces_of, query_of};
 ghost use Rattle.journal_traces.specs.TakenTraces.{placed_taken, AreNumberedByPlace};
 
 use jaeger_model::TraceId;
-use journal_traces::{Candidates, TakenTraces, take_trace};
+use journal_traces::{CandidateSearch, TakenTraces, take_trace};
 use std::alloc::{AllocError, Global};
 
 /// Collects the trace at a place, without spans if there is none.
-fn take_at(taken: &mut TakenTraces, traces: &Candidates<'_>, place: usize) -> Result<(), AllocError>
+fn take_at(
+    taken: &mut TakenTraces,
+    traces: &CandidateSearch<'_>,
+    index: usize,
+) -> Result<(), AllocError>
     requires few { length traces.now.journal.now.held.entries < 2 ^ 32 }
     ensures spans { OnOk result (map placed_taken taken.new ≡ map placed_taken taken.old
-        ++ slice_index_or (traces_of traces.now) place [] ∷ []) }
+        ++ slice_index_or (traces_of traces.now) index [] ∷ []) }
     ensures numbers { OnOk result
         (AreNumberedByPlace traces.now.journal.now.held.entries taken.old →
         AreNumberedByPlace traces.now.journal.now.held.entries taken.new) }
 {
-    match traces.spots.get(place) {
+    match traces.spots.get(index) {
         Some(spots) => take_trace(taken, traces.journal, spots.again()),
         None => taken.begin(),
     }
@@ -27,39 +31,42 @@ fn take_at(taken: &mut TakenTraces, traces: &Candidates<'_>, place: usize) -> Re
 /// Collects the traces at the places.
 fn take_places(
     alloc: Global,
-    traces: &Candidates<'_>,
-    places: &[usize],
+    traces: &CandidateSearch<'_>,
+    indices: &[usize],
 ) -> Result<TakenTraces, AllocError>
     requires few { length traces.now.journal.now.held.entries < 2 ^ 32 }
     ensures spans { IfOk result (λ t. map placed_taken t ≡
-        map (λ i. slice_index_or (traces_of traces.now) i []) places.now) }
+        map (λ i. slice_index_or (traces_of traces.now) i []) indices.now) }
     ensures numbers { IfOk result (AreNumberedByPlace traces.now.journal.now.held.entries) }
 {
     let mut taken = TakenTraces::new(alloc);
-    for place in places {
-        take_at(&mut taken, traces, *place)?;
+    for index in indices {
+        take_at(&mut taken, traces, *index)?;
     }
     Ok(taken)
 }
 
 /// Collects the traces that a search finds, in the order of its answer.
-pub(crate) fn take_found(alloc: Global, traces: Candidates<'_>) -> Result<TakenTraces, AllocError>
+pub(crate) fn take_found(
+    alloc: Global,
+    traces: CandidateSearch<'_>,
+) -> Result<TakenTraces, AllocError>
     requires few { length traces.journal.now.held.entries < 2 ^ 32 }
     ensures found { IfOk result (λ t. map placed_taken t ≡
         found_in (query_of traces.entry) (traces_of traces.entry)) }
     ensures numbers { IfOk result (AreNumberedByPlace traces.entry.journal.now.held.entries) }
 {
-    let mut searched = traces;
-    let places = find_traces::find(alloc, &mut searched)?;
+    let mut search = traces;
+    let indices = find_traces::find(alloc, &mut search)?;
     // For the prover: the binding lets the clauses of `take_places` be used for the result.
-    let taken = take_places(alloc, &traces, &places)?;
+    let taken = take_places(alloc, &traces, &indices)?;
     Ok(taken)
 }
 
 /// Returns the ids of the traces that a search finds.
 pub(crate) fn find_ids(
     alloc: Global,
-    traces: &mut Candidates<'_>,
+    traces: &mut CandidateSearch<'_>,
 ) -> Result<Vec<TraceId>, AllocError>
     ensures { IfOk result (λ v. v.items ≡
         ids_of (found_in (query_of traces.old) (traces_of traces.old))) }
@@ -70,10 +77,13 @@ pub(crate) fn find_ids(
 }
 
 /// Returns the number of traces that a search finds.
-pub(crate) fn count_found(alloc: Global, traces: &mut Candidates<'_>) -> Result<usize, AllocError>
+pub(crate) fn count_found(
+    alloc: Global,
+    traces: &mut CandidateSearch<'_>,
+) -> Result<usize, AllocError>
     ensures { IfOk result (λ n. n ≡
         length (found_in (query_of traces.old) (traces_of traces.old))) }
 {
-    let places = find_traces::find(alloc, traces)?;
-    Ok(places.len())
+    let indices = find_traces::find(alloc, traces)?;
+    Ok(indices.len())
 }

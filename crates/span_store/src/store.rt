@@ -29,7 +29,9 @@ use crate::window_links::WindowLinks;
 use arrival_journal::{Journal, Record};
 use find_traces::PreparedSearch;
 use jaeger_model::{Batch, Seq, Text, TraceId};
-use journal_traces::{Candidates, WindowTraces, gather, ring_ids, take_candidates, take_within};
+use journal_traces::{
+    CandidateSearch, WindowTraces, gather, ring_ids, take_candidates, take_within,
+};
 use service_index::{ArrivalNames, Places, ServicePlaces};
 use std::alloc::{AllocError, Global};
 use std::hash::RandomState;
@@ -309,18 +311,18 @@ impl SpanStore {
     }
 
     /// Returns a search and the traces with these spots, among which it searches.
-    fn searched<'a>(
+    fn candidate_search<'a>(
         &'a self,
         prepared: &'a PreparedSearch<'a>,
         spots: &'a [Spots<'a>],
-    ) -> Candidates<'a>
+    ) -> CandidateSearch<'a>
         ensures query { result.prepared.now ≡ prepared.now }
         ensures entries { result.journal.now.held.entries ≡ self.now.entries }
         ensures spots { result.spots.now ≡ spots.now }
     {
         // For the prover: `len`'s clause `legal` is used below.
         let _legal = self.journal.len();
-        Candidates {
+        CandidateSearch {
             journal: &self.journal,
             reported: &self.reported,
             service: self.service_number(prepared.query()),
@@ -356,7 +358,7 @@ impl SpanStore {
     {
         let prepared = PreparedSearch::new(self.alloc, query)?;
         let spots = self.narrowed(query)?;
-        let mut traces = self.searched(&prepared, &spots);
+        let mut traces = self.candidate_search(&prepared, &spots);
         let ids = finding::find_ids(self.alloc, &mut traces)?;
         Ok(Answer::Ids(Seq::from_vec(ids)))
     }
@@ -370,7 +372,7 @@ impl SpanStore {
         let _legal = self.journal.len();
         let prepared = PreparedSearch::new(self.alloc, query)?;
         let spots = self.narrowed(query)?;
-        let found = finding::take_found(self.alloc, self.searched(&prepared, &spots))?;
+        let found = finding::take_found(self.alloc, self.candidate_search(&prepared, &spots))?;
         // For the prover: the binding lets the clauses of `new` be used for the result.
         let traces = FoundTraces::new(self.limits(), found);
         Ok(traces)

@@ -38,8 +38,8 @@ fn links_of(alloc: Global, traces: &WindowTraces) -> Result<Vec<Link>, AllocErro
     ensures { IfOk result (λ v. v.items ≡ links_in (map placed_taken traces.now)) }
 {
     let mut counts = LinkCounts::new(alloc);
-    for place in 0..traces.count() {
-        let spans = traces.spans(alloc, place)?;
+    for index in 0..traces.count() {
+        let spans = traces.spans(alloc, index)?;
         counts.add(alloc, &spans)?;
     }
     // For the prover: the binding lets the clauses of `finish` be used for the result.

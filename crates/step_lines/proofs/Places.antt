@@ -17,7 +17,7 @@ use Rattle.query_http.specs.Paths.{IsPart, IsPath, IsNoPath}
 use Rattle.query_http.specs.Queries.{path_of}
 use Rattle.query_http.proofs.PathLaws.{one_endpoint}
 use Rattle.step_lines.specs.declared.fault.StepFault.TheVariants.{NoSuchPath}
-use Rattle.step_lines.specs.Targets.{is_part, whole, cut, part_if, between, part_at, place_among, place_of, of_parameter, query_in}
+use Rattle.step_lines.specs.Targets.{is_part, whole, inner_part, part_if, between, part_at, place_among, place_of, of_parameter, query_in}
 
 -- ---- parts
 
@@ -73,25 +73,25 @@ part_if_is front end path p part h = by (is_part p) (same_text path (front ++ (p
     by true false i s h = absurd cc
     by false w i s h = absurd cc
 
-cut_is : (front part end : List ℕ) → cut (length front) (length end) (front ++ (part ++ end)) ≡ part
-cut_is front part end =
+inner_part_is : (front part end : List ℕ) → inner_part (length front) (length end) (front ++ (part ++ end)) ≡ part
+inner_part_is front part end =
     rw (drop_at front (part ++ end) (length front) refl)
     (take_at part end _ (omega (arith, length-append front (part ++ end), length-append part end)))
 
 between_found : (front end path part : List ℕ) → IsPart part → path ≡ front ++ (part ++ end) → between front end path ≡ Some part
 between_found front end path part is e =
-    let found : cut (length front) (length end) path ≡ part = ap (cut (length front) (length end)) e ∙ cut_is front part end in
+    let found : inner_part (length front) (length end) path ≡ part = ap (inner_part (length front) (length end)) e ∙ inner_part_is front part end in
     ap (part_if front end path) found ∙ rw (is_part-from part is, (bytes_eq-Decides path (front ++ (part ++ end))).1 e) refl
 
 -- the part makes it a path of the endpoint
 part_is : (e : Endpoint) (path part : List ℕ) → part_at e path ≡ Some part → IsPath e part path
 part_is Traces path part h = whole_is _ path part h
 part_is Trace path part h =
-    let is = part_if_is (codes "/api/traces/") [] path (cut (length (codes "/api/traces/")) (length {A = ℕ} []) path) part h in
+    let is = part_if_is (codes "/api/traces/") [] path (inner_part (length (codes "/api/traces/")) (length {A = ℕ} []) path) part h in
     (is.0, is.1 ∙ ap (λ (x : List ℕ). codes "/api/traces/" ++ x) (append-nil part))
 part_is Services path part h = whole_is _ path part h
 part_is OperationNames path part h =
-    part_if_is (codes "/api/services/") (codes "/operations") path (cut (length (codes "/api/services/")) (length (codes "/operations")) path) part h
+    part_if_is (codes "/api/services/") (codes "/operations") path (inner_part (length (codes "/api/services/")) (length (codes "/operations")) path) part h
 part_is Operations path part h = whole_is _ path part h
 part_is Dependencies path part h = whole_is _ path part h
 

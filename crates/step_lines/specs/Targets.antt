@@ -24,8 +24,8 @@ abbrev pub whole : List ℕ → List ℕ → Option (List ℕ)
 whole text path = if same_text path text then Some [] else None
 
 -- the path without `front` bytes at its start and `end` bytes at its end
-abbrev pub cut : ℕ → ℕ → List ℕ → List ℕ
-cut front end path = take (length path - front - end) (drop front path)
+abbrev pub inner_part : ℕ → ℕ → List ℕ → List ℕ
+inner_part front end path = take (length path - front - end) (drop front path)
 
 -- this part, if the path is the two texts around it
 abbrev pub part_if : List ℕ → List ℕ → List ℕ → List ℕ → Option (List ℕ)
@@ -33,7 +33,7 @@ part_if front end path part = if is_part part && same_text path (front ++ (part 
 
 -- the part of the path between two texts
 abbrev pub between : List ℕ → List ℕ → List ℕ → Option (List ℕ)
-between front end path = part_if front end path (cut (length front) (length end) path)
+between front end path = part_if front end path (inner_part (length front) (length end) path)
 
 -- the part of the path for an endpoint, empty if the endpoint's path has none; None for another path
 abbrev pub part_at : Endpoint → List ℕ → Option (List ℕ)

@@ -7,7 +7,7 @@ use Rattle.std.specs.Ordering.{int_eq}
 use Rattle.std.proofs.lemmas.Bool.{and_parts}
 use Rattle.std.proofs.lemmas.List.{take_more, length-take-le}
 use Rattle.jaeger_model.specs.declared.placed.Placed.{Placed}
-use Rattle.trace_model.specs.declared.answer.AdjustedSpan.{AdjustedSpan}
+use Rattle.trace_model.specs.declared.answer.Shown.{Shown}
 use Rattle.trace_model.specs.declared.clock.Clock.{Clock}
 use Rattle.trace_model.specs.Adjusting.{shifted, unadjusted, skew_adjusted, warned, past_limit, past_times, adjusted_by, all_fit, moved_placed}
 use Rattle.trace_adjust.specs.LentSpans.{placed_as, shifted_all}
@@ -45,7 +45,7 @@ no_delta : (d : ℤ) (ds : List ℤ) → all_zero (d ∷ ds) ≡ true → (int_e
 no_delta d ds e = and_parts (int_eq d (pos 0)) (all_zero ds) e
 
 -- a delta that isn't 0
-abbrev shifted_else : ℕ → ℤ → Placed → AdjustedSpan
+abbrev shifted_else : ℕ → ℤ → Placed → Shown
 shifted_else m d p =
     if not (nat_le (nat_abs d) m) then warned p (past_limit d m)
     else if not (all_fit d p.span) then warned p (past_times d)

@@ -11,7 +11,7 @@ use Rattle.std.proofs.lemmas.List.{take_more, map_push, length-map, length-take-
 use Rattle.jaeger_model.specs.declared.placed.Placed.{Placed}
 use Rattle.jaeger_model.specs.Parents.{parent}
 use Rattle.trace_model.specs.ServiceLinks.{has_id, parent_in, place_of_parent}
-use Rattle.trace_model.specs.declared.answer.AdjustedSpan.{AdjustedSpan}
+use Rattle.trace_model.specs.declared.answer.Shown.{Shown}
 use Rattle.trace_model.specs.Adjusting.{spans_of}
 use Rattle.trace_model.proofs.Lists.{found_at}
 use Rattle.trace_model.proofs.Tables.{entered, kept, entry_map}
@@ -100,13 +100,13 @@ pub same_parent : (trace : List Placed) (g : ℕ → Option ℕ) → ((id : ℕ)
 same_parent trace g h p = ap (λ o. if (parent p.span).0 == 0 then None else o) (h (parent p.span).0)
 
 -- ---- the spans of what is shown
-abbrev span_of : AdjustedSpan → Placed
+abbrev span_of : Shown → Placed
 span_of s = s.placed
 
-pub as_many : (ss : List AdjustedSpan) → length (spans_of ss) ≡ length ss
+pub as_many : (ss : List Shown) → length (spans_of ss) ≡ length ss
 as_many ss = length-map ss span_of
 
-pub placed_at : (ss : List AdjustedSpan) (i : ℕ) (s : AdjustedSpan) → i < length ss → s ≡ get_or ss i s → s.placed ≡ get_or (spans_of ss) i s.placed
+pub placed_at : (ss : List Shown) (i : ℕ) (s : Shown) → i < length ss → s ≡ get_or ss i s → s.placed ≡ get_or (spans_of ss) i s.placed
 placed_at ss i s l e = ap span_of e ∙ sym (get_or-map span_of ss i s s.placed l)
 
 -- one more place of a parent

@@ -5,7 +5,7 @@ use Rattle.std.proofs.lemmas.List.{append-nil, drop_all, take_all, drop_more, ta
 use Rattle.std.specs.Prelude.{Option, Some, None, unwrap_or, not, ◌==◌, if◌then◌else◌}
 use Rattle.std.specs.List.{list_any}
 use Rattle.jaeger_model.specs.declared.placed.Placed.{Placed}
-use Rattle.trace_model.specs.declared.answer.AdjustedSpan.{AdjustedSpan}
+use Rattle.trace_model.specs.declared.answer.Shown.{Shown}
 use Rattle.trace_model.specs.declared.clock.Clock.{Clock}
 use Rattle.trace_model.specs.ServiceLinks.{has_id}
 use Rattle.trace_model.specs.Adjusting.{clock_of, unadjusted, shifted, shifted_by, shown_after, skew_adjusted_after, skew_adjusted, spans_of, said_after}
@@ -35,12 +35,12 @@ one_shifted m all cs g i p l e known first =
     ∙ ap (λ c. shifted m (if not (list_any (has_id p.span.id) (take i all)) then delta_or_none clock_delta c else pos 0) p) clock
     ∙ by_test m p (clock_of m all p) (list_any (has_id p.span.id) (take i all))
 
-pub as_many_shown : (m : ℕ) (all before : List Placed) (ss : List AdjustedSpan) → length (shown_adjusted_after m all before ss) ≡ length ss
+pub as_many_shown : (m : ℕ) (all before : List Placed) (ss : List Shown) → length (shown_adjusted_after m all before ss) ≡ length ss
 as_many_shown m all before [] = refl
 as_many_shown m all before (s ∷ ss) = ap suc (as_many_shown m all (before ++ s.placed ∷ []) ss)
 
 -- what is shown at a place
-adjusted_at : (m : ℕ) (all before : List Placed) (ss : List AdjustedSpan) (i : ℕ) (d : AdjustedSpan) → i < length ss
+adjusted_at : (m : ℕ) (all before : List Placed) (ss : List Shown) (i : ℕ) (d : Shown) → i < length ss
     → get_or (shown_adjusted_after m all before ss) i d ≡ said_after (get_or ss i d) (shown_after m all (before ++ take i (spans_of ss)) (get_or ss i d).placed)
 adjusted_at m all before [] i d l = absurd (omega arith)
 adjusted_at m all before (s ∷ ss) zero d l = ap (λ b. said_after s (shown_after m all b s.placed)) (sym (append-nil before))
@@ -66,14 +66,14 @@ module _ {X : Type 0} (xs ys items : List X) (i : ℕ) (d : X) (l : i < length x
       ∙ sym (append_assoc (take i ys) (get_or ys i d ∷ []) (drop (i + 1) xs))
       ∙ ap (λ r. r ++ drop (i + 1) xs) (sym (take_more ys i d (omega (arith, l, many))))
 
-pub all_written : (m : ℕ) (ss items : List AdjustedSpan) (i : ℕ) → length ss ≤ i → items ≡ take i (shown_adjusted m ss) ++ drop i ss → items ≡ shown_adjusted m ss
+pub all_written : (m : ℕ) (ss items : List Shown) (i : ℕ) → length ss ≤ i → items ≡ take i (shown_adjusted m ss) ++ drop i ss → items ≡ shown_adjusted m ss
 all_written m ss items i l inv =
     let ys = shown_adjusted m ss in
     let many = as_many_shown m (spans_of ss) [] ss in
     inv ∙ ap (λ r. take i ys ++ r) (drop_all i ss l) ∙ append-nil (take i ys) ∙ take_all i ys (omega (arith, l, many))
 
 -- the loop's step: s is the span at the place, and v what it becomes
-pub shifted_more : (m : ℕ) (ss items : List AdjustedSpan) (cs : List (Option Clock)) (g : ℕ → Option ℕ) (i : ℕ) (s v : AdjustedSpan) → i < length ss
+pub shifted_more : (m : ℕ) (ss items : List Shown) (cs : List (Option Clock)) (g : ℕ → Option ℕ) (i : ℕ) (s v : Shown) → i < length ss
     → s ≡ get_or items i s → AreClocks m (spans_of ss) cs → ((id : ℕ) → g id ≡ first_at id (spans_of ss))
     → v ≡ said_after s (shifted m (delta_at g cs i s.placed.span.id.0) s.placed) → items ≡ take i (shown_adjusted m ss) ++ drop i ss
     → set items i v ≡ take (i + 1) (shown_adjusted m ss) ++ drop (i + 1) ss
@@ -101,7 +101,7 @@ many_skewed : (m : ℕ) (all before rest : List Placed) → length (skew_adjuste
 many_skewed m all before [] = refl
 many_skewed m all before (p ∷ rest) = ap suc (many_skewed m all (before ++ p ∷ []) rest)
 
-skewed_at : (m : ℕ) (all before rest : List Placed) (i : ℕ) (p : Placed) (d : AdjustedSpan) → i < length rest → p ≡ get_or rest i p
+skewed_at : (m : ℕ) (all before rest : List Placed) (i : ℕ) (p : Placed) (d : Shown) → i < length rest → p ≡ get_or rest i p
     → get_or (skew_adjusted_after m all before rest) i d ≡ shown_after m all (before ++ take i rest) p
 skewed_at m all before [] i p d l e = absurd (omega arith)
 skewed_at m all before (q ∷ rest) zero p d l e = (λ j. shown_after m all (sym (append-nil before) j) (sym e j))
@@ -110,7 +110,7 @@ skewed_at m all before (q ∷ rest) (suc i) p d l e =
     ∙ ap (λ b. shown_after m all b p) (append_assoc before (q ∷ []) (take i rest))
 
 -- v is what the span at the place is shown as
-pub lent_more : (m : ℕ) (ps : List Placed) (cs : List (Option Clock)) (g : ℕ → Option ℕ) (i : ℕ) (p : Placed) (v : AdjustedSpan) (had has : List AdjustedSpan) → i < length ps
+pub lent_more : (m : ℕ) (ps : List Placed) (cs : List (Option Clock)) (g : ℕ → Option ℕ) (i : ℕ) (p : Placed) (v : Shown) (had has : List Shown) → i < length ps
     → p ≡ get_or ps i p
     → AreClocks m ps cs → ((id : ℕ) → g id ≡ first_at id ps) → v ≡ shifted m (delta_at g cs i p.span.id.0) p
     → had ≡ take i (skew_adjusted m ps) → has ≡ had ++ v ∷ [] → has ≡ take (i + 1) (skew_adjusted m ps)

@@ -20,10 +20,10 @@ pub struct LentSpan<'a> {
 }
 
 impl<'a> Model for LentSpan<'a> {
-    ghost use Rattle.trace_model.specs.declared.answer.AdjustedSpan.{AdjustedSpan};
+    ghost use Rattle.trace_model.specs.declared.answer.Shown.{Shown};
     ghost use Rattle.span_steps.specs.Warnings.{shown_by, CanMove};
 
-    ghost Value = { AdjustedSpan };
+    ghost Value = { Shown };
 
     ghost view = { λ l. shown_by l.warning l.placed };
 

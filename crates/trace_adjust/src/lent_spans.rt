@@ -25,10 +25,10 @@ pub struct LentSpans {
 
 impl Model for LentSpans {
     ghost use Rattle.std.specs.Prelude.{List};
-    ghost use Rattle.trace_model.specs.declared.answer.AdjustedSpan.{AdjustedSpan};
+    ghost use Rattle.trace_model.specs.declared.answer.Shown.{Shown};
     ghost use Rattle.trace_adjust.specs.LentSpans.{shown_spans, AreThere};
 
-    ghost Value = { List AdjustedSpan };
+    ghost Value = { List Shown };
 
     ghost view = { λ l. shown_spans l.raw l.max_skew l.spans.items l.deltas.items };
 

@@ -9,7 +9,7 @@ use crate::skew::adjusted;
 use jaeger_model::{Placed, Seq};
 use span_steps::all_unadjusted;
 use std::alloc::{AllocError, Global};
-use trace_model::{AdjustedTrace, AnsweredTrace, KeptSpan, KeptTrace, Limits, TraceForm};
+use trace_model::{AnsweredTrace, KeptSpan, KeptTrace, Limits, ShownTrace, TraceForm};
 
 /// Copies the spans that exist.
 fn copied(alloc: Global, kept: &[KeptSpan]) -> Result<Vec<Placed>, AllocError>
@@ -32,16 +32,16 @@ fn shown_as(
     process_keys: Vec<u64>,
     limits: Limits,
     raw: bool,
-) -> Result<AdjustedTrace, AllocError>
+) -> Result<ShownTrace, AllocError>
     requires { ShareProcesses spans.items process_keys.items }
     ensures { IfOk result (λ s. s ≡ shown_as limits raw spans.items) }
 {
     if raw {
         let shown = all_unadjusted(alloc, spans)?;
-        return Ok(AdjustedTrace::new(shown, process_keys));
+        return Ok(ShownTrace::new(shown, process_keys));
     }
     let shown = adjusted(alloc, spans, &process_keys, limits.max_skew)?;
-    Ok(AdjustedTrace::new(Seq::from_vec(shown), process_keys))
+    Ok(ShownTrace::new(Seq::from_vec(shown), process_keys))
 }
 
 /// Returns a trace as it is shown. Its spans are copied from their entries, and their processes are shared.
@@ -49,7 +49,7 @@ fn shown_as(
 /// # Errors
 ///
 /// Out of memory, and nothing else.
-pub fn show(alloc: Global, trace: &KeptTrace) -> Result<AdjustedTrace, AllocError>
+pub fn show(alloc: Global, trace: &KeptTrace) -> Result<ShownTrace, AllocError>
     requires { KeptShares trace.now }
     ensures { IfOk result (λ t. t ≡ kept_value trace.now) }
 {
@@ -63,7 +63,7 @@ pub fn show(alloc: Global, trace: &KeptTrace) -> Result<AdjustedTrace, AllocErro
 /// # Errors
 ///
 /// Out of memory, and nothing else.
-pub fn shown(alloc: Global, trace: AnsweredTrace) -> Result<AdjustedTrace, AllocError>
+pub fn shown(alloc: Global, trace: AnsweredTrace) -> Result<ShownTrace, AllocError>
     ensures { IfOk result (λ t. t ≡ trace) }
 {
     match trace.into_form() {

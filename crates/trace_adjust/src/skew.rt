@@ -18,7 +18,7 @@ use jaeger_model::{Placed, SpanId};
 use span_steps::{shift, unadjusted, with_parent_first};
 use std::alloc::{AllocError, Global};
 use std::collections::BTreeMap;
-use trace_model::AdjustedSpan;
+use trace_model::Shown;
 
 /// The clocks of the spans of a trace, and the place of the first span with each id.
 #[derive(Drop)]
@@ -46,10 +46,7 @@ pub(crate) fn clocks_of(
 
 /// Borrows the spans unchanged.
 #[tactic(auto, using(std::proofs::lemmas::List::map_more))]
-fn all_unchanged<'a>(
-    alloc: Global,
-    trace: &'a [AdjustedSpan],
-) -> Result<Vec<LentPlaced<'a>>, AllocError>
+fn all_unchanged<'a>(alloc: Global, trace: &'a [Shown]) -> Result<Vec<LentPlaced<'a>>, AllocError>
     ensures { IfOk result (λ v. v.items ≡ spans_of trace.now) }
 {
     let mut lent = Vec::with_capacity(alloc, trace.len())?;
@@ -62,7 +59,7 @@ fn all_unchanged<'a>(
 /// Returns the clocks of spans that are copied.
 fn clocks_of_shown(
     alloc: Global,
-    trace: &[AdjustedSpan],
+    trace: &[Shown],
     process_keys: &[u64],
     max_skew: u64,
 ) -> Result<TraceClocks, AllocError>
@@ -113,7 +110,7 @@ impl TraceClocks {
 /// Moves the spans by their clocks. If memory runs out, the first of them are moved already.
 fn shift_all(
     alloc: Global,
-    trace: &mut [AdjustedSpan],
+    trace: &mut [Shown],
     clocks: &TraceClocks,
     max_skew: u64,
 ) -> Result<(), AllocError>
@@ -131,10 +128,10 @@ fn shift_all(
 /// Returns the spans moved by their clocks.
 fn all_shifted(
     alloc: Global,
-    mut spans: Vec<AdjustedSpan>,
+    mut spans: Vec<Shown>,
     process_keys: &[u64],
     max_skew: u64,
-) -> Result<Vec<AdjustedSpan>, AllocError>
+) -> Result<Vec<Shown>, AllocError>
     requires { ShareProcesses (spans_of spans.items) process_keys.now }
     ensures { IfOk result (λ v. v.items ≡ shown_adjusted max_skew spans.items) }
 {
@@ -143,16 +140,16 @@ fn all_shifted(
     Ok(spans)
 }
 
-fn copy_of(shown: &AdjustedSpan) -> Result<AdjustedSpan, AllocError>
+fn copy_of(shown: &Shown) -> Result<Shown, AllocError>
     ensures { IfOk result (λ copy. copy ≡ shown.now) }
 {
-    Ok(AdjustedSpan {
+    Ok(Shown {
         placed: shown.placed.clone()?,
         warnings: shown.warnings.clone()?,
     })
 }
 
-fn copies_of(alloc: Global, trace: &[AdjustedSpan]) -> Result<Vec<AdjustedSpan>, AllocError>
+fn copies_of(alloc: Global, trace: &[Shown]) -> Result<Vec<Shown>, AllocError>
     ensures { IfOk result (λ v. v.items ≡ trace.now) }
 {
     let mut copies = Vec::with_capacity(alloc, trace.len())?;
@@ -177,7 +174,7 @@ fn copies_of(alloc: Global, trace: &[AdjustedSpan]) -> Result<Vec<AdjustedSpan>,
 /// when no more memory is needed.
 pub fn adjust_skew(
     alloc: Global,
-    trace: &mut [AdjustedSpan],
+    trace: &mut [Shown],
     process_keys: &[u64],
     max_skew: u64,
 ) -> Result<(), AllocError>
@@ -192,7 +189,7 @@ pub fn adjust_skew(
 
 /// Moves the reference to the parent to the front in each of the spans.
 #[tactic(auto, using(std::proofs::lemmas::List::map_push))]
-fn with_parents_first(alloc: Global, trace: Vec<Placed>) -> Result<Vec<AdjustedSpan>, AllocError>
+fn with_parents_first(alloc: Global, trace: Vec<Placed>) -> Result<Vec<Shown>, AllocError>
     ensures { IfOk result (λ v. v.items ≡ map unadjusted (map with_parent_first trace.items)) }
 {
     let mut shown = Vec::new(alloc);
@@ -215,7 +212,7 @@ pub fn adjusted(
     trace: Vec<Placed>,
     process_keys: &[u64],
     max_skew: u64,
-) -> Result<Vec<AdjustedSpan>, AllocError>
+) -> Result<Vec<Shown>, AllocError>
     requires { ShareProcesses trace.items process_keys.now }
     ensures { IfOk result (λ v. v.items ≡ adjusted max_skew trace.items) }
 {

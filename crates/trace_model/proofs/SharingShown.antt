@@ -3,7 +3,7 @@ use Rattle.std.proofs.Common.{◌≡◌, ℕ, zero, suc, Bool, true, false, List
 use Rattle.std.proofs.lemmas.List.{map-id}
 use Rattle.jaeger_model.specs.declared.batch.Process.{Process}
 use Rattle.jaeger_model.specs.declared.placed.Placed.{Placed}
-use Rattle.trace_model.specs.declared.answer.AdjustedSpan.{AdjustedSpan}
+use Rattle.trace_model.specs.declared.answer.Shown.{Shown}
 use Rattle.trace_model.specs.declared.limits.Limits.{Limits}
 use Rattle.trace_model.specs.Adjusting.{spans_of, with_parent_first, unadjusted, adjusted, shown_as}
 use Rattle.trace_model.specs.AdjustingTerms.{still}
@@ -43,7 +43,7 @@ pub first_shares : (ps : List Placed) (keys : List ℕ) → ShareProcesses ps ke
 first_shares ps keys share = unadjusted_shares (map with_parent_first ps) keys (lent_shares ps keys share)
 
 pub adjusted_shares : (m : ℕ) (ps : List Placed) (keys : List ℕ) → ShareProcesses ps keys → ShareProcesses (spans_of (adjusted m ps)) keys
-adjusted_shares m ps keys share = shared_alike (λ (s : AdjustedSpan). s.placed) ps (adjusted m ps) keys (same_but_times m ps) share
+adjusted_shares m ps keys share = shared_alike (λ (s : Shown). s.placed) ps (adjusted m ps) keys (same_but_times m ps) share
 
 pub shown_shares : (limits : Limits) (raw : Bool) (ps : List Placed) (keys : List ℕ) → ShareProcesses ps keys
     → ShareProcesses (spans_of (shown_as limits raw ps)) keys

@@ -6,7 +6,7 @@ use Rattle.std.specs.List.{list_any}
 use Rattle.jaeger_model.specs.declared.span.Log.{Log}
 use Rattle.jaeger_model.specs.declared.placed.Placed.{Placed}
 use Rattle.jaeger_model.specs.Parents.{needs_no_reference, parent_reference}
-use Rattle.trace_model.specs.declared.answer.AdjustedSpan.{AdjustedSpan}
+use Rattle.trace_model.specs.declared.answer.Shown.{Shown}
 use Rattle.trace_model.specs.declared.clock.Clock.{Clock}
 use Rattle.trace_model.specs.ServiceLinks.{has_id}
 use Rattle.trace_model.specs.Adjusting.{unadjusted, warned, past_limit, past_times, adjusted_by, all_fit, is_applied, move_log, moved_placed, shifted}
@@ -14,7 +14,7 @@ use Rattle.trace_model.specs.Adjusting.{shifted_by, shown_after, skew_adjusted_a
 use Rattle.trace_model.specs.AdjustingTerms.{still, still_log}
 
 -- a span stays unchanged, or is left with a warning, or is moved
-pub shifted_cases : (P : AdjustedSpan → Type 0) (m : ℕ) (d : ℤ) (p : Placed) → (int_eq d (pos 0) ≡ true → P (unadjusted p))
+pub shifted_cases : (P : Shown → Type 0) (m : ℕ) (d : ℤ) (p : Placed) → (int_eq d (pos 0) ≡ true → P (unadjusted p))
     → ((w : List ℕ) → is_applied m d p.span ≡ false → P (warned p w))
     → (is_applied m d p.span ≡ true → P (warned (moved_placed d p) (adjusted_by d))) → P (shifted m d p)
 shifted_cases P m d p = by_tests (int_eq d (pos 0)) (nat_le (nat_abs d) m) (all_fit d p.span)
@@ -62,11 +62,11 @@ still_first p =
       | false ↦ refl
     ]
 
-pub same_but_times : (m : ℕ) (trace : List Placed) → map (λ (s : AdjustedSpan). still s.placed) (adjusted m trace) ≡ map still trace
+pub same_but_times : (m : ℕ) (trace : List Placed) → map (λ (s : Shown). still s.placed) (adjusted m trace) ≡ map still trace
 same_but_times m trace = go [] trace
   where
     go : (before rest : List Placed)
-        → map (λ (s : AdjustedSpan). still s.placed) (skew_adjusted_after m (map with_parent_first trace) before (map with_parent_first rest)) ≡ map still rest
+        → map (λ (s : Shown). still s.placed) (skew_adjusted_after m (map with_parent_first trace) before (map with_parent_first rest)) ≡ map still rest
     go before [] = refl
     go before (p ∷ rest) =
         λ i. (still_after m (map with_parent_first trace) before (with_parent_first p) ∙ still_first p) i ∷ go (before ++ with_parent_first p ∷ []) rest i

@@ -30,28 +30,28 @@ pub record HasAt (h : History) (place : ℕ) (batch : Batch) : Type 0 where
 
 -- What a store can know: that its history has reached this list; or that this list refused the batch for this reason, in
 -- a sense that each store defines.
-pub data Known : Type 0 where
-  reached : History → Known
-  refused : Batch → Refusal → History → Known
+pub data KnownList : Type 0 where
+  reached : History → KnownList
+  refused : Batch → Refusal → History → KnownList
 
 -- the lists that the store knows
-abbrev pub lists_of : {S : Type 0} → (S → Known → Type 0) → S → History → Type 0
+abbrev pub lists_of : {S : Type 0} → (S → KnownList → Type 0) → S → History → Type 0
 lists_of knows s h = knows s (reached h)
 
 -- what is known stays known, under the same limits
-pub record Keeps {S : Type 0} (limits : S → Limits) (knows : S → Known → Type 0) (s t : S) : Type 0 where
+pub record ForgetsNothing {S : Type 0} (limits : S → Limits) (knows : S → KnownList → Type 0) (s t : S) : Type 0 where
   pub same_limits : limits t ≡ limits s
-  pub knowledge : (it : Known) → knows s it → knows t it
+  pub knowledge : (it : KnownList) → knows s it → knows t it
 
 -- a legal list that has the batch at its place is known
-pub record Places {S : Type 0} (limits : S → Limits) (knows : S → Known → Type 0) (batch : Batch) (place : ℕ) (t : S) : Type 0 where
+pub record Places {S : Type 0} (limits : S → Limits) (knows : S → KnownList → Type 0) (batch : Batch) (place : ℕ) (t : S) : Type 0 where
   pub history : History
   pub legal : IsLegal (limits t) history
   pub has : HasAt history place batch
   pub known : knows t (reached history)
 
 -- the answer is the plain store's for a legal list, which is known then and starts with every list known before
-pub record AnswersAt {S : Type 0} (limits : S → Limits) (knows : S → Known → Type 0) (s : S) (q : Query) (a : Answer) (t : S) : Type 0 where
+pub record AnswersAt {S : Type 0} (limits : S → Limits) (knows : S → KnownList → Type 0) (s : S) (q : Query) (a : Answer) (t : S) : Type 0 where
   pub history : History
   pub legal : IsLegal (limits t) history
   pub behind : (h : History) → knows s (reached h) → IsPrefixOf h history
@@ -63,16 +63,16 @@ abbrev pub RefusesBatch : Limits → History → Batch → Refusal → Type 0
 RefusesBatch limits h batch why = (e : Entry) × (e.work ≡ brings.Batch batch) × (refusal_of limits h e ≡ Some why)
 
 -- if a list is the reason of the refusal (20, 21 or 29), one is known that refused the batch for it
-abbrev pub KnowsRefusal : {S : Type 0} → (S → Known → Type 0) → Batch → Refusal → S → Type 0
+abbrev pub KnowsRefusal : {S : Type 0} → (S → KnownList → Type 0) → Batch → Refusal → S → Type 0
 KnowsRefusal knows b (JournalFull batches spans) t = (h : History) × knows t (refused b (JournalFull batches spans) h)
 KnowsRefusal knows b (Stale last) t = (h : History) × knows t (refused b (Stale last) h)
 KnowsRefusal knows b (Conflict place) t = (h : History) × knows t (refused b (Conflict place) h)
 KnowsRefusal knows b _ t = Unit {0}
 
-abbrev pub SubmitKnows : {S : Type 0} → (S → Limits) → (S → Known → Type 0) → S → Batch → Result ℕ Refusal → S → Type 0
-SubmitKnows limits knows s b (Ok place) t = Keeps limits knows s t × Places limits knows b place t
-SubmitKnows limits knows s b (Err why) t = Keeps limits knows s t × KnowsRefusal knows b why t
+abbrev pub SubmitKnows : {S : Type 0} → (S → Limits) → (S → KnownList → Type 0) → S → Batch → Result ℕ Refusal → S → Type 0
+SubmitKnows limits knows s b (Ok place) t = ForgetsNothing limits knows s t × Places limits knows b place t
+SubmitKnows limits knows s b (Err why) t = ForgetsNothing limits knows s t × KnowsRefusal knows b why t
 
-abbrev pub ReadKnows : {S : Type 0} → (S → Limits) → (S → Known → Type 0) → S → Query → Result Answer Refusal → S → Type 0
-ReadKnows limits knows s q (Ok a) t = Keeps limits knows s t × AnswersAt limits knows s q a t
-ReadKnows limits knows s q (Err _) t = Keeps limits knows s t
+abbrev pub ReadKnows : {S : Type 0} → (S → Limits) → (S → KnownList → Type 0) → S → Query → Result Answer Refusal → S → Type 0
+ReadKnows limits knows s q (Ok a) t = ForgetsNothing limits knows s t × AnswersAt limits knows s q a t
+ReadKnows limits knows s q (Err _) t = ForgetsNothing limits knows s t

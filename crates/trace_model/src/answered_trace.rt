@@ -7,9 +7,9 @@ ghost use Rattle.trace_model.specs.EntryWork.{placed_brought};
 ghost use Rattle.trace_model.specs.KeptTraces.{kept_value, KeptShares, form_value, FormShares};
 ghost use Rattle.trace_model.specs.BorrowedSpans.{placed_by_its_entry};
 
-use crate::adjusted_trace::AdjustedTrace;
 use crate::entry::Entry;
 use crate::limits::Limits;
+use crate::shown_trace::ShownTrace;
 use jaeger_model::{Batch, Placed, Seen, place_span};
 use std::alloc::{AllocError, Global};
 use std::marker::Model;
@@ -117,7 +117,7 @@ pub struct KeptTrace {
 #[derive(Debug, Drop)]
 pub enum TraceForm {
     /// Its spans are copied and adjusted.
-    Ready(AdjustedTrace),
+    Ready(ShownTrace),
     /// Its spans are in their entries.
     Kept(KeptTrace),
 }
@@ -130,10 +130,10 @@ pub struct AnsweredTrace {
 
 impl Model for AnsweredTrace {
     ghost use Rattle.std.specs.Prelude.{List};
-    ghost use Rattle.trace_model.specs.declared.answer.AdjustedSpan.{AdjustedSpan};
+    ghost use Rattle.trace_model.specs.declared.answer.Shown.{Shown};
     ghost use Rattle.trace_model.specs.KeptTraces.{form_value, FormShares};
 
-    ghost Value = { List AdjustedSpan };
+    ghost Value = { List Shown };
 
     ghost view = { λ t. form_value t.form };
 
@@ -142,7 +142,7 @@ impl Model for AnsweredTrace {
 
 impl AnsweredTrace {
     /// Makes an answer of a trace that is copied already. Allocates nothing.
-    pub fn made(trace: AdjustedTrace) -> AnsweredTrace
+    pub fn made(trace: ShownTrace) -> AnsweredTrace
         ensures { result ≡ trace }
     {
         AnsweredTrace {

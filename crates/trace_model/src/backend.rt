@@ -12,7 +12,7 @@ ghost use Rattle.trace_model.specs.declared.limits.Limits.{Limits};
 ghost use Rattle.trace_model.specs.declared.query.Query.{Query as QueryValue};
 ghost use Rattle.trace_model.specs.declared.answer.Answer.{Answer as AnswerValue};
 ghost use Rattle.trace_model.specs.declared.refusal.Refusal.{Refusal as RefusalValue};
-ghost use Rattle.trace_model.specs.StoreKnowledge.{Known, SubmitKnows, ReadKnows};
+ghost use Rattle.trace_model.specs.StoreKnowledge.{KnownList, SubmitKnows, ReadKnows};
 
 use crate::answer::Answer;
 use crate::query::Query;
@@ -26,7 +26,7 @@ pub trait Backend<T> {
     ghost limits: { Self → Limits };
 
     /// The store knows that its history has reached a list of entries, or that such a list refused a batch.
-    ghost knows: { Self → Known → Type 0 };
+    ghost knows: { Self → KnownList → Type 0 };
 
     /// What submitting a batch may do. A store that promises no more than the law below repeats the law here.
     ghost submits: { Self → BatchValue → Result ℕ RefusalValue → Self → Type 0 };

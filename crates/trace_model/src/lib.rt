@@ -1,7 +1,7 @@
 //! Entries, queries and answers; and, as definitions over the plain list, what a history of entries answers.
 //!
 //! * `limits`, `trace_limit`, `entry`, `admission`, `refusal`: what is stored, and why an entry is refused.
-//! * `query`, `answer`: queries and their answers; `adjusted_trace`: the spans of a trace, adjusted for an answer;
+//! * `query`, `answer`: queries and their answers; `shown_trace`: the spans of a trace that is shown;
 //!   `answered_trace`: a trace of an answer, copied or in its entries; `name`: the name of a service or of an
 //!   operation in an answer; `taken_span`: a span of a trace that was collected from a store.
 //! * `clock`: what a span passes to the spans below it, for the adjustment of clocks.
@@ -11,7 +11,6 @@
 //! `store_laws` states what follows from it, in the terms of tracing.
 #![tactic(auto)]
 
-mod adjusted_trace;
 mod admission;
 mod answer;
 mod answered_trace;
@@ -22,12 +21,12 @@ mod limits;
 mod name;
 mod query;
 mod refusal;
+mod shown_trace;
 mod taken_span;
 mod trace_limit;
 
-pub use adjusted_trace::AdjustedTrace;
 pub use admission::Admission;
-pub use answer::{AdjustedSpan, Answer, Link, Operation, with_kind};
+pub use answer::{Answer, Link, Operation, Shown, with_kind};
 pub use answered_trace::{AnsweredTrace, KeptSpan, KeptTrace, TraceForm, reported_in};
 pub use backend::Backend;
 pub use clock::Clock;
@@ -36,5 +35,6 @@ pub use limits::Limits;
 pub use name::Name;
 pub use query::{Find, Query};
 pub use refusal::Refusal;
+pub use shown_trace::ShownTrace;
 pub use taken_span::TakenSpan;
 pub use trace_limit::TraceLimit;

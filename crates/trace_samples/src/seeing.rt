@@ -3,7 +3,7 @@ ghost use Rattle.trace_model.specs.BorrowedSpans.{seen, seen_traces};
 
 use jaeger_model::{Placed, Seen};
 use std::alloc::{AllocError, Global};
-use trace_model::{AdjustedSpan, AnsweredTrace, TraceForm};
+use trace_model::{AnsweredTrace, Shown, TraceForm};
 
 /// Borrows the spans of a trace, in their order.
 ///
@@ -39,7 +39,7 @@ pub fn seen_traces(alloc: Global, traces: &[Vec<Placed>]) -> Result<Vec<Vec<Seen
 }
 
 /// Returns the spans of a trace that is copied already, as the plain store's are.
-pub fn made_spans(trace: &AnsweredTrace) -> &[AdjustedSpan] {
+pub fn made_spans(trace: &AnsweredTrace) -> &[Shown] {
     match trace.form() {
         TraceForm::Ready(made) => made.as_slice(),
         TraceForm::Kept(_) => &[],

@@ -4,7 +4,7 @@ use mathlib.Core.List.{IsPrefix}
 use Rattle.trace_model.specs.declared.entry.Entry.{Entry}
 use Rattle.trace_model.specs.declared.limits.Limits.{Limits}
 use Rattle.trace_model.proofs.Prefixes.{prefix_self}
-use Rattle.trace_model.specs.StoreKnowledge.{Keeps}
+use Rattle.trace_model.specs.StoreKnowledge.{ForgetsNothing}
 use Rattle.http_session.specs.Pieces.{AsksOnce}
 use Rattle.http_session.specs.Sessions.{Step}
 use Rattle.http_session.specs.declared.verdict.Verdict.{Verdict}
@@ -40,6 +40,6 @@ asking_goes_on limits s t (inr does) = step_goes_on limits s does.0 does.1 t doe
 
 -- what is learnt is known besides
 pub learning_keeps : (limits : Limits) (s t : LiveValue) → IsPrefix s.known t.known → t.refused_by ≡ s.refused_by
-    → Keeps (live_store limits).limits (live_store limits).knows s t
+    → ForgetsNothing (live_store limits).limits (live_store limits).knows s t
 learning_keeps limits s t more same =
     keeps limits s t more (subst (λ (z : List Entry). IsPrefix s.refused_by z) (sym same) (prefix_self s.refused_by))

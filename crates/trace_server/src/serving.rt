@@ -264,7 +264,7 @@ fn can_start<R: Threads>(rt: &R) -> bool {
     }
 }
 
-/// Opens a store under a name, which is consumed, and serves it.
+/// Opens a store over this history, which `N` names, and serves it.
 fn serve_named<
     N: StoreName + Send + Sync,
     G: Gate + Sync,
@@ -273,12 +273,12 @@ fn serve_named<
 >(
     rt: &R,
     alloc: Global,
-    name: EmptyHistory,
+    history: EmptyHistory,
     limits: Limits,
     setup: &ServerSetup<'_, G>,
     output: &mut W,
 ) -> ExitStatus
-    requires book { name.seen.book ≡ N.book }
+    requires book { history.seen.book ≡ N.book }
     requires limits { limits ≡ N.limits }
     requires output_works { W.has_failed output.old ≡ false }
     ensures { RunsServer setup.now.config.now.options.host limits
@@ -293,7 +293,7 @@ fn serve_named<
         );
     };
     lengthen_queue(setup.listener);
-    let Ok(shared) = SharedStore::<N>::open(rt, alloc, name, limits, setup.config) else {
+    let Ok(shared) = SharedStore::<N>::open(rt, alloc, history, limits, setup.config) else {
         return end_with(
             rt,
             RunError::Memory,
@@ -343,7 +343,7 @@ pub fn serve_with<
     if !can_start(rt) {
         return end_with(rt, RunError::Memory, "no thread can be made");
     }
-    let (name, limits) = (EmptyHistory::new(), config.options.limits);
+    let (history, limits) = (EmptyHistory::new(), config.options.limits);
     let (workers, connections) = (config.options.workers, config.options.connections);
     let Ok(loads) = Loads::new(alloc, workers, connections) else {
         return end_with(rt, RunError::Memory, "out of memory");
@@ -358,5 +358,5 @@ pub fn serve_with<
         loads: &loads,
         notices: &notices,
     };
-    serve_named::<Brand, G, W, R>(rt, alloc, name, limits, &setup, output)
+    serve_named::<Brand, G, W, R>(rt, alloc, history, limits, &setup, output)
 }

@@ -72,7 +72,7 @@ fn open_desk<N: StoreName>(
 }
 
 impl<N: StoreName> SharedStore<N> {
-    /// Opens an empty store under a name, which is consumed.
+    /// Opens an empty store over this history, which `N` names.
     ///
     /// # Errors
     ///
@@ -80,11 +80,11 @@ impl<N: StoreName> SharedStore<N> {
     pub(crate) fn open<R: Wait>(
         rt: &R,
         alloc: Global,
-        name: EmptyHistory,
+        history: EmptyHistory,
         limits: Limits,
         config: &ServerConfig,
     ) -> Result<SharedStore<N>, Refusal>
-        requires book { name.seen.book ≡ N.book }
+        requires book { history.seen.book ≡ N.book }
         requires limits { limits ≡ N.limits }
         ensures keeper { IfOk result (λ h. h.keeper ≡ no_entries) }
         ensures clerk { IfOk result (λ h. IsNewClerk h.clerk) }
@@ -93,7 +93,7 @@ impl<N: StoreName> SharedStore<N> {
             OneForEach config.now.options.workers (map (λ p. p.1.seat) h.lives.items)) }
     {
         let workers = config.options.workers as usize;
-        let (mut keeper, passes) = open::<N, _>(rt, alloc, config.keys, name, limits, workers)?;
+        let (mut keeper, passes) = open::<N, _>(rt, alloc, config.keys, history, limits, workers)?;
         match open_desk(alloc, &mut keeper, passes, config) {
             Ok((desk, clerk, lives)) => Ok(SharedStore {
                 keeper,

@@ -3,7 +3,7 @@ ghost use Rattle.std.specs.Prelude.{◌≡◌, ◌++◌, None, IfOk, OnOk, false
 ghost use Rattle.session_devices.specs.Traffic.{traffic_of};
 ghost use Rattle.text_lines.specs.RunErrors.{WritesText};
 ghost use Rattle.trace_model.specs.Adjusting.{unadjusted};
-ghost use Rattle.commands.specs.GetRuns.{found_in, shown_line, span_line, trace_lines};
+ghost use Rattle.commands.specs.GetRuns.{trace_by_id, shown_line, span_line, trace_lines};
 
 use jaeger_model::{Placed, TraceId};
 use session_devices::Output;
@@ -12,7 +12,7 @@ use std::alloc::{AllocError, Global};
 use std::io::Write;
 use text_lines::{OutputBuffer, RunError, write_text};
 use trace_adjust::shown;
-use trace_model::{AdjustedSpan, AdjustedTrace, Answer, Query};
+use trace_model::{Answer, Query, Shown, ShownTrace};
 
 /// Writes the line of a span.
 fn write_span(reply: &mut Vec<u8>, placed: &Placed) -> Result<(), AllocError>
@@ -30,11 +30,7 @@ fn write_span(reply: &mut Vec<u8>, placed: &Placed) -> Result<(), AllocError>
 }
 
 /// Writes the lines of the spans.
-fn write_spans<W: Output>(
-    alloc: Global,
-    output: &mut W,
-    spans: &[AdjustedSpan],
-) -> Result<(), RunError>
+fn write_spans<W: Output>(alloc: Global, output: &mut W, spans: &[Shown]) -> Result<(), RunError>
     requires { W.has_failed output.old ≡ false }
     ensures { WritesText (traffic_of W.contents W.has_failed output.old output.new)
         (flat_map shown_line spans.now) result }
@@ -55,9 +51,9 @@ fn find_trace(
     alloc: Global,
     store: &SpanStore,
     trace: TraceId,
-) -> Result<Option<AdjustedTrace>, AllocError>
+) -> Result<Option<ShownTrace>, AllocError>
     ensures { IfOk result (λ found. found ≡
-        option_map (map unadjusted) (found_in store.now trace)) }
+        option_map (map unadjusted) (trace_by_id store.now trace)) }
 {
     let query = Query::Trace {
         id: trace,
@@ -88,9 +84,9 @@ pub(crate) fn write_trace<W: Output>(
     trace: TraceId,
 ) -> Result<bool, RunError>
     requires { W.has_failed output.old ≡ false }
-    ensures found { IfOk result (λ found. found ≡ is_some (found_in store.now trace)) }
+    ensures found { IfOk result (λ found. found ≡ is_some (trace_by_id store.now trace)) }
     ensures lines { WritesText (traffic_of W.contents W.has_failed output.old output.new)
-        (trace_lines (found_in store.now trace)) result }
+        (trace_lines (trace_by_id store.now trace)) result }
 {
     match find_trace(alloc, store, trace)? {
         Some(spans) => {

@@ -2,7 +2,7 @@ ghost use Rattle.std.specs.Prelude.{◌≡◌, ◌<◌, ◌∷◌, List, [], All
 ghost use Rattle.std.specs.Bool.{OnTrue};
 ghost use Rattle.serde_json.specs.Data.{string};
 ghost use Rattle.serde_json.specs.Written.{compact_text};
-ghost use Rattle.trace_model.specs.declared.answer.AdjustedSpan.{AdjustedSpan};
+ghost use Rattle.trace_model.specs.declared.answer.Shown.{Shown};
 ghost use Rattle.query_json.specs.Page.{Puts};
 ghost use Rattle.query_json.specs.Trees.{process_tree};
 ghost use Rattle.query_json.specs.NamedProcesses.{AreNamed, HasSpan, first_named, named_text};
@@ -63,7 +63,7 @@ fn by_name<'n>(
 ) -> Result<BTreeMap<&'n str, NamedProcess>, AllocError>
     requires names { map string_bytes names.now ≡ process_names (length processes.now) }
     requires count { length names.now ≡ length processes.now }
-    ensures { (spans : List AdjustedSpan) → All (IsFirst spans) processes.now →
+    ensures { (spans : List Shown) → All (IsFirst spans) processes.now →
         IfOk result (λ m.
         AreNamed spans (map first_process processes.now) (map (λ e. e.1) m.entries)) }
 {
@@ -95,7 +95,7 @@ pub(super) fn in_order(
     alloc: Global,
     processes: &[FirstSpan],
 ) -> Result<Vec<NamedProcess>, AllocError>
-    ensures { (spans : List AdjustedSpan) → All (IsFirst spans) processes.now →
+    ensures { (spans : List Shown) → All (IsFirst spans) processes.now →
         IfOk result (λ v. AreNamed spans (map first_process processes.now) v.items) }
 {
     let names = names(alloc, processes.len())?;

@@ -20,7 +20,7 @@ use crate::tree::Tree;
 use std::alloc::{AllocError, Global};
 use std::snapshot::Snapshot;
 use trace_adjust::{LentSpans, lend};
-use trace_model::{AdjustedTrace, AnsweredTrace, KeptTrace, TraceForm};
+use trace_model::{AnsweredTrace, KeptTrace, ShownTrace, TraceForm};
 
 /// Writes the id of a trace, that of its first span.
 fn write_id(out: &mut Page, spans: &LentSpans)
@@ -227,12 +227,12 @@ fn write_piece_of_one(out: &mut Page, spans: &LentSpans, piece: usize)
 /// A trace with spans of its own, as the text of its tree. Only contracts read the spans.
 #[derive(Drop)]
 pub(crate) struct MadeTrace {
-    spans: Snapshot<AdjustedTrace>,
+    spans: Snapshot<ShownTrace>,
     text: String,
 }
 
 impl MadeTrace {
-    fn new(alloc: Global, made: &AdjustedTrace) -> Result<MadeTrace, AllocError>
+    fn new(alloc: Global, made: &ShownTrace) -> Result<MadeTrace, AllocError>
         ensures spans { IfOk result (λ t. t.spans.value ≡ made.now) }
         ensures text { IfOk result (λ t.
             string_bytes t.text ≡ compact_text (trace_tree made.now)) }

@@ -9,7 +9,7 @@ ghost use Rattle.service_index.specs.Indexes.{listing_by, owners, operations_at,
 ghost use Rattle.service_index.specs.Probes.{AreNumbersBelow};
 ghost use Rattle.service_index.specs.ServicePlaces.{ArePlacesKept};
 ghost use Rattle.arrival_journal.specs.KindTexts.{kinds_in};
-ghost use Rattle.service_index.specs.KeptNames.{AreNamesKept, names_of, reports, reports_service, reports_operation, AreOperations};
+ghost use Rattle.service_index.specs.KeptNames.{AreNamesKept, names_of_arrivals, reports, reports_service, reports_operation, AreOperations};
 
 use crate::arrival_names::numbers::{ArrivalNumbers, Arrivals};
 use crate::index::ServiceIndex;
@@ -109,7 +109,7 @@ impl ArrivalNames {
             services (arrivals (map arc_value entries.now))) }
     {
         let arrivals = self.numbers.arrivals(entries, reported);
-        services_of(alloc, &arrivals, self.index.service_numbers())
+        services_of(alloc, &arrivals, self.index.one_arrival_of_each_service())
     }
 
     /// Returns the operations of a service with their kinds, in no particular order. The names refer to their
@@ -131,7 +131,9 @@ impl ArrivalNames {
             (arrivals (map arc_value entries.now)) v.items) }
     {
         let arrivals = self.numbers.arrivals(entries, reported);
-        let numbers = self.index.operation_numbers(&arrivals, service.as_str())?;
+        let numbers = self
+            .index
+            .one_arrival_of_each_operation(&arrivals, service.as_str())?;
         operations_of(alloc, &arrivals, &numbers)
     }
 
@@ -196,8 +198,8 @@ fn services_of(
     arrivals: &Arrivals<'_>,
     numbers: &[u32],
 ) -> Result<Vec<Name>, AllocError>
-    requires { AreNumbersBelow (names_of arrivals.now).count numbers.now }
-    ensures { IfOk result (λ v. v.items ≡ owners (names_of arrivals.now) numbers.now) }
+    requires { AreNumbersBelow (names_of_arrivals arrivals.now).count numbers.now }
+    ensures { IfOk result (λ v. v.items ≡ owners (names_of_arrivals arrivals.now) numbers.now) }
 {
     let mut services = Vec::with_capacity(alloc, numbers.len())?;
     for n in numbers {
@@ -212,8 +214,8 @@ fn operations_of(
     arrivals: &Arrivals<'_>,
     numbers: &[u32],
 ) -> Result<Vec<Operation>, AllocError>
-    requires { AreNumbersBelow (names_of arrivals.now).count numbers.now }
-    ensures { IfOk result (λ v. v.items ≡ operations_at (names_of arrivals.now) numbers.now) }
+    requires { AreNumbersBelow (names_of_arrivals arrivals.now).count numbers.now }
+    ensures { IfOk result (λ v. v.items ≡ operations_at (names_of_arrivals arrivals.now) numbers.now) }
 {
     let mut operations = Vec::with_capacity(alloc, numbers.len())?;
     for n in numbers {
@@ -224,15 +226,15 @@ fn operations_of(
 
 /// Adds the arrivals from `first` up to `end`, which is excluded.
 fn add_arrivals(index: &mut ServiceIndex, arrivals: &Arrivals<'_>, first: u32, end: u32)
-    requires indexed { IsIndexed (names_of arrivals.now) index.old }
-    requires listed { listing_by (names_of arrivals.now) index.old ≡
+    requires indexed { IsIndexed (names_of_arrivals arrivals.now) index.old }
+    requires listed { listing_by (names_of_arrivals arrivals.now) index.old ≡
         sorted_set listed_cmp (take first (reports arrivals.now)) }
     requires used { index.old.used ≡ first }
     requires rises { first ≤ end }
     requires within { end ≤ length (reports arrivals.now) }
     requires room { end ≤ index.old.room }
-    ensures indexed { IsIndexed (names_of arrivals.now) index.new }
-    ensures listed { listing_by (names_of arrivals.now) index.new ≡
+    ensures indexed { IsIndexed (names_of_arrivals arrivals.now) index.new }
+    ensures listed { listing_by (names_of_arrivals arrivals.now) index.new ≡
         sorted_set listed_cmp (take end (reports arrivals.now)) }
     ensures used { index.new.used ≡ end }
     ensures room { index.new.room ≡ index.old.room }

@@ -73,10 +73,10 @@ impl<'a> Model for Arrivals<'a> {
 }
 
 impl<'a> Texts for Arrivals<'a> {
-    ghost use Rattle.service_index.specs.KeptNames.{names_of};
+    ghost use Rattle.service_index.specs.KeptNames.{names_of_arrivals};
     ghost use Rattle.service_index.specs.ArrivalServices.{names_numbered};
 
-    ghost names = { names_of };
+    ghost names = { names_of_arrivals };
 
     fn name_at(&self, n: u32) -> (&str, &str, &str) {
         let before = self.entry_of[n as usize];

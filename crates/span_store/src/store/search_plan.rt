@@ -220,7 +220,7 @@ impl SpanStore {
         };
         let prepared = PreparedSearch::new(self.alloc, query)?;
         let spots = spots_after(self.alloc, &self.shown, &self.starts, time)?;
-        let mut latest = self.searched(&prepared, &spots);
+        let mut latest = self.candidate_search(&prepared, &spots);
         let found = finding::count_found(self.alloc, &mut latest)?;
         if is_full(query.limit, found) {
             return Ok((Some(spots), found));

@@ -29,7 +29,7 @@ fn gone(trace: u64, row: u32) -> Evicted {
 #[test]
 fn late_spans_renew_nothing(rt: HostRuntime) -> Result<(), Fail> {
     let mut ring = Ring::with_room(rt.alloc(), RandomState::new(&rt)?, 2, 4)?;
-    for (trace, opened, evicted, row, place) in [
+    for (trace, opened, evicted, row, position) in [
         (1, true, None, 0, 0),
         (2, true, None, 1, 1),
         (1, false, None, 0, 0),
@@ -43,14 +43,14 @@ fn late_spans_renew_nothing(rt: HostRuntime) -> Result<(), Fail> {
                 opened,
                 evicted,
                 row,
-                place
+                position
             },
             "trace {trace}"
         );
     }
-    assert_eq!(rt; ring.place(id(3)), Some(0));
-    assert_eq!(rt; ring.place(id(1)), Some(1));
-    assert_eq!(rt; ring.place(id(2)), None);
+    assert_eq!(rt; ring.position(id(3)), Some(0));
+    assert_eq!(rt; ring.position(id(1)), Some(1));
+    assert_eq!(rt; ring.position(id(2)), None);
     assert!(rt; ring.iter().map(|trace| trace.low).eq([3, 1]));
     Ok(())
 }

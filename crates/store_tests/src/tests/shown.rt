@@ -1,10 +1,10 @@
 use jaeger_model::Seq;
 use std::alloc::{AllocError, Global};
 use std::mem::drop;
-use trace_model::{AdjustedTrace, Answer, AnsweredTrace, Link};
+use trace_model::{Answer, AnsweredTrace, Link, ShownTrace};
 
 /// The spans of a trace, without the places of their entries.
-fn spans_text(alloc: Global, trace: &AdjustedTrace) -> Result<String, AllocError> {
+fn spans_text(alloc: Global, trace: &ShownTrace) -> Result<String, AllocError> {
     Ok(format!(in alloc; "{:?}", trace.as_slice())?)
 }
 

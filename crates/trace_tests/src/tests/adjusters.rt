@@ -4,7 +4,7 @@ use std::alloc::{AllocError, Global};
 use std::mem::drop;
 use std::test::*;
 use trace_adjust::{adjust_skew, adjusted};
-use trace_model::{AdjustedSpan, Answer, Query};
+use trace_model::{Answer, Query, Shown};
 use trace_samples::{beside, host_process, kept, list_of, made_spans, process};
 
 const OWN: TraceId = TraceId { high: 0, low: 1 };
@@ -64,7 +64,7 @@ impl SpanRow for Row {
 }
 
 /// The first warning, or an empty text.
-fn warning_of(shown: &AdjustedSpan) -> &str {
+fn warning_of(shown: &Shown) -> &str {
     match shown.warnings.as_slice().first() {
         Some(warning) => warning.as_str(),
         None => "",
@@ -72,7 +72,7 @@ fn warning_of(shown: &AdjustedSpan) -> &str {
 }
 
 /// Whether the span and its logs start then, and it has this warning.
-fn is_one(shown: &AdjustedSpan, start: i64, warning: &str) -> bool {
+fn is_one(shown: &Shown, start: i64, warning: &str) -> bool {
     let span = &shown.placed.span;
     span.start == start
         && span.logs.as_slice().iter().all(|log| log.at == start)
@@ -80,7 +80,7 @@ fn is_one(shown: &AdjustedSpan, start: i64, warning: &str) -> bool {
 }
 
 /// Whether there are as many spans as wanted, and each is as wanted.
-fn are_all(shown: &[AdjustedSpan], wanted: &[(i64, &str)]) -> bool {
+fn are_all(shown: &[Shown], wanted: &[(i64, &str)]) -> bool {
     shown.len() == wanted.len()
         && shown.iter().zip(wanted).all(|(shown, (start, warning))| is_one(shown, *start, *warning))
 }
@@ -239,15 +239,15 @@ fn warnings_of(alloc: Global, warning: &str) -> Result<Seq<Text>, AllocError> {
 }
 
 /// The span with an earlier warning.
-fn warned(alloc: Global, placed: Placed, warning: &str) -> Result<AdjustedSpan, AllocError> {
+fn warned(alloc: Global, placed: Placed, warning: &str) -> Result<Shown, AllocError> {
     let (placed, warnings) = beside(placed, warnings_of(alloc, warning))?;
-    Ok(AdjustedSpan { placed, warnings })
+    Ok(Shown { placed, warnings })
 }
 
 /// Adds the spans, each with an earlier warning.
 fn add_warned(
     alloc: Global,
-    shown: &mut Vec<AdjustedSpan>,
+    shown: &mut Vec<Shown>,
     trace: Vec<Placed>,
     warning: &str,
 ) -> Result<(), AllocError> {
@@ -258,7 +258,7 @@ fn add_warned(
 }
 
 /// The root and the late child, each with an earlier warning.
-fn late_warned(alloc: Global) -> Result<Vec<AdjustedSpan>, AllocError> {
+fn late_warned(alloc: Global) -> Result<Vec<Shown>, AllocError> {
     let mut shown = Vec::new(alloc);
     let trace = late_trace(alloc)?;
     let added = add_warned(alloc, &mut shown, trace, "before");
@@ -266,14 +266,14 @@ fn late_warned(alloc: Global) -> Result<Vec<AdjustedSpan>, AllocError> {
 }
 
 /// The root and the late child with earlier warnings, as they are shown.
-fn late_shown(alloc: Global) -> Result<Vec<AdjustedSpan>, AllocError> {
+fn late_shown(alloc: Global) -> Result<Vec<Shown>, AllocError> {
     let mut shown = late_warned(alloc)?;
     let done = adjust_skew(alloc, &mut shown, &[], 200);
     kept(shown, done)
 }
 
 /// Whether the span has these two warnings.
-fn has_warnings(shown: &AdjustedSpan, wanted: [&str; 2]) -> bool {
+fn has_warnings(shown: &Shown, wanted: [&str; 2]) -> bool {
     match shown.warnings.as_slice() {
         [first, second] => first.as_str() == wanted[0] && second.as_str() == wanted[1],
         _ => false,
@@ -282,7 +282,7 @@ fn has_warnings(shown: &AdjustedSpan, wanted: [&str; 2]) -> bool {
 
 /// Returns the number of warnings of the first of two spans, the start of the second, and whether that has these
 /// warnings.
-fn seen_late(shown: &[AdjustedSpan], wanted: [&str; 2]) -> Option<(usize, i64, bool)> {
+fn seen_late(shown: &[Shown], wanted: [&str; 2]) -> Option<(usize, i64, bool)> {
     match shown {
         [root, child] => Some((
             root.warnings.len(),
@@ -369,7 +369,7 @@ fn deep_chain_plainly(rt: HostRuntime) -> Result<(), Fail> {
 }
 
 /// Returns the number of spans, and of those that start at 1025.
-fn moved_among(shown: &[AdjustedSpan]) -> (usize, usize) {
+fn moved_among(shown: &[Shown]) -> (usize, usize) {
     let moved = shown.iter().filter(|s| s.placed.span.start == 1025).count();
     (shown.len(), moved)
 }
@@ -399,7 +399,7 @@ const SHOWN: [(&[Reported], u64, bool, &[(i64, &str)]); 4] = [
 ];
 
 /// The spans of a trace that is found.
-fn shown_in(answer: &Answer) -> &[AdjustedSpan] {
+fn shown_in(answer: &Answer) -> &[Shown] {
     match answer {
         Answer::Trace(Some(trace)) => made_spans(trace),
         _ => &[],

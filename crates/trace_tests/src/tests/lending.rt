@@ -8,7 +8,7 @@ use std::mem::drop;
 use std::sync::Arc;
 use std::test::*;
 use trace_adjust::{LentSpan, LentSpans, lend, show};
-use trace_model::{AdjustedSpan, Entry, KeptSpan, KeptTrace, Limits};
+use trace_model::{Entry, KeptSpan, KeptTrace, Limits, Shown};
 use trace_samples::{first_mismatch, kept};
 
 /// Adds the spans of each entry at these indexes.
@@ -38,7 +38,7 @@ fn kept_by_entries(
 }
 
 /// Whether the logs have the times of those of the span, and as many fields.
-fn are_same_logs(lent: &LentSpan, shown: &AdjustedSpan) -> bool {
+fn are_same_logs(lent: &LentSpan, shown: &Shown) -> bool {
     let logs = lent.logs();
     let wanted = shown.placed.span.logs.as_slice();
     logs.len() == wanted.len()
@@ -49,7 +49,7 @@ fn are_same_logs(lent: &LentSpan, shown: &AdjustedSpan) -> bool {
         })
 }
 
-fn are_same_references(lent: &LentSpan, shown: &AdjustedSpan) -> bool {
+fn are_same_references(lent: &LentSpan, shown: &Shown) -> bool {
     let wanted = shown.placed.span.references.as_slice();
     lent.reference_count() == wanted.len()
         && wanted.iter().enumerate().all(|(index, wanted)| {
@@ -58,11 +58,7 @@ fn are_same_references(lent: &LentSpan, shown: &AdjustedSpan) -> bool {
 }
 
 /// Whether both have the same warnings.
-fn are_same_warnings(
-    alloc: Global,
-    lent: &LentSpan,
-    shown: &AdjustedSpan,
-) -> Result<bool, AllocError> {
+fn are_same_warnings(alloc: Global, lent: &LentSpan, shown: &Shown) -> Result<bool, AllocError> {
     match (lent.warning(), shown.warnings.as_slice()) {
         (None, []) => Ok(true),
         (Some(warning), [wanted]) => Ok(*wanted == warning.text(alloc)?),
@@ -71,7 +67,7 @@ fn are_same_warnings(
 }
 
 /// Whether the borrowed span is the one that is shown.
-fn is_shown_so(alloc: Global, lent: &LentSpan, shown: &AdjustedSpan) -> Result<bool, AllocError> {
+fn is_shown_so(alloc: Global, lent: &LentSpan, shown: &Shown) -> Result<bool, AllocError> {
     let span = &shown.placed.span;
     let same = lent.span().id == span.id
         && lent.span().operation == span.operation
@@ -83,11 +79,7 @@ fn is_shown_so(alloc: Global, lent: &LentSpan, shown: &AdjustedSpan) -> Result<b
 }
 
 /// Whether each borrowed span is the one that is shown at its place.
-fn are_shown_so(
-    alloc: Global,
-    lent: &LentSpans,
-    shown: &[AdjustedSpan],
-) -> Result<bool, AllocError> {
+fn are_shown_so(alloc: Global, lent: &LentSpans, shown: &[Shown]) -> Result<bool, AllocError> {
     let mut same = lent.len() == shown.len();
     for (index, wanted) in shown.iter().enumerate() {
         same = same && index < lent.len() && is_shown_so(alloc, &lent.at(index), wanted)?;

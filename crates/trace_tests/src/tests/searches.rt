@@ -6,7 +6,7 @@ use std::hash::RandomState;
 use std::mem::drop;
 use std::test::*;
 use trace_adjust::shown;
-use trace_model::{AdjustedSpan, Answer, AnsweredTrace, Find, Query};
+use trace_model::{Answer, AnsweredTrace, Find, Query, Shown};
 use trace_samples::{beside, first_mismatch, kept, list_of, placed, process, service_find};
 
 /// A span of service `a` of this trace.
@@ -166,7 +166,7 @@ fn are_ids(answer: &Answer, wanted: &[u64]) -> bool {
 }
 
 /// Returns the low half of the id of the trace of these spans.
-fn low_of(trace: &[AdjustedSpan]) -> u64 {
+fn low_of(trace: &[Shown]) -> u64 {
     match trace.first() {
         Some(shown) => shown.placed.span.trace.low,
         None => 0,

@@ -3,7 +3,7 @@ use query_json::{AnswerParts, answer_json, error_json};
 use std::alloc::{AllocError, Global};
 use std::process::Abort;
 use std::test::*;
-use trace_model::{AdjustedSpan, AdjustedTrace, Answer, AnsweredTrace, Name};
+use trace_model::{Answer, AnsweredTrace, Name, Shown, ShownTrace};
 use trace_samples::{list_of, placed, retry};
 
 /// The span of the sample batch: trace 1, span 2, operation `op`, from 1000 for 50 microseconds.
@@ -11,16 +11,16 @@ fn span(alloc: Global) -> Result<Span, AllocError> {
     trace_samples::span(alloc, 1, 2)
 }
 
-fn shown(alloc: Global, service: &str, span: Span) -> Result<AdjustedSpan, AllocError> {
-    Ok(AdjustedSpan {
+fn shown(alloc: Global, service: &str, span: Span) -> Result<Shown, AllocError> {
+    Ok(Shown {
         placed: placed(alloc, service, span)?,
         warnings: Seq::new(alloc),
     })
 }
 
-fn found(alloc: Global, span: AdjustedSpan) -> Result<Answer, AllocError> {
+fn found(alloc: Global, span: Shown) -> Result<Answer, AllocError> {
     let spans = list_of(alloc, span)?;
-    let shown = AdjustedTrace::without_keys(alloc, spans);
+    let shown = ShownTrace::without_keys(alloc, spans);
     Ok(Answer::Trace(Some(AnsweredTrace::made(shown))))
 }
 
@@ -124,7 +124,7 @@ fn many_spans(alloc: Global) -> Result<Answer, AllocError> {
         spans.push(shown(alloc, "a", span(alloc)?)?)?;
     }
     let spans = Seq::from_vec(spans);
-    let shown = AdjustedTrace::without_keys(alloc, spans);
+    let shown = ShownTrace::without_keys(alloc, spans);
     Ok(Answer::Trace(Some(AnsweredTrace::made(shown))))
 }
 

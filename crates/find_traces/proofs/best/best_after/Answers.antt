@@ -2,26 +2,26 @@ use Rattle.std.proofs.Common.{◌≡◌, ◌+◌, ◌-◌, ◌<◌, ◌≤◌, t
 use Rattle.std.specs.Prelude.{filter}
 use Rattle.std.specs.Bool.{OnTrue, OnFalse}
 use Rattle.std.specs.BTreeSet.{insert_key}
-use Rattle.find_traces.specs.Places.{trace_at}
+use Rattle.find_traces.specs.FoundIndices.{trace_at}
 use Rattle.find_traces.specs.Keys.{key_of, reversed, reverse_key_of, reverse_key_cmp}
 use Rattle.find_traces.specs.BestKeys.{is_match_after}
 use Rattle.find_traces.proofs.OfferedKeys.{best_of, is_wanted, from_place, match_offered, none_offered}
 use Rattle.find_traces.proofs.LimitedAnswers.{wanted_ranked}
 use Rattle.find_traces.proofs.best.best_after.Goals as goal
 
-pub loop-place-preserved-in-Continue-branch-2 : goal.loop-place-preserved-in-Continue-branch-2
-loop-place-preserved-in-Continue-branch-2 g c =
+pub loop-index-preserved-in-Continue-branch-2 : goal.loop-index-preserved-in-Continue-branch-2
+loop-index-preserved-in-Continue-branch-2 g c =
     let q = g.T.Searched.query c.args.traces.now in
     let ts = g.T.Searched.traces c.args.traces.now in
-    let i = c.loop-place.place - 1 in
-    let back : i + 1 ≡ c.loop-place.place = omega (arith, c.loop-place-test.true) in
-    let below : i < length ts = omega (arith, c.loop-place-test.true, c.loop-place.auto.place, c.count-place.ensures) in
-    let was = c.loop-place.invariant in
+    let i = c.loop-index.index - 1 in
+    let back : i + 1 ≡ c.loop-index.index = omega (arith, c.loop-index-test.true) in
+    let below : i < length ts = omega (arith, c.loop-index-test.true, c.loop-index.auto.index, c.count-index.ensures) in
+    let was = c.loop-index.invariant in
     let n = c.args.most in
-    let old = c.loop-place.best.keys.keys in
+    let old = c.loop-index.best.keys.keys in
     let kept = was.keys ∙ ap (λ p. take n (best_of (filter (is_wanted q ts c.args.last) (from_place ts p)))) (sym back) in
     let key = c.key_at-key.ensures ∙ ap (λ l. key_of (i, trace_at l i)) was.same_traces in
-    let chosen = subst (λ b. OnTrue b (is_match_after (g.T.Searched.query c.loop-place.traces) (g.T.Searched.traces c.loop-place.traces) c.args.last (reversed c.key_at-key.result) ≡ true)) c.if-branch.true c.in_ok-is_chosen.ensures.chosen in
+    let chosen = subst (λ b. OnTrue b (is_match_after (g.T.Searched.query c.loop-index.traces) (g.T.Searched.traces c.loop-index.traces) c.args.last (reversed c.key_at-key.result) ≡ true)) c.if-branch.true c.in_ok-is_chosen.ensures.chosen in
     let wanted : is_wanted q ts c.args.last (i, trace_at ts i) ≡ true =
     sym (λ j. is_match_after (was.same_query j) (was.same_traces j) c.args.last (reversed (key j))) ∙ chosen in
     record {
@@ -34,19 +34,19 @@ loop-place-preserved-in-Continue-branch-2 g c =
       same_query = c.in_ok-is_chosen.ensures.same_query ∙ was.same_query;
     }
 
-pub loop-place-preserved : goal.loop-place-preserved
-loop-place-preserved g c =
+pub loop-index-preserved : goal.loop-index-preserved
+loop-index-preserved g c =
     let q = g.T.Searched.query c.args.traces.now in
     let ts = g.T.Searched.traces c.args.traces.now in
-    let i = c.loop-place.place - 1 in
-    let back : i + 1 ≡ c.loop-place.place = omega (arith, c.loop-place-test.true) in
-    let below : i < length ts = omega (arith, c.loop-place-test.true, c.loop-place.auto.place, c.count-place.ensures) in
-    let was = c.loop-place.invariant in
+    let i = c.loop-index.index - 1 in
+    let back : i + 1 ≡ c.loop-index.index = omega (arith, c.loop-index-test.true) in
+    let below : i < length ts = omega (arith, c.loop-index-test.true, c.loop-index.auto.index, c.count-index.ensures) in
+    let was = c.loop-index.invariant in
     let n = c.args.most in
-    let old = c.loop-place.best.keys.keys in
+    let old = c.loop-index.best.keys.keys in
     let kept = was.keys ∙ ap (λ p. take n (best_of (filter (is_wanted q ts c.args.last) (from_place ts p)))) (sym back) in
     let key = c.key_at-key.ensures ∙ ap (λ l. key_of (i, trace_at l i)) was.same_traces in
-    let left = subst (λ b. OnFalse b (is_match_after (g.T.Searched.query c.loop-place.traces) (g.T.Searched.traces c.loop-place.traces) c.args.last (reversed c.key_at-key.result) ≡ true → take c.loop-place.best.most (insert_key reverse_key_cmp old (reversed c.key_at-key.result)) ≡ old))
+    let left = subst (λ b. OnFalse b (is_match_after (g.T.Searched.query c.loop-index.traces) (g.T.Searched.traces c.loop-index.traces) c.args.last (reversed c.key_at-key.result) ≡ true → take c.loop-index.best.most (insert_key reverse_key_cmp old (reversed c.key_at-key.result)) ≡ old))
     c.if-branch.false c.in_ok-is_chosen.ensures.left in
     let same : is_wanted q ts c.args.last (i, trace_at ts i) ≡ true → take n (insert_key reverse_key_cmp old (reverse_key_of (i, trace_at ts i))) ≡ old = λ wanted.
     sym (λ j. take (was.most j) (insert_key reverse_key_cmp old (reversed (key j))))
@@ -62,7 +62,7 @@ pub returns-clause-keys : goal.returns-clause-keys
 returns-clause-keys g c =
     let q = g.T.Searched.query c.args.traces.now in
     let ts = g.T.Searched.traces c.args.traces.now in
-    let none : c.loop-place.place ≡ 0 = omega (arith, c.loop-place-test.false) in
-    c.loop-place.invariant.keys
+    let none : c.loop-index.index ≡ 0 = omega (arith, c.loop-index-test.false) in
+    c.loop-index.invariant.keys
     ∙ ap (λ p. take c.args.most (best_of (filter (is_wanted q ts c.args.last) (from_place ts p)))) none
     ∙ ap (take c.args.most) (wanted_ranked q ts c.args.last)

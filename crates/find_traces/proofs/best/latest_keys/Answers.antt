@@ -1,19 +1,19 @@
 use Rattle.std.proofs.Common.{◌≡◌, ◌+◌, ◌-◌, ◌<◌, length, take, sym, ap, ◌∙◌, arith}
 use Rattle.std.specs.BTreeSet.{insert_key}
-use Rattle.find_traces.specs.Places.{trace_at}
+use Rattle.find_traces.specs.FoundIndices.{trace_at}
 use Rattle.find_traces.specs.Keys.{reversed, reverse_key_cmp}
 use Rattle.find_traces.proofs.OfferedKeys.{best_of, from_place, offered, one_before, all_after}
 use Rattle.find_traces.proofs.best.latest_keys.Goals as goal
 
-pub loop-place-preserved : goal.loop-place-preserved
-loop-place-preserved g c =
+pub loop-index-preserved : goal.loop-index-preserved
+loop-index-preserved g c =
     let ts = g.T.Searched.traces c.args.traces.now in
-    let i = c.loop-place.place - 1 in
-    let back : i + 1 ≡ c.loop-place.place = omega (arith, c.loop-place-test.true) in
-    let below : i < length ts = omega (arith, c.loop-place-test.true, c.loop-place.auto.place, c.count-place.ensures) in
-    let was = c.loop-place.invariant in
+    let i = c.loop-index.index - 1 in
+    let back : i + 1 ≡ c.loop-index.index = omega (arith, c.loop-index-test.true) in
+    let below : i < length ts = omega (arith, c.loop-index-test.true, c.loop-index.auto.index, c.count-index.ensures) in
+    let was = c.loop-index.invariant in
     let n = c.args.most in
-    let old = c.loop-place.latest.keys.keys in
+    let old = c.loop-index.latest.keys.keys in
     let kept = was.keys ∙ ap (λ p. take n (best_of (from_place ts p))) (sym back) in
     record {
       keys =

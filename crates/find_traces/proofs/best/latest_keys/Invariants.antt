@@ -3,8 +3,8 @@ use Rattle.std.specs.List.{enumerate_from}
 use Rattle.find_traces.proofs.OfferedKeys.{best_of}
 use Rattle.find_traces.proofs.best.latest_keys.Given as goal
 
-abbrev pub invariant-loop-place : goal.invariant-loop-place
-invariant-loop-place g l = record {
-  keys : l.latest.keys.keys ≡ take l.most (best_of (enumerate_from l.place (drop l.place (g.T.Searched.traces l.traces))));
+abbrev pub invariant-loop-index : goal.invariant-loop-index
+invariant-loop-index g l = record {
+  keys : l.latest.keys.keys ≡ take l.most (best_of (enumerate_from l.index (drop l.index (g.T.Searched.traces l.traces))));
   most : l.latest.most ≡ l.most;
 }

@@ -1,18 +1,18 @@
 use Rattle.std.proofs.Common.{◌≡◌, ◌<◌, sym, ◌∙◌, ap, map, ◌++◌, ◌∷◌, [], length, arith}
 use Rattle.std.proofs.lemmas.List.{take_all}
-use Rattle.find_traces.specs.Places.{hits}
-use Rattle.find_traces.specs.Places.{trace_at}
+use Rattle.find_traces.specs.FoundIndices.{hits}
+use Rattle.find_traces.specs.FoundIndices.{trace_at}
 use Rattle.find_traces.specs.Keys.{found_at, key_of, reverse_key_of}
 use Rattle.find_traces.proofs.Found.{hits_hit, hits_miss}
 use Rattle.find_traces.proofs.matched.all_hits.Goals as goal
 use Rattle.find_traces.proofs.matched.all_hits.Goals.{then-branch+in_ok-push, else-branch}
 
-pub loop-place-preserved : goal.loop-place-preserved
-loop-place-preserved g c =
+pub loop-index-preserved : goal.loop-index-preserved
+loop-index-preserved g c =
     let q = (g.T.Searched.query c.args.traces.now) in
     let ts = g.T.Searched.traces c.args.traces.now in
-    let k = c.loop-place.place in
-    let kept = c.loop-place.invariant in
+    let k = c.loop-index.index in
+    let kept = c.loop-index.invariant in
     let same_traces = c.in_ok-is_found_at.ensures.same_traces ∙ kept.same_traces in
     let below : k < length ts = omega arith in
     let judged : c.in_ok-is_found_at.field-0 ≡ found_at q ts k =
@@ -35,4 +35,4 @@ pub returns-clause-found : goal.returns-clause-found
 returns-clause-found g c =
     let q = (g.T.Searched.query c.args.traces.now) in
     let ts = g.T.Searched.traces c.args.traces.now in
-    c.loop-place.invariant.found ∙ ap (λ l. map reverse_key_of (hits q l)) (take_all c.loop-place.place ts (omega arith))
+    c.loop-index.invariant.found ∙ ap (λ l. map reverse_key_of (hits q l)) (take_all c.loop-index.index ts (omega arith))

@@ -5,14 +5,14 @@ use Rattle.trace_model.specs.declared.query.Find.{Find}
 use Rattle.trace_model.specs.Searching.{cut, ranked_by_start}
 use Rattle.find_traces.specs.declared.key.Key.{Key}
 use Rattle.std.specs.declared.cmp.Reverse.{Reverse}
-use Rattle.find_traces.specs.Places.{hits, start_of}
-use Rattle.find_traces.specs.Keys.{reverse_key_of, reverse_key_place}
+use Rattle.find_traces.specs.FoundIndices.{hits, start_of}
+use Rattle.find_traces.specs.Keys.{reverse_key_of, reverse_key_index}
 use Rattle.find_traces.proofs.SortedTraces.{sorted_hits}
-use Rattle.find_traces.proofs.Found.{places_of_hits}
+use Rattle.find_traces.proofs.Found.{indices_of_hits}
 use Rattle.find_traces.proofs.matched.find_all.Goals as goal
 
-pub returns-clause-places : goal.returns-clause-places
-returns-clause-places g c =
+pub returns-clause-indices : goal.returns-clause-indices
+returns-clause-indices g c =
     let q : Find = (g.T.Searched.query c.args.traces.now) in
     let ts : List (List Placed) = g.T.Searched.traces c.args.traces.now in
     let moved : IsPermutation (map reverse_key_of (hits q ts)) c.sort_unstable.new.self.items =
@@ -21,4 +21,4 @@ returns-clause-places g c =
     c.deref.ensures.value ∙ sorted_hits q ts c.sort_unstable.new.self.items moved c.sort_unstable.ensures.sorted in
     let whole : map reverse_key_of (ranked_by_start start_of (hits q ts)) ≡ cut q.limit (map reverse_key_of (ranked_by_start start_of (hits q ts))) =
     ap (λ n. cut n (map reverse_key_of (ranked_by_start start_of (hits q ts)))) (sym c.requires) in
-    subst (λ (l : List ℕ). IfOk c.places_of.result (λ v. v.items ≡ l)) (ap (map reverse_key_place) (sorted ∙ whole) ∙ places_of_hits q ts) c.places_of.ensures
+    subst (λ (l : List ℕ). IfOk c.indices_of.result (λ v. v.items ≡ l)) (ap (map reverse_key_index) (sorted ∙ whole) ∙ indices_of_hits q ts) c.indices_of.ensures

@@ -4,6 +4,6 @@ use Rattle.jaeger_model.specs.declared.ids.TraceId.{TraceId}
 use Rattle.trace_assembly.specs.AssembledRows.{spots_of}
 use Rattle.journal_traces.proofs.search_candidates.marked_spots.Given as goal
 
-abbrev pub invariant-loop-place : goal.invariant-loop-place
-invariant-loop-place l =
-    (p : TraceId → Bool) → l.marks ≡ map p l.assembly.newest.ids → l.spots.items ≡ map (spots_of l.assembly) (filter p (take l.place l.assembly.newest.ids))
+abbrev pub invariant-loop-index : goal.invariant-loop-index
+invariant-loop-index l =
+    (p : TraceId → Bool) → l.marks ≡ map p l.assembly.newest.ids → l.spots.items ≡ map (spots_of l.assembly) (filter p (take l.index l.assembly.newest.ids))

@@ -4,7 +4,7 @@ use Rattle.trace_assembly.specs.AssembledRows.{spots_of}
 use Rattle.journal_traces.specs.ReportedSpots.{are_reported}
 use Rattle.journal_traces.proofs.service_candidates.spots_reported.Given as goal
 
-abbrev pub invariant-loop-place : goal.invariant-loop-place
-invariant-loop-place l =
+abbrev pub invariant-loop-index : goal.invariant-loop-index
+invariant-loop-index l =
     l.found.items ≡ map (spots_of l.assembly)
-    (filter (λ t. are_reported l.journal.held.entries l.reported.service_numbers l.service (spots_of l.assembly t)) (take l.place l.assembly.newest.ids))
+    (filter (λ t. are_reported l.journal.held.entries l.reported.service_numbers l.service (spots_of l.assembly t)) (take l.index l.assembly.newest.ids))

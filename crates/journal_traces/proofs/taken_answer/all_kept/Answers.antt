@@ -1,7 +1,7 @@
 use Rattle.journal_traces.proofs.taken_answer.all_kept.Goals as goal
 
-pub loop-place-init : goal.loop-place-init
-loop-place-init c =
+pub loop-index-init : goal.loop-index-init
+loop-index-init c =
     let process_of = c.requires.process_of in
     record {
       kept = c.in_ok-kept.ensures.items;

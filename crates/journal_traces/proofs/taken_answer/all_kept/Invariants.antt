@@ -5,8 +5,8 @@ use Rattle.journal_traces.specs.ProcessClasses.{ShareByClass}
 use Rattle.journal_traces.specs.TakenTraces.{placed_taken}
 use Rattle.journal_traces.proofs.taken_answer.all_kept.Given as goal
 
-abbrev pub invariant-loop-place : goal.invariant-loop-place
-invariant-loop-place l = record {
-  kept : l.kept.items ≡ map (λ i. adjusted l.limits.max_skew (slice_index_or (map placed_taken l.traces) i [])) (take l.place-index l.places);
+abbrev pub invariant-loop-index : goal.invariant-loop-index
+invariant-loop-index l = record {
+  kept : l.kept.items ≡ map (λ i. adjusted l.limits.max_skew (slice_index_or (map placed_taken l.traces) i [])) (take l.index-index l.indices);
   classes : ShareByClass l.traces l.classes;
 }

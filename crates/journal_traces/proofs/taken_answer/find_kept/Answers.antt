@@ -13,7 +13,7 @@ returns c =
     let shown = adjusted c.args.limits.max_skew in
     c.in_ok-kept.ensures
     ∙ ap (λ (l : List (List Placed)). map (λ i. shown (slice_index_or l i [])) c.deref.result.now)
-    (ap (map placed_taken) c.traces.ensures.traces ∙ c.in_ok-places.ensures.same_traces)
+    (ap (map placed_taken) c.traces.ensures.traces ∙ c.in_ok-indices.ensures.same_traces)
     ∙ ap (map (λ i. shown (slice_index_or ts i []))) c.deref.ensures.value
-    ∙ sym (map-map shown (λ i. slice_index_or ts i []) c.in_ok-places.places.items)
-    ∙ ap (map shown) c.in_ok-places.ensures.traces
+    ∙ sym (map-map shown (λ i. slice_index_or ts i []) c.in_ok-indices.indices.items)
+    ∙ ap (map shown) c.in_ok-indices.ensures.traces

@@ -4,8 +4,8 @@ use Rattle.journal_traces.specs.ProcessClasses.{ShareByClass}
 use Rattle.journal_traces.specs.TakenTraces.{placed_taken}
 use Rattle.journal_traces.proofs.taken_answer.keep_all.Given as goal
 
-abbrev pub invariant-loop-place : goal.invariant-loop-place
-invariant-loop-place l = record {
-  kept : l.kept.items ≡ map (adjusted l.limits.max_skew) (take l.place (map placed_taken l.traces));
+abbrev pub invariant-loop-index : goal.invariant-loop-index
+invariant-loop-index l = record {
+  kept : l.kept.items ≡ map (adjusted l.limits.max_skew) (take l.index (map placed_taken l.traces));
   classes : ShareByClass l.traces l.classes;
 }

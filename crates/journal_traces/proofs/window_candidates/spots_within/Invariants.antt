@@ -5,12 +5,12 @@ use Rattle.trace_assembly.specs.AssembledRows.{spots_of}
 use Rattle.journal_traces.specs.TraceRanges.{FailsOutside}
 use Rattle.journal_traces.proofs.window_candidates.spots_within.Given as goal
 
-abbrev pub invariant-loop-place : goal.invariant-loop-place
-invariant-loop-place l = record {
-  place : l.place ≤ length l.assembly.newest.ids;
+abbrev pub invariant-loop-index : goal.invariant-loop-index
+invariant-loop-index l = record {
+  place : l.index ≤ length l.assembly.newest.ids;
   found : (p : List Spot → Bool) → FailsOutside l.window l.starts l.assembly p
-      → filter p l.spots.items ≡ filter p (map (spots_of l.assembly) (take l.place l.assembly.newest.ids));
+      → filter p l.spots.items ≡ filter p (map (spots_of l.assembly) (take l.index l.assembly.newest.ids));
 }
 
-abbrev pub decreases-loop-place : goal.decreases-loop-place
-decreases-loop-place l = length l.assembly.newest.ids - l.place
+abbrev pub decreases-loop-index : goal.decreases-loop-index
+decreases-loop-index l = length l.assembly.newest.ids - l.index

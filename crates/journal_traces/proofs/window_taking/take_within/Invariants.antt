@@ -8,14 +8,14 @@ use Rattle.journal_traces.specs.TakenTraces.{placed_taken}
 use Rattle.journal_traces.specs.WindowTraces.{traces_reported, AreWindowSpots}
 use Rattle.journal_traces.proofs.window_taking.take_within.Given as goal
 
-abbrev pub invariant-loop-place : goal.invariant-loop-place
-invariant-loop-place l = record {
-  place : l.place ≤ length l.assembly.newest.ids;
+abbrev pub invariant-loop-index : goal.invariant-loop-index
+invariant-loop-index l = record {
+  place : l.index ≤ length l.assembly.newest.ids;
   within : map placed_taken (traces_reported l.taken)
       ≡ filter (list_any (in_window l.end_ms l.lookback_ms))
-      (map (trace_named l.journal.held.entries (spots_of l.assembly)) (take l.place l.assembly.newest.ids));
+      (map (trace_named l.journal.held.entries (spots_of l.assembly)) (take l.index l.assembly.newest.ids));
   taken : AreWindowSpots l.journal.held.entries l.taken l.numbers;
 }
 
-abbrev pub decreases-loop-place : goal.decreases-loop-place
-decreases-loop-place l = length l.assembly.newest.ids - l.place
+abbrev pub decreases-loop-index : goal.decreases-loop-index
+decreases-loop-index l = length l.assembly.newest.ids - l.index

@@ -10,4 +10,4 @@ trace_part-requires c =
     (subst (AreStarts (length taken.spots.items)) (sym c.deref-2.ensures.value) c.requires)
 
 pub returns : goal.returns
-returns c = c.trace_part.ensures ∙ (λ i. slice_index_or (cut_at (c.deref.ensures.value i) (c.deref-2.ensures.value i)) c.args.place [])
+returns c = c.trace_part.ensures ∙ (λ i. slice_index_or (cut_at (c.deref.ensures.value i) (c.deref-2.ensures.value i)) c.args.index [])

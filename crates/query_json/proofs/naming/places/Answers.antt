@@ -1,7 +1,7 @@
 use Rattle.std.proofs.Common.{◌≡◌, ◌+◌, ◌<◌, ◌∙◌, List, ap, get_or, length, map, rules, subst, sym, take}
 use Rattle.std.specs.Bool.{OnFalse, OnTrue}
 use Rattle.std.proofs.lemmas.List.{take_all}
-use Rattle.trace_model.specs.declared.answer.AdjustedSpan.{AdjustedSpan}
+use Rattle.trace_model.specs.declared.answer.Shown.{Shown}
 use Rattle.query_json.specs.ProcessNumbers.{first_process}
 use Rattle.query_json.specs.ProcessPlaces.{ComesNext, HasPlaces}
 use Rattle.query_json.specs.Trees.{processes_of}
@@ -18,8 +18,8 @@ loop-index-preserved c =
     let spans = c.args.trace.now in
     let s = c.shown-item.result in
     let slice : c.as_slice-shown-items.result.now ≡ spans = c.as_slice-shown-items.ensures in
-    let within : i < length spans = subst (λ (l : List AdjustedSpan). i < length l) slice (search rules) in
-    let is : s ≡ get_or spans i s = subst (λ (l : List AdjustedSpan). s ≡ get_or l i s) slice c.shown-item.is in
+    let within : i < length spans = subst (λ (l : List Shown). i < length l) slice (search rules) in
+    let is : s ≡ get_or spans i s = subst (λ (l : List Shown). s ≡ get_or l i s) slice c.shown-item.is in
     let keys = c.process_keys-keys.result.now in
     let next : ComesNext spans keys i s c.key_at-key.result =
     record { within = within; is = is; stands = c.key_at-key.ensures; shares = c.process_keys-keys.ensures } in

@@ -4,8 +4,8 @@ use Rattle.journal_traces.specs.SpansAtSpots.{traces_named}
 use Rattle.journal_traces.specs.TakenTraces.{placed_taken, AreNumberedByPlace}
 use Rattle.span_store.proofs.finding.take_places.Given as goal
 
-abbrev pub invariant-loop-place : goal.invariant-loop-place
-invariant-loop-place l =
+abbrev pub invariant-loop-index : goal.invariant-loop-index
+invariant-loop-index l =
     (map placed_taken l.taken ≡ map
-    (λ i. slice_index_or (traces_named l.traces.journal.now.held.entries l.traces.spots.now) i []) (take l.place-index l.places))
+    (λ i. slice_index_or (traces_named l.traces.journal.now.held.entries l.traces.spots.now) i []) (take l.index-index l.indices))
     × AreNumberedByPlace l.traces.journal.now.held.entries l.taken

@@ -1,6 +1,6 @@
 use Rattle.std.proofs.Common.{◌∙◌, List, subst, sym}
 use Rattle.jaeger_model.specs.declared.placed.Placed.{Placed}
-use Rattle.trace_model.specs.declared.answer.AdjustedSpan.{AdjustedSpan}
+use Rattle.trace_model.specs.declared.answer.Shown.{Shown}
 use Rattle.trace_model.specs.Adjusting.{spans_of, shown_as}
 use Rattle.trace_model.specs.KeptTraces.{KeptShares, spans_there}
 use Rattle.trace_model.specs.SharedProcesses.{ShareProcesses}
@@ -31,4 +31,4 @@ returns-clause-shares c =
     subst (λ keys. ShareProcesses (spans_there t.spans.items) keys.items) (sym kept.ensures.process_keys)
     (subst (λ (ps : List Placed). ShareProcesses ps was.process_keys.items) (sym kept.ensures.spans) c.requires) in
     let shown = shown_shares t.limits t.raw (spans_there t.spans.items) t.process_keys.items shares in
-    subst (λ (ss : List AdjustedSpan). ShareProcesses (spans_of ss) t.process_keys.items) (sym c.in_ok-deltas.ensures) shown
+    subst (λ (ss : List Shown). ShareProcesses (spans_of ss) t.process_keys.items) (sym c.in_ok-deltas.ensures) shown

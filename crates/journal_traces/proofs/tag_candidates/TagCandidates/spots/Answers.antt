@@ -17,6 +17,6 @@ returns c =
     let es = entries_shared was.entries.items in
     ap (λ (s : TagCandidatesValue). trace_spotted s.entries c.trace_part.result.now) (sym c.self.view_is)
     ∙ ap (trace_spotted es) (c.trace_part.ensures
-    ∙ (λ i. slice_index_or (cut_at (c.deref.ensures.value i) (c.deref-2.ensures.value i)) c.args.place []))
-    ∙ part_spotted es was.spots.items was.starts.items c.args.place
-    ∙ ap (λ (s : TagCandidatesValue). slice_index_or s.traces c.args.place []) c.self.view_is
+    ∙ (λ i. slice_index_or (cut_at (c.deref.ensures.value i) (c.deref-2.ensures.value i)) c.args.index []))
+    ∙ part_spotted es was.spots.items was.starts.items c.args.index
+    ∙ ap (λ (s : TagCandidatesValue). slice_index_or s.traces c.args.index []) c.self.view_is

@@ -15,19 +15,19 @@ use Rattle.journal_traces.proofs.TracesAtSpots.{trace_kept, trace_passed, trace_
 use Rattle.journal_traces.proofs.tag_candidates.TagCandidates.traces_that_may_meet.Goals as goal
 use Rattle.journal_traces.proofs.tag_candidates.TagCandidates.traces_that_may_meet.Goals.{then-may_spots_meet+in_ok-take_spots, else-may_spots_meet}
 
-pub loop-place-preserved : goal.loop-place-preserved
-loop-place-preserved c =
+pub loop-index-preserved : goal.loop-index-preserved
+loop-index-preserved c =
     let v : TagCandidatesValue = c.args.self.now in
     let q = c.args.prepared.now in
     let was = c.self.inside in
     let xs : List (List Placed) = traces_spotted v in
-    let k = c.loop-place.place in
+    let k = c.loop-index.index in
     let ss = c.spots-spots.result.now in
     let t : List Placed = placed_taken (trace_spotted v.entries ss) in
-    let old : List (List Taken) = c.loop-place.traces in
+    let old : List (List Taken) = c.loop-index.traces in
     let many : length v.traces ≡ length was.starts.items =
     ap (λ (s : TagCandidatesValue). length s.traces) (sym c.self.view_is) ∙ cuts (trace_spotted (entries_shared was.entries.items) was.spots.items) was.starts.items in
-    let le : k < length xs = omega (arith, many, length-map v.traces placed_taken, c.loop-place-test.true, c.len-place-end.ensures) in
+    let le : k < length xs = omega (arith, many, length-map v.traces placed_taken, c.loop-index-test.true, c.len-index-end.ensures) in
     let is : t ≡ slice_index_or xs k [] = ap placed_taken c.spots-spots.ensures ∙ placed_got v.traces k in
     let own : entries_shared was.entries.items ≡ v.entries = ap (λ (s : TagCandidatesValue). s.entries) c.self.view_is in
     elim c.if-may_spots_meet.branch [
@@ -40,15 +40,15 @@ loop-place-preserved c =
           record {
             matching =
                 ap (λ (l : List (List Taken)). matching q (map placed_taken l)) w.traces-is ∙ ap (matching q) put
-                ∙ trace_kept q (map placed_taken old) xs k t le c.loop-place.invariant.matching is;
+                ∙ trace_kept q (map placed_taken old) xs k t le c.loop-index.invariant.matching is;
             numbers =
                 subst (numbered v.entries) (sym w.traces-is)
                 (subst (λ es. numbered es new) here
-                (w.in_ok-take_spots.ensures.numbers (subst (λ es. numbered es old) (sym here) c.loop-place.invariant.numbers)));
+                (w.in_ok-take_spots.ensures.numbers (subst (λ es. numbered es old) (sym here) c.loop-index.invariant.numbers)));
           }
       | else-may_spots_meet w ↦
           let here : entries_shared c.deref.result.now ≡ v.entries = ap entries_shared c.deref.ensures.value ∙ own in
-          let unmet = ap (λ m. may_spots_meet m ss) (sym c.deref-in-loop-place.ensures.value) ∙ sym c.may_spots_meet.ensures ∙ w.if-may_spots_meet.false in
+          let unmet = ap (λ m. may_spots_meet m ss) (sym c.deref-in-loop-index.ensures.value) ∙ sym c.may_spots_meet.ensures ∙ w.if-may_spots_meet.false in
           let none : list_any (matches q) t ≡ false =
           ap (λ es. list_any (matches q) (placed_taken (trace_spotted es ss))) (sym here)
           ∙ trace_unmet q c.deref.result.now c.in_ok-flags.flags.items ss c.in_ok-flags.ensures unmet in
@@ -56,8 +56,8 @@ loop-place-preserved c =
           record {
             matching =
                 ap (λ (l : List (List Taken)). matching q (map placed_taken l)) w.traces-is
-                ∙ trace_passed q (map placed_taken old) xs k t le c.loop-place.invariant.matching is none;
-            numbers = subst numbered (sym w.traces-is) c.loop-place.invariant.numbers;
+                ∙ trace_passed q (map placed_taken old) xs k t le c.loop-index.invariant.matching is none;
+            numbers = subst numbered (sym w.traces-is) c.loop-index.invariant.numbers;
           }
     ]
 
@@ -69,8 +69,8 @@ returns-clause-found c =
     let xs : List (List Placed) = traces_spotted v in
     let many : length v.traces ≡ length was.starts.items =
     ap (λ (s : TagCandidatesValue). length s.traces) (sym c.self.view_is) ∙ cuts (trace_spotted (entries_shared was.entries.items) was.spots.items) was.starts.items in
-    let end : length xs ≤ c.loop-place.place = omega (arith, many, length-map v.traces placed_taken, c.loop-place-test.false, c.len-place-end.ensures) in
-    matching_found q (map placed_taken c.loop-place.traces) xs (c.loop-place.invariant.matching ∙ ap (matching q) (take_all c.loop-place.place xs end))
+    let end : length xs ≤ c.loop-index.index = omega (arith, many, length-map v.traces placed_taken, c.loop-index-test.false, c.len-index-end.ensures) in
+    matching_found q (map placed_taken c.loop-index.traces) xs (c.loop-index.invariant.matching ∙ ap (matching q) (take_all c.loop-index.index xs end))
 
 pub returns-then-not-may_any_meet-clause-found : goal.returns-then-not-may_any_meet-clause-found
 returns-then-not-may_any_meet-clause-found c =

@@ -4,8 +4,8 @@ use Rattle.journal_traces.specs.TagCandidates.{AreNumberedByEntry, traces_spotte
 use Rattle.journal_traces.specs.TakenTraces.{placed_taken}
 use Rattle.journal_traces.proofs.tag_candidates.TagCandidates.traces_that_may_meet.Given as goal
 
-abbrev pub invariant-loop-place : goal.invariant-loop-place
-invariant-loop-place l = record {
-  matching : matching l.prepared (map placed_taken l.traces) ≡ matching l.prepared (take l.place (traces_spotted l.self));
+abbrev pub invariant-loop-index : goal.invariant-loop-index
+invariant-loop-index l = record {
+  matching : matching l.prepared (map placed_taken l.traces) ≡ matching l.prepared (take l.index (traces_spotted l.self));
   numbers : AreNumberedByEntry l.self.entries l.traces;
 }

@@ -12,5 +12,5 @@ trace_part-requires c =
 
 pub returns : goal.returns
 returns c =
-    c.trace_part.ensures ∙ (λ i. slice_index_or (cut_at (c.deref.ensures.value i) (c.deref-2.ensures.value i)) c.args.place [])
-    ∙ ap (λ (ts : List (List Taken)). slice_index_or ts c.args.place []) c.self.view_is
+    c.trace_part.ensures ∙ (λ i. slice_index_or (cut_at (c.deref.ensures.value i) (c.deref-2.ensures.value i)) c.args.index [])
+    ∙ ap (λ (ts : List (List Taken)). slice_index_or ts c.args.index []) c.self.view_is

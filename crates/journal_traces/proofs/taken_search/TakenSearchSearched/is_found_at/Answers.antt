@@ -15,7 +15,7 @@ returns-clause-found c =
     let was = c.self.inside in
     let kept = c.self.invariant in
     let own = matches was.prepared.now in
-    let k = c.args.place in
+    let k = c.args.index in
     let processes = subst (HaveProcesses kept.process_of) (sym c.trace.ensures) (processes_got kept.process_of was.traces.now k kept.each) in
     IfOk-weaker c.is_found.result (λ b. b ≡ list_any own (placed_taken c.trace.result.now))
     (λ b. b ≡ list_any (matches (query_taken c.args.self.now)) (slice_index_or (traces_taken c.args.self.now) k []))

@@ -4,7 +4,7 @@ use Rattle.std.specs.Ordering.{nat_cmp}
 use Rattle.std.specs.BTreeMap.{get}
 use Rattle.std.proofs.lemmas.List.{length-map, length-take-le, take-append-drop}
 use Rattle.std.proofs.lemmas.Option.{slice_get_read}
-use Rattle.trace_model.specs.declared.answer.AdjustedSpan.{AdjustedSpan}
+use Rattle.trace_model.specs.declared.answer.Shown.{Shown}
 use Rattle.query_json.specs.ProcessNames.{added, place}
 use Rattle.query_json.specs.ProcessNumbers.{numbered}
 use Rattle.query_json.specs.Trees.{process_of, processes_of}
@@ -21,12 +21,12 @@ returns-clause-placed c = λ spans keys i s own next before.
     let front = take i spans in
     let rest = drop (i + 1) spans in
     let more : take (i + 1) spans ≡ front ++ s ∷ [] = one_more spans keys i s c.args.key next in
-    let whole : (front ++ s ∷ []) ++ rest ≡ spans = ap (λ (l : List AdjustedSpan). l ++ rest) (sym more) ∙ take-append-drop (i + 1) spans in
+    let whole : (front ++ s ∷ []) ++ rest ≡ spans = ap (λ (l : List Shown). l ++ rest) (sym more) ∙ take-append-drop (i + 1) spans in
     let known : numbered new ≡ processes_of (front ++ s ∷ []) =
     says.numbered ∙ ap (λ p. added p (numbered old.numbering)) own ∙ sym (processes_more (numbered old.numbering) front s before.processes) in
     let found : c.in_ok-place.place ≡ process_place (processes_of spans) s =
     c.in_ok-place.ensures ∙ says.number ∙ ap (λ p. place p (numbered new)) own ∙ ap (place s.placed.process) known ∙ sym (place_stays front rest s)
-    ∙ ap (λ (l : List AdjustedSpan). process_place (processes_of l) s) whole in
+    ∙ ap (λ (l : List Shown). process_place (processes_of l) s) whole in
     let index : c.len-span.result ≡ i =
     omega (
       arith,

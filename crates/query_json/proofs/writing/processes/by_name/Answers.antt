@@ -4,7 +4,7 @@ use Rattle.std.proofs.lemmas.List.{drop_all, drop_more}
 use Rattle.std.proofs.lemmas.List.Elements.{All-get_or}
 use Rattle.std.proofs.Math.Numerals.{add-one}
 use Rattle.serde_json.specs.Data.{Members, put}
-use Rattle.trace_model.specs.declared.answer.AdjustedSpan.{AdjustedSpan}
+use Rattle.trace_model.specs.declared.answer.Shown.{Shown}
 use Rattle.query_json.specs.declared.naming.FirstSpan.{FirstSpan}
 use Rattle.query_json.specs.declared.writing.processes.NamedProcess.{NamedProcess}
 use Rattle.query_json.specs.ProcessNames.{process_name}
@@ -27,7 +27,7 @@ loop-place-preserved c =
     drop_more xs l.place x below ∙ ap (λ y. y ∷ drop (l.place + 1) xs) (sym c.index-processes-place.is) in
     let name : c.as_str.result.now ≡ process_name l.place =
     c.as_str.ensures.value ∙ name_at (length xs) l.place c.args.names.now c.index-names-place.result c.requires.names below c.index-names-place.is in
-    let first : (ss : List AdjustedSpan) → All (IsFirst ss) xs → IsFirst ss x =
+    let first : (ss : List Shown) → All (IsFirst ss) xs → IsFirst ss x =
     λ ss all. subst (IsFirst ss) (sym c.index-processes-place.is) (All-get_or (IsFirst ss) xs l.place x below all) in
     record {
       keyed = subst AreKeyed (sym c.in_ok-insert.ensures.entries) (keyed_insert es c.as_str.result p name l.invariant.keyed);

@@ -1,7 +1,7 @@
 use Rattle.std.proofs.Common.{◌≡◌, List, map, drop}
 use Rattle.std.specs.Prelude.{All}
 use Rattle.serde_json.specs.Data.{no_members}
-use Rattle.trace_model.specs.declared.answer.AdjustedSpan.{AdjustedSpan}
+use Rattle.trace_model.specs.declared.answer.Shown.{Shown}
 use Rattle.query_json.specs.NamedProcesses.{named_members}
 use Rattle.query_json.specs.ProcessNumbers.{IsFirst, first_process}
 use Rattle.query_json.specs.Trees.{named}
@@ -11,9 +11,9 @@ use Rattle.query_json.proofs.writing.processes.by_name.Given as goal
 abbrev pub invariant-loop-place : goal.invariant-loop-place
 invariant-loop-place l = record {
   keyed : AreKeyed l.named.entries;
-  have : (ss : List AdjustedSpan) → All (IsFirst ss) l.processes → HaveSpans ss l.named.entries;
+  have : (ss : List Shown) → All (IsFirst ss) l.processes → HaveSpans ss l.named.entries;
   named :
-      (ss : List AdjustedSpan) → All (IsFirst ss) l.processes
+      (ss : List Shown) → All (IsFirst ss) l.processes
       → named l.place (map first_process (drop l.place l.processes)) (named_members ss (map (λ e. e.1) l.named.entries))
       ≡ named 0 (map first_process l.processes) no_members;
 }

@@ -4,14 +4,14 @@ use Rattle.std.proofs.lemmas.Option.{get_or_from_slice_get}
 use Rattle.serde_json.specs.Data.{string}
 use Rattle.serde_json.specs.Written.{compact_text}
 use Rattle.jaeger_model.specs.Ids.{trace_text}
-use Rattle.trace_model.specs.declared.answer.AdjustedSpan.{AdjustedSpan}
+use Rattle.trace_model.specs.declared.answer.Shown.{Shown}
 use Rattle.query_json.specs.Trees.{trace_id_text}
 use Rattle.query_json.proofs.Pages.{Puts-is}
 use Rattle.query_json.proofs.writing.trace.write_id.Goals as goal
 
-id_of : (ss : List AdjustedSpan) (s : AdjustedSpan) → 0 < length ss → get_or ss 0 s ≡ s → trace_text s.placed.span.trace ≡ trace_id_text ss
+id_of : (ss : List Shown) (s : Shown) → 0 < length ss → get_or ss 0 s ≡ s → trace_text s.placed.span.trace ≡ trace_id_text ss
 id_of [] s h is = absurd (omega (arith, h))
-id_of (x ∷ ss) s h is = ap (λ (y : AdjustedSpan). trace_text y.placed.span.trace) (sym is)
+id_of (x ∷ ss) s h is = ap (λ (y : Shown). trace_text y.placed.span.trace) (sym is)
 
 pub returns-then-len-eq0 : goal.returns-then-len-eq0
 returns-then-len-eq0 c =

@@ -4,8 +4,8 @@ use Rattle.read_side.specs.Keepers.{accepted, with_pending, all_published}
 use Rattle.read_side.proofs.AdmittedPlaces.{added_stands}
 use Rattle.read_side.proofs.keeper.Keeper.admit_new.Goals as goal
 
-pub vouch-requires : goal.vouch-requires
-vouch-requires g c =
+pub receipt_for-requires : goal.receipt_for-requires
+receipt_for-requires g c =
     let old = c.args.self.now in
     let e = c.args.entry in
     let shown : c.publish.new.self ≡ all_published (with_pending old e) = search rules in

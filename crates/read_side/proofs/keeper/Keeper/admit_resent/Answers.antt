@@ -9,8 +9,8 @@ use Rattle.read_side.proofs.AdmittedPlaces.{entry_stands}
 use Rattle.read_side.proofs.keeper.Keeper.admit_resent.Goals as goal
 use Rattle.read_side.proofs.keeper.Keeper.admit_resent.Goals.{else-has_pending-via-then-has_pending+else-not-publish, else-has_pending-via-else-has_pending}
 
-pub vouch-requires : goal.vouch-requires
-vouch-requires g c =
+pub receipt_for-requires : goal.receipt_for-requires
+receipt_for-requires g c =
     let old = c.args.self.now in
     let e : Entry = arc_value c.in_ok-entry.entry in
     let at : entry_at c.self.inside.journal.held.entries c.args.place ≡ Some e = search rules in

@@ -14,7 +14,7 @@ invariant_of-self c =
     let publishes = c.publishes.ensures ∙ ap (λ (m : Machine). length m.fronts) (sym c.self.view_is) in
     subst (λ places. IsState was.copies was.seats was.fronts.items places) (sym c.set.ensures)
     (state_set was.copies was.seats was.fronts.items was.readers c.args.reader _ c.self.invariant
-    (stands_entered was.copies was.seats was.fronts.items was.readers c.args.reader c.in-Some.place here
+    (stands_entered was.copies was.seats was.fronts.items was.readers c.args.reader c.in-Some.state here
     c.front-front.result c.publishes.result c.front-front.ensures publishes))
 
 pub returns : goal.returns
@@ -25,5 +25,5 @@ returns c =
     subst (λ (m : Machine). after (Entered c.front-front.result) (machine_of was.copies was.seats was.fronts.items c.set.new.self)
     ≡ by_reader m c.args.reader (λ reader. enters m c.args.reader reader.inside)) c.self.view_is
     (ap (λ (x : List ReaderState). after (Entered c.front-front.result) (machine_of was.copies was.seats was.fronts.items x)) c.set.ensures
-    ∙ entered_alike was.copies was.seats was.fronts.items was.readers c.args.reader c.in-Some.place here
+    ∙ entered_alike was.copies was.seats was.fronts.items was.readers c.args.reader c.in-Some.state here
     c.front-front.result c.publishes.result (sym c.if-is_some.ensures) c.front-front.ensures publishes)

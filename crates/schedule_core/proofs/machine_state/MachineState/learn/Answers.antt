@@ -17,5 +17,5 @@ returns c =
     subst (λ (m : Machine). after (Learnt c.max-seen.result) (machine_of was.copies was.seats was.fronts.items c.set.new.self)
     ≡ by_reader m r (λ reader. option_map_or (learns m r reader) (front_of m c.args.publish) (stays m Unknown))) c.self.view_is
     (ap (λ (x : List ReaderState). after (Learnt c.max-seen.result) (machine_of was.copies was.seats was.fronts.items x)) c.set.ensures
-    ∙ learnt_alike was.copies was.seats was.fronts.items was.readers r c.in-Some.place here
+    ∙ learnt_alike was.copies was.seats was.fronts.items was.readers r c.in-Some.state here
     c.args.publish c.in-Some-front_of.front c.max-seen.result c.self.invariant front (sym c.if-is_some.ensures) c.max-seen.ensures)

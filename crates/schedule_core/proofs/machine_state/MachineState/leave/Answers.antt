@@ -14,4 +14,4 @@ returns c =
     let here = sym c.get.ensures ∙ c.in-Some.is in
     subst (λ (m : Machine). after Left (machine_of was.copies was.seats was.fronts.items c.set.new.self) ≡ by_reader m r (leaves m r)) c.self.view_is
     (ap (λ (x : List ReaderState). after Left (machine_of was.copies was.seats was.fronts.items x)) c.set.ensures
-    ∙ left_alike was.copies was.seats was.fronts.items was.readers r c.in-Some.place here c.if-is_none.ensures)
+    ∙ left_alike was.copies was.seats was.fronts.items was.readers r c.in-Some.state here c.if-is_none.ensures)

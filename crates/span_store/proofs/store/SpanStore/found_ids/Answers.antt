@@ -11,7 +11,7 @@ pub returns : goal.returns
 returns c =
     let q : Find = c.args.query.now in
     let held : LimitedHistory = c.args.self.now in
-    let among = c.searched-traces.ensures in
+    let among = c.candidate_search-traces.ensures in
     ap say.Ids (
     c.from_vec.ensures ∙ c.in_ok-ids.ensures
     ∙ (λ i. ids_of (found_in (among.query i) (traces_named (among.entries i) (among.spots i))))

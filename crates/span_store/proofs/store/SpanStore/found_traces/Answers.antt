@@ -15,17 +15,17 @@ use Rattle.span_store.proofs.store.SpanStore.found_traces.Goals as goal
 
 pub take_found-requires : goal.take_found-requires
 take_found-requires c =
-    let same = ap (length {A = Entry}) c.searched.ensures.entries ∙ sym (ap (λ (v : LimitedHistory). length v.entries) c.self.view_is) in
+    let same = ap (length {A = Entry}) c.candidate_search.ensures.entries ∙ sym (ap (λ (v : LimitedHistory). length v.entries) c.self.view_is) in
     omega (arith, same, c.self.invariant.placed.batches, c.self.invariant.placed.kept.fits, c.len-legal.ensures.legal.batches)
 
 pub new-traces-requires : goal.new-traces-requires
-new-traces-requires c = record { process_of = process_at c.searched.result.journal.now.held.entries; each = c.in_ok-found.ensures.numbers }
+new-traces-requires c = record { process_of = process_at c.candidate_search.result.journal.now.held.entries; each = c.in_ok-found.ensures.numbers }
 
 pub returns : goal.returns
 returns c =
     let held : LimitedHistory = c.args.self.now in
     let q : Find = c.args.query.now in
-    let among = c.searched.ensures in
+    let among = c.candidate_search.ensures in
     let found : map placed_taken c.in_ok-found.found ≡ found_in q (traces held.limits.traces (events held.entries)) =
     c.in_ok-found.ensures.found
     ∙ (λ i. found_in (among.query i) (traces_named (among.entries i) (among.spots i)))

@@ -25,10 +25,10 @@ returns-then-is_full c =
     let spots : List (List Spot) = c.in_ok-spots.spots.items in
     let full = OnTrue_at c.if-is_full.true c.is_full.ensures in
     let are = c.in_ok-spots.ensures first (kept_first h was.shown was.starts was.names was.reported c.self.invariant) in
-    let searched = c.searched-latest.ensures in
+    let candidate_search = c.candidate_search-latest.ensures in
     let count : length (found_in q (traces_named h.entries spots)) ≡ c.in_ok-found.found =
     sym (c.in_ok-found.ensures
-    ∙ (λ i. length (found_in (searched.query i) (traces_named (searched.entries i) (searched.spots i))))
+    ∙ (λ i. length (found_in (candidate_search.query i) (traces_named (candidate_search.entries i) (candidate_search.spots i))))
     ∙ ap (λ (v : LimitedHistory). length (found_in c.in_ok-prepared.prepared (traces_named v.entries c.deref.result.now))) (sym c.self.view_is)
     ∙ ap (λ (f : Find). length (found_in f (traces_named h.entries c.deref.result.now))) c.in_ok-prepared.ensures
     ∙ ap (λ (ss : List (List Spot)). length (found_in q (traces_named h.entries ss))) c.deref.ensures.value) in

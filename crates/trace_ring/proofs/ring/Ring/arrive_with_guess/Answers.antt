@@ -13,8 +13,8 @@ returns-clause-place c =
     let ids = c.if-is_full.self.ids in
     let id = id_at c.if-is_full.self.seen c.enter_with_guess-row.result in
     let all = ids ++ id ∷ [] in
-    let rows : length c.self-2.inside.rows.items ≡ c.len-place.result = omega arith in
-    let count : length ids ≡ c.len-place.result =
+    let rows : length c.self-2.inside.rows.items ≡ c.len-position.result = omega arith in
+    let count : length ids ≡ c.len-position.result =
     ap (λ (w : RingValue). length w.ids) (sym c.self-2.view_is) ∙ length-map c.self-2.inside.rows.items (id_at c.self-2.inside.table.ids) ∙ rows in
     let inside : length ids < length all = omega (arith, length-append ids (id ∷ [])) in
     let seen : c.if-is_full.self.seen ≡ c.enter_with_guess-row.new.self.seen =

@@ -12,7 +12,7 @@ pub returns-clause-first : goal.returns-clause-first
 returns-clause-first c =
     let t = c.self.inside in
     let h = c.self.invariant.2 in
-    let place = c.args.place in
+    let place = c.args.index in
     let within = subst (λ (w : RingValue). place < length w.ids) (sym c.self.view_is) c.requires in
     let l = length_window t.table.ids t.rows.items in
     let below : place < length t.rows.items = omega arith in

@@ -8,7 +8,7 @@ use Rattle.service_index.specs.Indexes.{listing_by, IsIndexed}
 use Rattle.service_index.proofs.MoreNames.{indexed_extends}
 use Rattle.jaeger_model.specs.Texts.{sorted_set}
 use Rattle.trace_model.specs.Histories.{before_last}
-use Rattle.service_index.specs.KeptNames.{AreNamesKept, names_of, reports}
+use Rattle.service_index.specs.KeptNames.{AreNamesKept, names_of_arrivals, reports}
 use Rattle.service_index.proofs.ArrivalReports.{extends_last, listed_before}
 use Rattle.service_index.proofs.arrival_names.names.ArrivalNames.add.Goals as goal
 
@@ -19,8 +19,8 @@ add_arrivals-requires-clause-indexed c =
     let some : 0 < length h = omega arith in
     let kept : AreNamesKept (before_last h) (record { numbers = c.self.inside.numbers; index = c.self.inside.index }) =
     subst (AreNamesKept (before_last h)) (sym c.self.view_is) c.requires.kept in
-    subst (λ (x : List Entry). IsIndexed (names_of x) c.self.inside.index) (sym c.arrivals-arrivals.ensures)
-    (indexed_extends (names_of (before_last h)) (names_of h) c.self.inside.index (extends_last h some) kept.indexed)
+    subst (λ (x : List Entry). IsIndexed (names_of_arrivals x) c.self.inside.index) (sym c.arrivals-arrivals.ensures)
+    (indexed_extends (names_of_arrivals (before_last h)) (names_of_arrivals h) c.self.inside.index (extends_last h some) kept.indexed)
 
 pub add_arrivals-requires-clause-listed : goal.add_arrivals-requires-clause-listed
 add_arrivals-requires-clause-listed c =
@@ -29,7 +29,7 @@ add_arrivals-requires-clause-listed c =
     let some : 0 < length h = omega arith in
     let kept : AreNamesKept (before_last h) (record { numbers = c.self.inside.numbers; index = c.self.inside.index }) =
     subst (AreNamesKept (before_last h)) (sym c.self.view_is) c.requires.kept in
-    subst (λ (x : List Entry). listing_by (names_of x) c.self.inside.index ≡ sorted_set listed_cmp (take c.used-begin.result (reports x)))
+    subst (λ (x : List Entry). listing_by (names_of_arrivals x) c.self.inside.index ≡ sorted_set listed_cmp (take c.used-begin.result (reports x)))
     (sym c.arrivals-arrivals.ensures)
     (listed_before h c.self.inside.index c.used-begin.result some kept.indexed kept.listed (c.used-begin.ensures.used ∙ kept.used))
 

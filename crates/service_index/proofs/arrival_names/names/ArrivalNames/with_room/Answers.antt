@@ -1,13 +1,13 @@
 use Rattle.std.proofs.Common.{[], map, ap}
 use Rattle.arrival_journal.specs.KindTexts.{kind_text}
-use Rattle.service_index.specs.KeptNames.{names_of}
+use Rattle.service_index.specs.KeptNames.{names_of_arrivals}
 use Rattle.service_index.proofs.arrival_names.names.ArrivalNames.with_room.Goals as goal
 
 pub returns-clause-kept : goal.returns-clause-kept
 returns-clause-kept c = record {
   numbers = c.in_ok-numbers.ensures.numbers;
   kinds = ap (map kind_text) c.in_ok-numbers.ensures.kinds;
-  indexed = c.in_ok-index.ensures.indexed (names_of []);
-  listed = c.in_ok-index.ensures.empty (names_of []);
+  indexed = c.in_ok-index.ensures.indexed (names_of_arrivals []);
+  listed = c.in_ok-index.ensures.empty (names_of_arrivals []);
   used = c.in_ok-index.ensures.used;
 }

@@ -1,56 +1,56 @@
-//! The spans of a trace as adjusted for an answer, and which of them are known to share a process.
+//! The spans of a trace as they are shown, and which of them are known to share a process.
 
 ghost use Rattle.std.specs.Prelude.{◌≡◌, ◌==◌, length};
 ghost use Rattle.trace_model.specs.Adjusting.{spans_of};
 ghost use Rattle.trace_model.specs.SharedProcesses.{ShareProcesses};
 
-use crate::answer::AdjustedSpan;
+use crate::answer::Shown;
 use jaeger_model::Seq;
 use std::alloc::Global;
 use std::marker::Model;
 
-/// The spans of a trace as adjusted for an answer, with a key for each of the first of them. Spans with one key have one
+/// The spans of a trace as they are shown, with a key for each of the first of them. Spans with one key have one
 /// process, so it need not be compared. Nothing else is known of a key. Contracts see the list of the spans.
 #[derive(Debug, Drop)]
-pub struct AdjustedTrace {
-    spans: Seq<AdjustedSpan>,
+pub struct ShownTrace {
+    spans: Seq<Shown>,
     process_keys: Vec<u64>,
 }
 
-impl Model for AdjustedTrace {
+impl Model for ShownTrace {
     ghost use Rattle.std.specs.Prelude.{List};
-    ghost use Rattle.trace_model.specs.declared.answer.AdjustedSpan.{AdjustedSpan};
+    ghost use Rattle.trace_model.specs.declared.answer.Shown.{Shown};
     ghost use Rattle.trace_model.specs.Adjusting.{spans_of};
     ghost use Rattle.trace_model.specs.SharedProcesses.{ShareProcesses};
 
-    ghost Value = { List AdjustedSpan };
+    ghost Value = { List Shown };
 
     ghost view = { λ t. t.spans };
 
     ghost invariant = { λ t. ShareProcesses (spans_of t.spans) t.process_keys.items };
 }
 
-impl AdjustedTrace {
+impl ShownTrace {
     /// Makes a trace of its spans, and of a key for each of the first of them. Allocates nothing.
-    pub fn new(spans: Seq<AdjustedSpan>, process_keys: Vec<u64>) -> AdjustedTrace
+    pub fn new(spans: Seq<Shown>, process_keys: Vec<u64>) -> ShownTrace
         requires { ShareProcesses (spans_of spans) process_keys.items }
         ensures { result ≡ spans }
     {
-        AdjustedTrace {
+        ShownTrace {
             spans,
             process_keys,
         }
     }
 
     /// Makes a trace of spans without keys. Allocates nothing.
-    pub fn without_keys(alloc: Global, spans: Seq<AdjustedSpan>) -> AdjustedTrace
+    pub fn without_keys(alloc: Global, spans: Seq<Shown>) -> ShownTrace
         ensures { result ≡ spans }
     {
-        AdjustedTrace::new(spans, Vec::new(alloc))
+        ShownTrace::new(spans, Vec::new(alloc))
     }
 
     /// Returns the spans.
-    pub fn as_slice(&self) -> &[AdjustedSpan]
+    pub fn as_slice(&self) -> &[Shown]
         ensures { result.now ≡ self.now }
     {
         self.spans.as_slice()

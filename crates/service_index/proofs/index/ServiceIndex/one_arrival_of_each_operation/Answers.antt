@@ -11,7 +11,7 @@ use Rattle.service_index.specs.Probes.{AreNumbersBelow}
 use Rattle.service_index.specs.Indexes.{Index, listing_by, owners, operations_at, IsChain, IsNewest, LeadsBack}
 use Rattle.service_index.proofs.LinkedOperations.{service_known, operations_none, operations_are, newest_of, leads_back}
 use Rattle.service_index.proofs.LabelProbes.{no_numbers}
-use Rattle.service_index.proofs.index.ServiceIndex.operation_numbers.Goals as goal
+use Rattle.service_index.proofs.index.ServiceIndex.one_arrival_of_each_operation.Goals as goal
 
 pub returns-then-row-services-clause-held : goal.returns-then-row-services-clause-held
 returns-then-row-services-clause-held g c =

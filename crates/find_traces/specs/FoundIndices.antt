@@ -1,4 +1,4 @@
--- The places of the traces that a search finds.
+-- The indices of the traces that a search finds.
 use Rattle.std.specs.Prelude.{ℕ, ℤ, Bool, List, [], map, filter, slice_index_or, Option}
 use Rattle.std.specs.List.{list_any, enumerate_from}
 use Rattle.jaeger_model.specs.declared.ids.TraceId.{TraceId}
@@ -12,13 +12,13 @@ is_hit q e = list_any (matches q) e.1
 abbrev pub start_of : ℕ × List Placed → ℤ
 start_of e = first_start e.1
 
--- those that match, with their places
+-- those that match, with their indices
 abbrev pub hits : Find → List (List Placed) → List (ℕ × List Placed)
 hits q ts = filter (is_hit q) (enumerate_from 0 ts)
 
--- the places of the answer, in its order
-abbrev pub places_found : Find → List (List Placed) → List ℕ
-places_found q ts = map (λ (e : ℕ × List Placed). e.0) (cut q.limit (ranked_by_start start_of (hits q ts)))
+-- the indices of the answer, in its order
+abbrev pub indices_found : Find → List (List Placed) → List ℕ
+indices_found q ts = map (λ (e : ℕ × List Placed). e.0) (cut q.limit (ranked_by_start start_of (hits q ts)))
 
 abbrev pub trace_at : List (List Placed) → ℕ → List Placed
 trace_at ts i = slice_index_or ts i []

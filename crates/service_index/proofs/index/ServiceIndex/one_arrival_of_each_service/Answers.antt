@@ -3,7 +3,7 @@ use Rattle.jaeger_model.specs.Texts.{text_cmp, sorted_set}
 use Rattle.service_index.specs.Indexes.{Index, owners}
 use Rattle.service_index.specs.Probes.{AreNumbersBelow}
 use Rattle.service_index.proofs.LinkedOperations.{services_are}
-use Rattle.service_index.proofs.index.ServiceIndex.service_numbers.Goals as goal
+use Rattle.service_index.proofs.index.ServiceIndex.one_arrival_of_each_service.Goals as goal
 
 pub returns-clause-held : goal.returns-clause-held
 returns-clause-held c =
