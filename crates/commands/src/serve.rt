@@ -13,7 +13,7 @@ use std::sync::Wait;
 use std::thread::Threads;
 use std::time::Clock;
 use text_lines::{ExitStatus, write_text};
-use trace_server::{NoGate, ServerConfig, serve_with};
+use trace_server::{NoObserver, ServerConfig, serve_with};
 
 /// Writes why the server can't listen on an address, and returns the exit status.
 fn turn_down<W: Output>(
@@ -57,5 +57,5 @@ where
         Err(error) => return turn_down(alloc, output, address, &error),
     };
     let config = ServerConfig { options, keys };
-    serve_with(rt, alloc, &listener, &config, &NoGate, output)
+    serve_with(rt, alloc, &listener, &config, &NoObserver, output)
 }

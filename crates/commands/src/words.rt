@@ -332,11 +332,11 @@ fn judge_words<S: AsStr, W: Write>(
             }
         }
     }
-    Err(refuse(alloc, words, writer))
+    Err(explain_words(alloc, words, writer))
 }
 
 /// Writes what is wrong with words that name no subcommand, and returns the exit status.
-fn refuse<S: AsStr, W: Write>(alloc: Global, words: &[S], writer: &mut W) -> ExitStatus {
+fn explain_words<S: AsStr, W: Write>(alloc: Global, words: &[S], writer: &mut W) -> ExitStatus {
     match matches_of(program(alloc), words, writer) {
         Ok(_) => ExitStatus::Usage,
         Err(status) => status,

@@ -7,13 +7,13 @@ use Rattle.http_session.specs.Pieces.{UnderwayAmong}
 use Rattle.http_session.specs.KnownRefusals.{RefusalsAreKnown}
 use Rattle.http_session.proofs.SessionPieces.{Promises, keeps_on}
 use Rattle.http_session.proofs.KnownRefusals.{stays_known_among}
-use Rattle.open_connections.specs.OpenConnections.{HasEnded, HasFailed}
+use Rattle.open_connections.specs.OpenConnections.{SessionEnded, HasFailed}
 use Rattle.open_connections.specs.ConnectionRefusals.{RefusalsStayKnown, exchanges_of}
 use Rattle.open_connections.specs.declared.open.OpenConnection.{OpenConnection}
-use Rattle.open_connections.specs.declared.outbox.Outbox.{Outbox}
+use Rattle.open_connections.specs.declared.buffered.BufferedConnection.{BufferedConnection}
 use Rattle.open_connections.specs.declared.open.ConnectionProgress.TheVariants.{Answered, HoldsMore, Paused, Writing, Ended, Closing, Failed, Undelivered}
 
-module _ {S C : Type 0} (store : Store S) (promises : Promises store) (line : Line (Outbox C)) (now later : S) (it : OpenConnection C)
+module _ {S C : Type 0} (store : Store S) (promises : Promises store) (line : Line (BufferedConnection C)) (now later : S) (it : OpenConnection C)
     (keeps : ForgetsNothing store.limits store.knows now later) where
   of_underway : (then : S) (under : UnderwayAmong store line it.began.value it.connection then now it.session)
       → RefusalsAreKnown store.knows later under.1.so_far.opens
@@ -21,7 +21,7 @@ module _ {S C : Type 0} (store : Store S) (promises : Promises store) (line : Li
       stays_known_among store promises line it.began.value it.connection then later it.session (Ok None)
       (under.0, under.1, keeps_on store under.0 now later under.2 keeps)
 
-  of_ended : (has : HasEnded store line now it) → RefusalsAreKnown store.knows later (exchanges_of store line now it Ended has)
+  of_ended : (has : SessionEnded store line now it) → RefusalsAreKnown store.knows later (exchanges_of store line now it Ended has)
   of_ended has =
       stays_known_among store promises line it.began.value it.connection has.then later it.session (Ok (Some has.ended))
       (has.last, has.served, keeps_on store has.last now later has.keeps keeps)
@@ -31,7 +31,7 @@ module _ {S C : Type 0} (store : Store S) (promises : Promises store) (line : Li
       stays_known_among store promises line it.began.value it.connection has.then later it.session (Err has.error)
       (has.last, has.served, keeps_on store has.last now later has.keeps keeps)
 
-module _ {S C : Type 0} (store : Store S) (promises : Promises store) (line : Line (Outbox C)) where
+module _ {S C : Type 0} (store : Store S) (promises : Promises store) (line : Line (BufferedConnection C)) where
   pub connections_stay_known : RefusalsStayKnown store line
   connections_stay_known now later it Answered came keeps = of_underway store promises line now later it keeps came.then came.underway
   connections_stay_known now later it HoldsMore came keeps = of_underway store promises line now later it keeps came.then came.underway

@@ -7,7 +7,7 @@ use Rattle.std.specs.Io.KnownBytes.{Appends, Keeps, append_known}
 use Rattle.std.proofs.KnownBytes.{Appends-nil, Appends-trans, Appends-kept, append_known-moved}
 use Rattle.std.proofs.Math.Seq.{take-append_seam}
 use Rattle.query_json.specs.Parts.{Parted}
-use Rattle.open_connections.specs.Outboxes.{bytes_waiting}
+use Rattle.open_connections.specs.BufferedConnections.{bytes_waiting}
 use Rattle.open_connections.specs.UnsentResponses.{TakesFirst}
 
 pub takes_none : (a : Option (List ℕ)) (waits : List ℕ) → TakesFirst a a waits waits

@@ -13,16 +13,16 @@ use Rattle.http_session.specs.declared.pieces.Session.{Session}
 use Rattle.http_session.specs.declared.exchanges.Ended.{Ended as EndedSession}
 use Rattle.http_session.specs.declared.exchanges.SessionError.{SessionError}
 use Rattle.http_session.proofs.SessionPieces.{Promises, others_go_on, others_forget_nothing}
-use Rattle.open_connections.specs.OpenConnections.{IsOpen, HasEnded, HasFailed, HasCome, HasBroken, Delivers, AllOpen, IsRest, stays_open}
-use Rattle.open_connections.specs.Outboxes.{box_line, bytes_waiting}
+use Rattle.open_connections.specs.OpenConnections.{IsOpen, SessionEnded, HasFailed, HasCome, HasBroken, Delivers, AllOpen, IsRest, stays_open}
+use Rattle.open_connections.specs.BufferedConnections.{buffered_line, bytes_waiting}
 use Rattle.open_connections.specs.ReadEffects.{LeavesContents}
 use Rattle.http_requests.specs.AwaitedReads.{Gives}
 use Rattle.open_connections.specs.declared.open.OpenConnection.{OpenConnection}
-use Rattle.open_connections.specs.declared.outbox.Outbox.{Outbox}
+use Rattle.open_connections.specs.declared.buffered.BufferedConnection.{BufferedConnection}
 use Rattle.open_connections.specs.declared.open.ConnectionProgress.{ConnectionProgress}
 use Rattle.open_connections.specs.declared.open.ConnectionProgress.TheVariants.{Answered, HoldsMore, Paused, Writing, Ended, Closing, Failed, Undelivered}
 
-module _ {S C : Type 0} (store : Store S) (promises : Promises store) (line : Line (Outbox C)) where
+module _ {S C : Type 0} (store : Store S) (promises : Promises store) (line : Line (BufferedConnection C)) where
   -- while another one is served
   pub open_still : (t u : S) (it : OpenConnection C) → AsksOnce store t u → IsOpen store line t it → IsOpen store line u it
   open_still t u it asks is = record {
@@ -59,7 +59,7 @@ rest_of_removed old new key removed k it e =
     (λ other. sym (removed.others k other.1) ∙ e)
     (eqb_tells k key)
 
-module _ {S C : Type 0} (store : Store S) (line : Line (Outbox C)) (now : S) where
+module _ {S C : Type 0} (store : Store S) (line : Line (BufferedConnection C)) (now : S) where
   pub rest_is_open : (old new : Slab (OpenConnection C)) → AllOpen store line now old → IsRest old new → AllOpen store line now new
   rest_is_open old new all rest key it e = all key it (rest key it e)
 
@@ -99,35 +99,35 @@ module _ {S C : Type 0} (store : Store S) (line : Line (Outbox C)) (now : S) whe
       → IsOpen store line now old → IsOpen store line now new
   moved_open old new connection session began is = record {
     then = is.then;
-    underway = subst (λ (b : Outbox C). UnderwayAmong store line b new.connection is.then now new.session) (sym began)
-        (subst (λ (d : Outbox C). UnderwayAmong store line old.began.value d is.then now new.session) (sym connection)
+    underway = subst (λ (b : BufferedConnection C). UnderwayAmong store line b new.connection is.then now new.session) (sym began)
+        (subst (λ (d : BufferedConnection C). UnderwayAmong store line old.began.value d is.then now new.session) (sym connection)
         (subst (λ (x : Session). UnderwayAmong store line old.began.value old.connection is.then now x) (sym session) is.underway));
     ready = subst (λ (x : Session). CanContinue (line.source.remaining new.connection) x) (sym session)
-        (subst (λ (d : Outbox C). CanContinue (line.source.remaining d) old.session) (sym connection) is.ready);
-    input_works = subst (λ (d : Outbox C). line.in_failed d ≡ false) (sym connection) is.input_works;
-    output_works = subst (λ (d : Outbox C). line.out_failed d ≡ false) (sym connection) is.output_works;
+        (subst (λ (d : BufferedConnection C). CanContinue (line.source.remaining d) old.session) (sym connection) is.ready);
+    input_works = subst (λ (d : BufferedConnection C). line.in_failed d ≡ false) (sym connection) is.input_works;
+    output_works = subst (λ (d : BufferedConnection C). line.out_failed d ≡ false) (sym connection) is.output_works;
   }
 
   -- nothing was read of it yet
-  pub new_open : (it : OpenConnection C) (box : Outbox C) → it.connection ≡ box → it.session ≡ no_requests_yet → it.began.value ≡ box
+  pub new_open : (it : OpenConnection C) (box : BufferedConnection C) → it.connection ≡ box → it.session ≡ no_requests_yet → it.began.value ≡ box
       → UnderwayAmong store line box box now now no_requests_yet
       → CanContinue (line.source.remaining box) no_requests_yet → line.in_failed box ≡ false → line.out_failed box ≡ false → IsOpen store line now it
   new_open it box connection session began under can reads writes = record {
     then = now;
-    underway = subst (λ (b : Outbox C). UnderwayAmong store line b it.connection now now it.session) (sym began)
-        (subst (λ (d : Outbox C). UnderwayAmong store line box d now now it.session) (sym connection)
+    underway = subst (λ (b : BufferedConnection C). UnderwayAmong store line b it.connection now now it.session) (sym began)
+        (subst (λ (d : BufferedConnection C). UnderwayAmong store line box d now now it.session) (sym connection)
         (subst (λ (x : Session). UnderwayAmong store line box box now now x) (sym session) under));
     ready = subst (λ (x : Session). CanContinue (line.source.remaining it.connection) x) (sym session)
-        (subst (λ (d : Outbox C). CanContinue (line.source.remaining d) no_requests_yet) (sym connection) can);
-    input_works = subst (λ (d : Outbox C). line.in_failed d ≡ false) (sym connection) reads;
-    output_works = subst (λ (d : Outbox C). line.out_failed d ≡ false) (sym connection) writes;
+        (subst (λ (d : BufferedConnection C). CanContinue (line.source.remaining d) no_requests_yet) (sym connection) can);
+    input_works = subst (λ (d : BufferedConnection C). line.in_failed d ≡ false) (sym connection) reads;
+    output_works = subst (λ (d : BufferedConnection C). line.out_failed d ≡ false) (sym connection) writes;
   }
 
 -- ---- what waits is written
 
 -- reads leave what was handed over, and writes what is still to be read
 pub two_way_box : {C : Type 0} (remaining : C → Option (List ℕ)) (gives : Gives C) (failed : C → Bool) (contents : C → Option (List ℕ))
-    → LeavesContents C gives contents → IsTwoWay (box_line remaining gives failed contents)
+    → LeavesContents C gives contents → IsTwoWay (buffered_line remaining gives failed contents)
 two_way_box remaining gives failed contents leaves = record {
   reads_leave = λ s t bytes given. (
     ap (λ x. append_known x (bytes_waiting t.waiting)) (leaves s.connection t.connection bytes given.0)
@@ -138,15 +138,15 @@ two_way_box remaining gives failed contents leaves = record {
 }
 
 module _ {S C : Type 0} (store : Store S) (now : S) (remaining : C → Option (List ℕ)) (gives : Gives C) (failed : C → Bool) (contents : C → Option (List ℕ))
-    (lasts : OutlastsWrites store (box_line remaining gives failed contents)) (old new : OpenConnection C) (p : ConnectionProgress)
-    (is : IsOpen store (box_line remaining gives failed contents) now old)
+    (lasts : OutlastsWrites store (buffered_line remaining gives failed contents)) (old new : OpenConnection C) (p : ConnectionProgress)
+    (is : IsOpen store (buffered_line remaining gives failed contents) now old)
     (delivers : Delivers remaining failed contents old new p) where
-  abbrev line : Line (Outbox C)
-  line = box_line remaining gives failed contents
+  abbrev line : Line (BufferedConnection C)
+  line = buffered_line remaining gives failed contents
 
   still_underway : UnderwayAmong store line new.began.value new.connection is.then now new.session
   still_underway =
-      subst (λ (b : Outbox C). UnderwayAmong store line b new.connection is.then now new.session) (sym delivers.began)
+      subst (λ (b : BufferedConnection C). UnderwayAmong store line b new.connection is.then now new.session) (sym delivers.began)
       (subst (λ (x : Session). UnderwayAmong store line old.began.value new.connection is.then now x) (sym delivers.session)
       (lasts old.began.value old.connection new.connection is.then now old.session is.underway delivers.nothing_new delivers.kept))
 
@@ -165,7 +165,7 @@ module _ {S C : Type 0} (store : Store S) (now : S) (remaining : C → Option (L
 
 -- ---- one turn
 
-module _ {S C : Type 0} (store : Store S) (line : Line (Outbox C)) (t u : S) (old new : OpenConnection C) (before after : Session)
+module _ {S C : Type 0} (store : Store S) (line : Line (BufferedConnection C)) (t u : S) (old new : OpenConnection C) (before after : Session)
     (before_is : before ≡ old.session) (after_is : new.session ≡ after)
     (began : new.began.value ≡ old.began.value) (is : IsOpen store line t old) where
   under_before : UnderwayAmong store line old.began.value old.connection is.then t before
@@ -177,21 +177,21 @@ module _ {S C : Type 0} (store : Store S) (line : Line (Outbox C)) (t u : S) (ol
       let came = goes.among old.began.value is.then under_before in
       record {
         then = is.then;
-        underway = subst (λ (b : Outbox C). UnderwayAmong store line b new.connection is.then u new.session) (sym began)
+        underway = subst (λ (b : BufferedConnection C). UnderwayAmong store line b new.connection is.then u new.session) (sym began)
             (subst (λ (x : Session). UnderwayAmong store line old.began.value new.connection is.then u x) (sym after_is) came);
         ready = subst (CanContinue (line.source.remaining new.connection)) (sym after_is) can;
         input_works = works.0;
         output_works = works.1;
       }
 
-  pub came_ended : (ended : EndedSession) → GoesOn store line old.connection new.connection t u before after (Ok (Some ended)) → HasEnded store line u new
+  pub came_ended : (ended : EndedSession) → GoesOn store line old.connection new.connection t u before after (Ok (Some ended)) → SessionEnded store line u new
   came_ended ended goes =
       let came = goes.among old.began.value is.then under_before in
       record {
         then = is.then;
         last = came.0;
         ended = ended;
-        served = subst (λ (b : Outbox C). EndsServed (shared store) line b new.connection is.then came.0 ended) (sym began) came.1;
+        served = subst (λ (b : BufferedConnection C). EndsServed (shared store) line b new.connection is.then came.0 ended) (sym began) came.1;
         keeps = came.2;
       }
 
@@ -202,7 +202,7 @@ module _ {S C : Type 0} (store : Store S) (line : Line (Outbox C)) (t u : S) (ol
         then = is.then;
         last = came.0;
         error = error;
-        served = subst (λ (b : Outbox C). FailsServed (shared store) line b new.connection is.then came.0 error) (sym began) came.1;
+        served = subst (λ (b : BufferedConnection C). FailsServed (shared store) line b new.connection is.then came.0 error) (sym began) came.1;
         keeps = came.2;
       }
 
@@ -218,7 +218,7 @@ module _ {S C : Type 0} (store : Store S) (line : Line (Outbox C)) (t u : S) (ol
       works
 
   pub came_to_end : (p : Piece) (ended : EndedSession) → p ≡ EndedBy ended → GoesOn store line old.connection new.connection t u before after (piece_of (Ok p))
-      → HasEnded store line u new
+      → SessionEnded store line u new
   came_to_end p ended same goes =
       came_ended ended (subst (λ (r : Result (Option EndedSession) SessionError). GoesOn store line old.connection new.connection t u before after r)
       (ap (λ (x : Piece). piece_of (Ok x)) same) goes)

@@ -7,12 +7,12 @@ use Rattle.http_session.specs.SessionRuns.{Store}
 use Rattle.http_session.specs.KnownRefusals.{RefusalsAreKnown}
 use Rattle.open_connections.specs.OpenConnections.{HasCome}
 use Rattle.open_connections.specs.declared.open.OpenConnection.{OpenConnection}
-use Rattle.open_connections.specs.declared.outbox.Outbox.{Outbox}
+use Rattle.open_connections.specs.declared.buffered.BufferedConnection.{BufferedConnection}
 use Rattle.open_connections.specs.declared.open.ConnectionProgress.{ConnectionProgress}
 use Rattle.open_connections.specs.declared.open.ConnectionProgress.TheVariants.{Answered, HoldsMore, Paused, Writing, Ended, Closing, Failed, Undelivered}
 
 -- the exchanges of a connection since it began
-abbrev pub exchanges_of : {S C : Type 0} (store : Store S) (line : Line (Outbox C)) (now : S) (it : OpenConnection C) (progress : ConnectionProgress)
+abbrev pub exchanges_of : {S C : Type 0} (store : Store S) (line : Line (BufferedConnection C)) (now : S) (it : OpenConnection C) (progress : ConnectionProgress)
     → HasCome store line now it progress → List Exchange
 exchanges_of store line now it Answered came = came.underway.1.so_far.opens
 exchanges_of store line now it HoldsMore came = came.underway.1.so_far.opens
@@ -24,7 +24,7 @@ exchanges_of store line now it Failed came = came.served.0.0.opens ++ exchange_d
 exchanges_of store line now it Undelivered came = came.underway.1.so_far.opens
 
 -- the store knows the refusals of a connection in one more turn, and later
-abbrev pub RefusalsStayKnown : {S C : Type 0} → Store S → Line (Outbox C) → Type 0
+abbrev pub RefusalsStayKnown : {S C : Type 0} → Store S → Line (BufferedConnection C) → Type 0
 RefusalsStayKnown {S = S} {C = C} store line =
     (now later : S) (it : OpenConnection C) (progress : ConnectionProgress) (came : HasCome store line now it progress)
     → ForgetsNothing store.limits store.knows now later

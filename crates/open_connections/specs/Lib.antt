@@ -1,5 +1,5 @@
 pub mod ReadEffects
 pub mod UnsentResponses
-pub mod Outboxes
+pub mod BufferedConnections
 pub mod OpenConnections
 pub mod ConnectionRefusals

@@ -9,9 +9,9 @@ use Rattle.http_session.specs.SessionRuns.{Store, EndsServed, FailsServed}
 use Rattle.http_session.specs.Pieces.{CanContinue, UnderwayAmong, shared}
 use Rattle.http_session.specs.declared.exchanges.Ended.{Ended as EndedSession}
 use Rattle.http_session.specs.declared.exchanges.SessionError.{SessionError}
-use Rattle.open_connections.specs.Outboxes.{box_line, box_takes, handed_over}
+use Rattle.open_connections.specs.BufferedConnections.{buffered_line, buffered_takes, handed_over}
 use Rattle.open_connections.specs.declared.open.OpenConnection.{OpenConnection}
-use Rattle.open_connections.specs.declared.outbox.Outbox.{Outbox}
+use Rattle.open_connections.specs.declared.buffered.BufferedConnection.{BufferedConnection}
 use Rattle.open_connections.specs.declared.open.ConnectionProgress.{ConnectionProgress}
 use Rattle.open_connections.specs.declared.set.ConnectionTurn.{ConnectionTurn}
 use Rattle.open_connections.specs.declared.set.ConnectionTurn.TheVariants.{Absent, Open, Left}
@@ -20,7 +20,7 @@ use Rattle.open_connections.specs.declared.open.ConnectionProgress.TheVariants.{
 
 -- The connection can continue: its session is underway from the start of the connection and the state of the store
 -- then, and the connection hasn't failed.
-pub record IsOpen {S C : Type 0} (store : Store S) (line : Line (Outbox C)) (now : S) (it : OpenConnection C) : Type 0 where
+pub record IsOpen {S C : Type 0} (store : Store S) (line : Line (BufferedConnection C)) (now : S) (it : OpenConnection C) : Type 0 where
   pub then : S
   pub underway : UnderwayAmong store line it.began.value it.connection then now it.session
   pub ready : CanContinue (line.source.remaining it.connection) it.session
@@ -28,7 +28,7 @@ pub record IsOpen {S C : Type 0} (store : Store S) (line : Line (Outbox C)) (now
   pub output_works : line.out_failed it.connection ≡ false
 
 -- its session has ended, as one that began with the connection
-pub record HasEnded {S C : Type 0} (store : Store S) (line : Line (Outbox C)) (now : S) (it : OpenConnection C) : Type 0 where
+pub record SessionEnded {S C : Type 0} (store : Store S) (line : Line (BufferedConnection C)) (now : S) (it : OpenConnection C) : Type 0 where
   pub then : S
   pub last : S
   pub ended : EndedSession
@@ -36,7 +36,7 @@ pub record HasEnded {S C : Type 0} (store : Store S) (line : Line (Outbox C)) (n
   pub keeps : ForgetsNothing store.limits store.knows last now
 
 -- its session has failed, as one that began with the connection
-pub record HasFailed {S C : Type 0} (store : Store S) (line : Line (Outbox C)) (now : S) (it : OpenConnection C) : Type 0 where
+pub record HasFailed {S C : Type 0} (store : Store S) (line : Line (BufferedConnection C)) (now : S) (it : OpenConnection C) : Type 0 where
   pub then : S
   pub last : S
   pub error : SessionError
@@ -44,19 +44,19 @@ pub record HasFailed {S C : Type 0} (store : Store S) (line : Line (Outbox C)) (
   pub keeps : ForgetsNothing store.limits store.knows last now
 
 -- its session is underway, and the connection failed before the client took the last response
-pub record HasBroken {S C : Type 0} (store : Store S) (line : Line (Outbox C)) (now : S) (it : OpenConnection C) : Type 0 where
+pub record HasBroken {S C : Type 0} (store : Store S) (line : Line (BufferedConnection C)) (now : S) (it : OpenConnection C) : Type 0 where
   pub then : S
   pub underway : UnderwayAmong store line it.began.value it.connection then now it.session
   pub output_failed : line.out_failed it.connection ≡ true
 
 -- what became of a connection in one more turn
-abbrev pub HasCome : {S C : Type 0} → Store S → Line (Outbox C) → S → OpenConnection C → ConnectionProgress → Type 0
+abbrev pub HasCome : {S C : Type 0} → Store S → Line (BufferedConnection C) → S → OpenConnection C → ConnectionProgress → Type 0
 HasCome store line now it Answered = IsOpen store line now it
 HasCome store line now it HoldsMore = IsOpen store line now it
 HasCome store line now it Paused = IsOpen store line now it
 HasCome store line now it Writing = IsOpen store line now it
-HasCome store line now it Ended = HasEnded store line now it
-HasCome store line now it Closing = HasEnded store line now it
+HasCome store line now it Ended = SessionEnded store line now it
+HasCome store line now it Closing = SessionEnded store line now it
 HasCome store line now it Failed = HasFailed store line now it
 HasCome store line now it Undelivered = HasBroken store line now it
 
@@ -71,13 +71,13 @@ stays_open Failed = false
 stays_open Undelivered = false
 
 -- each connection of the set
-abbrev pub AllOpen : {S C : Type 0} → Store S → Line (Outbox C) → S → Slab (OpenConnection C) → Type 0
+abbrev pub AllOpen : {S C : Type 0} → Store S → Line (BufferedConnection C) → S → Slab (OpenConnection C) → Type 0
 AllOpen {C = C} store line now set = (key : ℕ) (it : OpenConnection C) → get set key ≡ Some it → IsOpen store line now it
 
--- The connection left the set with its outbox: the session that began with the connection under the key ended or failed,
+-- The connection left the set with what waits: the session that began with the connection under the key ended or failed,
 -- or the client didn't take its last response.
-pub record HasLeft {S C : Type 0} (store : Store S) (line : Line (Outbox C)) (now : S) (before : Option (OpenConnection C)) (progress : ConnectionProgress)
-    (box : Outbox C) : Type 0 where
+pub record HasLeft {S C : Type 0} (store : Store S) (line : Line (BufferedConnection C)) (now : S) (before : Option (OpenConnection C)) (progress : ConnectionProgress)
+    (box : BufferedConnection C) : Type 0 where
   pub it : OpenConnection C
   pub box_is : it.connection ≡ box
   pub began : option_map (λ (o : OpenConnection C). o.began.value) before ≡ Some it.began.value
@@ -85,7 +85,7 @@ pub record HasLeft {S C : Type 0} (store : Store S) (line : Line (Outbox C)) (no
   pub comes : HasCome store line now it progress
 
 -- what became of the connection under a key in a turn
-abbrev pub TurnsTo : {S C : Type 0} → Store S → Line (Outbox C) → S → Slab (OpenConnection C) → ℕ → ConnectionTurn C → Type 0
+abbrev pub TurnsTo : {S C : Type 0} → Store S → Line (BufferedConnection C) → S → Slab (OpenConnection C) → ℕ → ConnectionTurn C → Type 0
 TurnsTo store line now set key Absent = get set key ≡ None
 TurnsTo store line now set key (Open progress) = stays_open progress ≡ true
 TurnsTo store line now set key (Left progress box) = HasLeft store line now (get set key) progress box
@@ -104,11 +104,11 @@ pub record Delivers {C : Type 0} (remaining : C → Option (List ℕ)) (failed :
     (progress : ConnectionProgress) : Type 0 where
   pub session : new.session ≡ old.session
   pub began : new.began.value ≡ old.began.value
-  pub nothing_new : box_takes remaining failed contents old.connection [] new.connection
+  pub nothing_new : buffered_takes remaining failed contents old.connection [] new.connection
   pub kept : KeepsBytes (handed_over contents old.connection) (handed_over contents new.connection)
   pub comes_to : ((stays_open progress ≡ true) × (new.connection.failed ≡ old.connection.failed)) ⊎ ((progress ≡ Undelivered) × (new.connection.failed ≡ true))
 
 -- ---- sockets, about whose bytes nothing is known
 
-abbrev pub socket_line : Line (Outbox Socket)
-socket_line = box_line (λ s. None) (λ s given t. Unit {0}) (λ s. s.failed) (λ s. None)
+abbrev pub socket_line : Line (BufferedConnection Socket)
+socket_line = buffered_line (λ s. None) (λ s given t. Unit {0}) (λ s. s.failed) (λ s. None)

@@ -1,7 +1,7 @@
 //! Laws of open connections. Each function does nothing, and its contract is the law.
 
 ghost use Rattle.http_session.specs.SessionRuns.{store_of};
-ghost use Rattle.open_connections.specs.Outboxes.{box_line};
+ghost use Rattle.open_connections.specs.BufferedConnections.{buffered_line};
 ghost use Rattle.open_connections.specs.ConnectionRefusals.{RefusalsStayKnown};
 
 use crate::nonblocking::TryConnection;
@@ -9,8 +9,8 @@ use trace_model::Backend;
 
 /// A batch that is refused by 20, 21 or 29 is refused by a list, and the store still knows by which one later: while the
 /// connection that sent the batch is open, and after it has left the set
-/// ([`ConnectionSet::answer_next`](crate::ConnectionSet::answer_next): `turn`), whatever other connections do.
+/// ([`ConnectionSet::take_turn`](crate::ConnectionSet::take_turn): `turn`), whatever other connections do.
 pub fn refusals_stay_known<T, C: TryConnection, B: Backend<T>>()
     ensures { RefusalsStayKnown (store_of B.submits B.reads B.knows B.limits)
-        (box_line C.remaining C.gives C.has_failed C.contents) }
+        (buffered_line C.remaining C.gives C.has_failed C.contents) }
 {}

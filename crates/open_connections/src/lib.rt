@@ -3,13 +3,13 @@
 //! A thread that serves many connections keeps a [`ConnectionSet`] of their sessions and a [`Readiness`] of their
 //! sockets. It waits until some connections are ready and reads once from each, so a client that sends slowly occupies
 //! no thread. A complete request is answered. What the client doesn't take of the response at once waits in the
-//! connection's [`Outbox`], so a client that reads slowly occupies no thread either. It is proved that each session
-//! stays underway from the start of its connection while the connection is open, whatever other sessions do
-//! ([`ConnectionSet::answer_next`]: `underway`). So its pieces add up to what [`http_session::serve_connection`]
+//! connection's [`BufferedConnection`], so a client that reads slowly occupies no thread either. It is proved that each
+//! session stays underway from the start of its connection while the connection is open, whatever other sessions do
+//! ([`ConnectionSet::take_turn`]: `underway`). So its pieces add up to what [`http_session::serve_connection`]
 //! promises. That the last piece does so too is its clause `turn`.
 //!
 //! * `nonblocking`: connections whose writes never block.
-//! * `waiting`: a response that waits to be written. `outbox`: a connection and its waiting response.
+//! * `pending_response`: a response that waits to be written. `buffered`: a connection that keeps its waiting response.
 //! * `socket`: a TCP stream as a connection.
 //! * `open`: a connection and its session.
 //! * `set`: the sessions of all connections.
@@ -17,18 +17,18 @@
 //! * `laws`: laws of open connections.
 #![tactic(auto)]
 
+mod buffered;
 pub mod laws;
 mod nonblocking;
 mod open;
-mod outbox;
+mod pending_response;
 mod readiness;
 mod set;
 mod socket;
-mod waiting;
 
+pub use buffered::BufferedConnection;
 pub use nonblocking::TryConnection;
-pub use open::{ConnectionProgress, Moment, OpenConnection};
-pub use outbox::Outbox;
+pub use open::{ConnectionProgress, OpenConnection, TurnTime};
 pub use readiness::{Event, MAX_EVENTS, Readiness};
 pub use set::{ConnectionSet, ConnectionTurn};
 pub use socket::Socket;

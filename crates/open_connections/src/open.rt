@@ -4,11 +4,11 @@ ghost use Rattle.std.specs.Prelude.{◌≡◌, true, false, OnOk};
 ghost use Rattle.query_http.specs.Paths.{endpoint_rows};
 ghost use Rattle.http_session.specs.SessionRuns.{store_of};
 ghost use Rattle.http_session.specs.Pieces.{AsksOnce, CanContinue, GoesOn, IfOpen, no_requests_yet, piece_of};
-ghost use Rattle.open_connections.specs.Outboxes.{box_line};
+ghost use Rattle.open_connections.specs.BufferedConnections.{buffered_line};
 ghost use Rattle.open_connections.specs.OpenConnections.{IsOpen, HasCome, Delivers, stays_open};
 
+use crate::buffered::BufferedConnection;
 use crate::nonblocking::TryConnection;
-use crate::outbox::Outbox;
 use http_session::{Progress, Session, SessionError, SpareRoom};
 use matchit::Router;
 use query_http::Endpoint;
@@ -20,10 +20,10 @@ use trace_model::Backend;
 /// A connection and its session, between two requests or inside one.
 #[derive(Drop)]
 pub struct OpenConnection<C> {
-    pub connection: Outbox<C>,
+    pub connection: BufferedConnection<C>,
     pub session: Session,
     /// The connection before anything was read from it.
-    pub began: Snapshot<Outbox<C>>,
+    pub began: Snapshot<BufferedConnection<C>>,
     /// When it last made progress, or was opened.
     pub active: Duration,
     /// The round of its thread in which it was last served.
@@ -57,7 +57,7 @@ pub enum ConnectionProgress {
 
 /// When a thread serves a connection: the time, and the thread's round.
 #[derive(Clone, Copy, Debug)]
-pub struct Moment {
+pub struct TurnTime {
     pub now: Duration,
     pub round: u64,
 }
@@ -79,7 +79,11 @@ impl ConnectionProgress {
 
 impl<C: TryConnection> OpenConnection<C> {
     /// Starts a session over a connection from which nothing was read.
-    pub(crate) fn new(alloc: Global, connection: Outbox<C>, now: Duration) -> OpenConnection<C>
+    pub(crate) fn new(
+        alloc: Global,
+        connection: BufferedConnection<C>,
+        now: Duration,
+    ) -> OpenConnection<C>
         ensures connection { result.connection ≡ connection }
         ensures session { result.session ≡ no_requests_yet }
         ensures began { result.began.value ≡ connection }
@@ -98,7 +102,7 @@ impl<C: TryConnection> OpenConnection<C> {
 
     /// Continues the session. Nothing is read while the session holds bytes that it has not examined, since no report
     /// says that the connection is readable.
-    fn next_piece<T, B: Backend<T>>(
+    fn run_piece<T, B: Backend<T>>(
         &mut self,
         rt: &T,
         alloc: Global,
@@ -111,7 +115,7 @@ impl<C: TryConnection> OpenConnection<C> {
         requires ready { CanContinue (C.remaining self.old.connection.connection) self.old.session }
 
         ensures goes_on { GoesOn (store_of B.submits B.reads B.knows B.limits)
-            (box_line C.remaining C.gives C.has_failed C.contents)
+            (buffered_line C.remaining C.gives C.has_failed C.contents)
             self.old.connection self.new.connection backend.old backend.new
             self.old.session self.new.session (piece_of result) }
 
@@ -180,7 +184,7 @@ impl<C: TryConnection> OpenConnection<C> {
 
     /// Continues the session by at most one read, and answers one request if it is complete. Between two turns the
     /// session keeps a buffer only if it holds bytes.
-    fn take_turn<T, B: Backend<T>>(
+    fn continue_session<T, B: Backend<T>>(
         &mut self,
         rt: &T,
         alloc: Global,
@@ -191,11 +195,11 @@ impl<C: TryConnection> OpenConnection<C> {
         requires routes { router.now ≡ endpoint_rows }
 
         requires underway { IsOpen (store_of B.submits B.reads B.knows B.limits)
-            (box_line C.remaining C.gives C.has_failed C.contents)
+            (buffered_line C.remaining C.gives C.has_failed C.contents)
             backend.old self.old }
 
         ensures comes { HasCome (store_of B.submits B.reads B.knows B.limits)
-            (box_line C.remaining C.gives C.has_failed C.contents)
+            (buffered_line C.remaining C.gives C.has_failed C.contents)
             backend.new self.new result }
 
         ensures asks { AsksOnce (store_of B.submits B.reads B.knows B.limits)
@@ -204,7 +208,7 @@ impl<C: TryConnection> OpenConnection<C> {
         ensures began { self.new.began.value ≡ self.old.began.value }
     {
         self.session.borrow_room(spare);
-        let taken = self.next_piece(rt, alloc, router, backend);
+        let taken = self.run_piece(rt, alloc, router, backend);
         self.session.return_room(spare);
         self.is_unread = self.holds_more;
         self.holds_more = false;
@@ -221,7 +225,7 @@ impl<C: TryConnection> OpenConnection<C> {
 
     /// Takes a turn over a store that other connections use too: writes the waiting part of the last response, or
     /// continues the session.
-    pub(crate) fn answer_next<T, B: Backend<T>>(
+    pub(crate) fn take_turn<T, B: Backend<T>>(
         &mut self,
         rt: &T,
         alloc: Global,
@@ -232,11 +236,11 @@ impl<C: TryConnection> OpenConnection<C> {
         requires routes { router.now ≡ endpoint_rows }
 
         requires underway { IsOpen (store_of B.submits B.reads B.knows B.limits)
-            (box_line C.remaining C.gives C.has_failed C.contents)
+            (buffered_line C.remaining C.gives C.has_failed C.contents)
             backend.old self.old }
 
         ensures comes { HasCome (store_of B.submits B.reads B.knows B.limits)
-            (box_line C.remaining C.gives C.has_failed C.contents)
+            (buffered_line C.remaining C.gives C.has_failed C.contents)
             backend.new self.new result }
 
         ensures asks { AsksOnce (store_of B.submits B.reads B.knows B.limits)
@@ -247,6 +251,6 @@ impl<C: TryConnection> OpenConnection<C> {
         if self.connection.has_waiting() {
             return self.deliver();
         }
-        self.take_turn(rt, alloc, router, backend, spare)
+        self.continue_session(rt, alloc, router, backend, spare)
     }
 }

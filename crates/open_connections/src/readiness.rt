@@ -15,7 +15,7 @@ pub const MAX_EVENTS: usize = 256;
 pub struct Event {
     pub token: usize,
     /// The client has sent its last byte, or the connection has failed. One event says so.
-    pub has_ended: bool,
+    pub peer_closed: bool,
 }
 
 /// Finds which sockets of a thread are ready. The caller gives each a token.
@@ -75,7 +75,7 @@ impl Readiness {
     pub fn event(&self, index: usize) -> Option<Event> {
         self.events.iter().nth(index).map(|event| Event {
             token: event.token().0,
-            has_ended: event.is_read_closed(),
+            peer_closed: event.is_read_closed(),
         })
     }
 }

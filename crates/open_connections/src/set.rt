@@ -3,12 +3,12 @@
 ghost use Rattle.std.specs.Prelude.{◌≡◌, false, IfOk};
 ghost use Rattle.http_session.specs.SessionRuns.{store_of};
 ghost use Rattle.http_session.specs.Pieces.{AsksOnce};
-ghost use Rattle.open_connections.specs.Outboxes.{box_line};
+ghost use Rattle.open_connections.specs.BufferedConnections.{buffered_line};
 ghost use Rattle.open_connections.specs.OpenConnections.{AllOpen, IsEmpty, IsRest, TurnsTo};
 
+use crate::buffered::BufferedConnection;
 use crate::nonblocking::TryConnection;
-use crate::open::{ConnectionProgress, Moment, OpenConnection};
-use crate::outbox::Outbox;
+use crate::open::{ConnectionProgress, OpenConnection, TurnTime};
 use http_session::SpareRoom;
 use http_session::laws::a_new_session_is_underway;
 use matchit::Router;
@@ -52,7 +52,7 @@ pub enum ConnectionTurn<C> {
     /// The connection stays open.
     Open(ConnectionProgress),
     /// The connection was removed from the set.
-    Left(ConnectionProgress, Outbox<C>),
+    Left(ConnectionProgress, BufferedConnection<C>),
 }
 
 impl<C: TryConnection + Drop> ConnectionSet<C> {
@@ -110,17 +110,17 @@ impl<C: TryConnection + Drop> ConnectionSet<C> {
         requires works { C.has_failed connection ≡ false }
 
         requires underway { AllOpen (store_of B.submits B.reads B.knows B.limits)
-            (box_line C.remaining C.gives C.has_failed C.contents)
+            (buffered_line C.remaining C.gives C.has_failed C.contents)
             backend.now self.old }
 
         ensures underway { AllOpen (store_of B.submits B.reads B.knows B.limits)
-            (box_line C.remaining C.gives C.has_failed C.contents)
+            (buffered_line C.remaining C.gives C.has_failed C.contents)
             backend.now self.new }
     {
-        let outbox = Outbox::new(alloc, connection);
+        let buffered = BufferedConnection::new(alloc, connection);
         // For the prover: the law is used for the clause `underway`.
-        a_new_session_is_underway::<T, Outbox<C>, B>(&outbox, backend);
-        let open = OpenConnection::new(alloc, outbox, now);
+        a_new_session_is_underway::<T, BufferedConnection<C>, B>(&buffered, backend);
+        let open = OpenConnection::new(alloc, buffered, now);
         let Ok(key) = self.connections.insert(open) else {
             return Err(AllocError);
         };
@@ -130,27 +130,27 @@ impl<C: TryConnection + Drop> ConnectionSet<C> {
     /// Gives the connection under a key a turn, over the store that all connections use: writes the waiting part of a
     /// response, or reads at most once and answers one request if it is complete. A connection that has ended or failed
     /// is removed from the set, perhaps with a waiting response.
-    pub fn answer_next<T, B: Backend<T>>(
+    pub fn take_turn<T, B: Backend<T>>(
         &mut self,
         rt: &T,
         alloc: Global,
         key: usize,
-        at: Moment,
+        at: TurnTime,
         backend: &mut B,
     ) -> ConnectionTurn<C>
         requires underway { AllOpen (store_of B.submits B.reads B.knows B.limits)
-            (box_line C.remaining C.gives C.has_failed C.contents)
+            (buffered_line C.remaining C.gives C.has_failed C.contents)
             backend.old self.old }
 
         ensures underway { AllOpen (store_of B.submits B.reads B.knows B.limits)
-            (box_line C.remaining C.gives C.has_failed C.contents)
+            (buffered_line C.remaining C.gives C.has_failed C.contents)
             backend.new self.new }
 
         ensures asks { AsksOnce (store_of B.submits B.reads B.knows B.limits)
             backend.old backend.new }
 
         ensures turn { TurnsTo (store_of B.submits B.reads B.knows B.limits)
-            (box_line C.remaining C.gives C.has_failed C.contents)
+            (buffered_line C.remaining C.gives C.has_failed C.contents)
             backend.new self.old key result }
     {
         let Some(open) = self.connections.try_remove(key) else {
@@ -158,7 +158,7 @@ impl<C: TryConnection + Drop> ConnectionSet<C> {
         };
         let mut open = open;
         self.waiting = self.waiting.saturating_sub(open.connection.waiting_bytes());
-        let progress = open.answer_next(rt, alloc, &self.router, backend, &mut self.spare);
+        let progress = open.take_turn(rt, alloc, &self.router, backend, &mut self.spare);
         if !progress.is_open() {
             let OpenConnection {
                 connection,

@@ -1,10 +1,11 @@
 //! The connections that a worker accepts.
 
+use crate::call_observer::CallObserver;
 use crate::connection_quota::ConnectionQuota;
-use crate::gate::Gate;
 use crate::notices::print_accepts_no_more;
-use crate::worker::{Server, WorkerOutcome};
+use crate::worker::{WorkerContext, WorkerOutcome};
 use libc::net::listen;
+use libc::{EMFILE, ENOMEM};
 use read_side::StoreName;
 use std::io;
 use std::io::ErrorKind;
@@ -24,34 +25,30 @@ const DEFERRAL: u64 = 1;
 const MAX_DEFERRALS: u32 = 7;
 
 /// The length of the system's queue of connections that wait to be accepted, if the system allows it.
-const MAX_QUEUED: i32 = 4_096;
+const LISTEN_BACKLOG: i32 = 4_096;
 
-// The error numbers of Linux.
-const ENOMEM: i32 = 12;
-
+// Error numbers of Linux that `libc` here has no names for.
 const ENFILE: i32 = 23;
-
-const EMFILE: i32 = 24;
 
 const ENOBUFS: i32 = 105;
 
 /// The result of accepting.
 #[derive(Drop)]
-enum Arrival {
-    Came(TcpStream),
+enum Accepted {
+    Stream(TcpStream),
     /// No connection is waiting.
-    Nobody,
+    NoneWaiting,
     /// The system has no room for one more.
     Shortage(io::Error),
     /// No more connections can be accepted.
-    Over(io::Error),
+    Failed(io::Error),
 }
 
 /// The state of a worker's accepting.
 #[derive(Drop)]
 pub(crate) struct Acceptor {
     /// No more connections can be accepted.
-    over: bool,
+    has_failed: bool,
     /// A connection may be waiting.
     pending: bool,
     /// The number of times that the next connection was left to another worker.
@@ -80,18 +77,21 @@ fn is_shortage(error: &io::Error) -> bool {
 /// Lengthens the system's queue, which `bind` leaves at 128, for clients that connect at the same time. If the system
 /// refuses, the queue keeps its length.
 pub(crate) fn lengthen_queue(listener: &TcpListener) {
-    let _status = listen(listener.as_raw_fd(), MAX_QUEUED);
+    let _status = listen(listener.as_raw_fd(), LISTEN_BACKLOG);
 }
 
 /// Accepts a waiting connection. Retries after a temporary error.
-fn accept<N: StoreName, G: Gate, R: Wait>(rt: &R, server: &Server<'_, N, G>) -> Arrival {
+fn accept<N: StoreName, G: CallObserver, R: Wait>(
+    rt: &R,
+    server: &WorkerContext<'_, N, G>,
+) -> Accepted {
     for _ in rt.forever() {
         match server.listener.accept() {
-            Ok((stream, _)) => return Arrival::Came(stream),
-            Err(error) if error.kind() == ErrorKind::WouldBlock => return Arrival::Nobody,
+            Ok((stream, _)) => return Accepted::Stream(stream),
+            Err(error) if error.kind() == ErrorKind::WouldBlock => return Accepted::NoneWaiting,
             Err(error) if is_passing(&error) => {}
-            Err(error) if is_shortage(&error) => return Arrival::Shortage(error),
-            Err(error) => return Arrival::Over(error),
+            Err(error) if is_shortage(&error) => return Accepted::Shortage(error),
+            Err(error) => return Accepted::Failed(error),
         }
     }
     unreachable!()
@@ -101,7 +101,7 @@ impl Acceptor {
     /// Creates the state before the first connection.
     pub(crate) fn new() -> Acceptor {
         Acceptor {
-            over: false,
+            has_failed: false,
             pending: false,
             deferrals: 0,
             not_before: Duration::ZERO,
@@ -114,7 +114,7 @@ impl Acceptor {
 
     /// Returns whether one more connection may be accepted.
     pub(crate) fn may_accept(&self, quota: &ConnectionQuota) -> bool {
-        !self.over && !quota.is_used_up()
+        !self.has_failed && !quota.is_used_up()
     }
 
     /// Returns what was accepted.
@@ -123,13 +123,13 @@ impl Acceptor {
     }
 
     /// Records that the listener is ready.
-    pub(crate) fn arrived(&mut self) {
+    pub(crate) fn listener_is_ready(&mut self) {
         self.pending = true;
     }
 
     /// Returns when to look for a waiting connection.
     pub(crate) fn due(&self) -> Option<Duration> {
-        if self.pending && !self.over {
+        if self.pending && !self.has_failed {
             Some(self.not_before)
         } else {
             None
@@ -142,9 +142,9 @@ impl Acceptor {
     }
 
     /// Returns whether a worker with this number of connections leaves the next one to a worker that has fewer.
-    fn defers<N: StoreName, G: Gate>(
+    fn defers<N: StoreName, G: CallObserver>(
         &mut self,
-        server: &Server<'_, N, G>,
+        server: &WorkerContext<'_, N, G>,
         connections: usize,
         now: Duration,
     ) -> bool {
@@ -158,32 +158,32 @@ impl Acceptor {
     }
 
     /// Accepts a waiting connection, for which a permit was taken and a claim made. Otherwise both are given back.
-    fn accept_one<N: StoreName, G: Gate, R: Wait + Eprint>(
+    fn accept_one<N: StoreName, G: CallObserver, R: Wait + Eprint>(
         &mut self,
         rt: &R,
-        server: &Server<'_, N, G>,
+        server: &WorkerContext<'_, N, G>,
         worker: u32,
         now: Duration,
     ) -> Option<TcpStream> {
         match accept(rt, server) {
-            Arrival::Came(stream) => {
+            Accepted::Stream(stream) => {
                 server.notices.end_shortage();
                 self.deferrals = 0;
                 self.outcome.served = self.outcome.served.saturating_add(1);
                 server.quota.count_accepted();
                 return Some(stream);
             }
-            Arrival::Nobody => {
+            Accepted::NoneWaiting => {
                 self.deferrals = 0;
                 self.pending = false;
             }
-            Arrival::Shortage(error) => {
+            Accepted::Shortage(error) => {
                 server.notices.print_shortage(rt, &error);
                 self.pause(now, SHORTAGE_PAUSE);
             }
-            Arrival::Over(error) => {
+            Accepted::Failed(error) => {
                 print_accepts_no_more(rt, worker, &error);
-                self.over = true;
+                self.has_failed = true;
                 self.outcome.failed = true;
             }
         }
@@ -194,10 +194,10 @@ impl Acceptor {
 
     /// Accepts the next connection for a worker, if one is waiting, may be accepted, and isn't left to another worker.
     /// The caller must return its permit.
-    pub(crate) fn next<N: StoreName, G: Gate, R: Wait + Clock + Eprint>(
+    pub(crate) fn next<N: StoreName, G: CallObserver, R: Wait + Clock + Eprint>(
         &mut self,
         rt: &R,
-        server: &Server<'_, N, G>,
+        server: &WorkerContext<'_, N, G>,
         worker: u32,
         connections: usize,
         now: Duration,

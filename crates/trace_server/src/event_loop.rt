@@ -6,15 +6,15 @@ ghost use Rattle.open_connections.specs.OpenConnections.{IsEmpty, IsRest};
 ghost use Rattle.trace_server.specs.WorkerConnections.{AllUnderway};
 
 use crate::acceptor::Acceptor;
+use crate::call_observer::CallObserver;
 use crate::connection::{idle_limit, prepare};
-use crate::gate::Gate;
-use crate::gated::Gated;
-use crate::lingering::{Lingering, Step};
+use crate::lingering::{Awaits, Lingering};
 use crate::source::Source;
-use crate::worker::Server;
+use crate::worker::WorkerContext;
+use crate::worker_store::WorkerStore;
 use open_connections::{
-    ConnectionProgress, ConnectionSet, ConnectionTurn, Event, MAX_EVENTS, Moment, Outbox,
-    Readiness, Socket,
+    BufferedConnection, ConnectionProgress, ConnectionSet, ConnectionTurn, Event, MAX_EVENTS,
+    Readiness, Socket, TurnTime,
 };
 use read_side::StoreName;
 use std::alloc::Global;
@@ -51,11 +51,11 @@ fn earlier(one: Option<Duration>, other: Option<Duration>) -> Option<Duration> {
 #[derive(Drop)]
 pub(crate) struct EventLoop {
     readiness: Readiness,
-    open: ConnectionSet<Socket>,
+    connections: ConnectionSet<Socket>,
     lingering: Lingering,
     /// The keys of connections that hold unanswered bytes, and whether their clients have closed their side.
-    again: VecDeque<(usize, bool)>,
-    at: Moment,
+    holding: VecDeque<(usize, bool)>,
+    at: TurnTime,
     /// When to check for connections that were silent for too long.
     next_check: Duration,
     /// The number of permits that its connections have.
@@ -78,20 +78,20 @@ impl EventLoop {
         listener: &TcpListener,
         idle: u32,
     ) -> io::Result<EventLoop>
-        ensures { IfOk result (λ a. IsEmpty a.open) }
+        ensures { IfOk result (λ a. IsEmpty a.connections) }
     {
         listener.set_nonblocking(true)?;
         let readiness = Readiness::new(rt, alloc)?;
         readiness.register(listener.as_raw_fd(), Source::Listener.token())?;
-        let Ok(open) = ConnectionSet::new(alloc) else {
+        let Ok(connections) = ConnectionSet::new(alloc) else {
             return Err(io::Error::from(ErrorKind::OutOfMemory));
         };
         Ok(EventLoop {
             readiness,
-            open,
+            connections,
             lingering: Lingering::new(alloc),
-            again: VecDeque::new(alloc),
-            at: Moment {
+            holding: VecDeque::new(alloc),
+            at: TurnTime {
                 now: rt.monotonic()?,
                 round: 0,
             },
@@ -104,29 +104,29 @@ impl EventLoop {
 
     /// Returns whether it has no connection.
     pub(crate) fn is_empty(&self) -> bool {
-        self.open.is_empty() && self.lingering.is_empty()
+        self.connections.is_empty() && self.lingering.is_empty()
     }
 
     /// Schedules a connection that stays open: at once if it holds unanswered bytes; when its client takes more if a
     /// response waits; or by registering it again if bytes may have come that aren't reported. Returns whether that
     /// succeeded.
-    fn schedule(&mut self, key: usize, progress: ConnectionProgress, has_ended: bool) -> bool
-        ensures open { self.new.open ≡ self.old.open }
+    fn schedule(&mut self, key: usize, progress: ConnectionProgress, peer_closed: bool) -> bool
+        ensures open { self.new.connections ≡ self.old.connections }
     {
         if let ConnectionProgress::HoldsMore = progress {
-            return self.again.push_back((key, has_ended)).is_ok();
+            return self.holding.push_back((key, peer_closed)).is_ok();
         }
-        let Some(open) = self.open.get(key) else {
+        let Some(connection) = self.connections.get(key) else {
             return true;
         };
-        let socket = open.connection.connection();
+        let socket = connection.connection.get_ref();
         if let ConnectionProgress::Writing = progress {
             return self
                 .readiness
                 .reregister_for_writes(socket.raw_fd(), Source::Open(key).token())
                 .is_ok();
         }
-        if has_ended || open.is_unread || socket.may_hold_more() {
+        if peer_closed || connection.is_unread || socket.may_hold_more() {
             return self
                 .readiness
                 .reregister(socket.raw_fd(), Source::Open(key).token())
@@ -138,7 +138,7 @@ impl EventLoop {
     /// Returns whether too many bytes wait for the clients of this worker, `own` of them for one client.
     fn has_too_much_waiting(&self, own: usize) -> bool {
         let all = self
-            .open
+            .connections
             .waiting_bytes()
             .saturating_add(self.lingering.waiting_bytes());
         all > MAX_WAITING_BYTES && all > own
@@ -146,10 +146,12 @@ impl EventLoop {
 
     /// Returns whether to drop a connection because its response waits and too many bytes wait in all.
     fn must_drop(&mut self, key: usize, progress: ConnectionProgress) -> bool
-        ensures open { self.new.open ≡ self.old.open }
+        ensures open { self.new.connections ≡ self.old.connections }
     {
-        let own = match (progress, self.open.get(key)) {
-            (ConnectionProgress::Writing, Some(open)) => open.connection.waiting_bytes(),
+        let own = match (progress, self.connections.get(key)) {
+            (ConnectionProgress::Writing, Some(connection)) => connection
+                .connection
+                .waiting_bytes(),
             _ => return false,
         };
         let must_drop = self.has_too_much_waiting(own);
@@ -158,25 +160,25 @@ impl EventLoop {
     }
 
     /// Keeps a connection open, if it can be scheduled.
-    fn keep(&mut self, key: usize, progress: ConnectionProgress, has_ended: bool)
-        ensures rest { IsRest self.old.open self.new.open }
+    fn keep(&mut self, key: usize, progress: ConnectionProgress, peer_closed: bool)
+        ensures rest { IsRest self.old.connections self.new.connections }
     {
-        let stays = !self.must_drop(key, progress) && self.schedule(key, progress, has_ended);
+        let stays = !self.must_drop(key, progress) && self.schedule(key, progress, peer_closed);
         if !stays {
-            drop(self.open.remove(key));
+            drop(self.connections.remove(key));
         }
     }
 
     /// Closes a connection whose session has ended, after the waiting part of its last response was written.
-    fn leave(&mut self, outbox: Outbox<Socket>)
-        ensures open { self.new.open ≡ self.old.open }
+    fn leave(&mut self, buffered: BufferedConnection<Socket>)
+        ensures open { self.new.connections ≡ self.old.connections }
     {
-        let own = outbox.waiting_bytes();
+        let own = buffered.waiting_bytes();
         if own > 0 && self.has_too_much_waiting(own) {
             self.has_given_up = true;
             return;
         }
-        if let Some(key) = self.lingering.add(outbox) {
+        if let Some(key) = self.lingering.add(buffered) {
             self.advance_lingering(key);
         }
         self.next_check = self.next_check.min(self.after_pause());
@@ -191,145 +193,149 @@ impl EventLoop {
 
     /// Closes a connection that was removed from the set. Its client can read the last response before, unless the
     /// connection has failed.
-    fn close_connection(&mut self, progress: ConnectionProgress, outbox: Outbox<Socket>)
-        ensures open { self.new.open ≡ self.old.open }
+    fn close_connection(
+        &mut self,
+        progress: ConnectionProgress,
+        buffered: BufferedConnection<Socket>,
+    )
+        ensures open { self.new.connections ≡ self.old.connections }
     {
         match progress {
-            ConnectionProgress::Closing => self.leave(outbox),
-            ConnectionProgress::Ended if outbox.has_waiting() => self.leave(outbox),
-            _ => drop(outbox),
+            ConnectionProgress::Closing => self.leave(buffered),
+            ConnectionProgress::Ended if buffered.has_waiting() => self.leave(buffered),
+            _ => drop(buffered),
         }
     }
 
     /// Continues a connection whose session has ended, and registers it again if there is more to do.
     fn advance_lingering(&mut self, key: usize)
-        ensures open { self.new.open ≡ self.old.open }
+        ensures open { self.new.connections ≡ self.old.connections }
     {
-        let step = self.lingering.advance(key, self.at.now, self.idle_limit);
+        let awaits = self.lingering.advance(key, self.at.now, self.idle_limit);
         let Some(socket) = self.lingering.get(key) else {
             return;
         };
         let token = Source::Lingering(key).token();
-        let _unregistered = match step {
-            Step::Writes => self.readiness.reregister_for_writes(socket.raw_fd(), token),
-            Step::Reads => self.readiness.reregister(socket.raw_fd(), token),
-            Step::Nothing => Ok(()),
+        let _unregistered = match awaits {
+            Awaits::Writable => self.readiness.reregister_for_writes(socket.raw_fd(), token),
+            Awaits::Readable => self.readiness.reregister(socket.raw_fd(), token),
+            Awaits::Nothing => Ok(()),
         };
     }
 
     /// Gives a connection a turn.
-    fn serve<N: StoreName, G: Gate, R: Wait + Eprint>(
+    fn serve<N: StoreName, G: CallObserver, R: Wait + Eprint>(
         &mut self,
         rt: &R,
         alloc: Global,
         key: usize,
-        has_ended: bool,
-        store: &mut Gated<'_, N, G, R>,
+        peer_closed: bool,
+        store: &mut WorkerStore<'_, N, G, R>,
     )
-        requires underway { AllUnderway N.limits store.old self.old.open }
-        ensures underway { AllUnderway N.limits store.new self.new.open }
+        requires underway { AllUnderway N.limits store.old self.old.connections }
+        ensures underway { AllUnderway N.limits store.new self.new.connections }
         ensures goes_on { SeatGoesOn store.old.seat store.new.seat }
     {
-        match self.open.answer_next(rt, alloc, key, self.at, store) {
-            ConnectionTurn::Open(progress) => self.keep(key, progress, has_ended),
-            ConnectionTurn::Left(progress, outbox) => self.close_connection(progress, outbox),
+        match self.connections.take_turn(rt, alloc, key, self.at, store) {
+            ConnectionTurn::Open(progress) => self.keep(key, progress, peer_closed),
+            ConnectionTurn::Left(progress, buffered) => self.close_connection(progress, buffered),
             ConnectionTurn::Absent => {}
         }
     }
 
     /// Serves a connection that is ready.
-    fn serve_one<N: StoreName, G: Gate, R: Wait + Eprint>(
+    fn serve_one<N: StoreName, G: CallObserver, R: Wait + Eprint>(
         &mut self,
         rt: &R,
         alloc: Global,
         event: Event,
-        store: &mut Gated<'_, N, G, R>,
+        store: &mut WorkerStore<'_, N, G, R>,
     )
-        requires underway { AllUnderway N.limits store.old self.old.open }
-        ensures underway { AllUnderway N.limits store.new self.new.open }
+        requires underway { AllUnderway N.limits store.old self.old.connections }
+        ensures underway { AllUnderway N.limits store.new self.new.connections }
         ensures goes_on { SeatGoesOn store.old.seat store.new.seat }
     {
         match Source::of(event.token) {
             Source::Listener => {}
-            Source::Open(key) => self.serve(rt, alloc, key, event.has_ended, store),
+            Source::Open(key) => self.serve(rt, alloc, key, event.peer_closed, store),
             Source::Lingering(key) => self.advance_lingering(key),
         }
     }
 
     /// Serves the connections that the last wait found ready, one request each. Returns whether the listener was ready.
-    fn serve_events<N: StoreName, G: Gate, R: Wait + Eprint>(
+    fn serve_events<N: StoreName, G: CallObserver, R: Wait + Eprint>(
         &mut self,
         rt: &R,
         alloc: Global,
-        store: &mut Gated<'_, N, G, R>,
+        store: &mut WorkerStore<'_, N, G, R>,
     ) -> bool
-        requires underway { AllUnderway N.limits store.old self.old.open }
-        ensures underway { AllUnderway N.limits store.new self.new.open }
+        requires underway { AllUnderway N.limits store.old self.old.connections }
+        ensures underway { AllUnderway N.limits store.new self.new.connections }
         ensures goes_on { SeatGoesOn store.old.seat store.new.seat }
     {
-        let mut arrived = false;
+        let mut listener_ready = false;
         for index in 0..MAX_EVENTS {
             let Some(event) = self.readiness.event(index) else {
                 break;
             };
-            arrived |= Source::of(event.token) == Source::Listener;
+            listener_ready |= Source::of(event.token) == Source::Listener;
             self.serve_one(rt, alloc, event, store);
         }
-        arrived
+        listener_ready
     }
 
     /// Serves the first of the connections that hold unanswered bytes, unless it was served in this round.
-    fn serve_first_again<N: StoreName, G: Gate, R: Wait + Eprint>(
+    fn serve_first_again<N: StoreName, G: CallObserver, R: Wait + Eprint>(
         &mut self,
         rt: &R,
         alloc: Global,
-        store: &mut Gated<'_, N, G, R>,
+        store: &mut WorkerStore<'_, N, G, R>,
     )
-        requires underway { AllUnderway N.limits store.old self.old.open }
-        ensures underway { AllUnderway N.limits store.new self.new.open }
+        requires underway { AllUnderway N.limits store.old self.old.connections }
+        ensures underway { AllUnderway N.limits store.new self.new.connections }
         ensures goes_on { SeatGoesOn store.old.seat store.new.seat }
     {
-        let Some((key, has_ended)) = self.again.pop_front() else {
+        let Some((key, peer_closed)) = self.holding.pop_front() else {
             return;
         };
-        let due = match self.open.get(key) {
-            Some(open) => open.round != self.at.round,
+        let due = match self.connections.get(key) {
+            Some(connection) => connection.round != self.at.round,
             None => false,
         };
         if due {
-            self.serve(rt, alloc, key, has_ended, store);
+            self.serve(rt, alloc, key, peer_closed, store);
         }
     }
 
     /// Serves all connections that are ready, one request each. Returns whether the listener was ready.
-    fn serve_ready<N: StoreName, G: Gate, R: Wait + Eprint>(
+    fn serve_ready<N: StoreName, G: CallObserver, R: Wait + Eprint>(
         &mut self,
         rt: &R,
         alloc: Global,
-        store: &mut Gated<'_, N, G, R>,
+        store: &mut WorkerStore<'_, N, G, R>,
     ) -> bool
-        requires underway { AllUnderway N.limits store.old self.old.open }
-        ensures underway { AllUnderway N.limits store.new self.new.open }
+        requires underway { AllUnderway N.limits store.old self.old.connections }
+        ensures underway { AllUnderway N.limits store.new self.new.connections }
         ensures goes_on { SeatGoesOn store.old.seat store.new.seat }
     {
-        let earlier = self.again.len();
-        let arrived = self.serve_events(rt, alloc, store);
-        for _ in 0..earlier {
+        let queued = self.holding.len();
+        let listener_ready = self.serve_events(rt, alloc, store);
+        for _ in 0..queued {
             self.serve_first_again(rt, alloc, store);
         }
-        arrived
+        listener_ready
     }
 
     /// Opens an accepted connection, after learning the receipt that is vouched for now.
-    fn open<N: StoreName, G: Gate, R: Wait + Eprint>(
+    fn open_accepted<N: StoreName, G: CallObserver, R: Wait + Eprint>(
         &mut self,
         rt: &R,
-        server: &Server<'_, N, G>,
+        server: &WorkerContext<'_, N, G>,
         stream: TcpStream,
-        store: &mut Gated<'_, N, G, R>,
+        store: &mut WorkerStore<'_, N, G, R>,
     )
-        requires underway { AllUnderway N.limits store.old self.old.open }
-        ensures underway { AllUnderway N.limits store.new self.new.open }
+        requires underway { AllUnderway N.limits store.old self.old.connections }
+        ensures underway { AllUnderway N.limits store.new self.new.connections }
         ensures goes_on { SeatGoesOn store.old.seat store.new.seat }
     {
         self.permits = self.permits.saturating_add(1);
@@ -343,20 +349,20 @@ impl EventLoop {
         let socket = Socket::new(stream);
         let descriptor = socket.raw_fd();
         let Ok(key) = self
-            .open
-            .add::<R, Gated<'_, N, G, R>>(server.alloc, socket, self.at.now, store)
+            .connections
+            .add::<R, WorkerStore<'_, N, G, R>>(server.alloc, socket, self.at.now, store)
         else {
             return;
         };
         let token = Source::Open(key).token();
         if self.readiness.register(descriptor, token).is_err() {
-            drop(self.open.remove(key));
+            drop(self.connections.remove(key));
         }
     }
 
     /// Drops the connections that were silent for too long.
     fn drop_silent(&mut self)
-        ensures rest { IsRest self.old.open self.new.open }
+        ensures rest { IsRest self.old.connections self.new.connections }
     {
         let now = self.at.now;
         if now < self.next_check {
@@ -365,28 +371,28 @@ impl EventLoop {
         self.lingering.drop_overdue(now);
         self.next_check = self.after_pause();
         if let Some(idle_limit) = self.idle_limit {
-            self.open.drop_silent(now.saturating_sub(idle_limit));
+            self.connections.drop_silent(now.saturating_sub(idle_limit));
             self.put_off_check(idle_limit);
         }
     }
 
     /// Postpones the next check until a connection may have been silent for too long.
     fn put_off_check(&mut self, idle_limit: Duration)
-        ensures open { self.new.open ≡ self.old.open }
+        ensures open { self.new.connections ≡ self.old.connections }
     {
-        if let (true, Some(oldest)) = (self.lingering.is_empty(), self.open.oldest()) {
+        if let (true, Some(oldest)) = (self.lingering.is_empty(), self.connections.oldest()) {
             self.next_check = self.next_check.max(oldest.saturating_add(idle_limit));
         }
     }
 
     /// Returns the time of the next action that no event triggers.
-    fn due<N: StoreName, G: Gate>(
+    fn due<N: StoreName, G: CallObserver>(
         &self,
-        server: &Server<'_, N, G>,
+        server: &WorkerContext<'_, N, G>,
         acceptor: &Acceptor,
     ) -> Option<Duration> {
         let checks = !self.lingering.is_empty()
-            || (self.idle_limit.is_some() && !self.open.is_empty());
+            || (self.idle_limit.is_some() && !self.connections.is_empty());
         let check = if checks { Some(self.next_check) } else { None };
         let last = if server.quota.is_limited() {
             Some(
@@ -402,9 +408,9 @@ impl EventLoop {
 
     /// Waits until a connection is ready or something else is due.
     fn wait<R: Wait + Clock>(&mut self, rt: &R, due: Option<Duration>)
-        ensures open { self.new.open ≡ self.old.open }
+        ensures open { self.new.connections ≡ self.old.connections }
     {
-        let timeout = if self.again.is_empty() {
+        let timeout = if self.holding.is_empty() {
             due.map(|time| time.saturating_sub(self.at.now))
         } else {
             Some(Duration::ZERO)
@@ -412,62 +418,70 @@ impl EventLoop {
         if self.readiness.wait(timeout).is_err() {
             sleep(rt, Duration::from_millis(1));
         }
-        self.at = Moment {
+        self.at = TurnTime {
             now: rt.monotonic().unwrap_or(self.at.now),
             round: self.at.round.wrapping_add(1),
         };
     }
 
     /// Publishes the number of connections, and returns the permits of those that were closed.
-    fn publish_load<N: StoreName, G: Gate>(
+    fn publish_load_and_return_permits<N: StoreName, G: CallObserver>(
         &mut self,
-        server: &Server<'_, N, G>,
+        server: &WorkerContext<'_, N, G>,
         worker: u32,
         accepts: bool,
     )
-        ensures open { self.new.open ≡ self.old.open }
+        ensures open { self.new.connections ≡ self.old.connections }
     {
-        let taken = self.open.len().saturating_add(self.lingering.len());
+        let taken = self.connections.len().saturating_add(self.lingering.len());
         for _ in taken..self.permits {
             server.loads.return_permit();
         }
         self.permits = taken;
-        server.loads.set(worker, accepts.then_some(self.open.len()));
+        server
+            .loads
+            .set(worker, accepts.then_some(self.connections.len()));
     }
 
     /// Accepts the next connection, if one is waiting and may be accepted.
-    fn accept<N: StoreName, G: Gate, R: Wait + Clock + Eprint>(
+    fn accept<N: StoreName, G: CallObserver, R: Wait + Clock + Eprint>(
         &mut self,
         rt: &R,
-        server: &Server<'_, N, G>,
+        server: &WorkerContext<'_, N, G>,
         worker: u32,
         acceptor: &mut Acceptor,
-        store: &mut Gated<'_, N, G, R>,
+        store: &mut WorkerStore<'_, N, G, R>,
     )
-        requires underway { AllUnderway N.limits store.old self.old.open }
-        ensures underway { AllUnderway N.limits store.new self.new.open }
+        requires underway { AllUnderway N.limits store.old self.old.connections }
+        ensures underway { AllUnderway N.limits store.new self.new.connections }
         ensures goes_on { SeatGoesOn store.old.seat store.new.seat }
     {
-        if let Some(stream) = acceptor.next(rt, server, worker, self.open.len(), self.at.now) {
-            self.open(rt, server, stream, store);
+        if let Some(stream) = acceptor.next(
+            rt,
+            server,
+            worker,
+            self.connections.len(),
+            self.at.now,
+        ) {
+            self.open_accepted(rt, server, stream, store);
         }
     }
 
     /// Serves all connections that are ready, accepts one, and drops those that were silent for too long.
-    fn serve_round<N: StoreName, G: Gate, R: Wait + Clock + Eprint>(
+    fn serve_round<N: StoreName, G: CallObserver, R: Wait + Clock + Eprint>(
         &mut self,
         rt: &R,
-        server: &Server<'_, N, G>,
+        server: &WorkerContext<'_, N, G>,
         worker: u32,
         acceptor: &mut Acceptor,
-        store: &mut Gated<'_, N, G, R>,
+        store: &mut WorkerStore<'_, N, G, R>,
     )
-        requires underway { AllUnderway N.limits store.old self.old.open }
-        ensures underway { AllUnderway N.limits store.new self.new.open }
+        requires underway { AllUnderway N.limits store.old self.old.connections }
+        ensures underway { AllUnderway N.limits store.new self.new.connections }
         ensures goes_on { SeatGoesOn store.old.seat store.new.seat }
     {
         if self.serve_ready(rt, server.alloc, store) {
-            acceptor.arrived();
+            acceptor.listener_is_ready();
         }
         if self.has_given_up {
             server.notices.print_given_up(rt);
@@ -477,20 +491,20 @@ impl EventLoop {
     }
 
     /// Serves connections until none is open and no more may be accepted.
-    pub(crate) fn run<N: StoreName, G: Gate, R: Wait + Clock + Eprint>(
+    pub(crate) fn run<N: StoreName, G: CallObserver, R: Wait + Clock + Eprint>(
         &mut self,
         rt: &R,
-        server: &Server<'_, N, G>,
+        server: &WorkerContext<'_, N, G>,
         worker: u32,
         acceptor: &mut Acceptor,
-        store: &mut Gated<'_, N, G, R>,
+        store: &mut WorkerStore<'_, N, G, R>,
     )
-        requires underway { AllUnderway N.limits store.old self.old.open }
+        requires underway { AllUnderway N.limits store.old self.old.connections }
         ensures goes_on { SeatGoesOn store.old.seat store.new.seat }
     {
         for _ in rt.forever() {
             let accepts = acceptor.may_accept(server.quota);
-            self.publish_load(server, worker, accepts);
+            self.publish_load_and_return_permits(server, worker, accepts);
             if !accepts && self.is_empty() {
                 break;
             }

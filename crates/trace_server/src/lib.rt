@@ -7,7 +7,7 @@
 //! connection ends only that connection.
 //!
 //! * `config`: the configuration of a server.
-//! * `gate`: an observer of the calls to the store. `gated`: a store whose calls a gate observes.
+//! * `call_observer`: an observer of the calls to the store. `worker_store`: a worker's store.
 //! * `worker`: a worker. `threads`: work in threads.
 //! * `event_loop`: the loop that waits for a worker's connections and serves them. `source`: what it waits for, by tokens.
 //! * `acceptor`: accepts connections. `loads`: the number of connections of each worker.
@@ -23,14 +23,13 @@
 
 mod acceptor;
 mod acknowledged;
+mod call_observer;
 mod config;
 mod connection;
 mod connection_quota;
 mod counts;
 mod ending;
 mod event_loop;
-mod gate;
-mod gated;
 pub mod laws;
 mod lingering;
 mod loads;
@@ -42,7 +41,8 @@ mod shared;
 mod source;
 mod threads;
 mod worker;
+mod worker_store;
 
+pub use call_observer::{CallObserver, NoObserver};
 pub use config::ServerConfig;
-pub use gate::{Gate, NoGate};
 pub use serving::serve_with;

@@ -1,7 +1,7 @@
 //! Connections whose sessions have ended while their clients may still read or send.
 
 use crate::connection::{DISCARD_SECONDS, Discarded, close_sending, discard_some};
-use open_connections::{Outbox, Socket};
+use open_connections::{BufferedConnection, Socket};
 use slab::Slab;
 use std::alloc::Global;
 use std::time::Duration;
@@ -9,7 +9,7 @@ use std::time::Duration;
 /// A connection whose session has ended.
 #[derive(Drop)]
 struct LingeringConnection {
-    outbox: Outbox<Socket>,
+    buffered: BufferedConnection<Socket>,
     /// The sending side is closed.
     has_closed_sending: bool,
     /// When it is dropped; never if `None`.
@@ -18,11 +18,11 @@ struct LingeringConnection {
 
 /// What such a connection waits for.
 #[derive(Clone, Copy, Debug, PartialEq, Eq)]
-pub(crate) enum Step {
+pub(crate) enum Awaits {
     /// Its client to take more of the last response.
-    Writes,
+    Writable,
     /// More input to discard.
-    Reads,
+    Readable,
     /// Nothing that has to be watched.
     Nothing,
 }
@@ -39,16 +39,16 @@ pub(crate) struct Lingering {
 impl LingeringConnection {
     /// Writes the waiting bytes, as far as the client takes them. Returns whether the connection is still useful.
     fn write(&mut self, now: Duration, idle_limit: Option<Duration>) -> bool {
-        if self.outbox.flush().is_err() {
+        if self.buffered.flush().is_err() {
             return false;
         }
-        if self.outbox.has_waiting() {
+        if self.buffered.has_waiting() {
             self.until = idle_limit.map(|idle_limit| now.saturating_add(idle_limit));
             return true;
         }
         self.has_closed_sending = true;
         self.until = Some(now.saturating_add(Duration::from_secs(DISCARD_SECONDS)));
-        close_sending(self.outbox.connection().stream()).is_ok()
+        close_sending(self.buffered.get_ref().stream()).is_ok()
     }
 }
 
@@ -75,10 +75,10 @@ impl Lingering {
     }
 
     /// Adds a connection, and returns its key, or `None` if memory runs out.
-    pub(crate) fn add(&mut self, outbox: Outbox<Socket>) -> Option<usize> {
-        let waiting = outbox.waiting_bytes();
+    pub(crate) fn add(&mut self, buffered: BufferedConnection<Socket>) -> Option<usize> {
+        let waiting = buffered.waiting_bytes();
         let lingering = LingeringConnection {
-            outbox,
+            buffered,
             has_closed_sending: false,
             until: None,
         };
@@ -92,7 +92,7 @@ impl Lingering {
     /// Returns the socket under a key.
     pub(crate) fn get(&self, key: usize) -> Option<&Socket> {
         match self.connections.get(key) {
-            Some(lingering) => Some(lingering.outbox.connection()),
+            Some(lingering) => Some(lingering.buffered.get_ref()),
             None => None,
         }
     }
@@ -102,41 +102,41 @@ impl Lingering {
         if let Some(lingering) = self.connections.try_remove(key) {
             self.waiting = self
                 .waiting
-                .saturating_sub(lingering.outbox.waiting_bytes());
+                .saturating_sub(lingering.buffered.waiting_bytes());
         }
     }
 
     /// Writes the waiting part of a connection's last response, as far as its client takes it.
-    fn write(&mut self, key: usize, now: Duration, idle_limit: Option<Duration>) -> Step {
+    fn write(&mut self, key: usize, now: Duration, idle_limit: Option<Duration>) -> Awaits {
         let Some(lingering) = self.connections.get_mut(key) else {
-            return Step::Nothing;
+            return Awaits::Nothing;
         };
-        let before = lingering.outbox.waiting_bytes();
+        let before = lingering.buffered.waiting_bytes();
         let is_of_use = lingering.write(now, idle_limit);
         let has_closed_sending = lingering.has_closed_sending;
-        let written = before.saturating_sub(lingering.outbox.waiting_bytes());
+        let written = before.saturating_sub(lingering.buffered.waiting_bytes());
         self.waiting = self.waiting.saturating_sub(written);
         match (is_of_use, has_closed_sending) {
             (false, _) => {
                 self.remove(key);
-                Step::Nothing
+                Awaits::Nothing
             }
-            (true, true) => Step::Reads,
-            (true, false) => Step::Writes,
+            (true, true) => Awaits::Readable,
+            (true, false) => Awaits::Writable,
         }
     }
 
     /// Discards the input of a connection whose response was written.
-    fn discard_input(&mut self, key: usize) -> Step {
+    fn discard_input(&mut self, key: usize) -> Awaits {
         let Some(socket) = self.get(key) else {
-            return Step::Nothing;
+            return Awaits::Nothing;
         };
         match discard_some(socket.stream()) {
-            Discarded::All => Step::Nothing,
-            Discarded::Much => Step::Reads,
+            Discarded::All => Awaits::Nothing,
+            Discarded::Much => Awaits::Readable,
             Discarded::Last => {
                 self.remove(key);
-                Step::Nothing
+                Awaits::Nothing
             }
         }
     }
@@ -148,11 +148,11 @@ impl Lingering {
         key: usize,
         now: Duration,
         idle_limit: Option<Duration>,
-    ) -> Step {
+    ) -> Awaits {
         match self.connections.get(key) {
             Some(lingering) if lingering.has_closed_sending => self.discard_input(key),
             Some(_) => self.write(key, now, idle_limit),
-            None => Step::Nothing,
+            None => Awaits::Nothing,
         }
     }
 

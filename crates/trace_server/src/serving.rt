@@ -10,10 +10,10 @@ ghost use Rattle.trace_server.specs.ServerRuns.{OneForEach, Reports, RunsServer}
 ghost use Rattle.trace_server.specs.WorkerSeats.{AreNew, HasJudged};
 
 use crate::acceptor::lengthen_queue;
+use crate::call_observer::CallObserver;
 use crate::config::ServerConfig;
 use crate::connection_quota::ConnectionQuota;
 use crate::ending::close_books;
-use crate::gate::Gate;
 use crate::loads::Loads;
 use crate::notices::{
     Notices, end_unwritten, end_with, print_few_files, print_limits, print_reachable,
@@ -22,7 +22,7 @@ use crate::periodic::PeriodicCounts;
 use crate::reporting::{report, report_unclosed, total_outcome, write_listening};
 use crate::shared::SharedStore;
 use crate::threads::{OwnWork, beside, run_each};
-use crate::worker::{Server, WorkerOutcome};
+use crate::worker::{WorkerContext, WorkerOutcome};
 use intake::{Books, Clerk, Desk, Live};
 use read_side::{EmptyHistory, Keeper, StoreName};
 use session_devices::Output;
@@ -36,12 +36,12 @@ use std::time::Clock;
 use text_lines::{ExitStatus, RunError};
 use trace_model::Limits;
 
-/// A server's listener, its configuration, and the gate of its workers' calls.
+/// A server's listener, its configuration, and the observer of its workers' calls.
 #[derive(Drop)]
 struct ServerSetup<'a, G> {
     listener: &'a TcpListener,
     config: &'a ServerConfig,
-    gate: &'a G,
+    observer: &'a G,
     loads: &'a Loads,
     notices: &'a Notices,
 }
@@ -55,9 +55,9 @@ type Left<N> = (Books<N>, Outcomes<N>);
 /// Runs the workers until all sessions have ended, then ends the periodic lines.
 fn work_each<
     N: StoreName + Send + Sync,
-    G: Gate + Sync,
+    G: CallObserver + Sync,
     R: Threads + Wait + Clock + Eprint + Net<Stream = TcpStream, Listener = TcpListener> + Sync,
->(rt: &R, server: &Server<'_, N, G>, lives: Vec<(u32, Live<N>)>) -> Outcomes<N>
+>(rt: &R, server: &WorkerContext<'_, N, G>, lives: Vec<(u32, Live<N>)>) -> Outcomes<N>
     ensures { IfOk result (λ v. AllZip SeatGoesOn (map (λ p. p.1.seat) lives.items)
         (map (λ w. w.1.seat) v.items)) }
 {
@@ -70,9 +70,9 @@ fn work_each<
 /// created, there are none.
 fn work_counted<
     N: StoreName + Send + Sync,
-    G: Gate + Sync,
+    G: CallObserver + Sync,
     R: Threads + Wait + Clock + Eprint + Net<Stream = TcpStream, Listener = TcpListener> + Sync,
->(rt: &R, server: &Server<'_, N, G>, lives: Vec<(u32, Live<N>)>) -> Outcomes<N>
+>(rt: &R, server: &WorkerContext<'_, N, G>, lives: Vec<(u32, Live<N>)>) -> Outcomes<N>
     ensures { IfOk result (λ v. AllZip SeatGoesOn (map (λ p. p.1.seat) lives.items)
         (map (λ w. w.1.seat) v.items)) }
 {
@@ -94,9 +94,9 @@ fn work_counted<
 /// Runs the workers until all sessions have ended, then closes the desk.
 fn work_all<
     N: StoreName + Send + Sync,
-    G: Gate + Sync,
+    G: CallObserver + Sync,
     R: Threads + Wait + Clock + Eprint + Net<Stream = TcpStream, Listener = TcpListener> + Sync,
->(rt: &R, server: &Server<'_, N, G>, lives: Vec<(u32, Live<N>)>) -> Outcomes<N>
+>(rt: &R, server: &WorkerContext<'_, N, G>, lives: Vec<(u32, Live<N>)>) -> Outcomes<N>
     ensures { IfOk result (λ v. AllZip SeatGoesOn (map (λ p. p.1.seat) lives.items)
         (map (λ w. w.1.seat) v.items)) }
 {
@@ -157,7 +157,7 @@ impl<'d, 's, N: StoreName, R: Wait> OwnWork<R, Books<N>> for ClerkWork<'d, 's, N
 /// be created for them, the desk is closed and no connection is served.
 fn serve_sessions<
     N: StoreName + Send + Sync,
-    G: Gate + Sync,
+    G: CallObserver + Sync,
     R: Threads + Wait + Clock + Eprint + Net<Stream = TcpStream, Listener = TcpListener> + Sync,
 >(rt: &R, alloc: Global, shared: SharedStore<N>, setup: &ServerSetup<'_, G>) -> Left<N>
     requires keeper { shared.keeper ≡ no_entries }
@@ -177,11 +177,11 @@ fn serve_sessions<
     } = shared;
     let quota = ConnectionQuota::new(setup.config.options.sessions);
     let periodic = PeriodicCounts::new(setup.config.options.report);
-    let server = Server {
+    let server = WorkerContext {
         alloc,
         listener: setup.listener,
         desk: &desk,
-        gate: setup.gate,
+        observer: setup.observer,
         notices: setup.notices,
         periodic: &periodic,
         loads: setup.loads,
@@ -217,7 +217,7 @@ fn serve_sessions<
 /// Serves the store, closes its books and the store, writes the report, and returns the exit status.
 fn serve_store<
     N: StoreName + Send + Sync,
-    G: Gate + Sync,
+    G: CallObserver + Sync,
     W: Output,
     R: Threads + Wait + Clock + Eprint + Net<Stream = TcpStream, Listener = TcpListener> + Sync,
 >(
@@ -267,7 +267,7 @@ fn can_start<R: Threads>(rt: &R) -> bool {
 /// Opens a store over this history, which `N` names, and serves it.
 fn serve_named<
     N: StoreName + Send + Sync,
-    G: Gate + Sync,
+    G: CallObserver + Sync,
     W: Output,
     R: Threads + Wait + Clock + Eprint + Net<Stream = TcpStream, Listener = TcpListener> + Sync,
 >(
@@ -318,13 +318,13 @@ fn serve_named<
 /// It writes a line with the host and port once connections are accepted. At the end it writes a line with the number
 /// of connections, and one with the number of batches that were acknowledged, refused by the store, and left
 /// unanswered. A worker serves many connections, one request of each in turn. An error of a connection ends only that
-/// connection. Every call to the store is between two calls of the gate. The listener is non-blocking from then on.
+/// connection. Every call to the store is between two calls of the observer. The listener is non-blocking from then on.
 ///
 /// Standard error gets lines for the operator: that other machines can reach the host, the limits of the store, how
 /// full it is, that requests were answered 500, why no connection is accepted, and why the server fails.
 /// None of these are in the output.
 pub fn serve_with<
-    G: Gate + Sync,
+    G: CallObserver + Sync,
     W: Output,
     R: Threads + Wait + Clock + Eprint + Net<Stream = TcpStream, Listener = TcpListener> + Sync,
 >(
@@ -332,7 +332,7 @@ pub fn serve_with<
     alloc: Global,
     listener: &TcpListener,
     config: &ServerConfig,
-    gate: &G,
+    observer: &G,
     output: &mut W,
 ) -> ExitStatus
     requires output_works { W.has_failed output.old ≡ false }
@@ -354,7 +354,7 @@ pub fn serve_with<
     let setup = ServerSetup {
         listener,
         config,
-        gate,
+        observer,
         loads: &loads,
         notices: &notices,
     };

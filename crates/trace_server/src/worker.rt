@@ -3,14 +3,14 @@
 ghost use Rattle.intake.specs.LiveStores.{SeatGoesOn};
 
 use crate::acceptor::Acceptor;
+use crate::call_observer::CallObserver;
 use crate::connection_quota::ConnectionQuota;
 use crate::event_loop::EventLoop;
-use crate::gate::Gate;
-use crate::gated::Gated;
 use crate::loads::Loads;
 use crate::notices::{Notices, print_accepts_no_more};
 use crate::periodic::PeriodicCounts;
 use crate::threads::Task;
+use crate::worker_store::WorkerStore;
 use intake::{Desk, Live};
 use read_side::StoreName;
 use std::alloc::Global;
@@ -20,11 +20,11 @@ use std::time::Clock;
 
 /// The state that all workers share.
 #[derive(Drop)]
-pub(crate) struct Server<'a, N: StoreName, G> {
+pub(crate) struct WorkerContext<'a, N: StoreName, G> {
     pub(crate) alloc: Global,
     pub(crate) listener: &'a TcpListener,
     pub(crate) desk: &'a Desk<N>,
-    pub(crate) gate: &'a G,
+    pub(crate) observer: &'a G,
     pub(crate) notices: &'a Notices,
     pub(crate) periodic: &'a PeriodicCounts,
     pub(crate) loads: &'a Loads,
@@ -41,7 +41,7 @@ pub(crate) struct WorkerOutcome {
     pub(crate) failed: bool,
 }
 
-impl<'a, N: StoreName, G: Gate> Server<'a, N, G> {
+impl<'a, N: StoreName, G: CallObserver> WorkerContext<'a, N, G> {
     /// Runs a worker: serves connections until all were accepted or no more can be, and the open ones have
     /// ended. Returns its seat and pass.
     fn work<R: Wait + Clock + Eprint + Net<Stream = TcpStream, Listener = TcpListener>>(
@@ -64,7 +64,7 @@ impl<'a, N: StoreName, G: Gate> Server<'a, N, G> {
             }
         };
         self.loads.set(worker, Some(0));
-        let mut store = Gated::new(rt, self.gate, self.notices, worker, live);
+        let mut store = WorkerStore::new(rt, self.observer, self.notices, worker, live);
         let mut acceptor = Acceptor::new();
         event_loop.run(rt, self, worker, &mut acceptor, &mut store);
         (acceptor.outcome(), store.into_live())
@@ -74,9 +74,9 @@ impl<'a, N: StoreName, G: Gate> Server<'a, N, G> {
 impl<
     'a,
     N: StoreName,
-    G: Gate,
+    G: CallObserver,
     R: Wait + Clock + Eprint + Net<Stream = TcpStream, Listener = TcpListener>,
-> Task<R, (u32, Live<N>), (WorkerOutcome, Live<N>)> for Server<'a, N, G> {
+> Task<R, (u32, Live<N>), (WorkerOutcome, Live<N>)> for WorkerContext<'a, N, G> {
     ghost use Rattle.intake.specs.LiveStores.{SeatGoesOn};
 
     ghost gives = { λ argument end. SeatGoesOn argument.1.seat end.1.seat };

@@ -17,7 +17,7 @@ use std::test::*;
 use std::thread::{Threads, join};
 use std::time::Clock;
 use trace_model::Limits;
-use trace_server::{Gate, ServerConfig, serve_with};
+use trace_server::{CallObserver, ServerConfig, serve_with};
 
 /// Returns the configuration of a server with this number of workers, sessions and batches.
 pub fn config<R: Abort + RandomSource>(
@@ -64,17 +64,17 @@ impl Outcome {
 
 /// Serves until all sessions have ended, and returns the status and the output.
 fn serve<
-    G: Gate + Sync,
+    G: CallObserver + Sync,
     R: Threads + Wait + Clock + Eprint + Net<Stream = TcpStream, Listener = TcpListener> + Sync,
 >(
     rt: &R,
     alloc: Global,
     listener: &TcpListener,
     config: &ServerConfig,
-    gate: &G,
+    observer: &G,
 ) -> (u8, MemoryOutput) {
     let mut output = MemoryOutput::new(alloc, 1000, 1000);
-    let status = serve_with(rt, alloc, listener, config, gate, &mut output);
+    let status = serve_with(rt, alloc, listener, config, observer, &mut output);
     (status.code(), output)
 }
 
@@ -87,7 +87,7 @@ fn names_port(alloc: Global, output: &MemoryOutput, port: u16) -> bool {
 
 /// Runs a server on a port of its own beside its clients.
 pub fn visited<
-    G: Gate + Sync,
+    G: CallObserver + Sync,
     R: Threads
         + Wait
         + Clock
@@ -95,13 +95,19 @@ pub fn visited<
         + Net<Stream = TcpStream, Listener = TcpListener>
         + Abort
         + Sync,
->(rt: &R, alloc: Global, config: &ServerConfig, gate: &G, guests: Guests) -> Result<Outcome, Fail> {
+>(
+    rt: &R,
+    alloc: Global,
+    config: &ServerConfig,
+    observer: &G,
+    guests: Guests,
+) -> Result<Outcome, Fail> {
     let any = SocketAddr::V4(SocketAddrV4::new(Ipv4Addr::LOCALHOST, 0));
     let listener = TcpListener::bind(rt, any).expect(rt, "bind");
     let address = listener.local_addr().expect(rt, "address");
     let ((status, output), pleased) = join(
         rt,
-        || serve(rt, alloc, &listener, config, gate),
+        || serve(rt, alloc, &listener, config, observer),
         || guests.visit(rt, alloc, address),
     );
     let pleased = matches!(pleased, Ok(true)) && names_port(alloc, &output, address.port());

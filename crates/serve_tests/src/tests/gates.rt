@@ -3,7 +3,7 @@
 use std::sync::Wait;
 use std::sync::atomic::{AtomicBool, AtomicU64, Ordering};
 use std::thread::yield_now;
-use trace_server::Gate;
+use trace_server::CallObserver;
 
 /// How often the first call yields to others.
 const TURNS: u32 = 1_000_000;
@@ -17,7 +17,7 @@ pub struct FirstWaits {
 }
 
 impl FirstWaits {
-    /// Creates a gate before the first call.
+    /// Creates an observer before the first call.
     pub fn new() -> FirstWaits {
         FirstWaits {
             calls: AtomicU64::new(0),
@@ -42,7 +42,7 @@ impl FirstWaits {
     }
 }
 
-impl Gate for FirstWaits {
+impl CallObserver for FirstWaits {
     fn before<R: Wait>(&self, _rt: &R, _worker: u32, _call: u64) {
         if self.calls.fetch_add(1, Ordering::SeqCst) == 0 {
             self.wait_for_another();

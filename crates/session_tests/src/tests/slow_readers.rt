@@ -1,7 +1,7 @@
 use crate::tests::large::two_requests;
 use crate::tests::pipes::{empty_store, joined};
 use open_connections::{
-    ConnectionProgress, ConnectionSet, ConnectionTurn, Moment, Outbox, TryConnection,
+    BufferedConnection, ConnectionProgress, ConnectionSet, ConnectionTurn, TryConnection, TurnTime,
 };
 use session_devices::{Failed, Input};
 use std::alloc::Global;
@@ -71,7 +71,7 @@ impl<'a> TryConnection for SlowClient<'a> {
 /// The result of a connection: what its client took, how it ended, and how often its response waited.
 #[derive(Drop)]
 struct Served<'a> {
-    outbox: Outbox<SlowClient<'a>>,
+    buffered: BufferedConnection<SlowClient<'a>>,
     progress: ConnectionProgress,
     waits: u32,
 }
@@ -86,16 +86,16 @@ fn serve_alone<'a, B: Backend<()>>(
     let key = connections.add::<(), B>(alloc, client, Duration::ZERO, store)?;
     let mut waits = 0u32;
     for round in 0..1_000_000u64 {
-        let at = Moment {
+        let at = TurnTime {
             now: Duration::ZERO,
             round,
         };
-        match connections.answer_next(&(), alloc, key, at, store) {
+        match connections.take_turn(&(), alloc, key, at, store) {
             ConnectionTurn::Open(ConnectionProgress::Writing) => waits = waits.saturating_add(1),
             ConnectionTurn::Open(_) => {}
-            ConnectionTurn::Left(progress, outbox) => {
+            ConnectionTurn::Left(progress, buffered) => {
                 return Ok(Served {
-                    outbox,
+                    buffered,
                     progress,
                     waits,
                 });
@@ -118,12 +118,12 @@ fn slow_client(alloc: Global, bytes: &[u8], step: usize, room: usize) -> SlowCli
 }
 
 /// Returns whether everything that waits is written in a limited number of writes.
-fn is_flushed(outbox: &mut Outbox<SlowClient<'_>>) -> bool {
+fn is_flushed(buffered: &mut BufferedConnection<SlowClient<'_>>) -> bool {
     for _round in 0..1_000_000u32 {
-        if outbox.flush().is_err() {
+        if buffered.flush().is_err() {
             return false;
         }
-        if !outbox.has_waiting() {
+        if !buffered.has_waiting() {
             return true;
         }
     }
@@ -141,8 +141,8 @@ fn a_few_bytes_at_a_time(rt: HostRuntime) -> Result<(), Fail> {
         let mut served = serve_alone(alloc, client, &mut store)?;
         assert!(rt; served.waits > 0, "{step}");
         assert_eq!(rt; served.progress, ConnectionProgress::Ended);
-        assert!(rt; is_flushed(&mut served.outbox), "{step}");
-        let taken = served.outbox.connection().taken.as_slice();
+        assert!(rt; is_flushed(&mut served.buffered), "{step}");
+        let taken = served.buffered.get_ref().taken.as_slice();
         assert!(rt; taken == wanted.as_slice(), "{step}");
     }
     Ok(())
@@ -159,7 +159,7 @@ fn a_failure_while_a_response_waits(rt: HostRuntime) -> Result<(), Fail> {
         let client = slow_client(alloc, &twice, 1_000, room);
         let served = serve_alone(alloc, client, &mut store)?;
         assert_eq!(rt; served.progress, ConnectionProgress::Undelivered, "{room}");
-        let taken = served.outbox.connection().taken.as_slice();
+        let taken = served.buffered.get_ref().taken.as_slice();
         assert_eq!(rt; taken.len(), room);
         assert!(rt; wanted.as_slice().starts_with(taken), "{room}");
     }

@@ -1,9 +1,9 @@
 use Rattle.http_session.proofs.SessionPieces.{promises_of}
-use Rattle.open_connections.specs.Outboxes.{box_line}
+use Rattle.open_connections.specs.BufferedConnections.{buffered_line}
 use Rattle.open_connections.proofs.ConnectionRefusals.{connections_stay_known}
 use Rattle.open_connections.proofs.laws.refusals_stay_known.Goals as goal
 
 pub returns : goal.returns
 returns g c =
-    let line = box_line g.C.TryConnection.remaining g.C.TryConnection.gives g.C.TryConnection.has_failed g.C.TryConnection.contents in
+    let line = buffered_line g.C.TryConnection.remaining g.C.TryConnection.gives g.C.TryConnection.has_failed g.C.TryConnection.contents in
     connections_stay_known _ (promises_of g.met.B.Backend.submit_knows g.met.B.Backend.read_knows) line

@@ -1,34 +1,9 @@
-use Rattle.std.proofs.Common.{refl, ◌∙◌}
-use Rattle.http_session.specs.declared.pieces.Progress.TheVariants.{Paused, Answered}
-use Rattle.open_connections.proofs.OpenConnections.{came_on, came_to_end, came_failed, come_open, moved_open}
+use Rattle.http_session.proofs.SessionPieces.{promises_of, outlasts_writes}
+use Rattle.open_connections.proofs.OpenConnections.{delivered, two_way_box}
 use Rattle.open_connections.proofs.open.OpenConnection.take_turn.Goals as goal
 
-pub returns-in-Paused-clause-comes : goal.returns-in-Paused-clause-comes
-returns-in-Paused-clause-comes g c =
-    let came = c.in-Ok.ensures in
-    came_on _ _ _ _ c.args.self.now _ _ _ c.borrow_room.ensures c.return_room.ensures c.next_piece-taken.ensures.began c.requires.underway _ Paused
-    c.in-Paused.is refl came.goes_on came.open came.works
-
-pub returns-in-Answered-clause-comes : goal.returns-in-Answered-clause-comes
-returns-in-Answered-clause-comes g c =
-    let came = c.in-Ok.ensures in
-    let is = came_on _ _ _ _ c.args.self.now c.next_piece-taken.new.self _ _ c.borrow_room.ensures refl c.next_piece-taken.ensures.began c.requires.underway _
-    Answered c.in-Answered.is refl came.goes_on came.open came.works in
-    come_open _ _ _ _ _ c.after_response.ensures.open
-    (moved_open _ _ _ c.next_piece-taken.new.self c.after_response.new.self c.after_response.ensures.connection
-    (c.after_response.ensures.session ∙ c.return_room.ensures) c.after_response.ensures.began is)
-
-pub returns-in-Ended-clause-comes : goal.returns-in-Ended-clause-comes
-returns-in-Ended-clause-comes g c =
-    came_to_end _ _ _ _ c.args.self.now _ _ _ c.borrow_room.ensures c.return_room.ensures c.next_piece-taken.ensures.began c.requires.underway _
-    c.in-Ended.ended c.in-Ended.is c.in-Ok.ensures.goes_on
-
-pub returns-in-Ended-2-clause-comes : goal.returns-in-Ended-2-clause-comes
-returns-in-Ended-2-clause-comes g c =
-    came_to_end _ _ _ _ c.args.self.now _ _ _ c.borrow_room.ensures c.return_room.ensures c.next_piece-taken.ensures.began c.requires.underway _
-    c.in-Ended-2.field-0 c.in-Ended-2.is c.in-Ok.ensures.goes_on
-
-pub returns-in_default-clause-comes : goal.returns-in_default-clause-comes
-returns-in_default-clause-comes g c =
-    came_failed _ _ _ _ c.args.self.now _ _ _ c.borrow_room.ensures c.return_room.ensures c.next_piece-taken.ensures.began c.requires.underway
-    c.in_default.field-0 c.in_default.ensures.goes_on
+pub returns-then-has_waiting-clause-comes : goal.returns-then-has_waiting-clause-comes
+returns-then-has_waiting-clause-comes g c =
+    let kept = promises_of g.met.B.Backend.submit_knows g.met.B.Backend.read_knows in
+    let two = two_way_box g.C.Input.remaining g.C.Input.gives g.C.Input.has_failed g.C.TryConnection.contents g.met.C.TryConnection.reads_leave in
+    delivered _ _ _ _ _ _ (outlasts_writes _ kept _ two) _ _ _ c.requires.underway c.deliver.ensures

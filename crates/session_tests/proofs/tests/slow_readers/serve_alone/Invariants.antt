@@ -1,15 +1,15 @@
 use Rattle.std.proofs.Common.{◌≡◌, ◌++◌, false, Some}
 use Rattle.http_session.specs.SessionRuns.{store_of}
 use Rattle.http_session.specs.ResponseOrder.{Line}
-use Rattle.open_connections.specs.Outboxes.{box_line}
+use Rattle.open_connections.specs.BufferedConnections.{buffered_line}
 use Rattle.open_connections.specs.OpenConnections.{AllOpen}
-use Rattle.open_connections.specs.declared.outbox.Outbox.{Outbox}
+use Rattle.open_connections.specs.declared.buffered.BufferedConnection.{BufferedConnection}
 use Rattle.session_tests.specs.declared.tests.slow_readers.SlowClient.{SlowClient}
 use Rattle.session_tests.proofs.tests.slow_readers.serve_alone.Given as goal
 
-abbrev pub slow_line : Line (Outbox SlowClient)
+abbrev pub slow_line : Line (BufferedConnection SlowClient)
 slow_line =
-    box_line (λ s. Some s.bytes.now) (λ s given t. (s.bytes.now ≡ given ++ t.bytes.now) × (t.taken.items ≡ s.taken.items)) (λ s. false)
+    buffered_line (λ s. Some s.bytes.now) (λ s given t. (s.bytes.now ≡ given ++ t.bytes.now) × (t.taken.items ≡ s.taken.items)) (λ s. false)
     (λ s. Some s.taken.items)
 
 abbrev pub invariant-loop-round : goal.invariant-loop-round

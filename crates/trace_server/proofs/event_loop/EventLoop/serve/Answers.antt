@@ -8,17 +8,17 @@ use Rattle.trace_server.proofs.event_loop.EventLoop.serve.Goals as goal
 pub returns-in-Open-clause-underway : goal.returns-in-Open-clause-underway
 returns-in-Open-clause-underway g c =
     rest_is_open (live_store g.N.StoreName.limits)
-    socket_line c.answer_next.new.backend c.answer_next.new.self c.keep.new.self.open c.answer_next.ensures.underway c.keep.ensures.rest
+    socket_line c.take_turn.new.backend c.take_turn.new.self c.keep.new.self.connections c.take_turn.ensures.underway c.keep.ensures.rest
 
 pub returns-in-Open-clause-goes_on : goal.returns-in-Open-clause-goes_on
-returns-in-Open-clause-goes_on g c = asking_goes_on g.N.StoreName.limits c.args.store.now c.answer_next.new.backend c.answer_next.ensures.asks
+returns-in-Open-clause-goes_on g c = asking_goes_on g.N.StoreName.limits c.args.store.now c.take_turn.new.backend c.take_turn.ensures.asks
 
 pub returns-in-Left-clause-underway : goal.returns-in-Left-clause-underway
 returns-in-Left-clause-underway g c =
-    subst (AllUnderway g.N.StoreName.limits c.answer_next.new.backend) (sym c.close_connection.ensures.open) c.answer_next.ensures.underway
+    subst (AllUnderway g.N.StoreName.limits c.take_turn.new.backend) (sym c.close_connection.ensures.open) c.take_turn.ensures.underway
 
 pub returns-in-Left-clause-goes_on : goal.returns-in-Left-clause-goes_on
-returns-in-Left-clause-goes_on g c = asking_goes_on g.N.StoreName.limits c.args.store.now c.answer_next.new.backend c.answer_next.ensures.asks
+returns-in-Left-clause-goes_on g c = asking_goes_on g.N.StoreName.limits c.args.store.now c.take_turn.new.backend c.take_turn.ensures.asks
 
 pub returns-in-Absent-clause-goes_on : goal.returns-in-Absent-clause-goes_on
-returns-in-Absent-clause-goes_on g c = asking_goes_on g.N.StoreName.limits c.args.store.now c.answer_next.new.backend c.answer_next.ensures.asks
+returns-in-Absent-clause-goes_on g c = asking_goes_on g.N.StoreName.limits c.args.store.now c.take_turn.new.backend c.take_turn.ensures.asks

@@ -3,4 +3,4 @@ use Rattle.trace_server.specs.WorkerConnections.{AllUnderway}
 use Rattle.trace_server.proofs.event_loop.EventLoop.serve_events.Given as goal
 
 abbrev pub invariant-loop-index : goal.invariant-loop-index
-invariant-loop-index g l = AllUnderway g.N.StoreName.limits l.store l.self.open × SeatGoesOn l.initial.store.seat l.store.seat
+invariant-loop-index g l = AllUnderway g.N.StoreName.limits l.store l.self.connections × SeatGoesOn l.initial.store.seat l.store.seat

@@ -1,7 +1,7 @@
 use Rattle.std.proofs.Common.{◌≡◌, length}
 use Rattle.query_json.specs.Parts.{to_come}
 use Rattle.open_connections.specs.UnsentResponses.{TakesFirst}
-use Rattle.open_connections.proofs.outbox.write_some.Given as goal
+use Rattle.open_connections.proofs.buffered.write_some.Given as goal
 
 abbrev pub invariant-loop-connection : goal.invariant-loop-connection
 invariant-loop-connection g l =

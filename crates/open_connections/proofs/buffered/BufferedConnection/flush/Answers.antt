@@ -1,7 +1,7 @@
 use Rattle.std.proofs.Common.{ap, sym, ◌∙◌}
-use Rattle.open_connections.specs.Outboxes.{bytes_waiting}
+use Rattle.open_connections.specs.BufferedConnections.{bytes_waiting}
 use Rattle.open_connections.proofs.Deliveries.{flushed}
-use Rattle.open_connections.proofs.outbox.Outbox.flush.Goals as goal
+use Rattle.open_connections.proofs.buffered.BufferedConnection.flush.Goals as goal
 
 pub returns-clause-same : goal.returns-clause-same
 returns-clause-same g c =

@@ -1,9 +1,9 @@
-//! A worker's store, whose calls a gate observes.
+//! A worker's store: it counts what became of each call for the operator, and lets tests observe the calls.
 
 ghost use Rattle.std.specs.Prelude.{◌≡◌};
 ghost use mathlib.Core.List.{IsPrefix};
 
-use crate::gate::Gate;
+use crate::call_observer::CallObserver;
 use crate::notices::Notices;
 use intake::Live;
 use jaeger_model::Batch;
@@ -26,18 +26,19 @@ fn grow_heap(alloc: Global) {
     drop(Vec::<u8>::with_capacity(alloc, GROWTH));
 }
 
-/// A worker's store, whose calls the gate observes. Contracts see only the store.
+/// A worker's store: it counts what became of each call for the operator, and lets tests observe the calls. Contracts
+/// see only the store.
 #[derive(Drop)]
-pub(crate) struct Gated<'a, N: StoreName, G, R> {
+pub(crate) struct WorkerStore<'a, N: StoreName, G, R> {
     rt: &'a R,
-    gate: &'a G,
+    observer: &'a G,
     notices: &'a Notices,
     worker: u32,
     calls: u64,
     live: Live<N>,
 }
 
-impl<'a, N: StoreName, G, R> Model for Gated<'a, N, G, R> {
+impl<'a, N: StoreName, G, R> Model for WorkerStore<'a, N, G, R> {
     ghost use Rattle.intake.specs.LiveStores.{LiveValue};
 
     ghost Value = { LiveValue };
@@ -45,20 +46,20 @@ impl<'a, N: StoreName, G, R> Model for Gated<'a, N, G, R> {
     ghost view = { λ g. g.live };
 }
 
-impl<'a, N: StoreName, G, R> Gated<'a, N, G, R> {
+impl<'a, N: StoreName, G, R> WorkerStore<'a, N, G, R> {
     /// Wraps the store of the worker with this number.
     pub(crate) fn new(
         rt: &'a R,
-        gate: &'a G,
+        observer: &'a G,
         notices: &'a Notices,
         worker: u32,
         live: Live<N>,
-    ) -> Gated<'a, N, G, R>
+    ) -> WorkerStore<'a, N, G, R>
         ensures { result ≡ live }
     {
-        Gated {
+        WorkerStore {
             rt,
-            gate,
+            observer,
             notices,
             worker,
             calls: 0,
@@ -70,9 +71,9 @@ impl<'a, N: StoreName, G, R> Gated<'a, N, G, R> {
     pub(crate) fn into_live(self) -> Live<N>
         ensures { result ≡ self.entry }
     {
-        let Gated {
+        let WorkerStore {
             rt: _,
-            gate: _,
+            observer: _,
             notices: _,
             worker: _,
             calls: _,
@@ -92,7 +93,7 @@ impl<'a, N: StoreName, G, R> Gated<'a, N, G, R> {
     }
 }
 
-impl<'a, N: StoreName, G: Gate, R: Wait + Eprint> Backend<R> for Gated<'a, N, G, R> {
+impl<'a, N: StoreName, G: CallObserver, R: Wait + Eprint> Backend<R> for WorkerStore<'a, N, G, R> {
     ghost use Rattle.intake.specs.LiveStores.{LiveKnows, LiveSubmits, LiveReads};
     ghost use Rattle.intake.specs.LiveLaws.{submit_knows, read_knows};
 
@@ -113,10 +114,10 @@ impl<'a, N: StoreName, G: Gate, R: Wait + Eprint> Backend<R> for Gated<'a, N, G,
         if self.calls % GROWN_FOR == 0 {
             grow_heap(alloc);
         }
-        self.gate.before(self.rt, self.worker, self.calls);
+        self.observer.before(self.rt, self.worker, self.calls);
         let spans = batch.spans.len() as u64;
         let place = self.live.submit(rt, alloc, batch);
-        self.gate.after(self.rt, self.worker, self.calls);
+        self.observer.after(self.rt, self.worker, self.calls);
         self.notices
             .count_batch(self.rt, self.worker, spans, &place);
         place
@@ -124,9 +125,9 @@ impl<'a, N: StoreName, G: Gate, R: Wait + Eprint> Backend<R> for Gated<'a, N, G,
 
     fn read(&mut self, alloc: Global, query: &Query) -> Result<Answer, Refusal> {
         self.calls = self.calls.saturating_add(1);
-        self.gate.before(self.rt, self.worker, self.calls);
+        self.observer.before(self.rt, self.worker, self.calls);
         let answer = Backend::<R>::read(&mut self.live, alloc, query);
-        self.gate.after(self.rt, self.worker, self.calls);
+        self.observer.after(self.rt, self.worker, self.calls);
         self.notices.count_query(self.rt, self.worker, &answer);
         answer
     }

@@ -5,7 +5,7 @@ use Rattle.http_session.proofs.SessionPieces.{promises_of}
 use Rattle.open_connections.specs.OpenConnections.{AllOpen}
 use Rattle.open_connections.specs.declared.open.OpenConnection.{OpenConnection}
 use Rattle.open_connections.proofs.OpenConnections.{all_open_still, rest_of_removed, rest_is_open, all_with_one, open_if_it_stays}
-use Rattle.open_connections.proofs.set.ConnectionSet.answer_next.Goals as goal
+use Rattle.open_connections.proofs.set.ConnectionSet.take_turn.Goals as goal
 
 pub returns-then-not-is_open-clause-underway : goal.returns-then-not-is_open-clause-underway
 returns-then-not-is_open-clause-underway g c =
@@ -13,18 +13,18 @@ returns-then-not-is_open-clause-underway g c =
     let all = subst (AllOpen _ _ _) (sym c.self.view_is) c.requires.underway in
     let before = rest_is_open _ _ _ c.self.inside.connections c.try_remove.new.self all
     (rest_of_removed c.self.inside.connections c.try_remove.new.self _ c.try_remove.ensures.updates) in
-    all_open_still _ kept _ _ _ c.try_remove.new.self c.answer_next-progress.ensures.asks before
+    all_open_still _ kept _ _ _ c.try_remove.new.self c.take_turn-progress.ensures.asks before
 
 pub returns-then-not-is_open-clause-turn : goal.returns-then-not-is_open-clause-turn
 returns-then-not-is_open-clause-turn g c =
     let found : get c.args.self.now c.args.key ≡ Some c.in-Some.open =
     ap (λ set. get set c.args.key) (sym c.self.view_is) ∙ sym c.in-Some.ensures.value in
     record {
-      it = c.answer_next-progress.new.self;
+      it = c.take_turn-progress.new.self;
       box_is = refl;
-      began = ap (option_map (λ (o : OpenConnection _). o.began.value)) found ∙ ap Some (sym c.answer_next-progress.ensures.began);
+      began = ap (option_map (λ (o : OpenConnection _). o.began.value)) found ∙ ap Some (sym c.take_turn-progress.ensures.began);
       closed = sym c.is_open.ensures ∙ c.if-not-is_open.true;
-      comes = c.answer_next-progress.ensures.comes;
+      comes = c.take_turn-progress.ensures.comes;
     }
 
 pub returns-clause-underway : goal.returns-clause-underway
@@ -33,7 +33,7 @@ returns-clause-underway g c =
     let all = subst (AllOpen _ _ _) (sym c.self.view_is) c.requires.underway in
     let before = rest_is_open _ _ _ c.self.inside.connections c.try_remove.new.self all
     (rest_of_removed c.self.inside.connections c.try_remove.new.self _ c.try_remove.ensures.updates) in
-    let after = all_open_still _ kept _ _ _ c.try_remove.new.self c.answer_next-progress.ensures.asks before in
-    let is = open_if_it_stays _ _ _ _ _ (sym c.is_open.ensures ∙ c.if-not-is_open.false) c.answer_next-progress.ensures.comes in
+    let after = all_open_still _ kept _ _ _ c.try_remove.new.self c.take_turn-progress.ensures.asks before in
+    let is = open_if_it_stays _ _ _ _ _ (sym c.is_open.ensures ∙ c.if-not-is_open.false) c.take_turn-progress.ensures.comes in
     all_with_one _ _ _ c.try_remove.new.self c.insert_reserved-key.new.self _ _ after c.insert_reserved-key.ensures.updates
     (record { then = is.then; underway = is.underway; ready = is.ready; input_works = is.input_works; output_works = is.output_works })

@@ -8,13 +8,13 @@ use std::marker::Model;
 
 /// A response that may have been written in part. Contracts see what is still to be written.
 #[derive(Drop)]
-pub(crate) struct Waiting {
+pub(crate) struct PendingResponse {
     response: Response,
     /// The number of bytes of the current part that were written.
     sent: usize,
 }
 
-impl Model for Waiting {
+impl Model for PendingResponse {
     ghost use Rattle.std.specs.Prelude.{◌≡◌, ◌<◌, ◌⊎◌, length};
     ghost use Rattle.query_json.specs.Parts.{Parted};
     ghost use Rattle.open_connections.specs.UnsentResponses.{unsent};
@@ -26,12 +26,12 @@ impl Model for Waiting {
     ghost invariant = { λ w. (w.sent ≡ 0) ⊎ (w.sent < length w.response.part) };
 }
 
-impl Waiting {
+impl PendingResponse {
     /// Wraps a response before any of it is written.
-    pub(crate) fn new(response: Response) -> Waiting
+    pub(crate) fn new(response: Response) -> PendingResponse
         ensures { to_come result ≡ to_come response }
     {
-        Waiting { response, sent: 0 }
+        PendingResponse { response, sent: 0 }
     }
 
     /// Returns the number of bytes still to be written.
@@ -50,7 +50,7 @@ impl Waiting {
     }
 
     /// Returns the next bytes, none only if nothing is left.
-    pub(crate) fn next(&self) -> &[u8]
+    pub(crate) fn chunk(&self) -> &[u8]
         ensures first { result.now ≡ self.now.part }
         ensures some { self.now.part ≡ [] → self.now.rest ≡ [] }
     {
@@ -58,7 +58,7 @@ impl Waiting {
     }
 
     /// Moves past `count` of the next bytes.
-    pub(crate) fn pass(&mut self, count: usize)
+    pub(crate) fn consume(&mut self, count: usize)
         requires { count ≤ length self.old.part }
         ensures { to_come self.new ≡ drop count (to_come self.old) }
     {

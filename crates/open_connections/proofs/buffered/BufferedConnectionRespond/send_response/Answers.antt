@@ -2,9 +2,9 @@ use Rattle.std.proofs.Common.{sym, ◌∙◌, ◌≡◌, ◌≤◌, ◌-◌, [],
 use Rattle.std.specs.Io.KnownBytes.{Appends}
 use Rattle.std.proofs.KnownBytes.{Appends-nil}
 use Rattle.query_json.specs.Parts.{to_come}
-use Rattle.open_connections.specs.Outboxes.{handed_over}
+use Rattle.open_connections.specs.BufferedConnections.{handed_over}
 use Rattle.open_connections.proofs.Deliveries.{none_left, responded, responded_part}
-use Rattle.open_connections.proofs.outbox.OutboxRespond.send_response.Goals as goal
+use Rattle.open_connections.proofs.buffered.BufferedConnectionRespond.send_response.Goals as goal
 
 pub returns-in-Ok-clause-ok : goal.returns-in-Ok-clause-ok
 returns-in-Ok-clause-ok g c =

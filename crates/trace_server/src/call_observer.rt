@@ -5,7 +5,7 @@ use std::sync::Wait;
 /// Observes each call that a worker makes to the store, for tests that need two calls at the same time.
 ///
 /// Workers are numbered from 0, and each worker's calls from 1. The last number repeats.
-pub trait Gate {
+pub trait CallObserver {
     /// The worker is about to make the call.
     fn before<R: Wait>(&self, rt: &R, worker: u32, call: u64);
 
@@ -15,9 +15,9 @@ pub trait Gate {
 
 /// Does nothing.
 #[derive(Clone, Copy, Debug)]
-pub struct NoGate;
+pub struct NoObserver;
 
-impl Gate for NoGate {
+impl CallObserver for NoObserver {
     fn before<R: Wait>(&self, _rt: &R, _worker: u32, _call: u64) {}
 
     fn after<R: Wait>(&self, _rt: &R, _worker: u32, _call: u64) {}

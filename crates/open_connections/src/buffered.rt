@@ -3,11 +3,11 @@
 ghost use Rattle.std.specs.Prelude.{◌≡◌, ◌<◌, false, true, IfOk, OnOk, OnErr, is_some, length, None};
 ghost use Rattle.std.specs.Io.KnownBytes.{Keeps};
 ghost use Rattle.query_json.specs.Parts.{to_come};
-ghost use Rattle.open_connections.specs.Outboxes.{bytes_waiting, handed_over};
+ghost use Rattle.open_connections.specs.BufferedConnections.{bytes_waiting, handed_over};
 ghost use Rattle.open_connections.specs.UnsentResponses.{TakesFirst};
 
 use crate::nonblocking::TryConnection;
-use crate::waiting::Waiting;
+use crate::pending_response::PendingResponse;
 use http_session::{Respond, Response};
 use session_devices::{Connection, Failed, Input, Output};
 use std::alloc::Global;
@@ -15,9 +15,9 @@ use std::alloc::Global;
 /// A connection, and the part of a response that it could not take at once. Contracts count the waiting bytes as
 /// written.
 #[derive(Drop)]
-pub struct Outbox<C> {
+pub struct BufferedConnection<C> {
     connection: C,
-    waiting: Option<Waiting>,
+    waiting: Option<PendingResponse>,
     failed: bool,
     alloc: Global,
 }
@@ -27,7 +27,10 @@ pub struct Outbox<C> {
 /// # Errors
 ///
 /// The connection has failed.
-fn write_some<C: TryConnection>(connection: &mut C, waiting: &mut Waiting) -> Result<(), Failed>
+fn write_some<C: TryConnection>(
+    connection: &mut C,
+    waiting: &mut PendingResponse,
+) -> Result<(), Failed>
     ensures first { TakesFirst (C.contents connection.old) (C.contents connection.new)
         (to_come waiting.old) (to_come waiting.new) }
     ensures input { C.remaining connection.new ≡ C.remaining connection.old }
@@ -35,17 +38,17 @@ fn write_some<C: TryConnection>(connection: &mut C, waiting: &mut Waiting) -> Re
     ensures err { OnErr result (0 < length (to_come waiting.new)) }
 {
     while !waiting.is_empty() {
-        let count = connection.try_write(waiting.next())?;
+        let count = connection.try_write(waiting.chunk())?;
         if count == 0 {
             break;
         }
-        waiting.pass(count);
+        waiting.consume(count);
     }
     Ok(())
 }
 
 /// Returns the response, if some of its bytes are still to be written.
-fn unless_empty(waiting: Waiting) -> Option<Waiting>
+fn unless_empty(waiting: PendingResponse) -> Option<PendingResponse>
     ensures { bytes_waiting result ≡ to_come waiting }
 {
     if waiting.is_empty() {
@@ -55,14 +58,14 @@ fn unless_empty(waiting: Waiting) -> Option<Waiting>
     }
 }
 
-impl<C: TryConnection> Outbox<C> {
-    /// Creates an outbox in which nothing waits.
-    pub fn new(alloc: Global, connection: C) -> Outbox<C>
+impl<C: TryConnection> BufferedConnection<C> {
+    /// Wraps a connection; no response waits.
+    pub fn new(alloc: Global, connection: C) -> BufferedConnection<C>
         ensures connection { result.connection ≡ connection }
         ensures none { result.waiting ≡ None }
         ensures works { result.failed ≡ false }
     {
-        Outbox {
+        BufferedConnection {
             connection,
             waiting: None,
             failed: false,
@@ -71,7 +74,7 @@ impl<C: TryConnection> Outbox<C> {
     }
 
     /// Returns the connection.
-    pub fn connection(&self) -> &C
+    pub fn get_ref(&self) -> &C
         ensures { result.now ≡ self.now.connection }
     {
         &self.connection
@@ -125,17 +128,17 @@ impl<C: TryConnection> Outbox<C> {
             self.failed = true;
             return Err(Failed);
         };
-        self.waiting = Some(Waiting::new(Response::whole(copy)));
+        self.waiting = Some(PendingResponse::new(Response::whole(copy)));
         Ok(bytes.len())
     }
 }
 
-impl<C: TryConnection> Input for Outbox<C> {
-    ghost use Rattle.open_connections.specs.Outboxes.{box_gives};
+impl<C: TryConnection> Input for BufferedConnection<C> {
+    ghost use Rattle.open_connections.specs.BufferedConnections.{buffered_gives};
 
     ghost remaining = { λ s. C.remaining s.connection };
 
-    ghost gives = { box_gives C.gives };
+    ghost gives = { buffered_gives C.gives };
 
     ghost has_failed = { λ s. C.has_failed s.connection };
 
@@ -148,14 +151,14 @@ impl<C: TryConnection> Input for Outbox<C> {
     }
 }
 
-impl<C: TryConnection> Output for Outbox<C> {
+impl<C: TryConnection> Output for BufferedConnection<C> {
     ghost use Rattle.std.proofs.Common.{refl, ◌∙◌};
     ghost use Rattle.std.proofs.KnownBytes.{Appends-nil, Appends-trans};
-    ghost use Rattle.open_connections.specs.Outboxes.{box_takes, handed_over};
+    ghost use Rattle.open_connections.specs.BufferedConnections.{buffered_takes, handed_over};
 
     ghost contents = { handed_over C.contents };
 
-    ghost takes = { box_takes C.remaining C.has_failed C.contents };
+    ghost takes = { buffered_takes C.remaining C.has_failed C.contents };
 
     ghost has_failed = { λ s. s.failed };
 
@@ -168,7 +171,7 @@ impl<C: TryConnection> Output for Outbox<C> {
       two.2 ∙ one.2,
     ) };
 
-    /// Fails while a response waits: call [`Outbox::flush`] first.
+    /// Fails while a response waits: call [`BufferedConnection::flush`] first.
     fn write(&mut self, buf: &[u8]) -> Result<usize, Failed> {
         if self.waiting.is_some() {
             self.failed = true;
@@ -189,10 +192,10 @@ impl<C: TryConnection> Output for Outbox<C> {
     }
 }
 
-impl<C: TryConnection> Connection for Outbox<C> {
+impl<C: TryConnection> Connection for BufferedConnection<C> {
     ghost use Rattle.std.proofs.Common.{ap, ◌∙◌};
     ghost use Rattle.std.specs.Io.KnownBytes.{append_known};
-    ghost use Rattle.open_connections.specs.Outboxes.{bytes_waiting};
+    ghost use Rattle.open_connections.specs.BufferedConnections.{bytes_waiting};
 
     ghost reads_leave = { λ s t bytes given. (
       ap (λ x. append_known x (bytes_waiting t.waiting))
@@ -204,9 +207,9 @@ impl<C: TryConnection> Connection for Outbox<C> {
     ghost writes_leave = { λ s t bytes taken. (taken.1, taken.2) };
 }
 
-impl<C: TryConnection> Respond for Outbox<C> {
+impl<C: TryConnection> Respond for BufferedConnection<C> {
     fn send_response(&mut self, response: Response) -> Result<(), usize> {
-        let mut waiting = Waiting::new(response);
+        let mut waiting = PendingResponse::new(response);
         let all = waiting.len();
         if all == 0 {
             return Ok(());
