@@ -38,6 +38,7 @@ impl AcknowledgedCounts {
     pub(crate) fn add(&self, place: u64, spans: u64) -> bool {
         let bit = 1_u64 << (place % 64);
         let Some(word) = self.places.get((place / 64) as usize) else {
+            // Impossible: a place is at most the limit of batches, which has a bit here.
             return false;
         };
         if word.fetch_or(bit, Ordering::SeqCst) & bit != 0 {

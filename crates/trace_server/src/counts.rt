@@ -143,23 +143,29 @@ impl Counts {
         Ok(Counts { workers: counts })
     }
 
+    /// Returns the counts of a worker.
+    fn of(&self, worker: u32) -> Option<&WorkerCounts> {
+        // Impossible: `None`. There are counts for each worker.
+        self.workers.get(worker as usize)
+    }
+
     /// Counts a batch that was acknowledged.
     pub(crate) fn acknowledge(&self, worker: u32) {
-        if let Some(counts) = self.workers.get(worker as usize) {
+        if let Some(counts) = self.of(worker) {
             counts.acknowledged.fetch_add(1, Ordering::SeqCst);
         }
     }
 
     /// Counts a batch that was refused.
     pub(crate) fn refuse(&self, worker: u32, refusal: Refusal) {
-        if let Some(counts) = self.workers.get(worker as usize) {
+        if let Some(counts) = self.of(worker) {
             counts.refused.of(refusal).fetch_add(1, Ordering::SeqCst);
         }
     }
 
     /// Counts a query.
     pub(crate) fn query(&self, worker: u32) {
-        if let Some(counts) = self.workers.get(worker as usize) {
+        if let Some(counts) = self.of(worker) {
             counts.queries.fetch_add(1, Ordering::SeqCst);
         }
     }

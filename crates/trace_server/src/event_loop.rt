@@ -117,6 +117,7 @@ impl EventLoop {
             return self.holding.push_back((key, peer_closed)).is_ok();
         }
         let Some(connection) = self.connections.get(key) else {
+            // Impossible: the connection was served a moment ago, and is still open.
             return true;
         };
         let socket = connection.connection.get_ref();
@@ -207,7 +208,8 @@ impl EventLoop {
         }
     }
 
-    /// Continues a connection whose session has ended, and registers it again if there is more to do.
+    /// Continues a connection whose session has ended, and registers it again if there is more to do. A connection that
+    /// can't be registered is closed: no event would come for it.
     fn advance_lingering(&mut self, key: usize)
         ensures open { self.new.connections ≡ self.old.connections }
     {
@@ -216,11 +218,14 @@ impl EventLoop {
             return;
         };
         let token = Source::Lingering(key).token();
-        let _unregistered = match awaits {
+        let registered = match awaits {
             Awaits::Writable => self.readiness.reregister_for_writes(socket.raw_fd(), token),
             Awaits::Readable => self.readiness.reregister(socket.raw_fd(), token),
             Awaits::Nothing => Ok(()),
         };
+        if registered.is_err() {
+            self.lingering.remove(key);
+        }
     }
 
     /// Gives a connection a turn.

@@ -109,6 +109,7 @@ impl Lingering {
     /// Writes the waiting part of a connection's last response, as far as its client takes it.
     fn write(&mut self, key: usize, now: Duration, idle_limit: Option<Duration>) -> Awaits {
         let Some(lingering) = self.connections.get_mut(key) else {
+            // Impossible: `advance` has just found the key.
             return Awaits::Nothing;
         };
         let before = lingering.buffered.waiting_bytes();
@@ -129,6 +130,7 @@ impl Lingering {
     /// Discards the input of a connection whose response was written.
     fn discard_input(&mut self, key: usize) -> Awaits {
         let Some(socket) = self.get(key) else {
+            // Impossible: `advance` has just found the key.
             return Awaits::Nothing;
         };
         match discard_some(socket.stream()) {

@@ -61,6 +61,7 @@ impl Loads {
 
     /// Sets the number of connections of a worker; `None` if it can't accept more.
     pub(crate) fn set(&self, worker: u32, connections: Option<usize>) {
+        // Impossible: `None`. Each worker has a load.
         if let Some(load) = self.workers.get(worker as usize) {
             load.store(load_of(connections), Ordering::SeqCst);
         }

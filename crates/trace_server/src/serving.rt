@@ -189,6 +189,7 @@ fn serve_sessions<
         idle: setup.config.options.idle,
     };
     let mut slot = Some(keeper);
+    // For the prover: the promise that `beside` asks for.
     let seats = KeepSeats(Snapshot::of(&lives));
     let work = ClerkWork {
         desk: &desk,
