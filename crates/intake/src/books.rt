@@ -77,6 +77,7 @@ impl<N: StoreName> Books<N> {
         self.inbox.end(seat);
         let (number, last) = (seat.number(), seat.submitted());
         if self.inbox.has_taken(number, last) {
+            // For the prover: no job of an ended seat is lost.
             self.inbox.learn_queue();
             return Ok(());
         }
@@ -92,6 +93,7 @@ impl<N: StoreName> Books<N> {
             let is_last = is_job(&entry, number, last);
             self.left.push_reserved(entry);
             if is_last {
+                // For the prover: no job of an ended seat is lost.
                 self.inbox.learn_queue();
                 return Ok(());
             }

@@ -85,7 +85,7 @@ fn fill<N: StoreName, R: Wait>(
     ensures { arc_value result ≡ receipt }
 {
     let mut room = room;
-    // The first try succeeds: nobody else has the place yet.
+    // Impossible: a second try. Nobody else has the place yet.
     for _ in rt.forever() {
         if let Some(slot) = Arc::get_mut(&mut room) {
             *slot = receipt;

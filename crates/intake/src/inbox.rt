@@ -110,7 +110,8 @@ impl<N: StoreName> Inbox<N> {
         }
     }
 
-    /// Looks at the queue, which shows that the jobs taken and queued include all those of ended seats.
+    /// For the prover: looks at the queue, which shows that the jobs taken and queued include all those of ended
+    /// seats.
     pub(crate) fn learn_queue(&mut self)
         ensures same { self.new ≡ self.old }
         ensures waits { (items : List Entry) × AreWhole self.old.ended (self.old.taken ++ items) }

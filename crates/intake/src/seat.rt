@@ -52,7 +52,7 @@ fn unshared<R: Wait>(rt: &R, entry: Arc<Entry>) -> Entry
     ensures { result ≡ arc_value entry }
 {
     let mut shared = entry;
-    // The first try succeeds: a refused job comes back with the only owner of its entry.
+    // Impossible: a second try. A refused job comes back with the only owner of its entry.
     for _ in rt.forever() {
         match Arc::try_unwrap(shared) {
             Ok(entry) => return entry,
