@@ -108,7 +108,8 @@ pub(crate) fn closes_after(asks: bool, reply: &Reply) -> bool
     asks || reply.closes()
 }
 
-/// Writes the bytes of a response. Allocates nothing.
+/// Writes the bytes of a response. Allocates nothing itself. A connection that can't take all of them may keep a copy, and
+/// fails if there is no memory for it.
 fn write_fixed<W: Output>(output: &mut W, response: &[u8]) -> Result<(), PartialWrite>
     ensures wrote { WritesResponse (W.contents output.old) (W.contents output.new)
         (W.has_failed output.old) (W.has_failed output.new) response.now result }
@@ -141,7 +142,7 @@ fn write_response<C: Respond>(connection: &mut C, response: Response) -> Result<
     }
 }
 
-/// Writes the response of a reply. Allocates nothing if that is 202 or 500.
+/// Writes the response of a reply. Allocates nothing itself if that is 202 or 500, as [`write_fixed`].
 pub(crate) fn write_reply<C: Respond>(
     alloc: Global,
     connection: &mut C,

@@ -116,7 +116,7 @@ impl<C: TryConnection> BufferedConnection<C> {
         written
     }
 
-    /// Keeps a copy of bytes that the connection can't take now.
+    /// Keeps a copy of bytes that the connection can't take now. A lack of memory counts as a failed connection.
     fn keep(&mut self, bytes: &[u8]) -> Result<usize, Failed>
         requires { self.old.waiting ≡ None }
         ensures connection { self.new.connection ≡ self.old.connection }

@@ -22,7 +22,7 @@ use trace_model::Backend;
 pub struct OpenConnection<C> {
     pub connection: BufferedConnection<C>,
     pub session: Session,
-    /// The connection before anything was read from it.
+    /// For the prover: the connection before anything was read from it. Only contracts read it.
     pub began: Snapshot<BufferedConnection<C>>,
     /// When it last made progress, or was opened.
     pub active: Duration,

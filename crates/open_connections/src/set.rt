@@ -95,7 +95,8 @@ impl<C: TryConnection + Drop> ConnectionSet<C> {
         self.connections.get(key)
     }
 
-    /// Adds a connection from which nothing was read, and returns its key.
+    /// Adds a connection from which nothing was read, and returns its key. For the prover: only the clause `underway` needs
+    /// `backend`, the store over which the new session begins.
     ///
     /// # Errors
     ///
