@@ -6,8 +6,8 @@ ghost use Rattle.intake.specs.Books.{Balances};
 ghost use Rattle.trace_server.specs.ServerRuns.{ClosesBooks};
 ghost use Rattle.trace_server.specs.WorkerSeats.{AreOpen, AreSeatsTaken, HasJudged, MovesJobs};
 
-use crate::worker::WorkerOutcome;
-use intake::{Books, Live};
+use crate::worker::EndedWorker;
+use intake::Books;
 use read_side::StoreName;
 use std::sync::Wait;
 use trace_model::Refusal;
@@ -25,9 +25,9 @@ pub(crate) struct Totals {
 fn take_all_in<N: StoreName, R: Wait>(
     rt: &R,
     books: &mut Books<N>,
-    workers: Vec<(WorkerOutcome, Live<N>)>,
+    workers: Vec<EndedWorker<N>>,
 ) -> Result<(), Refusal>
-    requires open { AreOpen books.old.inbox.desk (map (λ w. w.1.seat) workers.items) }
+    requires open { AreOpen books.old.inbox.desk (map (λ w. w.live.seat) workers.items) }
     requires books { Balances books.old.inbox.taken books.old.accounts
         (map arc_value books.old.left.items) }
     ensures accounts { books.new.accounts ≡ books.old.accounts }
@@ -36,10 +36,10 @@ fn take_all_in<N: StoreName, R: Wait>(
     ensures moved { MovesJobs books.old.inbox.taken (map arc_value books.old.left.items)
         books.new.inbox.taken (map arc_value books.new.left.items) }
     ensures whole { OnOk result (AreSeatsTaken books.new.inbox.taken
-        (map (λ w. w.1.seat) workers.items)) }
+        (map (λ w. w.live.seat) workers.items)) }
 {
     let mut workers = workers;
-    while let Some((_, live)) = workers.pop() {
+    while let Some(EndedWorker { outcome: _, live }) = workers.pop() {
         let (mut seat, _pass) = live.into_parts();
         books.take_in(rt, &mut seat)?;
     }
@@ -54,14 +54,14 @@ fn take_all_in<N: StoreName, R: Wait>(
 pub(crate) fn close_books<N: StoreName, R: Wait>(
     rt: &R,
     books: Books<N>,
-    workers: Vec<(WorkerOutcome, Live<N>)>,
+    workers: Vec<EndedWorker<N>>,
 ) -> Result<Totals, Refusal>
-    requires open { AreOpen books.inbox.desk (map (λ w. w.1.seat) workers.items) }
+    requires open { AreOpen books.inbox.desk (map (λ w. w.live.seat) workers.items) }
     requires judged { HasJudged N.limits books.inbox.taken books.accounts books.keeper
         books.acknowledged books.refused }
     requires left { books.left.items ≡ [] }
     ensures { IfOk result (λ t. ClosesBooks N.limits books.keeper
-        (map (λ w. w.1.seat) workers.items) t.acknowledged t.refused t.left) }
+        (map (λ w. w.live.seat) workers.items) t.acknowledged t.refused t.left) }
 {
     let mut books = books;
     let taken_in = take_all_in(rt, &mut books, workers);

@@ -8,8 +8,7 @@ ghost use Rattle.trace_server.specs.ServerRuns.{listening_line, served_line, boo
 
 use crate::ending::Totals;
 use crate::notices::{end_unwritten, end_with};
-use crate::worker::WorkerOutcome;
-use intake::Live;
+use crate::worker::{EndedWorker, WorkerOutcome};
 use read_side::StoreName;
 use serve_options::Host;
 use session_devices::Output;
@@ -80,18 +79,18 @@ fn write_books<W: Output>(alloc: Global, output: &mut W, totals: Totals) -> Resu
 }
 
 /// Returns the sum of the workers' outcomes. A count that overflows stays at its maximum.
-pub(crate) fn total_outcome<N: StoreName>(workers: &[(WorkerOutcome, Live<N>)]) -> WorkerOutcome
-    ensures served { result.served ≡ min (sum_by (λ w. w.0.served) workers.now)
+pub(crate) fn total_outcome<N: StoreName>(workers: &[EndedWorker<N>]) -> WorkerOutcome
+    ensures served { result.served ≡ min (sum_by (λ w. w.outcome.served) workers.now)
         18446744073709551615 }
-    ensures failed { result.failed ≡ list_any (λ w. w.0.failed) workers.now }
+    ensures failed { result.failed ≡ list_any (λ w. w.outcome.failed) workers.now }
 {
     let mut all = WorkerOutcome {
         served: 0,
         failed: false,
     };
-    for (outcome, _) in workers {
-        all.served = all.served.saturating_add(outcome.served);
-        all.failed = all.failed || outcome.failed;
+    for worker in workers {
+        all.served = all.served.saturating_add(worker.outcome.served);
+        all.failed = all.failed || worker.outcome.failed;
     }
     all
 }

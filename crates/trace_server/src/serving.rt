@@ -22,8 +22,8 @@ use crate::periodic::PeriodicCounts;
 use crate::reporting::{report, report_unclosed, total_outcome, write_listening};
 use crate::shared::SharedStore;
 use crate::threads::{OwnWork, beside, run_each};
-use crate::worker::{WorkerContext, WorkerOutcome};
-use intake::{Books, Clerk, Desk, Live};
+use crate::worker::{EndedWorker, WorkerContext, WorkerSeat};
+use intake::{Books, Clerk, Desk};
 use read_side::{EmptyHistory, Keeper, StoreName};
 use session_devices::Output;
 use std::alloc::{AllocError, Global};
@@ -47,19 +47,22 @@ struct ServerSetup<'a, G> {
 }
 
 /// The workers' outcomes, each with its seat and pass.
-type Outcomes<N> = Result<Vec<(WorkerOutcome, Live<N>)>, AllocError>;
+type Outcomes<N> = Result<Vec<EndedWorker<N>>, AllocError>;
 
-/// What the clerk leaves, and the workers' outcomes.
-type Left<N> = (Books<N>, Outcomes<N>);
+/// What the sessions left: the clerk's books, and the workers' outcomes. It isn't `Drop`, because the books aren't.
+struct ServedSessions<N: StoreName> {
+    books: Books<N>,
+    workers: Outcomes<N>,
+}
 
 /// Runs the workers until all sessions have ended, then ends the periodic lines.
-fn work_each<
+fn run_workers<
     N: StoreName + Send + Sync,
     G: CallObserver + Sync,
     R: Threads + Wait + Clock + Eprint + Net<Stream = TcpStream, Listener = TcpListener> + Sync,
->(rt: &R, server: &WorkerContext<'_, N, G>, lives: Vec<(u32, Live<N>)>) -> Outcomes<N>
-    ensures { IfOk result (λ v. AllZip SeatGoesOn (map (λ p. p.1.seat) lives.items)
-        (map (λ w. w.1.seat) v.items)) }
+>(rt: &R, server: &WorkerContext<'_, N, G>, lives: Vec<WorkerSeat<N>>) -> Outcomes<N>
+    ensures { IfOk result (λ v. AllZip SeatGoesOn (map (λ p. p.live.seat) lives.items)
+        (map (λ w. w.live.seat) v.items)) }
 {
     let outcomes = run_each(rt, server, lives);
     server.periodic.end();
@@ -68,46 +71,46 @@ fn work_each<
 
 /// Runs the workers until all sessions have ended, with the periodic lines in a thread of their own. If that thread can't be
 /// created, there are none.
-fn work_counted<
+fn run_workers_and_reports<
     N: StoreName + Send + Sync,
     G: CallObserver + Sync,
     R: Threads + Wait + Clock + Eprint + Net<Stream = TcpStream, Listener = TcpListener> + Sync,
->(rt: &R, server: &WorkerContext<'_, N, G>, lives: Vec<(u32, Live<N>)>) -> Outcomes<N>
-    ensures { IfOk result (λ v. AllZip SeatGoesOn (map (λ p. p.1.seat) lives.items)
-        (map (λ w. w.1.seat) v.items)) }
+>(rt: &R, server: &WorkerContext<'_, N, G>, lives: Vec<WorkerSeat<N>>) -> Outcomes<N>
+    ensures { IfOk result (λ v. AllZip SeatGoesOn (map (λ p. p.live.seat) lives.items)
+        (map (λ w. w.live.seat) v.items)) }
 {
     if server.periodic.is_off() {
-        return work_each(rt, server, lives);
+        return run_workers(rt, server, lives);
     }
     let (periodic, notices) = (server.periodic, server.notices);
     let (_, outcomes) = join(
         rt,
         || -> () { periodic.run(rt, notices) },
         || -> Outcomes<N>
-            ensures { IfOk result (λ v. AllZip SeatGoesOn (map (λ p. p.1.seat) lives.items)
-                (map (λ w. w.1.seat) v.items)) }
-        { work_each(rt, server, lives) },
+            ensures { IfOk result (λ v. AllZip SeatGoesOn (map (λ p. p.live.seat) lives.items)
+                (map (λ w. w.live.seat) v.items)) }
+        { run_workers(rt, server, lives) },
     );
     outcomes
 }
 
 /// Runs the workers until all sessions have ended, then closes the desk.
-fn work_all<
+fn run_workers_then_close_desk<
     N: StoreName + Send + Sync,
     G: CallObserver + Sync,
     R: Threads + Wait + Clock + Eprint + Net<Stream = TcpStream, Listener = TcpListener> + Sync,
->(rt: &R, server: &WorkerContext<'_, N, G>, lives: Vec<(u32, Live<N>)>) -> Outcomes<N>
-    ensures { IfOk result (λ v. AllZip SeatGoesOn (map (λ p. p.1.seat) lives.items)
-        (map (λ w. w.1.seat) v.items)) }
+>(rt: &R, server: &WorkerContext<'_, N, G>, lives: Vec<WorkerSeat<N>>) -> Outcomes<N>
+    ensures { IfOk result (λ v. AllZip SeatGoesOn (map (λ p. p.live.seat) lives.items)
+        (map (λ w. w.live.seat) v.items)) }
 {
-    let outcomes = work_counted(rt, server, lives);
+    let outcomes = run_workers_and_reports(rt, server, lives);
     server.desk.close();
     outcomes
 }
 
 /// The promise that workers that began with these seats and passes return with these seats.
 #[derive(Drop)]
-struct KeepSeats<N: StoreName>(Snapshot<Vec<(u32, Live<N>)>>);
+struct KeepSeats<N: StoreName>(Snapshot<Vec<WorkerSeat<N>>>);
 
 impl<N: StoreName> Promise<Outcomes<N>> for KeepSeats<N> {
     ghost use Rattle.intake.specs.LiveStores.{SeatGoesOn};
@@ -115,8 +118,8 @@ impl<N: StoreName> Promise<Outcomes<N>> for KeepSeats<N> {
     ghost use Rattle.std.specs.Prelude.{map, IfOk};
 
     ghost kept_by = { λ began ended. IfOk ended (λ v.
-        AllZip SeatGoesOn (map (λ p. p.1.seat) began.0.value.items)
-        (map (λ w. w.1.seat) v.items)) };
+        AllZip SeatGoesOn (map (λ p. p.live.seat) began.0.value.items)
+        (map (λ w. w.live.seat) v.items)) };
 }
 
 /// The clerk of an empty store, and the slot that holds its keeper. [`beside`] takes only work that is `Drop`, which a keeper
@@ -159,15 +162,15 @@ fn serve_sessions<
     N: StoreName + Send + Sync,
     G: CallObserver + Sync,
     R: Threads + Wait + Clock + Eprint + Net<Stream = TcpStream, Listener = TcpListener> + Sync,
->(rt: &R, alloc: Global, shared: SharedStore<N>, setup: &ServerSetup<'_, G>) -> Left<N>
+>(rt: &R, alloc: Global, shared: SharedStore<N>, setup: &ServerSetup<'_, G>) -> ServedSessions<N>
     requires keeper { shared.keeper ≡ no_entries }
     requires clerk { IsNewClerk shared.clerk }
-    ensures judged { HasJudged N.limits result.0.inbox.taken result.0.accounts result.0.keeper
-        result.0.acknowledged result.0.refused }
-    ensures left { result.0.left.items ≡ [] }
-    ensures desk { result.0.inbox.desk ≡ shared.clerk.desk }
-    ensures seats { IfOk result.1 (λ v. AllZip SeatGoesOn (map (λ p. p.1.seat) shared.lives.items)
-        (map (λ w. w.1.seat) v.items)) }
+    ensures judged { HasJudged N.limits result.books.inbox.taken result.books.accounts
+        result.books.keeper result.books.acknowledged result.books.refused }
+    ensures left { result.books.left.items ≡ [] }
+    ensures desk { result.books.inbox.desk ≡ shared.clerk.desk }
+    ensures seats { IfOk result.workers (λ v. AllZip SeatGoesOn
+        (map (λ p. p.live.seat) shared.lives.items) (map (λ w. w.live.seat) v.items)) }
 {
     let SharedStore {
         keeper,
@@ -200,9 +203,9 @@ fn serve_sessions<
         rt,
         seats,
         || -> Outcomes<N>
-            ensures { IfOk result (λ v. AllZip SeatGoesOn (map (λ p. p.1.seat) lives.items)
-                (map (λ w. w.1.seat) v.items)) }
-        { work_all(rt, &server, lives) },
+            ensures { IfOk result (λ v. AllZip SeatGoesOn (map (λ p. p.live.seat) lives.items)
+                (map (λ w. w.live.seat) v.items)) }
+        { run_workers_then_close_desk(rt, &server, lives) },
         work,
     );
     // Impossible: the clerk has taken the keeper. But no clause of `beside` says so, and a keeper can't be dropped.
@@ -210,8 +213,14 @@ fn serve_sessions<
         untaken.close(rt);
     }
     match outcomes {
-        Some(outcomes) => (books, outcomes),
-        None => (books, Err(AllocError)),
+        Some(outcomes) => ServedSessions {
+            books,
+            workers: outcomes,
+        },
+        None => ServedSessions {
+            books,
+            workers: Err(AllocError),
+        },
     }
 }
 
@@ -230,15 +239,15 @@ fn serve_store<
 ) -> ExitStatus
     requires keeper { shared.keeper ≡ no_entries }
     requires clerk { IsNewClerk shared.clerk }
-    requires new { AreNew shared.clerk.desk (map (λ p. p.1.seat) shared.lives.items) }
+    requires new { AreNew shared.clerk.desk (map (λ p. p.live.seat) shared.lives.items) }
     requires numbers { OneForEach setup.now.config.now.options.workers
-        (map (λ p. p.1.seat) shared.lives.items) }
+        (map (λ p. p.live.seat) shared.lives.items) }
     requires output_works { W.has_failed output.old ≡ false }
     ensures { Reports N.limits setup.now.config.now.options.workers
-        (map (λ p. p.1.seat) shared.lives.items)
+        (map (λ p. p.live.seat) shared.lives.items)
         (traffic_of W.contents W.has_failed output.old output.new) result }
 {
-    let (books, workers) = serve_sessions(rt, alloc, shared, setup);
+    let ServedSessions { books, workers } = serve_sessions(rt, alloc, shared, setup);
     let Ok(workers) = workers else {
         books.close(rt);
         return end_with(

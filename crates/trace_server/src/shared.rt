@@ -7,6 +7,7 @@ ghost use Rattle.trace_server.specs.ServerRuns.{OneForEach};
 ghost use Rattle.trace_server.specs.WorkerSeats.{AreNew};
 
 use crate::config::ServerConfig;
+use crate::worker::WorkerSeat;
 use intake::{Clerk, Desk, Live, desk};
 use read_side::{EmptyHistory, Keeper, StoreName, open};
 use std::alloc::{AllocError, Global};
@@ -18,8 +19,8 @@ pub(crate) struct SharedStore<N: StoreName> {
     pub(crate) keeper: Keeper<N>,
     pub(crate) desk: Desk<N>,
     pub(crate) clerk: Clerk<N>,
-    /// One for each worker, with the worker's number.
-    pub(crate) lives: Vec<(u32, Live<N>)>,
+    /// One for each worker.
+    pub(crate) lives: Vec<WorkerSeat<N>>,
 }
 
 /// Returns a seat and a pass for each worker.
@@ -27,9 +28,9 @@ fn pairs<N: StoreName>(
     alloc: Global,
     seats: Vec<intake::Seat<N>>,
     passes: Vec<read_side::Pass<N>>,
-) -> Result<Vec<(u32, Live<N>)>, AllocError>
+) -> Result<Vec<WorkerSeat<N>>, AllocError>
     requires { length passes.items ≡ length seats.items }
-    ensures { IfOk result (λ v. map (λ p. p.1.seat) v.items ≡ seats.items) }
+    ensures { IfOk result (λ v. map (λ p. p.live.seat) v.items ≡ seats.items) }
 {
     let mut passes = passes;
     let mut lives = Vec::with_capacity(alloc, seats.len())?;
@@ -37,13 +38,16 @@ fn pairs<N: StoreName>(
         let Some(pass) = passes.pop() else {
             unreachable!()
         };
-        lives.push((seat.number() as u32, Live::new(seat, pass)))?;
+        lives.push(WorkerSeat {
+            number: seat.number() as u32,
+            live: Live::new(seat, pass),
+        })?;
     }
     Ok(lives)
 }
 
-/// A desk, its clerk, and the workers' seats and passes, each pair with its worker's number.
-type DeskEnds<N> = (Desk<N>, Clerk<N>, Vec<(u32, Live<N>)>);
+/// A desk, its clerk, and the workers' seats and passes.
+type DeskEnds<N> = (Desk<N>, Clerk<N>, Vec<WorkerSeat<N>>);
 
 /// Opens a desk of the store, and returns it with its clerk and the workers' seats and passes.
 fn open_desk<N: StoreName>(
@@ -55,9 +59,9 @@ fn open_desk<N: StoreName>(
     requires passes { length passes.items ≡ config.now.options.workers }
     ensures keeper { keeper.new ≡ keeper.old }
     ensures clerk { IfOk result (λ f. IsNewClerk f.1) }
-    ensures new { IfOk result (λ f. AreNew f.1.desk (map (λ p. p.1.seat) f.2.items)) }
+    ensures new { IfOk result (λ f. AreNew f.1.desk (map (λ p. p.live.seat) f.2.items)) }
     ensures numbers { IfOk result (λ f. OneForEach config.now.options.workers
-        (map (λ p. p.1.seat) f.2.items)) }
+        (map (λ p. p.live.seat) f.2.items)) }
 {
     let first = keeper.receipt();
     let (desk, seats, clerk) = desk(
@@ -88,9 +92,10 @@ impl<N: StoreName> SharedStore<N> {
         requires limits { limits ≡ N.limits }
         ensures keeper { IfOk result (λ h. h.keeper ≡ no_entries) }
         ensures clerk { IfOk result (λ h. IsNewClerk h.clerk) }
-        ensures new { IfOk result (λ h. AreNew h.clerk.desk (map (λ p. p.1.seat) h.lives.items)) }
+        ensures new { IfOk result (λ h.
+            AreNew h.clerk.desk (map (λ p. p.live.seat) h.lives.items)) }
         ensures numbers { IfOk result (λ h.
-            OneForEach config.now.options.workers (map (λ p. p.1.seat) h.lives.items)) }
+            OneForEach config.now.options.workers (map (λ p. p.live.seat) h.lives.items)) }
     {
         let workers = config.options.workers as usize;
         let (mut keeper, passes) = open::<N, _>(rt, alloc, config.keys, history, limits, workers)?;

@@ -32,6 +32,13 @@ pub(crate) struct WorkerContext<'a, N: StoreName, G> {
     pub(crate) idle: u32,
 }
 
+/// A worker's number, and its seat and pass.
+#[derive(Drop)]
+pub(crate) struct WorkerSeat<N: StoreName> {
+    pub(crate) number: u32,
+    pub(crate) live: Live<N>,
+}
+
 /// The outcome of a worker.
 #[derive(Clone, Copy, Debug)]
 pub(crate) struct WorkerOutcome {
@@ -41,17 +48,27 @@ pub(crate) struct WorkerOutcome {
     pub(crate) failed: bool,
 }
 
+/// The outcome of a worker, and its seat and pass.
+#[derive(Drop)]
+pub(crate) struct EndedWorker<N: StoreName> {
+    pub(crate) outcome: WorkerOutcome,
+    pub(crate) live: Live<N>,
+}
+
 impl<'a, N: StoreName, G: CallObserver> WorkerContext<'a, N, G> {
     /// Runs a worker: serves connections until all were accepted or no more can be, and the open ones have
     /// ended. Returns its seat and pass.
     fn work<R: Wait + Clock + Eprint + Net<Stream = TcpStream, Listener = TcpListener>>(
         &self,
         rt: &R,
-        post: (u32, Live<N>),
-    ) -> (WorkerOutcome, Live<N>)
-        ensures { SeatGoesOn post.1.seat result.1.seat }
+        seat: WorkerSeat<N>,
+    ) -> EndedWorker<N>
+        ensures { SeatGoesOn seat.live.seat result.live.seat }
     {
-        let (worker, live) = post;
+        let WorkerSeat {
+            number: worker,
+            live,
+        } = seat;
         let mut event_loop = match EventLoop::new(rt, self.alloc, self.listener, self.idle) {
             Ok(event_loop) => event_loop,
             Err(error) => {
@@ -60,14 +77,17 @@ impl<'a, N: StoreName, G: CallObserver> WorkerContext<'a, N, G> {
                     served: 0,
                     failed: true,
                 };
-                return (outcome, live);
+                return EndedWorker { outcome, live };
             }
         };
         self.loads.set(worker, Some(0));
         let mut store = WorkerStore::new(rt, self.observer, self.notices, worker, live);
         let mut acceptor = Acceptor::new();
         event_loop.run(rt, self, worker, &mut acceptor, &mut store);
-        (acceptor.outcome(), store.into_live())
+        EndedWorker {
+            outcome: acceptor.outcome(),
+            live: store.into_live(),
+        }
     }
 }
 
@@ -76,12 +96,12 @@ impl<
     N: StoreName,
     G: CallObserver,
     R: Wait + Clock + Eprint + Net<Stream = TcpStream, Listener = TcpListener>,
-> Task<R, (u32, Live<N>), (WorkerOutcome, Live<N>)> for WorkerContext<'a, N, G> {
+> Task<R, WorkerSeat<N>, EndedWorker<N>> for WorkerContext<'a, N, G> {
     ghost use Rattle.intake.specs.LiveStores.{SeatGoesOn};
 
-    ghost gives = { λ argument end. SeatGoesOn argument.1.seat end.1.seat };
+    ghost gives = { λ argument end. SeatGoesOn argument.live.seat end.live.seat };
 
-    fn run(&self, rt: &R, argument: (u32, Live<N>)) -> (WorkerOutcome, Live<N>) {
+    fn run(&self, rt: &R, argument: WorkerSeat<N>) -> EndedWorker<N> {
         self.work(rt, argument)
     }
 }

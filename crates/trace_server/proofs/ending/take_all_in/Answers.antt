@@ -5,13 +5,13 @@ use Rattle.trace_server.proofs.ending.take_all_in.Goals as goal
 
 pub take_in-requires-clause-desk : goal.take_in-requires-clause-desk
 take_in-requires-clause-desk g c =
-    let last = last_popped (λ w. w.1.seat)
+    let last = last_popped (λ w. w.live.seat)
     c.loop-live.workers.items c.pop.new.self.items _ c.into_parts-seat.result.0 c.in-Some.ensures.items c.into_parts-seat.ensures.seat in
     sym (last_open c.loop-live.books.inbox.desk _ _ _ last c.loop-live.invariant.0).1
 
 pub take_in-requires-clause-seat : goal.take_in-requires-clause-seat
 take_in-requires-clause-seat g c =
-    let last = last_popped (λ w. w.1.seat)
+    let last = last_popped (λ w. w.live.seat)
     c.loop-live.workers.items c.pop.new.self.items _ c.into_parts-seat.result.0 c.in-Some.ensures.items c.into_parts-seat.ensures.seat in
     inl (last_open c.loop-live.books.inbox.desk _ _ _ last c.loop-live.invariant.0).2
 
@@ -23,7 +23,7 @@ loop-live-preserved g c =
     let after = c.take_in.new.self in
     let seat = c.into_parts-seat.result.0 in
     let old = c.args.books.now in
-    let last = last_popped (λ w. w.1.seat) c.loop-live.workers.items c.pop.new.self.items _ seat c.in-Some.ensures.items c.into_parts-seat.ensures.seat in
+    let last = last_popped (λ w. w.live.seat) c.loop-live.workers.items c.pop.new.self.items _ seat c.in-Some.ensures.items c.into_parts-seat.ensures.seat in
     let rest = last_open before.inbox.desk _ _ _ last i.0 in (
       open_at after.inbox.desk before.inbox.desk _ e.desk rest.0,
       e.books,

@@ -15,6 +15,6 @@ returns g c =
     let old = g.W.Output.contents c.args.output.now in
     let new = g.W.Output.contents c.serve_store.new.output in
     subst (λ (l : Limits). RunsServer host l workers (record { before = old; after = new; failed = failed }) c.serve_store.result) (sym c.requires.limits)
-    (reported host g.N.StoreName.limits workers c.in-Ok-open.shared.clerk.desk (map (λ p. p.1.seat) c.in-Ok-open.shared.lives.items)
+    (reported host g.N.StoreName.limits workers c.in-Ok-open.shared.clerk.desk (map (λ p. p.live.seat) c.in-Ok-open.shared.lives.items)
     old _ new failed _ c.serve_store.result
     c.in-Ok-open.ensures.new c.in_default-write_listening.ensures.0 c.serve_store.ensures)

@@ -8,12 +8,12 @@ use Rattle.trace_server.proofs.serving.serve_sessions.Goals as goal
 
 pub beside-books-requires-clause-keeps : goal.beside-books-requires-clause-keeps
 beside-books-requires-clause-keeps g c κs within = λ given post.
-    let same = ap (λ l. map (λ p. p.1.seat) l.items) c.of.ensures in
-    IfOk-weaker given _ _ (λ v each. subst (λ (ss : List SeatValue). AllZip SeatGoesOn ss (map (λ w. w.1.seat) v.items)) (sym same) each) post
+    let same = ap (λ l. map (λ p. p.live.seat) l.items) c.of.ensures in
+    IfOk-weaker given _ _ (λ v each. subst (λ (ss : List SeatValue). AllZip SeatGoesOn ss (map (λ w. w.live.seat) v.items)) (sym same) each) post
 
 pub returns-in-Some-outcomes-clause-seats : goal.returns-in-Some-outcomes-clause-seats
 returns-in-Some-outcomes-clause-seats g c =
-    let same = ap (λ l. map (λ p. p.1.seat) l.items) c.of.ensures in
-    let kept : IfOk c.in-Some-outcomes.outcomes (λ v. AllZip SeatGoesOn (map (λ p. p.1.seat) c.of.result.value.items) (map (λ w. w.1.seat) v.items)) =
+    let same = ap (λ l. map (λ p. p.live.seat) l.items) c.of.ensures in
+    let kept : IfOk c.in-Some-outcomes.outcomes (λ v. AllZip SeatGoesOn (map (λ p. p.live.seat) c.of.result.value.items) (map (λ w. w.live.seat) v.items)) =
     search rules in
-    IfOk-weaker c.in-Some-outcomes.outcomes _ _ (λ v each. subst (λ (ss : List SeatValue). AllZip SeatGoesOn ss (map (λ w. w.1.seat) v.items)) same each) kept
+    IfOk-weaker c.in-Some-outcomes.outcomes _ _ (λ v each. subst (λ (ss : List SeatValue). AllZip SeatGoesOn ss (map (λ w. w.live.seat) v.items)) same each) kept

@@ -12,7 +12,7 @@ pub close_books-requires-clause-open : goal.close_books-requires-clause-open
 close_books-requires-clause-open g c =
     let on = IfOk-at_ok _ c.in-Ok.is c.serve_sessions-books.ensures.seats in
     let desk = c.serve_sessions-books.ensures.desk in
-    open_at c.serve_sessions-books.result.0.inbox.desk c.args.shared.clerk.desk _ desk
+    open_at c.serve_sessions-books.result.books.inbox.desk c.args.shared.clerk.desk _ desk
     (open_still c.args.shared.clerk.desk _ _ on (new_open c.args.shared.clerk.desk _ c.requires.new))
 
 pub returns-in-Ok-close_books : goal.returns-in-Ok-close_books
@@ -25,8 +25,8 @@ returns-in-Ok-close_books g c =
       acknowledged = totals.acknowledged;
       refused = totals.refused;
       left = totals.left;
-      lists = c.serve_sessions-books.result.0.keeper;
-      seats = map (λ w. w.1.seat) c.in-Ok.workers.items;
+      lists = c.serve_sessions-books.result.books.keeper;
+      seats = map (λ w. w.live.seat) c.in-Ok.workers.items;
       gone_on = on;
       one_for_each = numbers_stay _ _ on ∙ c.requires.numbers;
       books = c.in-Ok-close_books.ensures;

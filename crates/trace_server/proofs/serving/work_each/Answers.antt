@@ -1,7 +1,0 @@
-use Rattle.trace_server.proofs.Workers.{go_on}
-use Rattle.trace_server.proofs.serving.work_each.Goals as goal
-use Rattle.std.proofs.lemmas.Result.{IfOk-weaker}
-
-pub returns : goal.returns
-returns g c =
-    IfOk-weaker c.run_each-outcomes.result _ _ (λ v each. go_on (λ p. p.1.seat) (λ w. w.1.seat) c.args.lives.items v.items each) c.run_each-outcomes.ensures
