@@ -3,12 +3,11 @@
 ghost use Rattle.std.specs.Prelude.{◌≡◌, ◌&&◌, ◌||◌, ℕ, List, IfOk, OnOk, flat_map, ◌++◌};
 ghost use Rattle.std.specs.List.{list_all};
 ghost use Rattle.jaeger_model.specs.declared.span.Log.{Log as LogValue};
-ghost use Rattle.trace_model.specs.Searching.{matches, has_tag};
+ghost use Rattle.trace_model.specs.Searching.{has_tag};
 ghost use Rattle.find_traces.specs.RequestedPairs.{pair_of, same_pair, is_in, asks, wants, has_pair};
 
 use crate::prepared::PreparedSearch;
-use jaeger_model::{Log, Process, Seen, Span, Tag, Text};
-use span_steps::{is_named, is_timed};
+use jaeger_model::{Log, Process, Span, Tag, Text};
 use std::alloc::{AllocError, Global};
 use std::collections::BTreeSet;
 use std::marker::Model;
@@ -168,26 +167,5 @@ impl<'a> JudgedProcess<'a> {
         }
         let own = own_pairs(alloc, self.prepared, span, &self.met)?;
         Ok(own.len() == self.left)
-    }
-
-    /// Whether a span of the process meets every condition of the search. Of tags, only its own and its log fields
-    /// are read. Only tests call it: a store asks [`has_all_tags`](Self::has_all_tags) of the spans that meet the rest.
-    ///
-    /// # Errors
-    ///
-    /// Out of memory, and nothing else.
-    pub fn is_match(&self, alloc: Global, span: &Span) -> Result<bool, AllocError>
-        ensures { IfOk result (λ b. b ≡ matches self.now.query
-            (record { process = self.now.process; span = span.now })) }
-    {
-        let query = self.prepared.query();
-        let at = Seen {
-            process: self.process,
-            span,
-        };
-        if !is_named(at, query) || !is_timed(at, query) {
-            return Ok(false);
-        }
-        self.has_all_tags(alloc, span)
     }
 }

@@ -1,6 +1,9 @@
 use crate::tests::histories::{Row, answer_of, span_of, store_answer_of, store_answer_to};
 use find_traces::{JudgedProcess, PreparedSearch};
-use jaeger_model::{Log, Placed, Process, Seq, SharedProcess, Tag, TagValue, Text, TraceId, Value};
+use jaeger_model::{
+    Log, Placed, Process, Seen, Seq, SharedProcess, Tag, TagValue, Text, TraceId, Value,
+};
+use span_steps::meets_span_conditions;
 use std::alloc::{AllocError, Global};
 use std::hash::RandomState;
 use std::mem::drop;
@@ -39,14 +42,20 @@ fn limited(alloc: Global, limit: u64) -> Result<Find, AllocError> {
     Ok(find)
 }
 
-/// Whether the span meets every condition of the prepared search.
+/// Whether the span meets every condition of the prepared search, judged as a store judges it.
 fn is_match(
     alloc: Global,
     placed: &Placed,
     wanted: &PreparedSearch<'_>,
 ) -> Result<bool, AllocError> {
-    let judged = JudgedProcess::new(alloc, wanted, placed.process.get())?;
-    let met = judged.is_match(alloc, &placed.span);
+    let process = placed.process.get();
+    let span = &placed.span;
+    let query = wanted.query();
+    if process.service != query.service || !meets_span_conditions(Seen { process, span }, query) {
+        return Ok(false);
+    }
+    let judged = JudgedProcess::new(alloc, wanted, process)?;
+    let met = judged.has_all_tags(alloc, span);
     drop(judged);
     met
 }
