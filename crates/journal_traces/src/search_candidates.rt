@@ -147,6 +147,7 @@ fn mark_entry(
 /// Returns the number of spans before the entry at a place, which counts from 1, by those before each entry.
 fn spans_before(firsts: &[u32], place: u64) -> u32 {
     let index = place.saturating_sub(1) as usize;
+    // Impossible: a place without a number. Any number would do, since it only leads to guesses of rows.
     firsts.get(index).copied().unwrap_or(0)
 }
 
