@@ -6,16 +6,20 @@ connection until so many spans are held. Memory is the program's greatest reside
 before the first batch is the row of 0 spans. The tags are those of bench/decode.py, 4 to 40 bytes each where they are text. Behind
 that stands what is taken while a search for all traces is answered: by how much the greatest size rises, beside the bytes of the answer.
 
-With `--process-tags` each process has the tags that Jaeger's clients send: host name, address, version and an id of its own.
-`--connections` is how many connections take turns, batch by batch; each has a process of its own.
+With `--process-tags 4` each process has the tags that Jaeger's clients send: host name, address, version and an id of its own.
+With more it has those of a pod too, as an OpenTelemetry SDK gives them. `--connections` is how many connections take turns, batch
+by batch; each has a process of its own. A single one is measured with the first number of process tags alone.
 
-With `--most` the bodies are the worst that were found for each byte sent: spans of nothing but tags of an empty key and no value.
+With `--most` the bodies are the worst that were found for each byte sent: spans of nothing but tags of an empty key and no value,
+by how many; the same in logs; and spans of nothing, each of a trace of its own. A list of more than 16 items has room for up to
+twice as many, so those just above a power of two take most.
 
-    bench/memory.py [--bin PATH] [--sizes 0,10000,100000] [--tags 1,5] [--in-batch 10] [--connections 1] [--process-tags]
+    bench/memory.py [--bin PATH] [--sizes 0,10000,100000] [--tags 1,5] [--in-batch 10] [--connections 1] [--process-tags 4,12,20]
                     [--most] [--save KIND]
 """
 import http.client
 import itertools
+import math
 import random
 import socket
 
@@ -26,14 +30,28 @@ import wire
 
 AT_ONCE = 20
 COLUMNS = ["spans held", "tags a span", "MB in", "MB held", "bytes a span", "MB of the answer", "MB more for it"]
-COLUMNS_OF_PROCESSES = ["tags a span", "spans a batch", "connections", "MB in", "MB held", "bytes a span", "of the bytes in", "MB more for the answer"]
+COLUMNS_OF_PROCESSES = ["process tags", "tags a span", "spans a batch", "connections", "MB in", "MB held", "bytes a span", "of the bytes in",
+                        "MB more for the answer"]
+COLUMNS_OF_MOST = ["what", "in a batch", "bytes a batch", "batches", "MB in", "MB more than empty", "of the bytes in"]
+
+# The tags of the process with this number: first those that Jaeger's clients send, then those of a pod.
+PROCESS_TAGS = {
+    "hostname": "orders-7d9c5b6f4-{:05}", "ip": "10.20.30.{}", "jaeger.version": "Go-2.30.0", "client-uuid": "{:016x}",
+    "service.version": "1.24.3", "service.namespace": "shop", "deployment.environment": "production", "telemetry.sdk.name": "opentelemetry",
+    "telemetry.sdk.language": "go", "telemetry.sdk.version": "1.17.0", "k8s.pod.name": "orders-7d9c5b6f4-{:05}",
+    "k8s.pod.uid": "8f0c6a5e-3d2b-4c1f-9a7e-{:012x}", "k8s.namespace.name": "shop", "k8s.deployment.name": "orders",
+    "k8s.node.name": "ip-10-20-30-40.eu-central-1.compute.internal", "container.name": "orders", "container.id": "{:064x}",
+    "container.image.name": "registry.example.org/shop/orders", "os.type": "linux", "process.runtime.name": "go"}
+
+# How many empty tags a span has in the bodies that take most: at and just above powers of two, up to the largest body.
+EMPTY_TAGS = [1, 16, 17, 32, 33, 64, 65, 128, 129, 1024, 1025, 8192, 8193, 262144, 262145]
+EMPTY_SPANS = [1, 1000]
+MEGABYTES_OF_MOST = 12
 
 
-def tags_of_process(number):
-    """The tags that Jaeger's clients send of a process."""
-    tags = {"hostname": f"orders-7d9c5b6f4-{number:05}", "ip": f"10.20.30.{number}", "jaeger.version": "Go-2.30.0",
-            "client-uuid": f"{number:016x}"}
-    return [wire.text_tag(key, value) for key, value in tags.items()]
+def tags_of_process(number, count):
+    """So many tags of a process."""
+    return [wire.text_tag(key, value.format(number)) for key, value in itertools.islice(PROCESS_TAGS.items(), count)]
 
 
 def batch(rng, tags, in_batch, of_process):
@@ -50,10 +68,10 @@ def read_accepted(client, count):
     assert text.count(b"HTTP/1.1 202 ") == count, text[:200]
 
 
-def fill(server, size, tags, options, in_batch, connections):
+def fill(server, size, tags, in_batch, connections, process_tags):
     """Hands in so many spans; gives how many bytes of bodies that were."""
     rng = random.Random(3)
-    processes = [tags_of_process(number) if options.process_tags else () for number in range(connections)]
+    processes = [tags_of_process(number, process_tags) for number in range(connections)]
     clients = [socket.create_connection(("127.0.0.1", server.port)) for _ in processes]
     left, sent = size // in_batch, 0
     while left:
@@ -83,23 +101,52 @@ def answered(server):
     return size, (server.peak() - before) * 1024
 
 
-def most(options, batches=100, tags=8192):
-    """What a server takes for batches of one span that has nothing but empty tags, beside an empty one."""
-    empty_tag = wire.field(wire.TEXT, 1) + wire.text("") + wire.integer(2, 0) + b"\0"
-    record = Record(options, "memory, most", ["what", "batches", "tags a span", "MB in", "MB more than empty", "of the bytes in"])
+def empty_tags(count):
+    """So many tags of an empty key and no value."""
+    return [wire.field(wire.TEXT, 1) + wire.text("") + wire.integer(2, 0) + b"\0"] * count
+
+
+def with_empty_tags(count):
+    """The batch with a number: one span that has nothing but so many empty tags."""
+    tags = wire.structs(10, empty_tags(count))
+    return lambda number: wire.batch("a", [wire.span(number, 1, operation="", more=tags)])
+
+
+def with_empty_logs(count, tags=65):
+    """The batch with a number: one span that has nothing but so many logs of empty tags."""
+    logs = wire.structs(11, [wire.long(1, 0) + wire.structs(2, empty_tags(tags)) + b"\0"] * count)
+    return lambda number: wire.batch("a", [wire.span(number, 1, operation="", more=logs)])
+
+
+def of_empty_spans(count):
+    """The batch with a number: so many spans that have nothing, each the only one of its trace."""
+    return lambda number: wire.batch("a", [wire.span(number * count + at, 1, operation="") for at in range(count)])
+
+
+def taken(options, made):
+    """What a server takes for such bodies beside an empty one: the bytes of one, how many there were, and the bytes more."""
     with started(options.bin, 2) as server, socket.create_connection(("127.0.0.1", server.port)) as client:
         client.sendall(wire.get("/api/services"))
         client.recv(65536)
-        before, sent = server.peak(), 0
-        for number in range(1, batches + 1):
-            body = wire.batch("a", [wire.span(number, 1, more=wire.structs(10, [empty_tag] * tags))])
-            client.sendall(wire.post(body))
-            read_accepted(client, 1)
-            sent += len(body)
-        more = (server.peak() - before) * 1024
-    print(f"{batches} batches of one span with {tags} empty tags: {sent / 1e6:.1f} MB, {more / 1e6:.1f} MB more, {more / sent:.2f} of the bytes in")
-    what = "spans of nothing but tags of an empty key and no value"
-    record.row(what, batches, tags, round(sent / 1e6, 1), round(more / 1e6, 1), round(more / sent, 2))
+        before, size = server.peak(), len(made(1))
+        batches = math.ceil(MEGABYTES_OF_MOST * 1_000_000 / size)
+        for first in range(0, batches, AT_ONCE):
+            bodies = [made(number) for number in range(first, min(first + AT_ONCE, batches))]
+            client.sendall(b"".join(map(wire.post, bodies)))
+            read_accepted(client, len(bodies))
+        return size, batches, size * batches, (server.peak() - before) * 1024
+
+
+def most(options):
+    """What a server takes for the bodies that take most for each byte of them, beside an empty one."""
+    record = Record(options, "memory, most", COLUMNS_OF_MOST)
+    bodies = [("empty tags of one span", count, with_empty_tags(count)) for count in EMPTY_TAGS]
+    bodies += [("logs of one span, of 65 empty tags each", 40, with_empty_logs(40))]
+    bodies += [("spans of nothing, a trace each", count, of_empty_spans(count)) for count in EMPTY_SPANS]
+    for what, count, made in bodies:
+        size, batches, sent, more = taken(options, made)
+        print(f"{batches} batches of {size} bytes, {count} {what}: {sent / 1e6:.1f} MB, {more / 1e6:.1f} MB more, {more / sent:.2f} of the bytes in", flush=True)
+        record.row(what, count, size, batches, round(sent / 1e6, 1), round(more / 1e6, 1), round(more / sent, 2))
     record.save()
 
 
@@ -113,26 +160,29 @@ def main():
     asked.add_argument("--tags", default="1,5", help="tags a span, 15 at most")
     asked.add_argument("--in-batch", default="10", help="spans a batch")
     asked.add_argument("--connections", default="1", help="connections that take turns, 250 at most")
-    asked.add_argument("--process-tags", action="store_true", help="each process has four tags")
+    asked.add_argument("--process-tags", help=f"tags of a process, {len(PROCESS_TAGS)} at most; none unless given")
     asked.add_argument("--most", action="store_true", help="the worst bodies that were found, and nothing else")
     options = asked.parse_args()
     if options.most:
         return most(options)
     record = Record(options, *(("memory --process-tags", COLUMNS_OF_PROCESSES) if options.process_tags else ("memory", COLUMNS)))
-    print(f"{'tags':>5} {'a batch':>8} {'conns':>6} {'spans':>9} {'MB in':>7} {'MB held':>8} {'bytes a span':>13} {'of bytes in':>12} "
+    print(f"{'of process':>10} {'tags':>5} {'a batch':>8} {'conns':>6} {'spans':>9} {'MB in':>7} {'MB held':>8} {'bytes a span':>13} {'of bytes in':>12} "
           f"{'MB answer':>10} {'MB more':>8}")
-    rows = itertools.product(*map(numbers, (options.tags, options.in_batch, options.connections, options.sizes)))
-    for tags, in_batch, connections, size in rows:
+    all_process_tags = numbers(options.process_tags or "0")
+    others = map(numbers, (options.tags, options.in_batch, options.connections, options.sizes))
+    for process_tags, tags, in_batch, connections, size in itertools.product(all_process_tags, *others):
+        if connections == 1 and process_tags != all_process_tags[0]:
+            continue  # All batches have one process: its tags hardly count.
         with started(options.bin, 2) as server:
-            sent = fill(server, size, tags, options, in_batch, connections)
+            sent = fill(server, size, tags, in_batch, connections, process_tags)
             held = server.peak() * 1024
             answer, more = answered(server)
         per = f"{held / size:13.0f} {held / sent:12.2f}" if size else f"{'-':>13} {'-':>12}"
-        print(f"{tags:>5} {in_batch:>8} {connections:>6} {size:>9} {sent / 1e6:>7.1f} {held / 1e6:>8.1f} {per} {answer / 1e6:>10.1f} "
+        print(f"{process_tags:>10} {tags:>5} {in_batch:>8} {connections:>6} {size:>9} {sent / 1e6:>7.1f} {held / 1e6:>8.1f} {per} {answer / 1e6:>10.1f} "
               f"{more / 1e6:>8.1f}", flush=True)
         each = [round(sent / 1e6, 1), round(held / 1e6, 1), round(held / size) if size else None]
         if options.process_tags:
-            record.row(tags, in_batch, connections, *each, round(held / sent, 2) if sent else None, round(more / 1e6, 1))
+            record.row(process_tags, tags, in_batch, connections, *each, round(held / sent, 2) if sent else None, round(more / 1e6, 1))
         else:
             record.row(size, tags, *each, round(answer / 1e6, 1), round(more / 1e6, 1))
     record.save()

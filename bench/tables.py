@@ -25,7 +25,14 @@ BLOCK = re.compile(r"(<!-- results: (\w+) -->\n).*?(<!-- end of results -->)", r
 SIZES = [1000, 10_000]
 WRITERS = [1, 2, 4, 8]
 TAGS = [1, 5]
+PROCESS_TAGS = [4, 12, 20]
+IN_BATCH = [100, 17, 10, 2, 1]
 CONNECTIONS = [1, 20]
+# The rule of docs/operating.md: what is reckoned for a span, for a tag of it, for a batch and for a tag of its process, in bytes; and for a place of a
+# batch's list of spans that no span takes.
+OF_SPAN, OF_TAG, OF_BATCH, OF_PROCESS_TAG, OF_PLACE = 300, 75, 530, 120, 150
+# The files of deploy/ that have limits, each with its limit of memory.
+SHIPPED = {"deploy/jaeger_one.service": r"MemoryMax=(\d+)G", "deploy/compose.yaml": r"mem_limit: (\d+)g", "deploy/pod.yaml": r"limits:\s+memory: (\d+)Gi"}
 MOST_SPANS = 10_000_000
 DECODERS = {"rattle": "`batch_codec::decode`", "rust": "plain Rust, unverified", "apache": "Apache Thrift, C++",
             "pieces": "a `Feeder`, a body in one piece", "bytes": "the same, a byte at a time"}
@@ -182,8 +189,6 @@ searches_load = printed("searches --load", ["Spans held", "Microseconds a batch"
 ids = printed("ids", ["Ids", "ms", "Of random"], {0: lambda kind: KINDS.get(kind, kind)}.items())
 limits = printed("limits", ["Traces held", "Microseconds a limit"])
 memory = printed("memory", ["Spans held", "Tags a span", "MB in", "MB held", "Bytes a span", "MB of the answer", "MB more for it"])
-memory_processes = printed("memory --process-tags", [
-    "Tags a span", "Spans a batch", "Connections", "MB in", "MB held", "Bytes a span", "Of the bytes in", "MB more for the answer"])
 copies = printed("copies", ["Spans held", "", "admits/s", "of one", "admit p50", "admit p99", "reads/s", "read p50", "read p99"],
                  {3: digits(3), 7: digits(3), 8: digits(3)}.items())
 
@@ -472,20 +477,39 @@ def speed(found):
     return table(heads, rows) + found.days("compare --count", "serve", "searches", "held", "memory")
 
 
-def memory_most(found):
-    rows = ([it[0], cell(it[1]), cell(it[2]), cell(it[3]), cell(it[4]), cell(it[5])] for it in found.rows("memory, most"))
-    heads = ["Bodies", "Batches", "Tags a span", "MB in", "MB more than the empty server", "Of the bytes in"]
-    return table(heads, rows) + found.caption("memory, most")
+memory_processes = printed("memory --process-tags", [
+    "Tags of a process", "Tags a span", "Spans a batch", "Connections", "MB in", "MB held", "Bytes a span", "Of the bytes in", "MB more for the answer"])
+memory_most = printed("memory, most", ["A body of", "So many", "Bytes of a body", "Bodies", "MB in", "MB more than the empty server", "Of the bytes in"])
+
+
+def worst_tags(found):
+    """The most bytes of memory for each byte of a body, of lists of tags."""
+    return max(it[-1] for it in found.rows("memory, most") if "tags" in it[0])
 
 
 def operating_memory(found):
-    """Bytes a span, by how many a batch has; for one tag a span, and for five."""
-    def bytes_of(in_batch, connections, tags):
-        return cell(found.of("memory --process-tags", tags, in_batch, connections)[2])
+    """Bytes a span, by how many a batch has, its tags, and the tags of its process."""
+    def bytes_of(process_tags, tags, in_batch, connections):
+        return cell(found.of("memory --process-tags", process_tags, tags, in_batch, connections)[2])
 
-    rows = ([cell(in_batch), *(bytes_of(in_batch, count, tags) for count in CONNECTIONS for tags in TAGS)] for in_batch in (100, 10, 1))
-    heads = ["Spans a batch", "One process, one tag a span", "five tags", "Twenty processes that take turns, one tag a span", "five tags"]
+    rows = []
+    for tags in TAGS:
+        for in_batch in IN_BATCH:
+            by_turns = [bytes_of(process_tags, tags, in_batch, CONNECTIONS[1]) for process_tags in PROCESS_TAGS]
+            rows.append([cell(tags), cell(in_batch), bytes_of(PROCESS_TAGS[0], tags, in_batch, CONNECTIONS[0]), *by_turns])
+    heads = ["Tags a span", "Spans a batch", "One process", "Twenty by turns, of 4 tags each", *(f"of {process_tags}" for process_tags in PROCESS_TAGS[1:])]
     return table(heads, rows) + found.caption("memory --process-tags", MACHINES)
+
+
+def reckoned(spans, tags, batches, process_tags):
+    """The bytes that the rule of docs/operating.md gives."""
+    return spans * (OF_SPAN + OF_TAG * tags) + batches * (OF_BATCH + OF_PROCESS_TAG * process_tags)
+
+
+def unused(in_batch):
+    """The bytes of the places that no span takes, for each span of a batch: a list of more than 16 has room for a power of two."""
+    places = in_batch if in_batch <= 16 else 1 << (in_batch - 1).bit_length()
+    return OF_PLACE * (places - in_batch) / in_batch
 
 
 def megabytes(value):
@@ -498,23 +522,22 @@ def megabytes(value):
 
 
 def operating_spans(found):
-    """What a store takes by spans of one tag a second and how long they are kept, at the bytes that the line at the start reckons with."""
+    """What a store takes by the rule, by spans of five tags a second in batches of ten, whose processes have four tags, and how long they are kept."""
     heads = ["Spans a second, all services together", "Kept for 10 minutes", "an hour", "8 hours", "a day"]
     rows = []
     for rate in (10, 100, 1000, 10_000):
         cells = [cell(rate)]
         for minutes in (10, 60, 480, 1440):
             spans = rate * minutes * 60
-            cells.append(megabytes(spans * at_start()[0] / 1e6) if spans <= MOST_SPANS else f"more than {MOST_SPANS:,} spans")
+            cells.append(megabytes(reckoned(spans, 5, spans / 10, 4) / 1e6) if spans <= MOST_SPANS else f"more than {MOST_SPANS:,} spans")
         rows.append(cells)
     return table(heads, rows)
 
 
 def operating_most(found):
-    """The bound of what a store may take, by the largest body."""
-    worst = found.of("memory, most", found.rows("memory, most")[0][0])[-1]
+    """What bodies of nothing but tags may take in a store, by the largest body."""
     bodies = [("4,194,304 bytes, the server's own limit", 4_194_304), ("1 MB, which `deploy/nginx.conf` lets through", 1_048_576), ("64 KB", 65_536)]
-    rows = ([name, *(megabytes(batches * size * worst / 1e6) for batches in (1000, 1_000_000))] for name, size in bodies)
+    rows = ([name, *(megabytes(batches * size * worst_tags(found) / 1e6) for batches in (1000, 1_000_000))] for name, size in bodies)
     return table(["Largest body", "`--batches 1000`", "`--batches 1000000`"], rows)
 
 
@@ -571,45 +594,41 @@ def core_quote(found):
 
 def memory_quotes(found):
     """What pages say of memory."""
+    page = "docs/operating.md"
     one, five = (found.of("memory", 100_000, tags) for tags in TAGS)
-    # Of batches of one span and of ten: each of these has nine tenths of a batch more for a span.
-    batch = [[(found.of("memory --process-tags", tags, 1, count)[2] - found.of("memory --process-tags", tags, 10, count)[2]) / 0.9
-              for tags in TAGS] for count in CONNECTIONS]
-    # The process has four tags.
-    of_tag = (sum(batch[1]) - sum(batch[0])) / len(TAGS) / 4
-    empty = found.of("memory", 0, 1)[1]
-    answer = span([it[-1] * 10 for it in (one, five)])
-    single = span([found.of("memory --process-tags", tags, 1, count)[-1] * 10 for tags in TAGS for count in CONNECTIONS])
+    of_processes = found.rows("memory --process-tags")
+    yield page, f"An empty server takes {found.of('memory', 0, 1)[1]:.0f} MB"
+    of_bytes = [it[-2] for it in of_processes] + [it[3] / it[2] for it in found.rows("memory") if it[0] == 100_000]
+    yield page, f"reckon with {min(of_bytes):.1f} to {max(of_bytes):.1f} times the bytes that come"
+    yield page, f"spans * ({OF_SPAN} + {OF_TAG} * tags of a span) + batches * ({OF_BATCH} + {OF_PROCESS_TAG} * tags of a process)"
+    yield page, f"= {megabytes(reckoned(2_880_000, 5, 576_000, 4) / 1e6)}"
+    yield page, f"so with {reckoned(10, 5, 1, 4) / 10:.0f} bytes a span"
+    yield page, f"Each unused place takes {OF_PLACE} bytes of a span"
+    worst = worst_tags(found)
+    yield page, f"times {worst:.1f}, the most bytes of memory that were measured for each byte of a body of tags"
+    yield page, f"times {worst:.1f}: {megabytes(1024 * 4_194_304 * worst / 1e6)} with the defaults"
     start = at_start()
-    yield ("docs/operating.md", f"100,000 spans in batches of 10 took {one[1]:.0f} MB with one tag a span and {five[1]:.0f} MB with five, all together: "
-           f"{one[2]} and {five[2]} bytes a span")
-    yield "docs/operating.md", f"An empty server takes {empty:.0f} MB"
-    of_bytes = [it[-2] for it in found.rows("memory --process-tags")] + [it[3] / it[2] for it in found.rows("memory") if it[0] == 100_000]
-    worst = found.rows("memory, most")[0][-1]
-    yield "docs/operating.md", f"times {worst:.1f}, the most bytes of memory that were measured for each byte of a body"
-    yield "docs/operating.md", f"times {worst:.1f}: {megabytes(1024 * 4_194_304 * worst / 1e6)} with the defaults"
-    yield "docs/operating.md", f"reckon with {min(of_bytes):.1f} to {max(of_bytes):.1f} times the bytes that come"
-    yield "docs/operating.md", f"a batch takes {span(batch[0])} bytes of its own, and {span(batch[1])} with its process"
-    yield "docs/operating.md", f"reckon with {two(of_tag)} bytes for each further tag"
-    yield "docs/operating.md", in_fives(found)
-    yield "docs/operating.md", f"reckoned at {start[0]} and {start[1]} bytes a span"
-    yield "docs/operating.md", f"At {start[0]} bytes a span"
-    yield "docs/operating.md", f"With five tags, {start[1]} bytes a span, it takes {start[1] / start[0]:.1f} times as much"
     told = [f"{-(-100_000 * each // 1_000_000)} MB" for each in start]
-    small = max(found.of("memory --process-tags", tags, 1, count)[2] / each for tags, each in zip(TAGS, start) for count in CONNECTIONS)
-    more = f"more if tags are long, up to {math.ceil(small)} times as much with one span a batch"
-    yield "docs/operating.md", f"`that may take {told[0]} with one tag a span, {told[1]} with five; {more}`"
-    yield "docs/operating.md", f"`--spans 2000000` of five tags each at {2 * start[1]:,} MB"
-    ten = f"2,000,000 spans of ten tags take about {two(2e6 * found.of('memory', 100_000, 10)[2] / 1e9)} GB"
-    yield from ((page, ten) for page in ("docs/operating.md", "deploy/jaeger_one.service", "deploy/compose.yaml", "deploy/pod.yaml"))
-    yield "docs/operating.md", f"It takes {answer} bytes for each span that it shows while it is made, or {single} where each trace has one span"
+    small = max(found.of("memory --process-tags", PROCESS_TAGS[-1], tags, 1, 20)[2] / each for tags, each in zip(TAGS, start))
+    more = f"more if tags are long, up to {math.ceil(small)} times with one span a batch and twenty process tags"
+    yield page, f"`that may take {told[0]} with one tag a span, {told[1]} with five; {more}`"
+    yield page, f"reckoned at {start[0]} and {start[1]} bytes a span"
+    answer = span([it[-1] * 10 for it in (one, five)])
+    single = two(max(it[-1] for it in of_processes if it[2] == 1) * 10)
+    yield page, f"| of more | {answer} bytes for each span, or {single} where each trace has one span; and 272 KB |"
+    yield from shipped_quotes()
 
 
-def in_fives(found):
-    """What the page's example takes, in batches of five: by their number a span, between the rows of one and of ten."""
-    one, ten = (found.of("memory --process-tags", 1, in_batch, 20)[2] for in_batch in (1, 10))
-    each = ten + (one - ten) * (1 / 5 - 1 / 10) / (1 - 1 / 10)
-    return f"reckon {two(each)} bytes a span, so {megabytes(2_880_000 * each / 1e6)}"
+def shipped_quotes():
+    """What the files of deploy/ say of their limits, and that these are safe."""
+    for path, form in SHIPPED.items():
+        text = read(path).replace('"', "").replace(",", "")
+        batches, spans = (int(re.search(rf"--{name} (\d+)", text)[1]) for name in ("batches", "spans"))
+        limit = int(re.search(form, text)[1]) << 30
+        most = reckoned(spans, 10, batches, 20)
+        yield path, f"{spans:,} spans of ten tags in {batches:,} batches of processes with twenty tags are reckoned at {most / 1e9:.1f} GB"
+        if most > 0.85 * limit:
+            yield path, f"a limit of memory that leaves a seventh beside {most / 1e9:.1f} GB"
 
 
 def connection_quotes(found):
@@ -625,7 +644,7 @@ def connection_quotes(found):
     yield "docs/serve.md", f"| the same, with 1,000 clients instead of 5,000 | {at('parked', 1000, 'bytes a connection')} bytes |"
     yield "docs/serve.md", f"and {read} bytes for each span of a larger one"
     yield "docs/serve.md", f"which takes {waits[0]} (spans with five tags) to {waits[1]} (spans without tags)"
-    yield "docs/operating.md", f"{read} while it is read"
+    yield "docs/operating.md", f"and 272 KB | {read} bytes for each span, and 272 KB |"
 
 
 def gate_quotes(found):
@@ -645,12 +664,15 @@ def gate_quotes(found):
 
 
 def too_small(found):
-    """Says where the line at the start reckons with less than was measured of batches of ten, with processes of four tags."""
-    for tags, reckoned in zip(TAGS, at_start()):
-        for count in CONNECTIONS:
-            measured = found.of("memory --process-tags", tags, 10, count)[2]
-            if reckoned < measured:
-                yield f"the line at the start reckons with {reckoned} bytes a span of {tags} tags, and {measured} were measured on {count} connections"
+    """Says where the line at the start, or the rule, reckons with less than was measured with processes of tags."""
+    for process_tags, tags, in_batch, count, *_, of_span, _, _ in found.rows("memory --process-tags"):
+        measured = f"{of_span} bytes a span were measured of {tags} tags, {in_batch} spans a batch, {process_tags} tags of a process, {count} connections"
+        by_rule = reckoned(1, tags, 1 / in_batch, process_tags if count > 1 else 0) + unused(in_batch)
+        if by_rule < of_span:
+            yield f"{measured}; the rule reckons with {by_rule:.0f}"
+        at_the_start = at_start()[TAGS.index(tags)]
+        if (in_batch, process_tags) == (10, PROCESS_TAGS[0]) and at_the_start < of_span:
+            yield f"{measured}; the line at the start reckons with {at_the_start}"
 
 
 def below(found, name):
