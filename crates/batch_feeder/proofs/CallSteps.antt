@@ -1,5 +1,5 @@
 -- The results of calls, in larger readings.
-use Rattle.std.proofs.Common.{◌≡◌, ℕ, List, ◌++◌, Result, Ok, Err, Bool, true, false, refl, ap, sym, ◌∙◌}
+use Rattle.std.proofs.Common.{◌≡◌, ℕ, List, ◌++◌, Result, Ok, Err, refl, ap, sym, ◌∙◌}
 use Rattle.thrift_binary.specs.declared.fault.WireError.{WireError}
 use Rattle.thrift_binary.specs.declared.fault.WireError.TheVariants.{Truncated}
 use Rattle.thrift_binary.specs.Reading.{◌>>=◌, lift}
@@ -10,6 +10,8 @@ use Rattle.wire_pieces.proofs.Steps.{comes-trans, comes-waits, comes-inside, wai
 use Rattle.batch_codec.specs.declared.fault.DecodeError.{DecodeError}
 use Rattle.batch_codec.specs.declared.fault.DecodeError.TheVariants.{Wire}
 use Rattle.batch_codec.specs.Decoding.{Reading, wire}
+use Rattle.batch_feeder.specs.declared.partial.Arrival.{Arrival}
+use Rattle.batch_feeder.specs.declared.partial.Arrival.TheVariants.{Complete, Pending}
 use Rattle.batch_feeder.specs.ContinuedCalls.{fault_of, ended, Faults, ContinuesTo}
 
 pub one_wire : (e f : WireError) → wire e ≡ wire f → e ≡ f
@@ -71,8 +73,8 @@ module _ {A X : Type 0} (reads a : Reading A) (same : (w : List ℕ) → a w ≡
   fresh-waits b p q g = same-waits (λ w. a w >>= then) (λ w. reads w >>= then) inside (λ w. b w >>= then) p q (waits-inside then g)
 
 -- a call that continued, after other bytes
-pub continues-to-after : {X : Type 0} (x : X) (a b c : Reading X) (p w v : List ℕ) (r : Result Bool DecodeError) → Comes a b p w → ContinuesTo x b c w v r
+pub continues-to-after : {X : Type 0} (x : X) (a b c : Reading X) (p w v : List ℕ) (r : Result Arrival DecodeError) → Comes a b p w → ContinuesTo x b c w v r
     → ContinuesTo x a c p v r
-continues-to-after x a b c p w v (Ok true) f g = comes-trans f g
-continues-to-after x a b c p w v (Ok false) f g = comes-waits f g
+continues-to-after x a b c p w v (Ok Complete) f g = comes-trans f g
+continues-to-after x a b c p w v (Ok Pending) f g = comes-waits f g
 continues-to-after x a b c p w v (Err e) f g = comes-faults a b p w e f g

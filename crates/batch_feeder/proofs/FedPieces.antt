@@ -7,7 +7,7 @@ use Rattle.batch_codec.specs.declared.fault.DecodeError.{DecodeError}
 use Rattle.batch_codec.specs.Decoding.{Fails, Gives}
 use Rattle.batch_feeder.specs.ContinuedCalls.{Faults}
 use Rattle.batch_feeder.specs.FeederResults.{HasNoFault, HasRefused, Taken, Refuses}
-use Rattle.batch_feeder.proofs.FeederSteps.{none-refused, fails-unless, gives-same}
+use Rattle.batch_feeder.proofs.FeederSteps.{none-failed, fails-unless, gives-same}
 
 module _ {V : Type 0} (f : V → List ℕ) (a d : List ℕ → Result Batch DecodeError) where
   pub pieces-end : (vs : List V) (i : ℕ) (r : Result Batch DecodeError) → length vs ≤ i
@@ -17,9 +17,9 @@ module _ {V : Type 0} (f : V → List ℕ) (a d : List ℕ → Result Batch Deco
       let e : a [] ≡ d (flat_map f vs) = (let h = rw none at (inv []) in rw (append-nil (flat_map f vs)) at h) in
       gives-same r (d (flat_map f vs)) (is ∙ e)
 
-  pub pieces-refuse : (vs : List V) (i : ℕ) (x : V) (p : List ℕ) (e : DecodeError) → i < length vs → x ≡ get_or vs i x → p ≡ f x
+  pub pieces-fail : (vs : List V) (i : ℕ) (x : V) (p : List ℕ) (e : DecodeError) → i < length vs → x ≡ get_or vs i x → p ≡ f x
       → ((w : List ℕ) → a (flat_map f (drop i vs) ++ w) ≡ d (flat_map f vs ++ w)) → Faults a p e → Fails e (d (flat_map f vs))
-  pieces-refuse vs i x p e lt is same inv g =
+  pieces-fail vs i x p e lt is same inv g =
       let split : drop i vs ≡ x ∷ drop (suc i) vs = drop-cons vs i x lt ∙ ap (λ y. y ∷ drop (suc i) vs) (sym is) in
       let h : a (p ++ flat_map f (drop (suc i) vs)) ≡ d (flat_map f vs) = (let k = rw split at (inv []) in rw same (rw append-nil at (rw append-nil at k))) in
       fails-unless (d (flat_map f vs)) e (λ n. sym h ∙ (g n).same (flat_map f (drop (suc i) vs)))
@@ -31,9 +31,9 @@ some-bytes [] h = absurd cc
 some-bytes (b ∷ p) h = omega arith
 
 module _ (old now : List ℕ → Result Batch DecodeError) (p : List ℕ) (i : ℕ) (same : (w : List ℕ) → old (p ++ w) ≡ now (drop i p ++ w)) where
-  pub bytes-refuse : (next : List ℕ → Result Batch DecodeError) (d : ℕ) (e : DecodeError) → i < length p
+  pub bytes-fail : (next : List ℕ → Result Batch DecodeError) (d : ℕ) (e : DecodeError) → i < length p
       → ((before : DecodeError) → HasRefused old before → HasRefused now before) → Refuses now next (get_or p i d ∷ []) e → Refuses old next p e
-  bytes-refuse next d e lt still g =
+  bytes-fail next d e lt still g =
       let split : drop i p ≡ get_or p i d ∷ drop (suc i) p = drop-cons p i d lt in
       record {
         faults = λ n. record { same = λ w. same w ∙ ap (λ u. now (u ++ w)) split ∙ (g.faults n).same (drop (suc i) p ++ w); no_want = (g.faults n).no_want };
@@ -50,7 +50,7 @@ module _ (old now : List ℕ → Result Batch DecodeError) (p : List ℕ) (i : �
       rw is (
         λ w. same w ∙ ap (λ u. now (u ++ w)) split ∙ g.same (drop (suc i) p ++ w),
         λ some. rw (g.same []) at g.sound,
-        λ before refused. absurd (none-refused now (get_or p i d ∷ []) g.sound before (still before refused)),
+        λ before failed. absurd (none-failed now (get_or p i d ∷ []) g.sound before (still before failed)),
       )
 
   pub bytes-end : length p ≤ i → HasNoFault (now []) → Taken old now p

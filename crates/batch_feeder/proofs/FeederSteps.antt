@@ -14,7 +14,7 @@ use Rattle.batch_codec.specs.Decoding.{Reading, Fails, Gives}
 use Rattle.batch_codec.specs.EmptySlots.{no_batch}
 use Rattle.batch_codec.specs.BatchReading.{take_batch, batch_from, batch_at, at_end, decoded}
 use Rattle.batch_feeder.specs.declared.fields.Step.{Step}
-use Rattle.batch_feeder.specs.declared.batch.BatchFieldPart.{BatchFieldPart}
+use Rattle.batch_feeder.specs.declared.batch.PartialBatchField.{PartialBatchField}
 use Rattle.batch_feeder.specs.declared.feeder.State.{State}
 use Rattle.batch_feeder.specs.declared.feeder.State.TheVariants as state
 use Rattle.batch_feeder.specs.ContinuedCalls.{Faults}
@@ -25,7 +25,7 @@ use Rattle.batch_feeder.proofs.CallSteps.{faults-inside}
 use Rattle.thrift_binary.proofs.ReadBytesSpell.{err_is}
 
 -- a state of a struct as a reading
-abbrev pub reads : BatchSlots → Step BatchFieldPart → Reading Batch
+abbrev pub reads : BatchSlots → Step PartialBatchField → Reading Batch
 reads s step = struct_from take_batch batch_continues batch_from s step
 
 -- ---- faults
@@ -55,15 +55,15 @@ short-is (Err e) h = ap (λ d. Err d) (want_is e h)
 -- ---- the same error again
 
 -- an error now is the error of before
-pub refused-repeats : (a : List ℕ → Result Batch DecodeError) (w : List ℕ) (e : DecodeError) → a w ≡ Err e → Repeats a e
-refused-repeats a w e h before refused = err_is before e (sym (refused.all w) ∙ h)
+pub failed-repeats : (a : List ℕ → Result Batch DecodeError) (w : List ℕ) (e : DecodeError) → a w ≡ Err e → Repeats a e
+failed-repeats a w e h before failed = err_is before e (sym (failed.all w) ∙ h)
 
 -- there was no error before
-pub none-refused : (a : List ℕ → Result Batch DecodeError) (w : List ℕ) → HasNoFault (a w) → (e : DecodeError) → HasRefused a e → ⊥
-none-refused a w sound e refused = refused.no_want (rw (refused.all w) at sound)
+pub none-failed : (a : List ℕ → Result Batch DecodeError) (w : List ℕ) → HasNoFault (a w) → (e : DecodeError) → HasRefused a e → ⊥
+none-failed a w sound e failed = failed.no_want (rw (failed.all w) at sound)
 
 pub none-repeats : (a : List ℕ → Result Batch DecodeError) (w : List ℕ) (e : DecodeError) → HasNoFault (a w) → Repeats a e
-none-repeats a w e sound before refused = absurd (none-refused a w sound before refused)
+none-repeats a w e sound before failed = absurd (none-failed a w sound before failed)
 
 pub short-sound : (r : Result Batch DecodeError) → r ≡ Err (Wire Truncated) → HasNoFault r
 short-sound (Ok b) h = tt
@@ -71,7 +71,7 @@ short-sound (Err e) h = err_is e (Wire Truncated) h
 
 -- ---- the start
 
-module _ (s : BatchSlots) (step : Step BatchFieldPart) (fresh : (w : List ℕ) → reads s step w ≡ struct_at take_batch no_batch batch_from w) where
+module _ (s : BatchSlots) (step : Step PartialBatchField) (fresh : (w : List ℕ) → reads s step w ≡ struct_at take_batch no_batch batch_from w) where
   pub start-decodes : (w : List ℕ) → answers_of (state.Reading (record { slots = s; step = step })) w ≡ decoded w
   unfolding answers_of decoded batch_at
   start-decodes w = ap (λ r. r >>= at_end) (fresh w)
@@ -82,7 +82,7 @@ module _ (s : BatchSlots) (step : Step BatchFieldPart) (fresh : (w : List ℕ) �
 
 -- ---- a piece
 
-module _ (now : State) (s : BatchSlots) (step : Step BatchFieldPart) (is : now ≡ state.Reading (record { slots = s; step = step })) where
+module _ (now : State) (s : BatchSlots) (step : Step PartialBatchField) (is : now ≡ state.Reading (record { slots = s; step = step })) where
   reading-inside : (p : List ℕ) (e : DecodeError) → Faults (reads s step) p e → Faults (answers_of now) p e
   unfolding answers_of
   reading-inside p e g = rw is (faults-inside at_end (reads s step) p e g)
@@ -98,7 +98,7 @@ module _ (now : State) (s : BatchSlots) (step : Step BatchFieldPart) (is : now �
   reading-faults h p e g =
       (reading-inside p e g, faults-apart (reads s step) p e g, none-repeats (answers_of now) [] e (short-sound (answers_of now []) (reading-ends h)))
 
-  pub reading-waits : (t : BatchSlots) (next : Step BatchFieldPart) (p v : List ℕ) → NeedsMore (Wire Truncated) (reads s step) (reads t next) p v
+  pub reading-waits : (t : BatchSlots) (next : Step PartialBatchField) (p v : List ℕ) → NeedsMore (Wire Truncated) (reads s step) (reads t next) p v
       → Taken (answers_of now) (answers_of (state.Reading (record { slots = t; step = next }))) p
       × IsSettled (state.Reading (record { slots = t; step = next }))
   unfolding answers_of settled
@@ -134,24 +134,24 @@ ends now next b p v (Ok x) is g none =
 ends now next b p v (Err e) is g (trailing, some) = rw trailing (
   λ n. record { same = λ rest. g.same rest ∙ some_left v some rest b; no_want = λ h. absurd (let k : Trailing ≡ Wire Truncated = h in cc) },
   λ h. absurd (let k : Trailing ≡ Wire Truncated = h in cc),
-  refused-repeats (answers_of now) (p ++ []) Trailing (g.same [] ∙ some_left v some [] b),
+  failed-repeats (answers_of now) (p ++ []) Trailing (g.same [] ∙ some_left v some [] b),
 )
 
 -- ---- an error
 
-pub refused-settled : (now : State) (e : DecodeError) → now ≡ state.Refused e → (e ≡ Wire Truncated → ⊥) → IsSettled now
+pub failed-settled : (now : State) (e : DecodeError) → now ≡ state.Failed e → (e ≡ Wire Truncated → ⊥) → IsSettled now
 unfolding settled
-refused-settled now e is n = rw is (no_want e n)
+failed-settled now e is n = rw is (no_want e n)
 
-pub refused-answers : (now : State) (e : DecodeError) (rest : List ℕ) → now ≡ state.Refused e → answers_of now rest ≡ Err e
+pub failed-answers : (now : State) (e : DecodeError) (rest : List ℕ) → now ≡ state.Failed e → answers_of now rest ≡ Err e
 unfolding answers_of
-refused-answers now e rest is = rw is refl
+failed-answers now e rest is = rw is refl
 
-pub refused-faults : (now : State) (e : DecodeError) (p : List ℕ) → now ≡ state.Refused e → IsSettled now → Faults (answers_of now) p e × (e ≢ Wire Truncated)
+pub failed-faults : (now : State) (e : DecodeError) (p : List ℕ) → now ≡ state.Failed e → IsSettled now → Faults (answers_of now) p e × (e ≢ Wire Truncated)
     × Repeats (answers_of now) e
 unfolding answers_of settled
-refused-faults now e p is h =
-    rw is (λ n. record { same = λ rest. refl; no_want = apart (rw is at h) }, apart (rw is at h), refused-repeats (answers_of (state.Refused e)) [] e refl)
+failed-faults now e p is h =
+    rw is (λ n. record { same = λ rest. refl; no_want = apart (rw is at h) }, apart (rw is at h), failed-repeats (answers_of (state.Failed e)) [] e refl)
   where
     apart : not (is_truncated e) ≡ true → e ≡ Wire Truncated → ⊥
     apart k t = let q : false ≡ true = rw t at k in absurd cc

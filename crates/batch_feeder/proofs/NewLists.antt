@@ -1,5 +1,5 @@
 -- A list that began as the value of a field.
-use Rattle.std.proofs.Common.{◌≡◌, ℕ, List, [], ◌++◌, Option, Result, Ok, Err, Bool, true, false, sym, ◌∙◌}
+use Rattle.std.proofs.Common.{◌≡◌, ℕ, List, [], ◌++◌, Option, Result, Ok, Err, sym, ◌∙◌}
 use Rattle.thrift_binary.specs.declared.fault.WireError.TheVariants.{Truncated}
 use Rattle.thrift_binary.specs.Reading.{◌>>=◌}
 use Rattle.wire_pieces.specs.Pieces.{NeedsMore}
@@ -7,6 +7,8 @@ use Rattle.wire_pieces.proofs.Steps.{comes-inside, waits-inside}
 use Rattle.batch_codec.specs.declared.fault.DecodeError.{DecodeError}
 use Rattle.batch_codec.specs.declared.fault.DecodeError.TheVariants.{Wire}
 use Rattle.batch_codec.specs.Decoding.{Reading}
+use Rattle.batch_feeder.specs.declared.partial.Arrival.{Arrival}
+use Rattle.batch_feeder.specs.declared.partial.Arrival.TheVariants.{Complete, Pending}
 use Rattle.batch_feeder.specs.declared.fields.Step.{Step}
 use Rattle.batch_feeder.specs.Fields.{Opens}
 use Rattle.batch_feeder.specs.NewLists.{Enlists}
@@ -18,10 +20,10 @@ waits-same a b c p q same g = record { comes = record { same = λ rest. g.comes.
 
 module _ {A P S V T : Type 0} (holding : A → S) (set : S → T) (reads : Reading A) (resumes : P → Reading A) (holds : P → V → Type 0)
     (continues : V → Reading T) where
-  pub enlisted : (before after : S) (next : Option (Step V)) (w v : List ℕ) (r : Result Bool DecodeError)
+  pub enlisted : (before after : S) (next : Option (Step V)) (w v : List ℕ) (r : Result Arrival DecodeError)
       → Enlists holding reads resumes holds before after next w v r
       → ((p : P) (v : V) → holds p v → (w : List ℕ) → continues v w ≡ (resumes p w >>= λ x. Ok (set (holding x.0), x.1)))
       → Opens (λ u. reads u >>= λ x. Ok (set (holding x.0), x.1)) continues (set after) next w v r
-  enlisted before after next w v (Ok true) g on = rw g.1 (comes-inside (λ x. Ok (set (holding x.0), x.1)) g.2)
-  enlisted before after next w v (Ok false) g on = (g.1, g.3, waits-same _ _ _ w v (on g.0 g.1 g.2) (waits-inside (λ x. Ok (set (holding x.0), x.1)) g.4))
+  enlisted before after next w v (Ok Complete) g on = rw g.1 (comes-inside (λ x. Ok (set (holding x.0), x.1)) g.2)
+  enlisted before after next w v (Ok Pending) g on = (g.1, g.3, waits-same _ _ _ w v (on g.0 g.1 g.2) (waits-inside (λ x. Ok (set (holding x.0), x.1)) g.4))
   enlisted before after next w v (Err e) g on = faults-inside (λ x. Ok (set (holding x.0), x.1)) reads w e g

@@ -1,5 +1,5 @@
 -- The steps of a struct that arrives in pieces.
-use Rattle.std.proofs.Common.{◌≡◌, ℕ, ℤ, eqb, Bool, true, false, arith, List, [], ◌∷◌, length, Some, None, Result, Ok, Err, refl, ap, sym}
+use Rattle.std.proofs.Common.{◌≡◌, ℕ, ℤ, eqb, true, arith, List, [], ◌∷◌, length, Some, None, Result, Ok, Err, refl, ap, sym}
 use Rattle.std.proofs.lemmas.Bool.{eqb-true}
 use Rattle.thrift_binary.specs.declared.fault.WireError.TheVariants.{Truncated}
 use Rattle.thrift_binary.specs.Reading.{◌>>=◌, field_at}
@@ -14,6 +14,8 @@ use Rattle.wire_pieces.proofs.FieldSteps as wires
 use Rattle.batch_codec.specs.declared.fault.DecodeError.{DecodeError}
 use Rattle.batch_codec.specs.declared.fault.DecodeError.TheVariants.{Wire}
 use Rattle.batch_codec.specs.Decoding.{Reading, wire}
+use Rattle.batch_feeder.specs.declared.partial.Arrival.{Arrival}
+use Rattle.batch_feeder.specs.declared.partial.Arrival.TheVariants.{Complete, Pending}
 use Rattle.batch_feeder.specs.declared.fields.Step.{Step}
 use Rattle.batch_feeder.specs.declared.fields.Step.TheVariants.{Head, Value}
 use Rattle.batch_feeder.specs.ContinuedCalls.{fault_of, Arrives, Faults, ContinuesTo}
@@ -87,9 +89,9 @@ module _ {S V A : Type 0} (take : Take S DecodeError) (res : S → V → Reading
       → ((u : List ℕ) → head_from h u ≡ field_at u) → struct_from take res makes s (Head h) w ≡ struct_at take none makes w
   struct-fresh safe s none h w is fresh = rw is (ap (λ r. r >>= made) (wires.head-fresh wire take safe none h fresh w))
 
-  pub struct-arrives : (s t : S) (step next : Step V) (p q : List ℕ) (r : Result Bool DecodeError)
+  pub struct-arrives : (s t : S) (step next : Step V) (p q : List ℕ) (r : Result Arrival DecodeError)
       → ContinuesTo t (fields_from take res s step) (fields_from take res t next) p q r
       → Arrives (struct_from take res makes s step) (struct_from take res makes t next) (makes t) p q r
-  struct-arrives s t step next p q (Ok true) g = comes-inside made g
-  struct-arrives s t step next p q (Ok false) g = waits-inside made g
+  struct-arrives s t step next p q (Ok Complete) g = comes-inside made g
+  struct-arrives s t step next p q (Ok Pending) g = waits-inside made g
   struct-arrives s t step next p q (Err e) g = faults-inside made (fields_from take res s step) p e g

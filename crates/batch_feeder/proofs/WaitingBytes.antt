@@ -11,7 +11,7 @@ use Rattle.batch_codec.specs.declared.fault.DecodeError.{DecodeError}
 use Rattle.batch_codec.specs.declared.fault.DecodeError.TheVariants.{Wire, Memory}
 use Rattle.batch_codec.specs.declared.batch.BatchSlots.{BatchSlots}
 use Rattle.batch_codec.specs.BatchReading.{take_batch, batch_from}
-use Rattle.batch_feeder.specs.declared.batch.BatchFieldPart.{BatchFieldPart}
+use Rattle.batch_feeder.specs.declared.batch.PartialBatchField.{PartialBatchField}
 use Rattle.batch_feeder.specs.declared.fields.Step.{Step}
 use Rattle.batch_feeder.specs.Fields.{struct_from}
 use Rattle.batch_feeder.specs.Batches.{batch_continues}
@@ -176,7 +176,7 @@ gave-up old new p sound stays = record {
   stays = record { all = stays; no_want = λ h. absurd (let k : Memory ≡ Wire Truncated = h in cc) };
 }
 
-pub reading-between_fields : (now : State) (s : BatchSlots) (step : Step BatchFieldPart) → now ≡ state.Reading (record { slots = s; step = step })
+pub reading-between_fields : (now : State) (s : BatchSlots) (step : Step PartialBatchField) → now ≡ state.Reading (record { slots = s; step = step })
     → (w : List ℕ) → struct_from take_batch batch_continues batch_from s step w ≡ Err (Wire Truncated) → answers_of now w ≡ Err (Wire Truncated)
 unfolding answers_of
 reading-between_fields now s step is w h = rw is (rw h refl)

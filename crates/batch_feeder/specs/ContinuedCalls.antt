@@ -8,6 +8,10 @@ use Rattle.wire_pieces.specs.Pieces.{Comes, NeedsMore, Refuses, Reaches}
 use Rattle.batch_codec.specs.declared.fault.DecodeError.{DecodeError}
 use Rattle.batch_codec.specs.declared.fault.DecodeError.TheVariants.{Wire, Memory}
 use Rattle.batch_codec.specs.Decoding.{Reading, Fails}
+use Rattle.batch_feeder.specs.declared.partial.Arrival.{Arrival}
+use Rattle.batch_feeder.specs.declared.partial.Arrival.TheVariants.{Complete, Pending}
+use Rattle.batch_feeder.specs.declared.fields.InPlace.{InPlace}
+use Rattle.batch_feeder.specs.declared.fields.InPlace.TheVariants.{Read, Deferred}
 
 -- the fault of a part is the fault of the whole reading
 abbrev pub fault_of : PieceError → DecodeError
@@ -23,10 +27,10 @@ abbrev pub Continues : {A : Type 0} → Reading A → Reading A → List ℕ →
 Continues old new piece left (Ok o) = Reaches (Wire Truncated) (λ x. x) old new piece left o
 Continues old new piece left (Err e) = Faults old piece e
 
--- like `Continues`, for a call that changes the fields so far, and returns whether the value is complete
-abbrev pub ContinuesTo : {X : Type 0} → X → Reading X → Reading X → List ℕ → List ℕ → Result Bool DecodeError → Type 0
-ContinuesTo x old new piece left (Ok true) = Comes old (λ w. Ok (x, w)) piece left
-ContinuesTo x old new piece left (Ok false) = NeedsMore (Wire Truncated) old new piece left
+-- like `Continues`, for a call that changes the fields so far
+abbrev pub ContinuesTo : {X : Type 0} → X → Reading X → Reading X → List ℕ → List ℕ → Result Arrival DecodeError → Type 0
+ContinuesTo x old new piece left (Ok Complete) = Comes old (λ w. Ok (x, w)) piece left
+ContinuesTo x old new piece left (Ok Pending) = NeedsMore (Wire Truncated) old new piece left
 ContinuesTo x old new piece left (Err e) = Faults old piece e
 
 -- a value or a fault, as a reading that takes no bytes
@@ -34,15 +38,15 @@ abbrev pub ended : {A : Type 0} → Result A DecodeError → Reading A
 ended end w = end >>= λ m. Ok (m, w)
 
 -- like `ContinuesTo`, for a call after which the value, which may be a fault, is still to be taken
-abbrev pub Arrives : {A : Type 0} → Reading A → Reading A → Result A DecodeError → List ℕ → List ℕ → Result Bool DecodeError → Type 0
-Arrives old new end piece left (Ok true) = Comes old (ended end) piece left
-Arrives old new end piece left (Ok false) = NeedsMore (Wire Truncated) old new piece left
+abbrev pub Arrives : {A : Type 0} → Reading A → Reading A → Result A DecodeError → List ℕ → List ℕ → Result Arrival DecodeError → Type 0
+Arrives old new end piece left (Ok Complete) = Comes old (ended end) piece left
+Arrives old new end piece left (Ok Pending) = NeedsMore (Wire Truncated) old new piece left
 Arrives old new end piece left (Err e) = Faults old piece e
 
 -- like `ContinuesTo`, for a call that stores a value in its slot; `holding` is the slot with a value
-abbrev pub Places : {A S : Type 0} → (A → S) → Reading A → Reading A → S → S → List ℕ → List ℕ → Result Bool DecodeError → Type 0
-Places {A = A} holding old new before after piece left (Ok true) = (x : A) × (after ≡ holding x) × Comes old (λ w. Ok (x, w)) piece left
-Places holding old new before after piece left (Ok false) = NeedsMore (Wire Truncated) old new piece left × (after ≡ before)
+abbrev pub Places : {A S : Type 0} → (A → S) → Reading A → Reading A → S → S → List ℕ → List ℕ → Result Arrival DecodeError → Type 0
+Places {A = A} holding old new before after piece left (Ok Complete) = (x : A) × (after ≡ holding x) × Comes old (λ w. Ok (x, w)) piece left
+Places holding old new before after piece left (Ok Pending) = NeedsMore (Wire Truncated) old new piece left × (after ≡ before)
 Places holding old new before after piece left (Err e) = Faults old piece e
 
 -- a value that began and was stored in its slot: complete, or what has arrived of it, or a fault
@@ -57,16 +61,16 @@ BeginsValue reads resumes part piece left (Ok (Some x)) = Comes reads (λ w. Ok 
 BeginsValue {P = P} reads resumes part piece left (Ok None) = (p : P) × (part ≡ Some p) × NeedsMore (Wire Truncated) reads (resumes p) piece left
 BeginsValue reads resumes part piece left (Err e) = Faults reads piece e
 
--- like `BeginsValue`, for a call that changes the fields so far, and returns whether the value is complete
-abbrev pub Enters : {X V : Type 0} → Reading X → (V → Reading X) → X → Option V → List ℕ → List ℕ → Result Bool DecodeError → Type 0
-Enters reads resumes x part piece left (Ok true) = Comes reads (λ w. Ok (x, w)) piece left
-Enters {V = V} reads resumes x part piece left (Ok false) = (v : V) × (part ≡ Some v) × NeedsMore (Wire Truncated) reads (resumes v) piece left
+-- like `BeginsValue`, for a call that changes the fields so far
+abbrev pub Enters : {X V : Type 0} → Reading X → (V → Reading X) → X → Option V → List ℕ → List ℕ → Result Arrival DecodeError → Type 0
+Enters reads resumes x part piece left (Ok Complete) = Comes reads (λ w. Ok (x, w)) piece left
+Enters {V = V} reads resumes x part piece left (Ok Pending) = (v : V) × (part ≡ Some v) × NeedsMore (Wire Truncated) reads (resumes v) piece left
 Enters reads resumes x part piece left (Err e) = Faults reads piece e
 
--- A call that reads a complete value from the bytes, or takes nothing; only a complete value changes the fields so far.
-abbrev pub Tries : {X : Type 0} → Reading X → X → X → List ℕ → List ℕ → Result Bool DecodeError → Type 0
-Tries reads old new piece left (Ok true) = reads piece ≡ Ok (new, left)
-Tries reads old new piece left (Ok false) = new ≡ old
+-- A call that reads a complete value from the bytes, or defers it and takes nothing; only a complete value changes the fields so far.
+abbrev pub Tries : {X : Type 0} → Reading X → X → X → List ℕ → List ℕ → Result InPlace DecodeError → Type 0
+Tries reads old new piece left (Ok Read) = reads piece ≡ Ok (new, left)
+Tries reads old new piece left (Ok Deferred) = new ≡ old
 Tries reads old new piece left (Err e) = Fails e (reads piece) × (new ≡ old)
 
 -- the fault is too few bytes

@@ -17,7 +17,7 @@ use Rattle.batch_feeder.specs.Batches.{batch_continues}
 unfoldable pub answers_of : State → List ℕ → Result Batch DecodeError
 answers_of (state.Reading r) w = struct_from take_batch batch_continues batch_from r.slots r.step w >>= at_end
 answers_of (state.Whole b) w = at_end (b, w)
-answers_of (state.Refused e) w = Err e
+answers_of (state.Failed e) w = Err e
 
 -- the fault is too few bytes
 abbrev pub is_truncated : DecodeError → Bool
@@ -40,7 +40,7 @@ is_short (Err e) = is_truncated e
 unfoldable pub settled : State → Bool
 settled (state.Reading r) = is_short (struct_from take_batch batch_continues batch_from r.slots r.step [])
 settled (state.Whole b) = true
-settled (state.Refused e) = not (is_truncated e)
+settled (state.Failed e) = not (is_truncated e)
 
 abbrev pub IsSettled : State → Type 0
 IsSettled s = settled s ≡ true

@@ -1,5 +1,5 @@
 -- A partially received struct.
-use Rattle.std.specs.Prelude.{◌≡◌, ◌<◌, ℕ, List, length, Option, Some, Result, Ok, Err, Bool, true, false}
+use Rattle.std.specs.Prelude.{◌≡◌, ◌<◌, ℕ, List, length, Option, Some, Result, Ok, Err, true}
 use Rattle.thrift_binary.specs.declared.fault.WireError.TheVariants.{Truncated}
 use Rattle.thrift_binary.specs.Reading.{◌>>=◌, field_at, is_code}
 use Rattle.thrift_binary.specs.Fields.{Take, fields_at}
@@ -8,6 +8,8 @@ use Rattle.wire_pieces.specs.Heads.{fields_head, fields_value}
 use Rattle.batch_codec.specs.declared.fault.DecodeError.{DecodeError}
 use Rattle.batch_codec.specs.declared.fault.DecodeError.TheVariants.{Wire}
 use Rattle.batch_codec.specs.Decoding.{Reading, wire}
+use Rattle.batch_feeder.specs.declared.partial.Arrival.{Arrival}
+use Rattle.batch_feeder.specs.declared.partial.Arrival.TheVariants.{Complete, Pending}
 use Rattle.batch_feeder.specs.declared.fields.Step.{Step}
 use Rattle.batch_feeder.specs.declared.fields.Step.TheVariants.{Head, Value}
 use Rattle.batch_feeder.specs.declared.fields.FieldsEnd.{FieldsEnd}
@@ -42,7 +44,7 @@ ReadsFields take s t piece left (Ok (place.Value c i)) = Comes (fields_at wire t
 ReadsFields take s t piece left (Err e) = Faults (fields_at wire take s) piece e
 
 -- A value of a field that began: complete, or what has arrived of it, which is stored, or a fault.
-abbrev pub Opens : {S V : Type 0} → Reading S → (V → Reading S) → S → Option (Step V) → List ℕ → List ℕ → Result Bool DecodeError → Type 0
-Opens reads resumes t next piece left (Ok true) = Comes reads (λ w. Ok (t, w)) piece left
-Opens {V = V} reads resumes t next piece left (Ok false) = (v : V) × (next ≡ Some (Value v)) × NeedsMore (Wire Truncated) reads (resumes v) piece left
+abbrev pub Opens : {S V : Type 0} → Reading S → (V → Reading S) → S → Option (Step V) → List ℕ → List ℕ → Result Arrival DecodeError → Type 0
+Opens reads resumes t next piece left (Ok Complete) = Comes reads (λ w. Ok (t, w)) piece left
+Opens {V = V} reads resumes t next piece left (Ok Pending) = (v : V) × (next ≡ Some (Value v)) × NeedsMore (Wire Truncated) reads (resumes v) piece left
 Opens reads resumes t next piece left (Err e) = Faults reads piece e

@@ -4,13 +4,13 @@ use Rattle.thrift_binary.specs.Reading.{◌>>=◌}
 use Rattle.batch_codec.specs.declared.reference.ReferenceSlots.{ReferenceSlots}
 use Rattle.batch_codec.specs.Decoding.{Reading, id_at}
 use Rattle.batch_codec.specs.ReferenceReading.{kind_at}
-use Rattle.batch_feeder.specs.declared.reference.ReferenceFieldPart.{ReferenceFieldPart}
-use Rattle.batch_feeder.specs.declared.reference.ReferenceFieldPart.TheVariants as held
-use Rattle.batch_feeder.specs.Values.{skip_part}
+use Rattle.batch_feeder.specs.declared.reference.PartialReferenceField.{PartialReferenceField}
+use Rattle.batch_feeder.specs.declared.reference.PartialReferenceField.TheVariants as held
+use Rattle.batch_feeder.specs.Values.{partial_skipped}
 
-abbrev pub reference_continues : ReferenceSlots → ReferenceFieldPart → Reading ReferenceSlots
+abbrev pub reference_continues : ReferenceSlots → PartialReferenceField → Reading ReferenceSlots
 reference_continues s (held.Kind p) w = kind_at (p.bytes ++ w) >>= λ x. Ok (record s { kind = Some x.0 }, x.1)
 reference_continues s (held.TraceLow p) w = id_at (p.bytes ++ w) >>= λ x. Ok (record s { trace_low = Some x.0 }, x.1)
 reference_continues s (held.TraceHigh p) w = id_at (p.bytes ++ w) >>= λ x. Ok (record s { trace_high = Some x.0 }, x.1)
 reference_continues s (held.Id p) w = id_at (p.bytes ++ w) >>= λ x. Ok (record s { id = Some x.0 }, x.1)
-reference_continues s (held.Skip p) w = skip_part s p w
+reference_continues s (held.Skip p) w = partial_skipped s p w

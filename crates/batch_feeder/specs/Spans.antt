@@ -7,21 +7,21 @@ use Rattle.batch_codec.specs.EmptySlots.{no_tag, no_log, no_reference}
 use Rattle.batch_codec.specs.TagReading.{take_tag, tag_from}
 use Rattle.batch_codec.specs.LogReading.{take_log, log_from}
 use Rattle.batch_codec.specs.ReferenceReading.{take_reference, reference_from}
-use Rattle.batch_feeder.specs.declared.span.SpanFieldPart.{SpanFieldPart}
-use Rattle.batch_feeder.specs.declared.span.SpanFieldPart.TheVariants as held
-use Rattle.batch_feeder.specs.Values.{text_part, skip_part}
+use Rattle.batch_feeder.specs.declared.span.PartialSpanField.{PartialSpanField}
+use Rattle.batch_feeder.specs.declared.span.PartialSpanField.TheVariants as held
+use Rattle.batch_feeder.specs.Values.{partial_text, partial_skipped}
 use Rattle.batch_feeder.specs.Fields.{struct_at, struct_from}
 use Rattle.batch_feeder.specs.Lists.{list_from}
 use Rattle.batch_feeder.specs.Tags.{tag_continues}
 use Rattle.batch_feeder.specs.Logs.{log_continues}
 use Rattle.batch_feeder.specs.References.{reference_continues}
 
-abbrev pub span_continues : SpanSlots → SpanFieldPart → Reading SpanSlots
+abbrev pub span_continues : SpanSlots → PartialSpanField → Reading SpanSlots
 span_continues s (held.TraceLow p) w = id_at (p.bytes ++ w) >>= λ x. Ok (record s { trace_low = Some x.0 }, x.1)
 span_continues s (held.TraceHigh p) w = id_at (p.bytes ++ w) >>= λ x. Ok (record s { trace_high = Some x.0 }, x.1)
 span_continues s (held.Id p) w = id_at (p.bytes ++ w) >>= λ x. Ok (record s { id = Some x.0 }, x.1)
 span_continues s (held.Parent p) w = id_at (p.bytes ++ w) >>= λ x. Ok (record s { parent = Some x.0 }, x.1)
-span_continues s (held.Operation p) w = text_part p w >>= λ x. Ok (record s { operation = Some x.0 }, x.1)
+span_continues s (held.Operation p) w = partial_text p w >>= λ x. Ok (record s { operation = Some x.0 }, x.1)
 span_continues s (held.References p) w =
     list_from (struct_at take_reference no_reference reference_from)
     (λ q. struct_from take_reference reference_continues reference_from q.slots q.step) p.items.items p.left p.head p.one w >>=
@@ -35,4 +35,4 @@ span_continues s (held.Tags p) w =
 span_continues s (held.Logs p) w =
     list_from (struct_at take_log no_log log_from) (λ q. struct_from take_log log_continues log_from q.slots q.step) p.items.items p.left p.head p.one w >>=
     λ x. Ok (record s { logs = x.0 }, x.1)
-span_continues s (held.Skip p) w = skip_part s p w
+span_continues s (held.Skip p) w = partial_skipped s p w

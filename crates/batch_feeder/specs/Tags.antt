@@ -4,17 +4,17 @@ use Rattle.thrift_binary.specs.Reading.{◌>>=◌}
 use Rattle.batch_codec.specs.declared.tag.TagSlots.{TagSlots}
 use Rattle.batch_codec.specs.Decoding.{Reading, double_at, i64_at}
 use Rattle.batch_codec.specs.TagReading.{type_at}
-use Rattle.batch_feeder.specs.declared.tag.TagFieldPart.{TagFieldPart}
-use Rattle.batch_feeder.specs.declared.tag.TagFieldPart.TheVariants as held
-use Rattle.batch_feeder.specs.Values.{bool_from, text_part, binary_part, skip_part}
+use Rattle.batch_feeder.specs.declared.tag.PartialTagField.{PartialTagField}
+use Rattle.batch_feeder.specs.declared.tag.PartialTagField.TheVariants as held
+use Rattle.batch_feeder.specs.Values.{bool_from, partial_text, partial_binary, partial_skipped}
 
 -- the value that has begun, and how it changes the fields so far
-abbrev pub tag_continues : TagSlots → TagFieldPart → Reading TagSlots
-tag_continues s (held.Key p) w = text_part p w >>= λ x. Ok (record s { key = Some x.0 }, x.1)
+abbrev pub tag_continues : TagSlots → PartialTagField → Reading TagSlots
+tag_continues s (held.Key p) w = partial_text p w >>= λ x. Ok (record s { key = Some x.0 }, x.1)
 tag_continues s (held.Kind p) w = type_at (p.bytes ++ w) >>= λ x. Ok (record s { kind = Some x.0 }, x.1)
-tag_continues s (held.Text p) w = text_part p w >>= λ x. Ok (record s { text = x.0 }, x.1)
+tag_continues s (held.Text p) w = partial_text p w >>= λ x. Ok (record s { text = x.0 }, x.1)
 tag_continues s (held.Double p) w = double_at (p.bytes ++ w) >>= λ x. Ok (record s { double = x.0 }, x.1)
 tag_continues s (held.Boolean p) w = bool_from p w >>= λ x. Ok (record s { boolean = x.0 }, x.1)
 tag_continues s (held.Long p) w = i64_at (p.bytes ++ w) >>= λ x. Ok (record s { long = x.0 }, x.1)
-tag_continues s (held.Binary p) w = binary_part p w >>= λ x. Ok (record s { binary = x.0 }, x.1)
-tag_continues s (held.Skip p) w = skip_part s p w
+tag_continues s (held.Binary p) w = partial_binary p w >>= λ x. Ok (record s { binary = x.0 }, x.1)
+tag_continues s (held.Skip p) w = partial_skipped s p w

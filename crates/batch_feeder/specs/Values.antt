@@ -9,28 +9,28 @@ use Rattle.wire_pieces.specs.Skipped.{skipping}
 use Rattle.batch_codec.specs.declared.fault.DecodeError.{DecodeError}
 use Rattle.batch_codec.specs.declared.fault.DecodeError.TheVariants.{Wire}
 use Rattle.batch_codec.specs.Decoding.{Reading, wire}
-use Rattle.batch_feeder.specs.declared.values.BoolPart.{BoolPart}
-use Rattle.batch_feeder.specs.declared.texts.TextPart.{TextPart}
-use Rattle.batch_feeder.specs.declared.texts.BinaryPart.{BinaryPart}
-use Rattle.batch_feeder.specs.declared.skipped.SkipPart.{SkipPart}
+use Rattle.batch_feeder.specs.declared.values.PartialBool.{PartialBool}
+use Rattle.batch_feeder.specs.declared.texts.PartialText.{PartialText}
+use Rattle.batch_feeder.specs.declared.texts.PartialBinary.{PartialBinary}
+use Rattle.batch_feeder.specs.declared.skipped.PartialSkipped.{PartialSkipped}
 
-abbrev pub bool_from : BoolPart → Reading Bool
+abbrev pub bool_from : PartialBool → Reading Bool
 bool_from p w = lift wire (wires.bool_at w)
 
 -- a string whose bytes have arrived must be UTF-8
 abbrev pub checked_text : List ℕ × List ℕ → Result (List ℕ × List ℕ) DecodeError
 checked_text x = if is_utf8 x.0 then Ok (x.0, x.1) else Err (Wire BadText)
 
-abbrev pub text_part : TextPart → Reading (List ℕ)
-text_part p w = lift wire (string_from p.part w) >>= checked_text
+abbrev pub partial_text : PartialText → Reading (List ℕ)
+partial_text p w = lift wire (string_from p.part w) >>= checked_text
 
-abbrev pub binary_part : BinaryPart → Reading (List ℕ)
-binary_part p w = lift wire (string_from p.part w)
+abbrev pub partial_binary : PartialBinary → Reading (List ℕ)
+partial_binary p w = lift wire (string_from p.part w)
 
 -- a skipped value
-abbrev pub skip_from : SkipPart → Reading (Unit {0})
+abbrev pub skip_from : PartialSkipped → Reading (Unit {0})
 skip_from p w = lift wire (skipping p.part w)
 
 -- and changes nothing
-abbrev pub skip_part : {S : Type 0} → S → SkipPart → Reading S
-skip_part s p w = skip_from p w >>= λ x. Ok (s, x.1)
+abbrev pub partial_skipped : {S : Type 0} → S → PartialSkipped → Reading S
+partial_skipped s p w = skip_from p w >>= λ x. Ok (s, x.1)

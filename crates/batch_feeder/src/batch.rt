@@ -1,40 +1,47 @@
-ghost use Rattle.batch_feeder.specs.Batches.{shared_part};
+ghost use Rattle.batch_feeder.specs.Batches.{partial_shared_process};
 
-use crate::fields::{Fields, PieceSlots};
-use crate::items::ListPart;
-use crate::partial::{Partial, place};
-use crate::process::ProcessParts;
-use crate::skipped::SkipPart;
+use crate::fields::{Fields, InPlace, PieceSlots};
+use crate::items::PartialList;
+use crate::partial::{Arrival, Partial, place};
+use crate::process::PartialProcess;
+use crate::skipped::PartialSkipped;
 use crate::structs::Struct;
-use crate::values::I64Part;
+use crate::values::PartialI64;
 use batch_codec::{BatchSlots, Decoded, SpanSlots, read_i64};
 use jaeger_model::{Batch, SharedProcess};
 use std::alloc::Global;
 use thrift_binary::Cursor;
 use thrift_binary::types::{I64, LIST, STRUCT};
 
+// The ids of a batch's fields in `jaeger.thrift`.
+const PROCESS: i16 = 1;
+
+const SPANS: i16 = 2;
+
+const SEQ_NO: i16 = 3;
+
 /// The least number of bytes of a batch: 11 of the process, 8 of the spans and the stop byte.
 const MIN_BATCH_BYTES: usize = 20;
 
 /// The partially received value of a field of a batch.
 #[derive(Drop)]
-pub(crate) enum BatchFieldPart {
-    Process(SharedPart),
-    Spans(ListPart<Struct<SpanSlots>>),
-    SeqNo(I64Part),
-    Skip(SkipPart),
+pub(crate) enum PartialBatchField {
+    Process(PartialSharedProcess),
+    Spans(PartialList<Struct<SpanSlots>>),
+    SeqNo(PartialI64),
+    Skip(PartialSkipped),
 }
 
 /// A partially received process, which the batch's spans will share.
 #[derive(Drop)]
-pub(crate) struct SharedPart {
-    process: Struct<ProcessParts>,
+pub(crate) struct PartialSharedProcess {
+    process: Struct<PartialProcess>,
 }
 
-impl Partial for SharedPart {
+impl Partial for PartialSharedProcess {
     type Value = SharedProcess;
 
-    ghost resumes = { shared_part };
+    ghost resumes = { partial_shared_process };
 
     fn more(&mut self, alloc: Global, piece: &mut Cursor<'_>) -> Decoded<Option<SharedProcess>> {
         let Some(process) = self.process.more(alloc, piece)? else {
@@ -51,7 +58,7 @@ impl PieceSlots for BatchSlots {
     ghost use Rattle.batch_feeder.specs.FieldLaws.{take_batch_safe, batch_not_short};
     ghost use Rattle.batch_feeder.specs.ShortFields.{take_batch_short};
 
-    type FieldPart = BatchFieldPart;
+    type PartialField = PartialBatchField;
 
     type Output = Batch;
 
@@ -73,45 +80,51 @@ impl PieceSlots for BatchSlots {
 
     #[tactic(auto, unfolding(batch_codec::specs::BatchReading::take_batch))]
     #[inline(always)]
-    fn put(&mut self, code: u8, id: i16, _alloc: Global, cursor: &mut Cursor<'_>) -> Decoded<bool> {
+    fn put(
+        &mut self,
+        code: u8,
+        id: i16,
+        _alloc: Global,
+        cursor: &mut Cursor<'_>,
+    ) -> Decoded<InPlace> {
         match (code, id) {
-            (I64, 3) => self.seq_no = Some(read_i64(cursor)?),
-            (STRUCT, 1) | (LIST, 2) => return Ok(false),
+            (I64, SEQ_NO) => self.seq_no = Some(read_i64(cursor)?),
+            (STRUCT, PROCESS) | (LIST, SPANS) => return Ok(InPlace::Deferred),
             _ => cursor.skip(code)?,
         }
-        Ok(true)
+        Ok(InPlace::Read)
     }
 
     #[tactic(auto, unfolding(batch_codec::specs::BatchReading::take_batch, batch_codec::specs::ProcessReading::process_at, batch_codec::specs::SpanReading::span_at))]
-    fn begin(&self, code: u8, id: i16, alloc: Global) -> BatchFieldPart {
+    fn begin(&self, code: u8, id: i16, alloc: Global) -> PartialBatchField {
         match (code, id) {
-            (STRUCT, 1) => BatchFieldPart::Process(SharedPart {
+            (STRUCT, PROCESS) => PartialBatchField::Process(PartialSharedProcess {
                 process: Struct::new(alloc),
             }),
-            (LIST, 2) => BatchFieldPart::Spans(ListPart::new(alloc)),
-            (I64, 3) => BatchFieldPart::SeqNo(I64Part::new()),
-            _ => BatchFieldPart::Skip(SkipPart::new(code)),
+            (LIST, SPANS) => PartialBatchField::Spans(PartialList::new(alloc)),
+            (I64, SEQ_NO) => PartialBatchField::SeqNo(PartialI64::new()),
+            _ => PartialBatchField::Skip(PartialSkipped::new(code)),
         }
     }
 
     fn more(
         &mut self,
-        held: &mut BatchFieldPart,
+        held: &mut PartialBatchField,
         alloc: Global,
         piece: &mut Cursor<'_>,
-    ) -> Decoded<bool> {
+    ) -> Decoded<Arrival> {
         match held {
-            BatchFieldPart::Process(part) => place(part, &mut self.process, alloc, piece),
-            BatchFieldPart::Spans(part) => part.place(&mut self.spans, alloc, piece),
-            BatchFieldPart::SeqNo(part) => place(part, &mut self.seq_no, alloc, piece),
-            BatchFieldPart::Skip(part) => place(part, &mut (), alloc, piece),
+            PartialBatchField::Process(part) => place(part, &mut self.process, alloc, piece),
+            PartialBatchField::Spans(part) => part.place(&mut self.spans, alloc, piece),
+            PartialBatchField::SeqNo(part) => place(part, &mut self.seq_no, alloc, piece),
+            PartialBatchField::Skip(part) => place(part, &mut (), alloc, piece),
         }
     }
 
-    fn is_between_fields(held: &BatchFieldPart) -> bool {
+    fn is_between_fields(held: &PartialBatchField) -> bool {
         match held {
-            BatchFieldPart::Process(part) => part.process.is_between(),
-            BatchFieldPart::Spans(part) => part.is_between_fields(),
+            PartialBatchField::Process(part) => part.process.is_between(),
+            PartialBatchField::Spans(part) => part.is_between_fields(),
             _ => false,
         }
     }

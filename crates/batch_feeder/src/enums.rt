@@ -1,13 +1,13 @@
-use crate::values::{Fixed, FixedPart};
+use crate::values::{Fixed, PartialFixed};
 use batch_codec::{Decoded, TagType, kind_of_number, type_of_number};
 use byteorder::{BigEndian, ByteOrder};
 use jaeger_model::RefKind;
 
 /// A tag's type.
-pub(crate) type TypePart = FixedPart<TagType, 4>;
+pub(crate) type PartialTagType = PartialFixed<TagType, 4>;
 
 /// A reference's kind.
-pub(crate) type KindPart = FixedPart<RefKind, 4>;
+pub(crate) type PartialRefKind = PartialFixed<RefKind, 4>;
 
 /// A tag's type, which is encoded as its number.
 impl Fixed<4> for TagType {

@@ -3,11 +3,11 @@ ghost use Rattle.thrift_binary.specs.declared.fault.WireError.TheVariants.{Trunc
 ghost use Rattle.batch_codec.specs.declared.fault.DecodeError.TheVariants.{Wire};
 ghost use Rattle.batch_codec.specs.BatchReading.{decoded};
 ghost use Rattle.batch_codec.specs.Decoding.{Gives};
-ghost use Rattle.batch_feeder.specs.declared.feeder.State.TheVariants.{Whole, Refused};
+ghost use Rattle.batch_feeder.specs.declared.feeder.State.TheVariants.{Whole, Failed};
 ghost use Rattle.batch_feeder.specs.LeastBytes.{AreQuiet, least};
 ghost use Rattle.batch_feeder.specs.FeederResults.{IsSettled, IsBetweenFields, Holds, Ends, Advances, Feeds, Keeps, answers_of};
 
-use crate::partial::Item;
+use crate::partial::{Arrival, Item};
 use crate::structs::Struct;
 use batch_codec::{BatchSlots, DecodeError, Decoded};
 use jaeger_model::Batch;
@@ -26,7 +26,7 @@ const SHORT: usize = 8;
 pub(crate) enum State {
     Reading(Struct<BatchSlots>),
     Whole(Batch),
-    Refused(DecodeError),
+    Failed(DecodeError),
 }
 
 /// Assigns a value.
@@ -48,10 +48,10 @@ fn complete(state: &mut State, batch: Batch)
 
 /// Stores the error. It isn't inlined, for the same reason as [`complete`].
 #[inline(never)]
-fn refuse(state: &mut State, error: DecodeError)
-    ensures { state.new ≡ Refused error }
+fn fail(state: &mut State, error: DecodeError)
+    ensures { state.new ≡ Failed error }
 {
-    assign(state, State::Refused(error));
+    assign(state, State::Failed(error));
 }
 
 /// Checks that nothing follows the batch.
@@ -75,22 +75,22 @@ fn advance(state: &mut State, alloc: Global, piece: &[u8]) -> Decoded<()>
             // For the prover: the match takes the cases of the clause `continues` apart.
             match reading.arrive(alloc, &mut left) {
                 Err(error) => return Err(error),
-                Ok(false) => return Ok(()),
-                Ok(true) => {}
+                Ok(Arrival::Pending) => return Ok(()),
+                Ok(Arrival::Complete) => {}
             }
             let batch = reading.take(alloc)?;
             complete(state, batch);
             end_of(&left)
         }
         State::Whole(_) => end_of(&left),
-        State::Refused(error) => Err(*error),
+        State::Failed(error) => Err(*error),
     }
 }
 
 /// Continues with a piece, and stores an error. `wanted` becomes the number of bytes to wait for, 0 if each byte is
 /// read as it arrives.
 #[inline(never)]
-fn advance_or_refuse(
+fn advance_or_fail(
     state: &mut State,
     wanted: &mut usize,
     alloc: Global,
@@ -103,7 +103,7 @@ fn advance_or_refuse(
 {
     match advance(state, alloc, piece) {
         Err(error) => {
-            refuse(state, error);
+            fail(state, error);
             *wanted = 0;
             Err(error)
         }
@@ -127,7 +127,7 @@ fn advance_over_waiting(
     ensures holds { Holds state.new [] wanted.new }
     ensures empty { waiting.new.items ≡ [] }
 {
-    let result = advance_or_refuse(state, wanted, alloc, waiting.as_slice());
+    let result = advance_or_fail(state, wanted, alloc, waiting.as_slice());
     waiting.clear();
     result
 }
@@ -145,7 +145,7 @@ fn wanted_between_fields(state: &State) -> usize
             0
         }
         State::Whole(_) => 0,
-        State::Refused(_) => 0,
+        State::Failed(_) => 0,
     }
 }
 
@@ -214,7 +214,9 @@ fn still_wanted(before: usize, bytes: &[u8]) -> usize
 #[derive(Drop)]
 pub struct Feeder {
     state: State,
+    /// The bytes of a field that `state` hasn't read.
     waiting: Vec<u8>,
+    /// The number of bytes to wait for before they are read; 0 if each byte is read as it arrives.
     wanted: usize,
     ghost settled: { IsSettled state },
     ghost holds: { Holds state waiting.items wanted },
@@ -308,7 +310,7 @@ impl Feeder {
         ensures feeds { Feeds (answers self.old) (answers self.new) (byte ∷ []) result }
     {
         if self.wanted == 0 {
-            return advance_or_refuse(&mut self.state, &mut self.wanted, alloc, &[byte]);
+            return advance_or_fail(&mut self.state, &mut self.wanted, alloc, &[byte]);
         }
         match self.waiting.push(byte) {
             Err(_) => self.fail(DecodeError::Memory),
@@ -327,10 +329,10 @@ impl Feeder {
     #[inline(never)]
     fn fail(&mut self, error: DecodeError) -> Decoded<()>
         requires { error ≡ Wire Truncated → ⊥ }
-        ensures refuses { result ≡ Err error }
+        ensures fails { result ≡ Err error }
         ensures stays { (w : List ℕ) → answers self.new w ≡ Err error }
     {
-        refuse(&mut self.state, error);
+        fail(&mut self.state, error);
         self.waiting.clear();
         self.wanted = 0;
         Err(error)
@@ -344,7 +346,7 @@ impl Feeder {
         // For the prover: the match takes the cases of the clause `keeps` apart.
         match self.read_waiting(alloc) {
             Err(error) => Err(error),
-            Ok(()) => advance_or_refuse(&mut self.state, &mut self.wanted, alloc, piece),
+            Ok(()) => advance_or_fail(&mut self.state, &mut self.wanted, alloc, piece),
         }
     }
 
@@ -376,7 +378,7 @@ impl Feeder {
                 Err(DecodeError::Wire(WireError::Truncated))
             }
             State::Whole(batch) => Ok(batch),
-            State::Refused(error) => Err(error),
+            State::Failed(error) => Err(error),
         }
     }
 }

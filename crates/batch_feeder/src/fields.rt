@@ -11,11 +11,19 @@ ghost use Rattle.batch_feeder.specs.ContinuedCalls.{Attempts, Enters, ContinuesT
 ghost use Rattle.batch_feeder.specs.Fields.{IsFresh, Opens, ReadsFields, fields_from, struct_at};
 ghost use Rattle.batch_feeder.specs.LeastBytes.{IsPart, least_bytes};
 
-use crate::partial::fault_of;
+use crate::partial::{Arrival, fault_of};
 use batch_codec::{DecodeError, Decoded};
 use std::alloc::Global;
 use thrift_binary::{Cursor, WireError};
 use wire_pieces::{FieldHead, Head};
+
+/// Whether the value of a field was read where it is in the piece.
+pub(crate) enum InPlace {
+    /// The value was read or skipped.
+    Read,
+    /// Nothing was read: the value is to be begun in pieces.
+    Deferred,
+}
 
 /// The fields of a struct that were read so far.
 ///
@@ -23,7 +31,7 @@ use wire_pieces::{FieldHead, Head};
 /// with the part that reads the value of each.
 pub(crate) trait PieceSlots: Drop + Sized {
     /// The partially received value of a field.
-    type FieldPart: Drop;
+    type PartialField: Drop;
 
     /// The struct.
     type Output: Drop;
@@ -32,7 +40,7 @@ pub(crate) trait PieceSlots: Drop + Sized {
     ghost takes: { Self → ℕ → ℤ → List ℕ → Result (Self × List ℕ) DecodeError };
 
     /// How a field whose value has begun changes the fields so far.
-    ghost resumes: { Self → Self.FieldPart → List ℕ → Result (Self × List ℕ) DecodeError };
+    ghost resumes: { Self → Self.PartialField → List ℕ → Result (Self × List ℕ) DecodeError };
 
     /// The state before the first field.
     ghost none: { Self };
@@ -46,31 +54,30 @@ pub(crate) trait PieceSlots: Drop + Sized {
     fn start(alloc: Global) -> Self
         ensures { result ≡ none };
 
-    /// Reads or skips the value of a field if it is complete, and returns whether it did. It leaves lists of structs, and
-    /// the process of a batch.
-    fn put(&mut self, code: u8, id: i16, alloc: Global, cursor: &mut Cursor<'_>) -> Decoded<bool>
+    /// Reads or skips the value of a field if it is complete. It defers lists of structs, and the process of a batch.
+    fn put(&mut self, code: u8, id: i16, alloc: Global, cursor: &mut Cursor<'_>) -> Decoded<InPlace>
         ensures tries { Tries (takes self.old code id) self.old self.new
             cursor.old cursor.new result }
         ensures no_longer { OnOk result (length cursor.new ≤ length cursor.old) };
 
     /// Returns the state before the first byte of a field's value.
-    fn begin(&self, code: u8, id: i16, alloc: Global) -> Self::FieldPart
+    fn begin(&self, code: u8, id: i16, alloc: Global) -> Self::PartialField
         requires { is_code code ≡ true }
         ensures fresh { (w : List ℕ) → resumes self.now result w ≡ takes self.now code id w };
 
-    /// Continues a field's value with a piece, and returns whether it is complete.
+    /// Continues a field's value with a piece.
     fn more(
         &mut self,
-        held: &mut Self::FieldPart,
+        held: &mut Self::PartialField,
         alloc: Global,
         piece: &mut Cursor<'_>,
-    ) -> Decoded<bool>
+    ) -> Decoded<Arrival>
         ensures continues { ContinuesTo self.new (resumes self.old held.old)
             (resumes self.new held.new) piece.old piece.new result }
         ensures no_longer { OnOk result (length piece.new ≤ length piece.old) };
 
     /// Whether the value is between two fields of the innermost struct that has begun in it.
-    fn is_between_fields(held: &Self::FieldPart) -> bool
+    fn is_between_fields(held: &Self::PartialField) -> bool
         ensures wants { result ≡ true → (s : Self) (w : List ℕ) → IsPart w →
             resumes s held.now w ≡ Err (Wire Truncated) };
 
@@ -92,12 +99,12 @@ pub(crate) trait Fields: PieceSlots {
     /// Begins the value of a field in a piece, and stores the part of it that has arrived if it isn't complete.
     fn enter(
         &mut self,
-        next: &mut Option<Step<Self::FieldPart>>,
+        next: &mut Option<Step<Self::PartialField>>,
         code: u8,
         id: i16,
         alloc: Global,
         piece: &mut Cursor<'_>,
-    ) -> Decoded<bool>
+    ) -> Decoded<Arrival>
         requires { is_code code ≡ true }
         ensures continues { Opens (Self.takes self.old code id) (Self.resumes self.new)
             self.new next.new piece.old piece.new result }
@@ -182,8 +189,8 @@ fn read_fields<S: PieceSlots>(
             return Ok(FieldsEnd::Stop);
         };
         match slots.put(code, id, alloc, &mut cursor) {
-            Ok(true) => {}
-            Ok(false) => {
+            Ok(InPlace::Read) => {}
+            Ok(InPlace::Deferred) => {
                 *piece = Cursor::new(value);
                 return Ok(FieldsEnd::Value(code, id));
             }
@@ -202,32 +209,34 @@ fn read_fields<S: PieceSlots>(
 #[inline(never)]
 pub(crate) fn enter_in_pieces<S: PieceSlots>(
     slots: &mut S,
-    next: &mut Option<Step<S::FieldPart>>,
+    next: &mut Option<Step<S::PartialField>>,
     code: u8,
     id: i16,
     alloc: Global,
     piece: &mut Cursor<'_>,
-) -> Decoded<bool>
+) -> Decoded<Arrival>
     requires { is_code code ≡ true }
     ensures continues { Opens (S.takes slots.old code id) (S.resumes slots.new) slots.new next.new
         piece.old piece.new result }
     ensures no_longer { OnOk result (length piece.new ≤ length piece.old) }
 {
     let mut value = slots.begin(code, id, alloc);
-    if slots.more(&mut value, alloc, piece)? {
-        return Ok(true);
+    match slots.more(&mut value, alloc, piece)? {
+        Arrival::Complete => Ok(Arrival::Complete),
+        Arrival::Pending => {
+            *next = Some(Step::Value(value));
+            Ok(Arrival::Pending)
+        }
     }
-    *next = Some(Step::Value(value));
-    Ok(false)
 }
 
 /// Stores the first bytes of a head, for which the piece is too short.
 #[inline(never)]
 fn enter_head<S: PieceSlots>(
     _slots: &S,
-    next: &mut Option<Step<S::FieldPart>>,
+    next: &mut Option<Step<S::PartialField>>,
     piece: &mut Cursor<'_>,
-) -> Decoded<bool>
+) -> Decoded<Arrival>
     requires { field_at piece.old ≡ Err Truncated }
     ensures continues { Enters (fields_at wire S.takes _slots.now)
         (fields_from S.takes S.resumes _slots.now) _slots.now next.new piece.old piece.new result }
@@ -238,7 +247,7 @@ fn enter_head<S: PieceSlots>(
         Err(error) => Err(fault_of(error)),
         Ok(_) => {
             *next = Some(Step::Head(head));
-            Ok(false)
+            Ok(Arrival::Pending)
         }
     }
 }
@@ -247,10 +256,10 @@ fn enter_head<S: PieceSlots>(
 #[inline(always)]
 pub(crate) fn enter_fields<S: Fields>(
     slots: &mut S,
-    next: &mut Option<Step<S::FieldPart>>,
+    next: &mut Option<Step<S::PartialField>>,
     alloc: Global,
     piece: &mut Cursor<'_>,
-) -> Decoded<bool>
+) -> Decoded<Arrival>
     ensures continues { Enters (fields_at wire S.takes slots.old)
         (fields_from S.takes S.resumes slots.new) slots.new next.new piece.old piece.new result }
     ensures no_longer { OnOk result (length piece.new ≤ length piece.old) }
@@ -259,12 +268,12 @@ pub(crate) fn enter_fields<S: Fields>(
         // For the prover: the matches take the cases of the clauses `reads` and `continues` apart.
         match read_fields(slots, alloc, piece) {
             Err(error) => return Err(error),
-            Ok(FieldsEnd::Stop) => return Ok(true),
+            Ok(FieldsEnd::Stop) => return Ok(Arrival::Complete),
             Ok(FieldsEnd::Head) => return enter_head(slots, next, piece),
             Ok(FieldsEnd::Value(code, id)) => match slots.enter(next, code, id, alloc, piece) {
                 Err(error) => return Err(error),
-                Ok(false) => return Ok(false),
-                Ok(true) => {}
+                Ok(Arrival::Pending) => return Ok(Arrival::Pending),
+                Ok(Arrival::Complete) => {}
             },
         }
     }
@@ -292,10 +301,10 @@ fn set_step<V: Drop>(step: &mut Step<V>, next: Option<Step<V>>)
 #[inline(never)]
 fn hold_fields<S: Fields>(
     slots: &mut S,
-    step: &mut Step<S::FieldPart>,
+    step: &mut Step<S::PartialField>,
     alloc: Global,
     piece: &mut Cursor<'_>,
-) -> Decoded<bool>
+) -> Decoded<Arrival>
     ensures continues { ContinuesTo slots.new (fields_at wire S.takes slots.old)
         (fields_from S.takes S.resumes slots.new step.new)
         piece.old piece.new result }
@@ -311,12 +320,12 @@ fn hold_fields<S: Fields>(
 #[inline(never)]
 fn hold_field<S: Fields>(
     slots: &mut S,
-    step: &mut Step<S::FieldPart>,
+    step: &mut Step<S::PartialField>,
     code: u8,
     id: i16,
     alloc: Global,
     piece: &mut Cursor<'_>,
-) -> Decoded<bool>
+) -> Decoded<Arrival>
     requires { is_code code ≡ true }
     ensures continues { ContinuesTo slots.new
         (fields_value wire S.takes (S.takes slots.old code id))
@@ -325,21 +334,23 @@ fn hold_field<S: Fields>(
     ensures no_longer { OnOk result (length piece.new ≤ length piece.old) }
 {
     let mut next = None;
-    if slots.enter(&mut next, code, id, alloc, piece)? {
-        return hold_fields(slots, step, alloc, piece);
+    match slots.enter(&mut next, code, id, alloc, piece)? {
+        Arrival::Complete => hold_fields(slots, step, alloc, piece),
+        Arrival::Pending => {
+            set_step(step, next);
+            Ok(Arrival::Pending)
+        }
     }
-    set_step(step, next);
-    Ok(false)
 }
 
 /// Reads fields from the first byte of a head on. If the piece ends before a head, the step is such a head again.
 #[inline(never)]
 fn read_on<S: Fields>(
     slots: &mut S,
-    step: &mut Step<S::FieldPart>,
+    step: &mut Step<S::PartialField>,
     alloc: Global,
     piece: &mut Cursor<'_>,
-) -> Decoded<bool>
+) -> Decoded<Arrival>
     requires { IsFresh S.takes S.resumes step.old }
     ensures continues { ContinuesTo slots.new (fields_at wire S.takes slots.old)
         (fields_from S.takes S.resumes slots.new step.new)
@@ -349,10 +360,10 @@ fn read_on<S: Fields>(
     // For the prover: the match takes the cases of the clause `reads` apart.
     match read_fields(slots, alloc, piece) {
         Err(error) => Err(error),
-        Ok(FieldsEnd::Stop) => Ok(true),
+        Ok(FieldsEnd::Stop) => Ok(Arrival::Complete),
         Ok(FieldsEnd::Head) => {
             if piece.is_empty() {
-                return Ok(false);
+                return Ok(Arrival::Pending);
             }
             hold_fields(slots, step, alloc, piece)
         }
@@ -364,10 +375,10 @@ fn read_on<S: Fields>(
 #[inline(always)]
 pub(crate) fn more_fields<S: Fields>(
     slots: &mut S,
-    step: &mut Step<S::FieldPart>,
+    step: &mut Step<S::PartialField>,
     alloc: Global,
     piece: &mut Cursor<'_>,
-) -> Decoded<bool>
+) -> Decoded<Arrival>
     ensures continues { ContinuesTo slots.new (fields_from S.takes S.resumes slots.old step.old)
         (fields_from S.takes S.resumes slots.new step.new) piece.old piece.new result }
     ensures no_longer { OnOk result (length piece.new ≤ length piece.old) }
@@ -379,16 +390,16 @@ pub(crate) fn more_fields<S: Fields>(
             }
             match head.more(piece) {
                 Err(error) => Err(fault_of(error)),
-                Ok(None) => Ok(false),
-                Ok(Some(Head::Stop)) => Ok(true),
+                Ok(None) => Ok(Arrival::Pending),
+                Ok(Some(Head::Stop)) => Ok(Arrival::Complete),
                 Ok(Some(Head::Field(code, id))) => hold_field(slots, step, code, id, alloc, piece),
             }
         }
         // For the prover: the match takes the cases of the clause `continues` apart.
         Step::Value(held) => match slots.more(held, alloc, piece) {
             Err(error) => Err(error),
-            Ok(false) => Ok(false),
-            Ok(true) => hold_fields(slots, step, alloc, piece),
+            Ok(Arrival::Pending) => Ok(Arrival::Pending),
+            Ok(Arrival::Complete) => hold_fields(slots, step, alloc, piece),
         },
     }
 }

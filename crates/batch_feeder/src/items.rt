@@ -10,7 +10,7 @@ ghost use Rattle.batch_feeder.specs.Lists.{items_behind, items_ended, list_from}
 ghost use Rattle.batch_feeder.specs.LeastBytes.{IsPart};
 
 use crate::fields::{Step, hold_next};
-use crate::partial::{Item, Slot, fault_of};
+use crate::partial::{Arrival, Item, Slot, fault_of};
 use batch_codec::{DecodeError, Decoded, room};
 use jaeger_model::Seq;
 use std::alloc::Global;
@@ -26,7 +26,7 @@ fn begin_items<P: Item>(
     one: &mut Option<P>,
     alloc: Global,
     piece: &mut Cursor<'_>,
-) -> Decoded<bool>
+) -> Decoded<Arrival>
     ensures continues { Enters (items_behind P.reads items.old.items left.old)
         (λ p. items_from P.reads items.new.items left.new (P.Partial.resumes p))
         items.new.items one.new piece.old piece.new result }
@@ -37,11 +37,11 @@ fn begin_items<P: Item>(
         // For the prover: the match takes the cases of the clause `continues` apart.
         match P::begin(one, alloc, piece) {
             Err(error) => return Err(error),
-            Ok(None) => return Ok(false),
+            Ok(None) => return Ok(Arrival::Pending),
             Ok(Some(item)) => items.push(item)?,
         }
     }
-    Ok(true)
+    Ok(Arrival::Complete)
 }
 
 /// Takes a value of a list whose bytes have arrived, and reads a number of further ones in its place.
@@ -52,7 +52,7 @@ fn next_items<P: Item>(
     one: &mut P,
     alloc: Global,
     piece: &mut Cursor<'_>,
-) -> Decoded<bool>
+) -> Decoded<Arrival>
     ensures continues { ContinuesTo items.new.items
         (items_ended P.reads items.old.items left.old (P.ends one.old))
         (items_from P.reads items.new.items left.new (P.Partial.resumes one.new))
@@ -63,28 +63,28 @@ fn next_items<P: Item>(
         let item = one.take(alloc)?;
         items.push(item)?;
         if *left == 0 {
-            return Ok(true);
+            return Ok(Arrival::Complete);
         }
         *left -= 1;
         // For the prover: the match takes the cases of the clause `continues` apart.
         match one.arrive(alloc, piece) {
             Err(error) => return Err(error),
-            Ok(false) => return Ok(false),
-            Ok(true) => {}
+            Ok(Arrival::Pending) => return Ok(Arrival::Pending),
+            Ok(Arrival::Complete) => {}
         }
     }
 }
 
 /// A list of structs. It grows with the structs that have arrived, whatever its size claims.
 #[derive(Drop)]
-pub(crate) struct ListPart<P: Item> {
+pub(crate) struct PartialList<P: Item> {
     items: Vec<P::Value>,
     left: u32,
     head: ListHead,
     one: Option<P>,
 }
 
-impl<P: Item> ListPart<P> {
+impl<P: Item> PartialList<P> {
     /// Returns the state before the first byte.
     #[inline(always)]
     pub(crate) fn new(alloc: Global) -> Self
@@ -93,7 +93,7 @@ impl<P: Item> ListPart<P> {
             ≡ list_of wire STRUCT P.reads w }
     {
         let head = ListHead::new();
-        ListPart {
+        PartialList {
             items: Vec::new(alloc),
             left: 0,
             head,
@@ -115,7 +115,13 @@ impl<P: Item> ListPart<P> {
 
     /// Continues after the head of a list.
     #[inline]
-    fn enter(&mut self, code: u8, size: u32, alloc: Global, piece: &mut Cursor<'_>) -> Decoded<bool>
+    fn enter(
+        &mut self,
+        code: u8,
+        size: u32,
+        alloc: Global,
+        piece: &mut Cursor<'_>,
+    ) -> Decoded<Arrival>
         ensures continues { ContinuesTo self.new.items.items
             (behind_head wire STRUCT P.reads (code, size))
             (list_from P.reads P.Partial.resumes self.new.items.items self.new.left self.new.head
@@ -124,7 +130,7 @@ impl<P: Item> ListPart<P> {
     {
         if size == 0 {
             self.items = Vec::new(alloc);
-            return Ok(true);
+            return Ok(Arrival::Complete);
         }
         if code != STRUCT {
             return Err(DecodeError::Wire(WireError::BadType));
@@ -136,7 +142,7 @@ impl<P: Item> ListPart<P> {
 
     /// Continues with a piece.
     #[inline(always)]
-    fn resume(&mut self, alloc: Global, piece: &mut Cursor<'_>) -> Decoded<bool>
+    fn resume(&mut self, alloc: Global, piece: &mut Cursor<'_>) -> Decoded<Arrival>
         ensures continues { ContinuesTo self.new.items.items
             (list_from P.reads P.Partial.resumes self.old.items.items self.old.left self.old.head
             self.old.one)
@@ -147,14 +153,20 @@ impl<P: Item> ListPart<P> {
         match &mut self.one {
             None => match self.head.more(piece) {
                 Err(error) => Err(fault_of(error)),
-                Ok(None) => Ok(false),
+                Ok(None) => Ok(Arrival::Pending),
                 Ok(Some((code, size))) => self.enter(code, size, alloc, piece),
             },
             // For the prover: the match takes the cases of the clause `continues` apart.
             Some(one) => match one.arrive(alloc, piece) {
                 Err(error) => Err(error),
-                Ok(false) => Ok(false),
-                Ok(true) => next_items(&mut self.items, &mut self.left, one, alloc, piece),
+                Ok(Arrival::Pending) => Ok(Arrival::Pending),
+                Ok(Arrival::Complete) => next_items(
+                    &mut self.items,
+                    &mut self.left,
+                    one,
+                    alloc,
+                    piece,
+                ),
             },
         }
     }
@@ -171,12 +183,12 @@ impl<P: Item> ListPart<P> {
             slot.old slot.new piece.old piece.new result }
         ensures no_longer { OnOk result (length piece.new ≤ length piece.old) }
     {
-        let mut part = ListPart::new(alloc);
+        let mut part = PartialList::new(alloc);
         // For the prover: the match takes the cases of the clause `continues` apart.
         match part.place(slot, alloc, piece) {
             Err(error) => Err(error),
-            Ok(true) => Ok(None),
-            Ok(false) => Ok(Some(part)),
+            Ok(Arrival::Complete) => Ok(None),
+            Ok(Arrival::Pending) => Ok(Some(part)),
         }
     }
 
@@ -187,7 +199,7 @@ impl<P: Item> ListPart<P> {
         slot: &mut S,
         alloc: Global,
         piece: &mut Cursor<'_>,
-    ) -> Decoded<bool>
+    ) -> Decoded<Arrival>
         ensures continues { Places S.holding (list_from P.reads P.Partial.resumes
             self.old.items.items self.old.left self.old.head self.old.one)
             (list_from P.reads P.Partial.resumes
@@ -196,7 +208,7 @@ impl<P: Item> ListPart<P> {
         ensures no_longer { OnOk result (length piece.new ≤ length piece.old) }
     {
         let result = self.resume(alloc, piece);
-        if let Ok(true) = result {
+        if let Ok(Arrival::Complete) = result {
             slot.fill(self.take_items(alloc));
         }
         result
@@ -214,13 +226,13 @@ impl<P: Item> ListPart<P> {
 /// Begins a list in a piece, and stores what has arrived of it if it isn't complete. It isn't inlined, so that fields
 /// that are no list have no such part in their stack frame.
 #[inline(never)]
-pub(crate) fn enter_list<P: Item, S: Slot<Seq<P::Value>>, V: Drop, F: FnOnce(ListPart<P>) -> V>(
+pub(crate) fn enter_list<P: Item, S: Slot<Seq<P::Value>>, V: Drop, F: FnOnce(PartialList<P>) -> V>(
     slot: &mut S,
     next: &mut Option<Step<V>>,
     held: F,
     alloc: Global,
     piece: &mut Cursor<'_>,
-) -> Decoded<bool>
+) -> Decoded<Arrival>
     requires callable { F.IsAlwaysCallable held }
     ensures continues { Enlists S.holding (list_of wire STRUCT P.reads)
         (λ p. list_from P.reads P.Partial.resumes p.items.items p.left p.head p.one) (F.post held)
@@ -228,12 +240,12 @@ pub(crate) fn enter_list<P: Item, S: Slot<Seq<P::Value>>, V: Drop, F: FnOnce(Lis
     ensures no_longer { OnOk result (length piece.new ≤ length piece.old) }
 {
     // For the prover: the match takes the cases of the clause `continues` apart.
-    match ListPart::begin(slot, alloc, piece) {
+    match PartialList::begin(slot, alloc, piece) {
         Err(error) => Err(error),
-        Ok(None) => Ok(true),
+        Ok(None) => Ok(Arrival::Complete),
         Ok(Some(part)) => {
             hold_next(next, Step::Value(held(part)));
-            Ok(false)
+            Ok(Arrival::Pending)
         }
     }
 }

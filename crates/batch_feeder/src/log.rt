@@ -1,22 +1,27 @@
-use crate::fields::{Fields, PieceSlots, Step, enter_in_pieces};
-use crate::items::{ListPart, enter_list};
-use crate::partial::place;
-use crate::skipped::SkipPart;
+use crate::fields::{Fields, InPlace, PieceSlots, Step, enter_in_pieces};
+use crate::items::{PartialList, enter_list};
+use crate::partial::{Arrival, place};
+use crate::skipped::PartialSkipped;
 use crate::structs::Struct;
-use crate::tag::TagParts;
-use crate::values::I64Part;
+use crate::tag::PartialTag;
+use crate::values::PartialI64;
 use batch_codec::{Decoded, LogSlots, MIN_LOG_BYTES, read_i64};
 use jaeger_model::Log;
 use std::alloc::Global;
 use thrift_binary::Cursor;
 use thrift_binary::types::{I64, LIST};
 
+// The ids of a log's fields in `jaeger.thrift`.
+const TIMESTAMP: i16 = 1;
+
+const FIELDS: i16 = 2;
+
 /// The partially received value of a field of a log.
 #[derive(Drop)]
-pub(crate) enum LogFieldPart {
-    At(I64Part),
-    Fields(ListPart<Struct<TagParts>>),
-    Skip(SkipPart),
+pub(crate) enum PartialLogField {
+    At(PartialI64),
+    Fields(PartialList<Struct<PartialTag>>),
+    Skip(PartialSkipped),
 }
 
 impl PieceSlots for LogSlots {
@@ -26,7 +31,7 @@ impl PieceSlots for LogSlots {
     ghost use Rattle.batch_feeder.specs.FieldLaws.{take_log_safe, log_not_short};
     ghost use Rattle.batch_feeder.specs.ShortFields.{take_log_short};
 
-    type FieldPart = LogFieldPart;
+    type PartialField = PartialLogField;
 
     type Output = Log;
 
@@ -48,40 +53,46 @@ impl PieceSlots for LogSlots {
 
     #[tactic(auto, unfolding(batch_codec::specs::LogReading::take_log))]
     #[inline(always)]
-    fn put(&mut self, code: u8, id: i16, _alloc: Global, cursor: &mut Cursor<'_>) -> Decoded<bool> {
+    fn put(
+        &mut self,
+        code: u8,
+        id: i16,
+        _alloc: Global,
+        cursor: &mut Cursor<'_>,
+    ) -> Decoded<InPlace> {
         match (code, id) {
-            (I64, 1) => self.at = Some(read_i64(cursor)?),
-            (LIST, 2) => return Ok(false),
+            (I64, TIMESTAMP) => self.at = Some(read_i64(cursor)?),
+            (LIST, FIELDS) => return Ok(InPlace::Deferred),
             _ => cursor.skip(code)?,
         }
-        Ok(true)
+        Ok(InPlace::Read)
     }
 
     #[tactic(auto, unfolding(batch_codec::specs::LogReading::take_log, batch_codec::specs::TagReading::tag_at))]
-    fn begin(&self, code: u8, id: i16, alloc: Global) -> LogFieldPart {
+    fn begin(&self, code: u8, id: i16, alloc: Global) -> PartialLogField {
         match (code, id) {
-            (I64, 1) => LogFieldPart::At(I64Part::new()),
-            (LIST, 2) => LogFieldPart::Fields(ListPart::new(alloc)),
-            _ => LogFieldPart::Skip(SkipPart::new(code)),
+            (I64, TIMESTAMP) => PartialLogField::At(PartialI64::new()),
+            (LIST, FIELDS) => PartialLogField::Fields(PartialList::new(alloc)),
+            _ => PartialLogField::Skip(PartialSkipped::new(code)),
         }
     }
 
     fn more(
         &mut self,
-        held: &mut LogFieldPart,
+        held: &mut PartialLogField,
         alloc: Global,
         piece: &mut Cursor<'_>,
-    ) -> Decoded<bool> {
+    ) -> Decoded<Arrival> {
         match held {
-            LogFieldPart::At(part) => place(part, &mut self.at, alloc, piece),
-            LogFieldPart::Fields(part) => part.place(&mut self.fields, alloc, piece),
-            LogFieldPart::Skip(part) => place(part, &mut (), alloc, piece),
+            PartialLogField::At(part) => place(part, &mut self.at, alloc, piece),
+            PartialLogField::Fields(part) => part.place(&mut self.fields, alloc, piece),
+            PartialLogField::Skip(part) => place(part, &mut (), alloc, piece),
         }
     }
 
-    fn is_between_fields(held: &LogFieldPart) -> bool {
+    fn is_between_fields(held: &PartialLogField) -> bool {
         match held {
-            LogFieldPart::Fields(part) => part.is_between_fields(),
+            PartialLogField::Fields(part) => part.is_between_fields(),
             _ => false,
         }
     }
@@ -101,14 +112,20 @@ impl PieceSlots for LogSlots {
 impl Fields for LogSlots {
     fn enter(
         &mut self,
-        next: &mut Option<Step<LogFieldPart>>,
+        next: &mut Option<Step<PartialLogField>>,
         code: u8,
         id: i16,
         alloc: Global,
         piece: &mut Cursor<'_>,
-    ) -> Decoded<bool> {
+    ) -> Decoded<Arrival> {
         match (code, id) {
-            (LIST, 2) => enter_list(&mut self.fields, next, LogFieldPart::Fields, alloc, piece),
+            (LIST, FIELDS) => enter_list(
+                &mut self.fields,
+                next,
+                PartialLogField::Fields,
+                alloc,
+                piece,
+            ),
             _ => enter_in_pieces(self, next, code, id, alloc, piece),
         }
     }

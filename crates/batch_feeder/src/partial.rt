@@ -10,6 +10,15 @@ use std::alloc::Global;
 use thrift_binary::Cursor;
 use wire_pieces::PieceError;
 
+/// Whether a value is complete after a piece.
+#[derive(Clone, Copy)]
+pub(crate) enum Arrival {
+    /// The last byte of the value has arrived.
+    Complete,
+    /// The piece has ended before the value.
+    Pending,
+}
+
 /// A partially received value.
 pub(crate) trait Partial: Drop + Sized {
     type Value: Drop;
@@ -48,8 +57,8 @@ pub(crate) trait Item: Partial {
         ensures continues { BeginsValue reads Self.resumes part.new piece.old piece.new result }
         ensures no_longer { OnOk result (length piece.new ≤ length piece.old) };
 
-    /// Continues with a piece. Returns whether all bytes of the value have arrived; take the value then.
-    fn arrive(&mut self, alloc: Global, piece: &mut Cursor<'_>) -> Decoded<bool>
+    /// Continues with a piece. Take the value once it is complete.
+    fn arrive(&mut self, alloc: Global, piece: &mut Cursor<'_>) -> Decoded<Arrival>
         ensures continues { Arrives (Self.resumes self.old) (Self.resumes self.new) (ends self.new)
             piece.old piece.new result }
         ensures no_longer { OnOk result (length piece.new ≤ length piece.old) };
@@ -107,14 +116,14 @@ pub(crate) fn place<P: Partial, S: Slot<P::Value>>(
     slot: &mut S,
     alloc: Global,
     piece: &mut Cursor<'_>,
-) -> Decoded<bool>
+) -> Decoded<Arrival>
     ensures continues { Places S.holding (P.resumes part.old) (P.resumes part.new) slot.old slot.new
         piece.old piece.new result }
     ensures no_longer { OnOk result (length piece.new ≤ length piece.old) }
 {
     let Some(value) = part.more(alloc, piece)? else {
-        return Ok(false);
+        return Ok(Arrival::Pending);
     };
     slot.fill(value);
-    Ok(true)
+    Ok(Arrival::Complete)
 }

@@ -1,10 +1,10 @@
-use crate::fields::{Fields, PieceSlots, Step, enter_in_pieces};
-use crate::items::{ListPart, enter_list};
-use crate::partial::place;
-use crate::skipped::SkipPart;
+use crate::fields::{Fields, InPlace, PieceSlots, Step, enter_in_pieces};
+use crate::items::{PartialList, enter_list};
+use crate::partial::{Arrival, place};
+use crate::skipped::PartialSkipped;
 use crate::structs::Struct;
-use crate::tag::TagParts;
-use crate::texts::TextPart;
+use crate::tag::PartialTag;
+use crate::texts::PartialText;
 use batch_codec::{Decoded, Part, read_owned_text, required};
 use jaeger_model::{Process, Seq, Tag, Text};
 use std::alloc::Global;
@@ -12,17 +12,22 @@ use std::marker::Model;
 use thrift_binary::Cursor;
 use thrift_binary::types::{LIST, STRING};
 
+// The ids of a process's fields in `jaeger.thrift`.
+const SERVICE_NAME: i16 = 1;
+
+const TAGS: i16 = 2;
+
 /// The least number of bytes of a process: 7 of the service and the stop byte.
 const MIN_PROCESS_BYTES: usize = 8;
 
 /// The fields of a process that were read so far.
 #[derive(Drop)]
-pub(crate) struct ProcessParts {
+pub(crate) struct PartialProcess {
     service: Option<Text>,
     tags: Seq<Tag>,
 }
 
-impl Model for ProcessParts {
+impl Model for PartialProcess {
     ghost use Rattle.batch_codec.specs.declared.process.ProcessSlots.{ProcessSlots};
 
     ghost Value = { ProcessSlots };
@@ -32,20 +37,20 @@ impl Model for ProcessParts {
 
 /// The partially received value of a field of a process.
 #[derive(Drop)]
-pub(crate) enum ProcessFieldPart {
-    Service(TextPart),
-    Tags(ListPart<Struct<TagParts>>),
-    Skip(SkipPart),
+pub(crate) enum PartialProcessField {
+    Service(PartialText),
+    Tags(PartialList<Struct<PartialTag>>),
+    Skip(PartialSkipped),
 }
 
-impl PieceSlots for ProcessParts {
+impl PieceSlots for PartialProcess {
     ghost use Rattle.batch_codec.specs.EmptySlots.{no_process};
     ghost use Rattle.batch_codec.specs.ProcessReading.{take_process, process_from};
     ghost use Rattle.batch_feeder.specs.Processes.{process_continues};
     ghost use Rattle.batch_feeder.specs.FieldLaws.{take_process_safe, process_not_short};
     ghost use Rattle.batch_feeder.specs.ShortFields.{take_process_short};
 
-    type FieldPart = ProcessFieldPart;
+    type PartialField = PartialProcessField;
 
     type Output = Process;
 
@@ -62,7 +67,7 @@ impl PieceSlots for ProcessParts {
     }
 
     fn start(alloc: Global) -> Self {
-        ProcessParts {
+        PartialProcess {
             service: None,
             tags: Seq::new(alloc),
         }
@@ -70,40 +75,46 @@ impl PieceSlots for ProcessParts {
 
     #[tactic(auto, unfolding(batch_codec::specs::ProcessReading::take_process))]
     #[inline(always)]
-    fn put(&mut self, code: u8, id: i16, alloc: Global, cursor: &mut Cursor<'_>) -> Decoded<bool> {
+    fn put(
+        &mut self,
+        code: u8,
+        id: i16,
+        alloc: Global,
+        cursor: &mut Cursor<'_>,
+    ) -> Decoded<InPlace> {
         match (code, id) {
-            (STRING, 1) => self.service = Some(read_owned_text(alloc, cursor)?),
-            (LIST, 2) => return Ok(false),
+            (STRING, SERVICE_NAME) => self.service = Some(read_owned_text(alloc, cursor)?),
+            (LIST, TAGS) => return Ok(InPlace::Deferred),
             _ => cursor.skip(code)?,
         }
-        Ok(true)
+        Ok(InPlace::Read)
     }
 
     #[tactic(auto, unfolding(batch_codec::specs::ProcessReading::take_process, batch_codec::specs::TagReading::tag_at))]
-    fn begin(&self, code: u8, id: i16, alloc: Global) -> ProcessFieldPart {
+    fn begin(&self, code: u8, id: i16, alloc: Global) -> PartialProcessField {
         match (code, id) {
-            (STRING, 1) => ProcessFieldPart::Service(TextPart::new()),
-            (LIST, 2) => ProcessFieldPart::Tags(ListPart::new(alloc)),
-            _ => ProcessFieldPart::Skip(SkipPart::new(code)),
+            (STRING, SERVICE_NAME) => PartialProcessField::Service(PartialText::new()),
+            (LIST, TAGS) => PartialProcessField::Tags(PartialList::new(alloc)),
+            _ => PartialProcessField::Skip(PartialSkipped::new(code)),
         }
     }
 
     fn more(
         &mut self,
-        held: &mut ProcessFieldPart,
+        held: &mut PartialProcessField,
         alloc: Global,
         piece: &mut Cursor<'_>,
-    ) -> Decoded<bool> {
+    ) -> Decoded<Arrival> {
         match held {
-            ProcessFieldPart::Service(part) => place(part, &mut self.service, alloc, piece),
-            ProcessFieldPart::Tags(part) => part.place(&mut self.tags, alloc, piece),
-            ProcessFieldPart::Skip(part) => place(part, &mut (), alloc, piece),
+            PartialProcessField::Service(part) => place(part, &mut self.service, alloc, piece),
+            PartialProcessField::Tags(part) => part.place(&mut self.tags, alloc, piece),
+            PartialProcessField::Skip(part) => place(part, &mut (), alloc, piece),
         }
     }
 
-    fn is_between_fields(held: &ProcessFieldPart) -> bool {
+    fn is_between_fields(held: &PartialProcessField) -> bool {
         match held {
-            ProcessFieldPart::Tags(part) => part.is_between_fields(),
+            PartialProcessField::Tags(part) => part.is_between_fields(),
             _ => false,
         }
     }
@@ -111,7 +122,7 @@ impl PieceSlots for ProcessParts {
     #[tactic(auto, unfolding(batch_codec::specs::ProcessReading::process_from))]
     #[inline(always)]
     fn whole(self) -> Decoded<Process> {
-        let service = required(self.service, Part::Process, 1)?;
+        let service = required(self.service, Part::Process, SERVICE_NAME as u8)?;
         Ok(Process {
             service,
             tags: self.tags,
@@ -125,17 +136,23 @@ impl PieceSlots for ProcessParts {
     ghost short = { take_process_short };
 }
 
-impl Fields for ProcessParts {
+impl Fields for PartialProcess {
     fn enter(
         &mut self,
-        next: &mut Option<Step<ProcessFieldPart>>,
+        next: &mut Option<Step<PartialProcessField>>,
         code: u8,
         id: i16,
         alloc: Global,
         piece: &mut Cursor<'_>,
-    ) -> Decoded<bool> {
+    ) -> Decoded<Arrival> {
         match (code, id) {
-            (LIST, 2) => enter_list(&mut self.tags, next, ProcessFieldPart::Tags, alloc, piece),
+            (LIST, TAGS) => enter_list(
+                &mut self.tags,
+                next,
+                PartialProcessField::Tags,
+                alloc,
+                piece,
+            ),
             _ => enter_in_pieces(self, next, code, id, alloc, piece),
         }
     }

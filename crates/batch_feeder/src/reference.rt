@@ -1,22 +1,31 @@
-use crate::enums::KindPart;
-use crate::fields::{Fields, PieceSlots};
-use crate::partial::place;
-use crate::skipped::SkipPart;
-use crate::values::IdPart;
+use crate::enums::PartialRefKind;
+use crate::fields::{Fields, InPlace, PieceSlots};
+use crate::partial::{Arrival, place};
+use crate::skipped::PartialSkipped;
+use crate::values::PartialId;
 use batch_codec::{Decoded, MIN_REFERENCE_BYTES, ReferenceSlots, read_id, read_kind};
 use jaeger_model::SpanRef;
 use std::alloc::Global;
 use thrift_binary::Cursor;
 use thrift_binary::types::{I32, I64};
 
+// The ids of a reference's fields in `jaeger.thrift`.
+const REF_TYPE: i16 = 1;
+
+const TRACE_ID_LOW: i16 = 2;
+
+const TRACE_ID_HIGH: i16 = 3;
+
+const SPAN_ID: i16 = 4;
+
 /// The partially received value of a field of a reference.
 #[derive(Drop)]
-pub(crate) enum ReferenceFieldPart {
-    Kind(KindPart),
-    TraceLow(IdPart),
-    TraceHigh(IdPart),
-    Id(IdPart),
-    Skip(SkipPart),
+pub(crate) enum PartialReferenceField {
+    Kind(PartialRefKind),
+    TraceLow(PartialId),
+    TraceHigh(PartialId),
+    Id(PartialId),
+    Skip(PartialSkipped),
 }
 
 impl PieceSlots for ReferenceSlots {
@@ -26,7 +35,7 @@ impl PieceSlots for ReferenceSlots {
     ghost use Rattle.batch_feeder.specs.FieldLaws.{take_reference_safe, reference_not_short};
     ghost use Rattle.batch_feeder.specs.ShortFields.{take_reference_short};
 
-    type FieldPart = ReferenceFieldPart;
+    type PartialField = PartialReferenceField;
 
     type Output = SpanRef;
 
@@ -48,44 +57,55 @@ impl PieceSlots for ReferenceSlots {
 
     #[tactic(auto, unfolding(batch_codec::specs::ReferenceReading::take_reference))]
     #[inline(always)]
-    fn put(&mut self, code: u8, id: i16, _alloc: Global, cursor: &mut Cursor<'_>) -> Decoded<bool> {
+    fn put(
+        &mut self,
+        code: u8,
+        id: i16,
+        _alloc: Global,
+        cursor: &mut Cursor<'_>,
+    ) -> Decoded<InPlace> {
         match (code, id) {
-            (I32, 1) => self.kind = Some(read_kind(cursor)?),
-            (I64, 2) => self.trace_low = Some(read_id(cursor)?),
-            (I64, 3) => self.trace_high = Some(read_id(cursor)?),
-            (I64, 4) => self.id = Some(read_id(cursor)?),
+            (I32, REF_TYPE) => self.kind = Some(read_kind(cursor)?),
+            (I64, TRACE_ID_LOW) => self.trace_low = Some(read_id(cursor)?),
+            (I64, TRACE_ID_HIGH) => self.trace_high = Some(read_id(cursor)?),
+            (I64, SPAN_ID) => self.id = Some(read_id(cursor)?),
             _ => cursor.skip(code)?,
         }
-        Ok(true)
+        Ok(InPlace::Read)
     }
 
     #[tactic(auto, unfolding(batch_codec::specs::ReferenceReading::take_reference))]
-    fn begin(&self, code: u8, id: i16, _alloc: Global) -> ReferenceFieldPart {
+    fn begin(&self, code: u8, id: i16, _alloc: Global) -> PartialReferenceField {
         match (code, id) {
-            (I32, 1) => ReferenceFieldPart::Kind(KindPart::new()),
-            (I64, 2) => ReferenceFieldPart::TraceLow(IdPart::new()),
-            (I64, 3) => ReferenceFieldPart::TraceHigh(IdPart::new()),
-            (I64, 4) => ReferenceFieldPart::Id(IdPart::new()),
-            _ => ReferenceFieldPart::Skip(SkipPart::new(code)),
+            (I32, REF_TYPE) => PartialReferenceField::Kind(PartialRefKind::new()),
+            (I64, TRACE_ID_LOW) => PartialReferenceField::TraceLow(PartialId::new()),
+            (I64, TRACE_ID_HIGH) => PartialReferenceField::TraceHigh(PartialId::new()),
+            (I64, SPAN_ID) => PartialReferenceField::Id(PartialId::new()),
+            _ => PartialReferenceField::Skip(PartialSkipped::new(code)),
         }
     }
 
     fn more(
         &mut self,
-        held: &mut ReferenceFieldPart,
+        held: &mut PartialReferenceField,
         alloc: Global,
         piece: &mut Cursor<'_>,
-    ) -> Decoded<bool> {
+    ) -> Decoded<Arrival> {
         match held {
-            ReferenceFieldPart::Kind(part) => place(part, &mut self.kind, alloc, piece),
-            ReferenceFieldPart::TraceLow(part) => place(part, &mut self.trace_low, alloc, piece),
-            ReferenceFieldPart::TraceHigh(part) => place(part, &mut self.trace_high, alloc, piece),
-            ReferenceFieldPart::Id(part) => place(part, &mut self.id, alloc, piece),
-            ReferenceFieldPart::Skip(part) => place(part, &mut (), alloc, piece),
+            PartialReferenceField::Kind(part) => place(part, &mut self.kind, alloc, piece),
+            PartialReferenceField::TraceLow(part) => place(part, &mut self.trace_low, alloc, piece),
+            PartialReferenceField::TraceHigh(part) => place(
+                part,
+                &mut self.trace_high,
+                alloc,
+                piece,
+            ),
+            PartialReferenceField::Id(part) => place(part, &mut self.id, alloc, piece),
+            PartialReferenceField::Skip(part) => place(part, &mut (), alloc, piece),
         }
     }
 
-    fn is_between_fields(_held: &ReferenceFieldPart) -> bool {
+    fn is_between_fields(_held: &PartialReferenceField) -> bool {
         false
     }
 

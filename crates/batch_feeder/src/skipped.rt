@@ -12,23 +12,23 @@ use wire_pieces::Skipping;
 
 /// A value that is skipped, of which some bytes have arrived. It takes no memory.
 #[derive(Drop)]
-pub(crate) struct SkipPart {
+pub(crate) struct PartialSkipped {
     part: Skipping,
 }
 
-impl SkipPart {
+impl PartialSkipped {
     /// Returns the state before the first byte of a value of the type.
     pub(crate) fn new(code: u8) -> Self
         requires { is_code code ≡ true }
         ensures { (w : List ℕ) → skip_from result w ≡ lift wire (skip_at code w) }
     {
-        SkipPart {
+        PartialSkipped {
             part: Skipping::new(code),
         }
     }
 }
 
-impl Partial for SkipPart {
+impl Partial for PartialSkipped {
     type Value = ();
 
     ghost resumes = { skip_from };

@@ -1,32 +1,55 @@
-use crate::fields::{Fields, PieceSlots, Step, enter_in_pieces};
-use crate::items::{ListPart, enter_list};
-use crate::partial::place;
-use crate::skipped::SkipPart;
+use crate::fields::{Fields, InPlace, PieceSlots, Step, enter_in_pieces};
+use crate::items::{PartialList, enter_list};
+use crate::partial::{Arrival, place};
+use crate::skipped::PartialSkipped;
 use crate::structs::Struct;
-use crate::tag::TagParts;
-use crate::texts::TextPart;
-use crate::values::{I32Part, I64Part, IdPart};
+use crate::tag::PartialTag;
+use crate::texts::PartialText;
+use crate::values::{PartialI32, PartialI64, PartialId};
 use batch_codec::{Decoded, LogSlots, MIN_SPAN_BYTES, ReferenceSlots, SpanSlots, read_span};
 use jaeger_model::Span;
 use std::alloc::Global;
 use thrift_binary::Cursor;
 use thrift_binary::types::{I32, I64, LIST, STRING};
 
+// The ids of a span's fields in `jaeger.thrift`.
+const TRACE_ID_LOW: i16 = 1;
+
+const TRACE_ID_HIGH: i16 = 2;
+
+const SPAN_ID: i16 = 3;
+
+const PARENT_SPAN_ID: i16 = 4;
+
+const OPERATION_NAME: i16 = 5;
+
+const REFERENCES: i16 = 6;
+
+const FLAGS: i16 = 7;
+
+const START_TIME: i16 = 8;
+
+const DURATION: i16 = 9;
+
+const TAGS: i16 = 10;
+
+const LOGS: i16 = 11;
+
 /// The partially received value of a field of a span.
 #[derive(Drop)]
-pub(crate) enum SpanFieldPart {
-    TraceLow(IdPart),
-    TraceHigh(IdPart),
-    Id(IdPart),
-    Parent(IdPart),
-    Operation(TextPart),
-    References(ListPart<Struct<ReferenceSlots>>),
-    Flags(I32Part),
-    Start(I64Part),
-    Duration(I64Part),
-    Tags(ListPart<Struct<TagParts>>),
-    Logs(ListPart<Struct<LogSlots>>),
-    Skip(SkipPart),
+pub(crate) enum PartialSpanField {
+    TraceLow(PartialId),
+    TraceHigh(PartialId),
+    Id(PartialId),
+    Parent(PartialId),
+    Operation(PartialText),
+    References(PartialList<Struct<ReferenceSlots>>),
+    Flags(PartialI32),
+    Start(PartialI64),
+    Duration(PartialI64),
+    Tags(PartialList<Struct<PartialTag>>),
+    Logs(PartialList<Struct<LogSlots>>),
+    Skip(PartialSkipped),
 }
 
 impl PieceSlots for SpanSlots {
@@ -36,7 +59,7 @@ impl PieceSlots for SpanSlots {
     ghost use Rattle.batch_feeder.specs.FieldLaws.{take_span_safe, span_not_short};
     ghost use Rattle.batch_feeder.specs.ShortFields.{take_span_short};
 
-    type FieldPart = SpanFieldPart;
+    type PartialField = PartialSpanField;
 
     type Output = Span;
 
@@ -58,60 +81,66 @@ impl PieceSlots for SpanSlots {
 
     #[tactic(auto, unfolding(batch_codec::specs::SpanReading::take_span))]
     #[inline(always)]
-    fn put(&mut self, code: u8, id: i16, alloc: Global, cursor: &mut Cursor<'_>) -> Decoded<bool> {
+    fn put(
+        &mut self,
+        code: u8,
+        id: i16,
+        alloc: Global,
+        cursor: &mut Cursor<'_>,
+    ) -> Decoded<InPlace> {
         match (code, id) {
-            (LIST, 6 | 10 | 11) => return Ok(false),
+            (LIST, REFERENCES | TAGS | LOGS) => return Ok(InPlace::Deferred),
             (LIST, _) => cursor.skip(code)?,
             _ => self.put_value(alloc, code, id, cursor)?,
         }
-        Ok(true)
+        Ok(InPlace::Read)
     }
 
     #[tactic(auto, unfolding(batch_codec::specs::SpanReading::take_span, batch_codec::specs::TagReading::tag_at, batch_codec::specs::LogReading::log_at, batch_codec::specs::ReferenceReading::reference_at))]
-    fn begin(&self, code: u8, id: i16, alloc: Global) -> SpanFieldPart {
+    fn begin(&self, code: u8, id: i16, alloc: Global) -> PartialSpanField {
         match (code, id) {
-            (I64, 1) => SpanFieldPart::TraceLow(IdPart::new()),
-            (I64, 2) => SpanFieldPart::TraceHigh(IdPart::new()),
-            (I64, 3) => SpanFieldPart::Id(IdPart::new()),
-            (I64, 4) => SpanFieldPart::Parent(IdPart::new()),
-            (STRING, 5) => SpanFieldPart::Operation(TextPart::new()),
-            (LIST, 6) => SpanFieldPart::References(ListPart::new(alloc)),
-            (I32, 7) => SpanFieldPart::Flags(I32Part::new()),
-            (I64, 8) => SpanFieldPart::Start(I64Part::new()),
-            (I64, 9) => SpanFieldPart::Duration(I64Part::new()),
-            (LIST, 10) => SpanFieldPart::Tags(ListPart::new(alloc)),
-            (LIST, 11) => SpanFieldPart::Logs(ListPart::new(alloc)),
-            _ => SpanFieldPart::Skip(SkipPart::new(code)),
+            (I64, TRACE_ID_LOW) => PartialSpanField::TraceLow(PartialId::new()),
+            (I64, TRACE_ID_HIGH) => PartialSpanField::TraceHigh(PartialId::new()),
+            (I64, SPAN_ID) => PartialSpanField::Id(PartialId::new()),
+            (I64, PARENT_SPAN_ID) => PartialSpanField::Parent(PartialId::new()),
+            (STRING, OPERATION_NAME) => PartialSpanField::Operation(PartialText::new()),
+            (LIST, REFERENCES) => PartialSpanField::References(PartialList::new(alloc)),
+            (I32, FLAGS) => PartialSpanField::Flags(PartialI32::new()),
+            (I64, START_TIME) => PartialSpanField::Start(PartialI64::new()),
+            (I64, DURATION) => PartialSpanField::Duration(PartialI64::new()),
+            (LIST, TAGS) => PartialSpanField::Tags(PartialList::new(alloc)),
+            (LIST, LOGS) => PartialSpanField::Logs(PartialList::new(alloc)),
+            _ => PartialSpanField::Skip(PartialSkipped::new(code)),
         }
     }
 
     fn more(
         &mut self,
-        held: &mut SpanFieldPart,
+        held: &mut PartialSpanField,
         alloc: Global,
         piece: &mut Cursor<'_>,
-    ) -> Decoded<bool> {
+    ) -> Decoded<Arrival> {
         match held {
-            SpanFieldPart::TraceLow(part) => place(part, &mut self.trace_low, alloc, piece),
-            SpanFieldPart::TraceHigh(part) => place(part, &mut self.trace_high, alloc, piece),
-            SpanFieldPart::Id(part) => place(part, &mut self.id, alloc, piece),
-            SpanFieldPart::Parent(part) => place(part, &mut self.parent, alloc, piece),
-            SpanFieldPart::Operation(part) => place(part, &mut self.operation, alloc, piece),
-            SpanFieldPart::References(part) => part.place(&mut self.references, alloc, piece),
-            SpanFieldPart::Flags(part) => place(part, &mut self.flags, alloc, piece),
-            SpanFieldPart::Start(part) => place(part, &mut self.start, alloc, piece),
-            SpanFieldPart::Duration(part) => place(part, &mut self.duration, alloc, piece),
-            SpanFieldPart::Tags(part) => part.place(&mut self.tags, alloc, piece),
-            SpanFieldPart::Logs(part) => part.place(&mut self.logs, alloc, piece),
-            SpanFieldPart::Skip(part) => place(part, &mut (), alloc, piece),
+            PartialSpanField::TraceLow(part) => place(part, &mut self.trace_low, alloc, piece),
+            PartialSpanField::TraceHigh(part) => place(part, &mut self.trace_high, alloc, piece),
+            PartialSpanField::Id(part) => place(part, &mut self.id, alloc, piece),
+            PartialSpanField::Parent(part) => place(part, &mut self.parent, alloc, piece),
+            PartialSpanField::Operation(part) => place(part, &mut self.operation, alloc, piece),
+            PartialSpanField::References(part) => part.place(&mut self.references, alloc, piece),
+            PartialSpanField::Flags(part) => place(part, &mut self.flags, alloc, piece),
+            PartialSpanField::Start(part) => place(part, &mut self.start, alloc, piece),
+            PartialSpanField::Duration(part) => place(part, &mut self.duration, alloc, piece),
+            PartialSpanField::Tags(part) => part.place(&mut self.tags, alloc, piece),
+            PartialSpanField::Logs(part) => part.place(&mut self.logs, alloc, piece),
+            PartialSpanField::Skip(part) => place(part, &mut (), alloc, piece),
         }
     }
 
-    fn is_between_fields(held: &SpanFieldPart) -> bool {
+    fn is_between_fields(held: &PartialSpanField) -> bool {
         match held {
-            SpanFieldPart::References(part) => part.is_between_fields(),
-            SpanFieldPart::Tags(part) => part.is_between_fields(),
-            SpanFieldPart::Logs(part) => part.is_between_fields(),
+            PartialSpanField::References(part) => part.is_between_fields(),
+            PartialSpanField::Tags(part) => part.is_between_fields(),
+            PartialSpanField::Logs(part) => part.is_between_fields(),
             _ => false,
         }
     }
@@ -131,22 +160,22 @@ impl PieceSlots for SpanSlots {
 impl Fields for SpanSlots {
     fn enter(
         &mut self,
-        next: &mut Option<Step<SpanFieldPart>>,
+        next: &mut Option<Step<PartialSpanField>>,
         code: u8,
         id: i16,
         alloc: Global,
         piece: &mut Cursor<'_>,
-    ) -> Decoded<bool> {
+    ) -> Decoded<Arrival> {
         match (code, id) {
-            (LIST, 6) => enter_list(
+            (LIST, REFERENCES) => enter_list(
                 &mut self.references,
                 next,
-                SpanFieldPart::References,
+                PartialSpanField::References,
                 alloc,
                 piece,
             ),
-            (LIST, 10) => enter_list(&mut self.tags, next, SpanFieldPart::Tags, alloc, piece),
-            (LIST, 11) => enter_list(&mut self.logs, next, SpanFieldPart::Logs, alloc, piece),
+            (LIST, TAGS) => enter_list(&mut self.tags, next, PartialSpanField::Tags, alloc, piece),
+            (LIST, LOGS) => enter_list(&mut self.logs, next, PartialSpanField::Logs, alloc, piece),
             _ => enter_in_pieces(self, next, code, id, alloc, piece),
         }
     }

@@ -7,7 +7,7 @@ ghost use Rattle.batch_feeder.specs.Fields.{made_of, struct_at, struct_from};
 ghost use Rattle.batch_feeder.specs.LeastBytes.{IsPart};
 
 use crate::fields::{Fields, PieceSlots, Step, enter_fields, is_truncated, more_fields};
-use crate::partial::{Item, Partial};
+use crate::partial::{Arrival, Item, Partial};
 use batch_codec::Decoded;
 use std::alloc::Global;
 use std::mem;
@@ -18,7 +18,7 @@ use wire_pieces::FieldHead;
 #[derive(Drop)]
 pub(crate) struct Struct<S: PieceSlots> {
     slots: S,
-    step: Step<S::FieldPart>,
+    step: Step<S::PartialField>,
 }
 
 impl<S: Fields> Partial for Struct<S> {
@@ -27,10 +27,10 @@ impl<S: Fields> Partial for Struct<S> {
     ghost resumes = { λ p. struct_from S.takes S.resumes S.makes p.slots p.step };
 
     fn more(&mut self, alloc: Global, piece: &mut Cursor<'_>) -> Decoded<Option<S::Output>> {
-        if !more_fields(&mut self.slots, &mut self.step, alloc, piece)? {
-            return Ok(None);
+        match more_fields(&mut self.slots, &mut self.step, alloc, piece)? {
+            Arrival::Pending => Ok(None),
+            Arrival::Complete => Ok(Some(self.take_made(alloc)?)),
         }
-        Ok(Some(self.take_made(alloc)?))
     }
 }
 
@@ -70,7 +70,7 @@ impl<S: Fields> Item for Struct<S> {
     }
 
     #[inline(always)]
-    fn arrive(&mut self, alloc: Global, piece: &mut Cursor<'_>) -> Decoded<bool> {
+    fn arrive(&mut self, alloc: Global, piece: &mut Cursor<'_>) -> Decoded<Arrival> {
         more_fields(&mut self.slots, &mut self.step, alloc, piece)
     }
 
@@ -95,8 +95,8 @@ fn begin_fields<S: Fields>(
     // For the prover: the match takes the cases of the clause `continues` apart.
     match enter_fields(&mut slots, &mut next, alloc, piece) {
         Err(error) => Err(error),
-        Ok(true) => made(slots),
-        Ok(false) => {
+        Ok(Arrival::Complete) => made(slots),
+        Ok(Arrival::Pending) => {
             hold(part, slots, next);
             Ok(None)
         }
@@ -106,8 +106,8 @@ fn begin_fields<S: Fields>(
 /// Stores the fields so far and the next step, if there is one. It isn't inlined, so that a complete struct costs no
 /// such part.
 #[inline(never)]
-fn hold<S: PieceSlots>(part: &mut Option<Struct<S>>, slots: S, next: Option<Step<S::FieldPart>>)
-    ensures { (s : Step S.FieldPart) → next ≡ Some s →
+fn hold<S: PieceSlots>(part: &mut Option<Struct<S>>, slots: S, next: Option<Step<S::PartialField>>)
+    ensures { (s : Step S.PartialField) → next ≡ Some s →
         part.new ≡ Some (record { slots = slots; step = s }) }
 {
     if let Some(step) = next {

@@ -1,11 +1,11 @@
 ghost use Rattle.std.specs.Prelude.{◌≡◌};
 
-use crate::enums::TypePart;
-use crate::fields::{Fields, PieceSlots};
-use crate::partial::place;
-use crate::skipped::SkipPart;
-use crate::texts::{BinaryPart, TextPart};
-use crate::values::{BoolPart, DoublePart, I64Part};
+use crate::enums::PartialTagType;
+use crate::fields::{Fields, InPlace, PieceSlots};
+use crate::partial::{Arrival, place};
+use crate::skipped::PartialSkipped;
+use crate::texts::{PartialBinary, PartialText};
+use crate::values::{PartialBool, PartialDouble, PartialI64};
 use batch_codec::{
     Decoded, MIN_TAG_BYTES, Part, TagType, read_bool, read_double, read_i64, read_owned_binary,
     read_owned_text, read_type, required,
@@ -16,9 +16,24 @@ use std::marker::Model;
 use thrift_binary::Cursor;
 use thrift_binary::types::{BOOL, DOUBLE, I32, I64, STRING};
 
+// The ids of a tag's fields in `jaeger.thrift`.
+const KEY: i16 = 1;
+
+const V_TYPE: i16 = 2;
+
+const V_STR: i16 = 3;
+
+const V_DOUBLE: i16 = 4;
+
+const V_BOOL: i16 = 5;
+
+const V_LONG: i16 = 6;
+
+const V_BINARY: i16 = 7;
+
 /// The fields of a tag that were read so far.
 #[derive(Drop)]
-pub(crate) struct TagParts {
+pub(crate) struct PartialTag {
     key: Option<Text>,
     kind: Option<TagType>,
     text: Text,
@@ -28,7 +43,7 @@ pub(crate) struct TagParts {
     binary: Seq<u8>,
 }
 
-impl Model for TagParts {
+impl Model for PartialTag {
     ghost use Rattle.batch_codec.specs.declared.tag.TagSlots.{TagSlots};
 
     ghost Value = { TagSlots };
@@ -46,25 +61,25 @@ impl Model for TagParts {
 
 /// The partially received value of a field of a tag.
 #[derive(Drop)]
-pub(crate) enum TagFieldPart {
-    Key(TextPart),
-    Kind(TypePart),
-    Text(TextPart),
-    Double(DoublePart),
-    Boolean(BoolPart),
-    Long(I64Part),
-    Binary(BinaryPart),
-    Skip(SkipPart),
+pub(crate) enum PartialTagField {
+    Key(PartialText),
+    Kind(PartialTagType),
+    Text(PartialText),
+    Double(PartialDouble),
+    Boolean(PartialBool),
+    Long(PartialI64),
+    Binary(PartialBinary),
+    Skip(PartialSkipped),
 }
 
-impl PieceSlots for TagParts {
+impl PieceSlots for PartialTag {
     ghost use Rattle.batch_codec.specs.EmptySlots.{no_tag};
     ghost use Rattle.batch_codec.specs.TagReading.{take_tag, tag_from};
     ghost use Rattle.batch_feeder.specs.Tags.{tag_continues};
     ghost use Rattle.batch_feeder.specs.FieldLaws.{take_tag_safe, tag_not_short};
     ghost use Rattle.batch_feeder.specs.ShortFields.{take_tag_short};
 
-    type FieldPart = TagFieldPart;
+    type PartialField = PartialTagField;
 
     type Output = Tag;
 
@@ -81,7 +96,7 @@ impl PieceSlots for TagParts {
     }
 
     fn start(alloc: Global) -> Self {
-        TagParts {
+        PartialTag {
             key: None,
             kind: None,
             text: Text::new(alloc),
@@ -94,60 +109,66 @@ impl PieceSlots for TagParts {
 
     #[tactic(auto, unfolding(batch_codec::specs::TagReading::take_tag))]
     #[inline(always)]
-    fn put(&mut self, code: u8, id: i16, alloc: Global, cursor: &mut Cursor<'_>) -> Decoded<bool> {
+    fn put(
+        &mut self,
+        code: u8,
+        id: i16,
+        alloc: Global,
+        cursor: &mut Cursor<'_>,
+    ) -> Decoded<InPlace> {
         match (code, id) {
-            (STRING, 1) => self.key = Some(read_owned_text(alloc, cursor)?),
-            (I32, 2) => self.kind = Some(read_type(cursor)?),
-            (STRING, 3) => self.text = read_owned_text(alloc, cursor)?,
-            (DOUBLE, 4) => self.double = read_double(cursor)?,
-            (BOOL, 5) => self.boolean = read_bool(cursor)?,
-            (I64, 6) => self.long = read_i64(cursor)?,
-            (STRING, 7) => self.binary = read_owned_binary(alloc, cursor)?,
+            (STRING, KEY) => self.key = Some(read_owned_text(alloc, cursor)?),
+            (I32, V_TYPE) => self.kind = Some(read_type(cursor)?),
+            (STRING, V_STR) => self.text = read_owned_text(alloc, cursor)?,
+            (DOUBLE, V_DOUBLE) => self.double = read_double(cursor)?,
+            (BOOL, V_BOOL) => self.boolean = read_bool(cursor)?,
+            (I64, V_LONG) => self.long = read_i64(cursor)?,
+            (STRING, V_BINARY) => self.binary = read_owned_binary(alloc, cursor)?,
             _ => cursor.skip(code)?,
         }
-        Ok(true)
+        Ok(InPlace::Read)
     }
 
     #[tactic(auto, unfolding(batch_codec::specs::TagReading::take_tag))]
-    fn begin(&self, code: u8, id: i16, _alloc: Global) -> TagFieldPart {
+    fn begin(&self, code: u8, id: i16, _alloc: Global) -> PartialTagField {
         match (code, id) {
-            (STRING, 1) => TagFieldPart::Key(TextPart::new()),
-            (I32, 2) => TagFieldPart::Kind(TypePart::new()),
-            (STRING, 3) => TagFieldPart::Text(TextPart::new()),
-            (DOUBLE, 4) => TagFieldPart::Double(DoublePart::new()),
-            (BOOL, 5) => TagFieldPart::Boolean(BoolPart::new()),
-            (I64, 6) => TagFieldPart::Long(I64Part::new()),
-            (STRING, 7) => TagFieldPart::Binary(BinaryPart::new()),
-            _ => TagFieldPart::Skip(SkipPart::new(code)),
+            (STRING, KEY) => PartialTagField::Key(PartialText::new()),
+            (I32, V_TYPE) => PartialTagField::Kind(PartialTagType::new()),
+            (STRING, V_STR) => PartialTagField::Text(PartialText::new()),
+            (DOUBLE, V_DOUBLE) => PartialTagField::Double(PartialDouble::new()),
+            (BOOL, V_BOOL) => PartialTagField::Boolean(PartialBool::new()),
+            (I64, V_LONG) => PartialTagField::Long(PartialI64::new()),
+            (STRING, V_BINARY) => PartialTagField::Binary(PartialBinary::new()),
+            _ => PartialTagField::Skip(PartialSkipped::new(code)),
         }
     }
 
     fn more(
         &mut self,
-        held: &mut TagFieldPart,
+        held: &mut PartialTagField,
         alloc: Global,
         piece: &mut Cursor<'_>,
-    ) -> Decoded<bool> {
+    ) -> Decoded<Arrival> {
         match held {
-            TagFieldPart::Key(part) => place(part, &mut self.key, alloc, piece),
-            TagFieldPart::Kind(part) => place(part, &mut self.kind, alloc, piece),
-            TagFieldPart::Text(part) => place(part, &mut self.text, alloc, piece),
-            TagFieldPart::Double(part) => place(part, &mut self.double, alloc, piece),
-            TagFieldPart::Boolean(part) => place(part, &mut self.boolean, alloc, piece),
-            TagFieldPart::Long(part) => place(part, &mut self.long, alloc, piece),
-            TagFieldPart::Binary(part) => place(part, &mut self.binary, alloc, piece),
-            TagFieldPart::Skip(part) => place(part, &mut (), alloc, piece),
+            PartialTagField::Key(part) => place(part, &mut self.key, alloc, piece),
+            PartialTagField::Kind(part) => place(part, &mut self.kind, alloc, piece),
+            PartialTagField::Text(part) => place(part, &mut self.text, alloc, piece),
+            PartialTagField::Double(part) => place(part, &mut self.double, alloc, piece),
+            PartialTagField::Boolean(part) => place(part, &mut self.boolean, alloc, piece),
+            PartialTagField::Long(part) => place(part, &mut self.long, alloc, piece),
+            PartialTagField::Binary(part) => place(part, &mut self.binary, alloc, piece),
+            PartialTagField::Skip(part) => place(part, &mut (), alloc, piece),
         }
     }
 
-    fn is_between_fields(_held: &TagFieldPart) -> bool {
+    fn is_between_fields(_held: &PartialTagField) -> bool {
         false
     }
 
     #[tactic(auto, unfolding(batch_codec::specs::TagReading::tag_from))]
     #[inline(always)]
     fn whole(self) -> Decoded<Tag> {
-        let TagParts {
+        let PartialTag {
             key,
             kind,
             text,
@@ -156,8 +177,8 @@ impl PieceSlots for TagParts {
             long,
             binary,
         } = self;
-        let key = required(key, Part::Tag, 1)?;
-        let kind = required(kind, Part::Tag, 2)?;
+        let key = required(key, Part::Tag, KEY as u8)?;
+        let kind = required(kind, Part::Tag, V_TYPE as u8)?;
         let value = match kind {
             TagType::Text => Value::Text(text),
             TagType::Double => Value::Double(double),
@@ -178,4 +199,4 @@ impl PieceSlots for TagParts {
     ghost short = { take_tag_short };
 }
 
-impl Fields for TagParts {}
+impl Fields for PartialTag {}

@@ -1,6 +1,6 @@
 ghost use Rattle.std.specs.Prelude.{◌≡◌, ℕ, List};
 ghost use Rattle.batch_codec.specs.Decoding.{text_at, binary_at};
-ghost use Rattle.batch_feeder.specs.Values.{text_part, binary_part};
+ghost use Rattle.batch_feeder.specs.Values.{partial_text, partial_binary};
 
 use crate::partial::{Partial, fault_of};
 use batch_codec::{DecodeError, Decoded};
@@ -11,14 +11,14 @@ use wire_pieces::StringPart;
 
 /// A string, which must be UTF-8. It is validated once, when its last byte has arrived.
 #[derive(Drop)]
-pub(crate) struct TextPart {
+pub(crate) struct PartialText {
     part: StringPart,
 }
 
-impl Partial for TextPart {
+impl Partial for PartialText {
     type Value = Text;
 
-    ghost resumes = { text_part };
+    ghost resumes = { partial_text };
 
     fn more(&mut self, alloc: Global, piece: &mut Cursor<'_>) -> Decoded<Option<Text>> {
         match self.part.more(alloc, piece) {
@@ -32,13 +32,13 @@ impl Partial for TextPart {
     }
 }
 
-impl TextPart {
+impl PartialText {
     /// Returns the state before the first byte.
     #[tactic(auto, unfolding(batch_codec::specs::Decoding::text_at))]
     pub(crate) fn new() -> Self
-        ensures fresh { (w : List ℕ) → text_part result w ≡ text_at w }
+        ensures fresh { (w : List ℕ) → partial_text result w ≡ text_at w }
     {
-        TextPart {
+        PartialText {
             part: StringPart::new(),
         }
     }
@@ -46,14 +46,14 @@ impl TextPart {
 
 /// A binary: any bytes.
 #[derive(Drop)]
-pub(crate) struct BinaryPart {
+pub(crate) struct PartialBinary {
     part: StringPart,
 }
 
-impl Partial for BinaryPart {
+impl Partial for PartialBinary {
     type Value = Seq<u8>;
 
-    ghost resumes = { binary_part };
+    ghost resumes = { partial_binary };
 
     fn more(&mut self, alloc: Global, piece: &mut Cursor<'_>) -> Decoded<Option<Seq<u8>>> {
         match self.part.more(alloc, piece) {
@@ -64,13 +64,13 @@ impl Partial for BinaryPart {
     }
 }
 
-impl BinaryPart {
+impl PartialBinary {
     /// Returns the state before the first byte.
     #[tactic(auto, unfolding(batch_codec::specs::Decoding::binary_at))]
     pub(crate) fn new() -> Self
-        ensures fresh { (w : List ℕ) → binary_part result w ≡ binary_at w }
+        ensures fresh { (w : List ℕ) → partial_binary result w ≡ binary_at w }
     {
-        BinaryPart {
+        PartialBinary {
             part: StringPart::new(),
         }
     }

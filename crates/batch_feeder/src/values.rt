@@ -16,11 +16,11 @@ use wire_pieces::{Bool, PartialBytes};
 
 /// A bool.
 #[derive(Drop)]
-pub(crate) struct BoolPart {
+pub(crate) struct PartialBool {
     part: Bool,
 }
 
-impl Partial for BoolPart {
+impl Partial for PartialBool {
     type Value = bool;
 
     ghost resumes = { bool_from };
@@ -33,13 +33,13 @@ impl Partial for BoolPart {
     }
 }
 
-impl BoolPart {
+impl PartialBool {
     /// Returns the state before the first byte.
     #[tactic(auto, unfolding(batch_codec::specs::Decoding::bool_at))]
     pub(crate) fn new() -> Self
         ensures fresh { (w : List ℕ) → bool_from result w ≡ bool_at w }
     {
-        BoolPart { part: Bool::new() }
+        PartialBool { part: Bool::new() }
     }
 }
 
@@ -59,12 +59,12 @@ pub(crate) trait Fixed<const N: usize>: Drop + Sized {
 
 /// A partially received value of N bytes.
 #[derive(Drop)]
-pub(crate) struct FixedPart<V, const N: usize> {
+pub(crate) struct PartialFixed<V, const N: usize> {
     bytes: PartialBytes<N>,
     value: PhantomData<V>,
 }
 
-impl<V: Fixed<N>, const N: usize> Partial for FixedPart<V, N> {
+impl<V: Fixed<N>, const N: usize> Partial for PartialFixed<V, N> {
     type Value = V;
 
     ghost resumes = { λ p w. V.at (p.bytes ++ w) };
@@ -81,13 +81,13 @@ impl<V: Fixed<N>, const N: usize> Partial for FixedPart<V, N> {
     }
 }
 
-impl<V: Fixed<N>, const N: usize> FixedPart<V, N> {
+impl<V: Fixed<N>, const N: usize> PartialFixed<V, N> {
     /// Returns the state before the first byte.
     pub(crate) fn new() -> Self
         requires some { 0 < N }
         ensures fresh { (w : List ℕ) → V.at (result.bytes ++ w) ≡ V.at w }
     {
-        FixedPart {
+        PartialFixed {
             bytes: PartialBytes::new(),
             value: PhantomData,
         }
@@ -95,16 +95,16 @@ impl<V: Fixed<N>, const N: usize> FixedPart<V, N> {
 }
 
 /// The eight bytes of a double.
-pub(crate) type DoublePart = FixedPart<[u8; 8], 8>;
+pub(crate) type PartialDouble = PartialFixed<[u8; 8], 8>;
 
 /// A signed number of 32 bits.
-pub(crate) type I32Part = FixedPart<i32, 4>;
+pub(crate) type PartialI32 = PartialFixed<i32, 4>;
 
 /// A signed number of 64 bits.
-pub(crate) type I64Part = FixedPart<i64, 8>;
+pub(crate) type PartialI64 = PartialFixed<i64, 8>;
 
 /// 64 bits of an id.
-pub(crate) type IdPart = FixedPart<u64, 8>;
+pub(crate) type PartialId = PartialFixed<u64, 8>;
 
 impl Fixed<8> for [u8; 8] {
     ghost use Rattle.batch_codec.specs.Decoding.{double_at};

@@ -18,8 +18,8 @@ loop-error-preserved g c =
           (reads-head g.S.PieceSlots.takes g.met.S.PieceSlots.safe c.loop-error.slots c.in-Some.code c.in-Some.id _ _
           (rw c.in-Some.is at c.in-Ok.ensures.exact)))
           (reads-value g.S.PieceSlots.takes g.met.S.PieceSlots.safe _ _ _ _ _ _
-          (simp to_z-of_z at (rw c.in-Ok-true.field-0-test at c.in-Ok-true.ensures.tries))),
-      omega (arith, c.loop-error.invariant.1, c.in-Ok.ensures.shorter, c.in-Ok-true.ensures.no_longer),
+          (simp to_z-of_z at (rw c.in-Ok-Read.field-0-is at c.in-Ok-Read.ensures.tries))),
+      omega (arith, c.loop-error.invariant.1, c.in-Ok.ensures.shorter, c.in-Ok-Read.ensures.no_longer),
     )
 
 pub returns-then-not-is_truncated-clause-reads : goal.returns-then-not-is_truncated-clause-reads
@@ -27,11 +27,11 @@ returns-then-not-is_truncated-clause-reads g c =
     comes-faults _ _ _ _ _ c.loop-error.invariant.0
     (reads-fault g.S.PieceSlots.takes g.met.S.PieceSlots.safe c.loop-error.slots _ _ c.in-Err.ensures.exact.0 c.if-not-is_truncated.ensures)
 
-pub returns-in-Ok-false-clause-reads : goal.returns-in-Ok-false-clause-reads
-returns-in-Ok-false-clause-reads g c =
+pub returns-in-Ok-Deferred-clause-reads : goal.returns-in-Ok-Deferred-clause-reads
+returns-in-Ok-Deferred-clause-reads g c =
     let f : SFits w16 c.in-Some.id = search rules in
-    let same : c.put.new.self ≡ c.loop-error.slots = rw c.in-Ok-false.field-0-test at c.in-Ok-false.ensures.tries in
-    rw (same, c.new-in-Ok-false.ensures.bytes, c.rest-value.ensures.bytes, to_z-of_z w16 c.in-Some.id f) (
+    let same : c.put.new.self ≡ c.loop-error.slots = rw c.in-Ok-Deferred.field-0-is at c.in-Ok-Deferred.ensures.tries in
+    rw (same, c.new-in-Ok-Deferred.ensures.bytes, c.rest-value.ensures.bytes, to_z-of_z w16 c.in-Some.id f) (
       comes-trans c.loop-error.invariant.0
           (reads-head g.S.PieceSlots.takes g.met.S.PieceSlots.safe c.loop-error.slots c.in-Some.code c.in-Some.id _ _
           (rw c.in-Some.is at c.in-Ok.ensures.exact)),

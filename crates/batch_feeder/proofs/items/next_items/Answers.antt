@@ -25,16 +25,16 @@ returns-in-Err-clause-continues g c =
     comes-faults _ _ _ _ _ (item-next g.P.Item.reads _ _ _ _ _ _ _ (omega (arith, c.if-left-eq0.false)) refl c.in_ok-item.ensures.fresh behind)
     (items-faults g.P.Item.reads _ _ _ _ _ c.in-Err.ensures.continues)
 
-pub returns-in-Ok-false-clause-continues : goal.returns-in-Ok-false-clause-continues
-returns-in-Ok-false-clause-continues g c =
+pub returns-in-Ok-Pending-clause-continues : goal.returns-in-Ok-Pending-clause-continues
+returns-in-Ok-Pending-clause-continues g c =
     let behind = ended-behind g.P.Item.reads _ _ _ _ _ _ _ _ (sym c.in_ok-item.ensures.value) c.in_ok-push.ensures.items c.loop-item.invariant.0 in
     comes-waits (item-next g.P.Item.reads _ _ _ _ _ _ _ (omega (arith, c.if-left-eq0.false)) refl c.in_ok-item.ensures.fresh behind)
-    (items-waits g.P.Item.reads (Wire Truncated) _ _ _ _ _ _ (rw c.in-Ok-false.field-0-test at c.in-Ok-false.ensures.continues))
+    (items-waits g.P.Item.reads (Wire Truncated) _ _ _ _ _ _ (rw c.in-Ok-Pending.field-0-is at c.in-Ok-Pending.ensures.continues))
 
 pub loop-item-preserved : goal.loop-item-preserved
 loop-item-preserved g c =
     let behind = ended-behind g.P.Item.reads _ _ _ _ _ _ _ _ (sym c.in_ok-item.ensures.value) c.in_ok-push.ensures.items c.loop-item.invariant.0 in (
       comes-trans (item-next g.P.Item.reads _ _ _ _ _ _ _ (omega (arith, c.if-left-eq0.false)) refl c.in_ok-item.ensures.fresh behind)
-          (item-ended g.P.Item.reads _ _ _ _ _ _ (rw c.in-Ok-true.field-0-test at c.in-Ok-true.ensures.continues)),
-      omega (arith, c.loop-item.invariant.1, c.in-Ok-true.ensures.no_longer),
+          (item-ended g.P.Item.reads _ _ _ _ _ _ (rw c.in-Ok-Complete.field-0-is at c.in-Ok-Complete.ensures.continues)),
+      omega (arith, c.loop-item.invariant.1, c.in-Ok-Complete.ensures.no_longer),
     )

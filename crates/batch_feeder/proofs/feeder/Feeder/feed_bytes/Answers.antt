@@ -1,7 +1,7 @@
 use Rattle.std.proofs.Common.{arith, sym, ◌∙◌}
 use Rattle.std.proofs.lemmas.Result.{err_from_is_err_and}
 use Rattle.batch_feeder.specs.FeederAnswers.{answers}
-use Rattle.batch_feeder.proofs.FedPieces.{some-bytes, bytes-refuse, bytes-more, bytes-end}
+use Rattle.batch_feeder.proofs.FedPieces.{some-bytes, bytes-fail, bytes-more, bytes-end}
 use Rattle.batch_feeder.proofs.feeder.Feeder.feed_bytes.Goals as goal
 
 pub returns-in_err-feed_byte : goal.returns-in_err-feed_byte
@@ -9,7 +9,7 @@ returns-in_err-feed_byte c =
     let p = err_from_is_err_and c.from_residual.result c.from_residual.ensures.1 in
     record {
       feeds = rw (p.1, p.2)
-          (bytes-refuse (answers c.args.self.now) (answers c.loop-byte.self)
+          (bytes-fail (answers c.args.self.now) (answers c.loop-byte.self)
           _ _ c.loop-byte.invariant.0 _ _ _ c.loop-byte-test.true c.loop-byte.invariant.2 c.in_err-feed_byte.ensures.feeds);
     }
 

@@ -5,7 +5,7 @@ use Rattle.batch_feeder.proofs.feeder.Feeder.feed_last.Goals as goal
 pub returns-in-Err : goal.returns-in-Err
 returns-in-Err c =
     record {
-      feeds = rw c.fail.ensures.refuses
+      feeds = rw c.fail.ensures.fails
           (gave-up _ _ _ (wanted-sound _ _ _ c.args.self.now.holds (omega (arith, c.if-self-eq0.false))) c.fail.ensures.stays);
     }
 
@@ -24,4 +24,4 @@ returns-else-more-gt0 c =
     }
 
 pub returns-then-self-eq0 : goal.returns-then-self-eq0
-returns-then-self-eq0 c = record { feeds = feeds-plain _ _ _ _ _ (c.args.self.now.holds.none c.if-self-eq0.true) c.advance_or_refuse.ensures.feeds }
+returns-then-self-eq0 c = record { feeds = feeds-plain _ _ _ _ _ (c.args.self.now.holds.none c.if-self-eq0.true) c.advance_or_fail.ensures.feeds }

@@ -6,5 +6,5 @@ pub returns-in-Ok : goal.returns-in-Ok
 returns-in-Ok c =
     record {
       feeds = feeds-then (answers c.args.self.now) (answers c.read_waiting.new.self) _ _ _ c.in-Ok.ensures.keeps
-          (feeds-plain _ _ _ _ _ c.in-Ok.ensures.empty c.advance_or_refuse.ensures.feeds);
+          (feeds-plain _ _ _ _ _ c.in-Ok.ensures.empty c.advance_or_fail.ensures.feeds);
     }

@@ -1,5 +1,5 @@
 use Rattle.std.proofs.Common.{sym}
-use Rattle.batch_feeder.proofs.FeederSteps.{reading-ends, whole-ends, refused-answers}
+use Rattle.batch_feeder.proofs.FeederSteps.{reading-ends, whole-ends, failed-answers}
 use Rattle.batch_feeder.proofs.WaitingBytes.{holds-ends, whole-holds}
 use Rattle.batch_feeder.proofs.feeder.Feeder.finish.Goals as goal
 
@@ -10,4 +10,4 @@ pub returns-in-Whole : goal.returns-in-Whole
 returns-in-Whole c = record { gives = sym (whole-holds _ _ _ _ c.args.self.holds c.in-Whole.is (whole-ends _ _ c.in-Whole.is)) }
 
 pub returns : goal.returns
-returns c = record { gives = sym (refused-answers _ _ _ c.in-Refused.is) }
+returns c = record { gives = sym (failed-answers _ _ _ c.in-Failed.is) }
