@@ -12,8 +12,8 @@ use Rattle.thrift_binary.proofs.CutSkip.{value_cut}
 use Rattle.wire_pieces.specs.declared.heads.FieldHead.{FieldHead}
 use Rattle.wire_pieces.specs.declared.skip.Frame.{Frame}
 use Rattle.wire_pieces.specs.declared.skip.Frame.TheVariants.{Fields, Elements, Pairs, PairValue}
-use Rattle.wire_pieces.specs.declared.skip.Progress.{Progress}
-use Rattle.wire_pieces.specs.declared.skip.Progress.TheVariants as progress
+use Rattle.wire_pieces.specs.declared.skip.SkipProgress.{SkipProgress}
+use Rattle.wire_pieces.specs.declared.skip.SkipProgress.TheVariants as progress
 use Rattle.wire_pieces.specs.declared.skip.Current.{Current}
 use Rattle.wire_pieces.specs.declared.skip.Current.TheVariants as now
 use Rattle.wire_pieces.specs.declared.fault.PieceError.{PieceError}
@@ -237,7 +237,7 @@ module _ (around : List Frame) where
 -- ---- the same state by other names
 
 module _ (n m : Current) (fs gs : List Frame) (same : n ≡ m) (all : fs ≡ gs) where
-  pub progresses-state : (new : Skip) (p q : List ℕ) (r : Result Progress PieceError)
+  pub progresses-state : (new : Skip) (p q : List ℕ) (r : Result SkipProgress PieceError)
       → Progresses (state_at m gs) new p q r → Progresses (state_at n fs) new p q r
   progresses-state new p q r g = rw (same, all) g
 
@@ -248,11 +248,11 @@ module _ (n m : Current) (fs gs : List Frame) (same : n ≡ m) (all : fs ≡ gs)
   comes-to-state old p q g = rw (same, all) g
 
 -- a step after what a step without bytes came to
-pub comes-progress : (old mid new : Skip) (w v left : List ℕ) (r : Result Progress PieceError) → Comes old mid w v → Progresses mid new v left r
+pub comes-progress : (old mid new : Skip) (w v left : List ℕ) (r : Result SkipProgress PieceError) → Comes old mid w v → Progresses mid new v left r
     → Progresses old new w left r
-comes-progress old mid new w v left (Ok progress.On) f g = comes-trans f g
-comes-progress old mid new w v left (Ok progress.Short) f g = comes-waits f g
-comes-progress old mid new w v left (Ok progress.Whole) f g = comes-trans f g
+comes-progress old mid new w v left (Ok progress.Continue) f g = comes-trans f g
+comes-progress old mid new w v left (Ok progress.NeedsMore) f g = comes-waits f g
+comes-progress old mid new w v left (Ok progress.Complete) f g = comes-trans f g
 comes-progress old mid new w v left (Err e) f g = comes-refused old mid w v e f g
 
 -- ---- the first byte

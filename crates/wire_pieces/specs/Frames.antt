@@ -8,8 +8,8 @@ use Rattle.thrift_binary.specs.declared.fault.WireError.{WireError}
 use Rattle.thrift_binary.specs.declared.fault.WireError.TheVariants.{Truncated}
 use Rattle.wire_pieces.specs.declared.fault.PieceError.{PieceError}
 use Rattle.wire_pieces.specs.Pieces.{Comes, NeedsMore, Refused}
-use Rattle.wire_pieces.specs.declared.skip.Progress.{Progress}
-use Rattle.wire_pieces.specs.declared.skip.Progress.TheVariants as progress
+use Rattle.wire_pieces.specs.declared.skip.SkipProgress.{SkipProgress}
+use Rattle.wire_pieces.specs.declared.skip.SkipProgress.TheVariants as progress
 use Rattle.wire_pieces.specs.Numbers.{size_from}
 use Rattle.wire_pieces.specs.Heads.{fields_head, list_head, map_head}
 use Rattle.wire_pieces.specs.declared.skip.Frame.{Frame}
@@ -73,14 +73,14 @@ rank (now.List p) = 0
 rank (now.Map p) = 0
 
 -- the result of a step
-abbrev pub Progresses : Skip → Skip → List ℕ → List ℕ → Result Progress PieceError → Type 0
-Progresses old new piece left (Ok progress.On) = Comes old new piece left
-Progresses old new piece left (Ok progress.Short) = NeedsMore Truncated old new piece left
-Progresses old new piece left (Ok progress.Whole) = Comes old (λ w. Ok (tt, w)) piece left
+abbrev pub Progresses : Skip → Skip → List ℕ → List ℕ → Result SkipProgress PieceError → Type 0
+Progresses old new piece left (Ok progress.Continue) = Comes old new piece left
+Progresses old new piece left (Ok progress.NeedsMore) = NeedsMore Truncated old new piece left
+Progresses old new piece left (Ok progress.Complete) = Comes old (λ w. Ok (tt, w)) piece left
 Progresses old new piece left (Err e) = Refused old piece e
 
-abbrev pub Lightens : ℕ → ℕ → Result Progress PieceError → Type 0
-Lightens old new (Ok progress.On) = new < old
-Lightens old new (Ok progress.Short) = Unit {0}
-Lightens old new (Ok progress.Whole) = Unit {0}
+abbrev pub Lightens : ℕ → ℕ → Result SkipProgress PieceError → Type 0
+Lightens old new (Ok progress.Continue) = new < old
+Lightens old new (Ok progress.NeedsMore) = Unit {0}
+Lightens old new (Ok progress.Complete) = Unit {0}
 Lightens old new (Err e) = Unit {0}

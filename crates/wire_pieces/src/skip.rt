@@ -50,10 +50,13 @@ pub(crate) enum Current {
 }
 
 /// The result of a step.
-pub(crate) enum Progress {
-    On,
-    Short,
-    Whole,
+pub(crate) enum SkipProgress {
+    /// Another step follows.
+    Continue,
+    /// The piece has ended before the value.
+    NeedsMore,
+    /// The value is complete.
+    Complete,
 }
 
 /// A value of any type that is skipped, with at most 64 levels of containers. A bool may be any byte here, and a
@@ -131,7 +134,7 @@ impl Skipping {
     }
 
     /// Begins a container inside the innermost one.
-    fn enter(&mut self, code: u8) -> Result<Progress, PieceError>
+    fn enter(&mut self, code: u8) -> Result<SkipProgress, PieceError>
         requires now { self.old.now ≡ Nothing }
         requires container { is_container code ≡ true }
         ensures progress { (piece : List ℕ) → Progresses (begun code self.old.around.items)
@@ -147,11 +150,11 @@ impl Skipping {
             types::MAP => self.now = Current::Map(MapHead::new()),
             _ => self.now = Current::List(ListHead::new()),
         }
-        Ok(Progress::On)
+        Ok(SkipProgress::Continue)
     }
 
     /// Begins a value inside the innermost container, of which `rest` is left after it.
-    fn begin(&mut self, code: u8, rest: Frame) -> Result<Progress, PieceError>
+    fn begin(&mut self, code: u8, rest: Frame) -> Result<SkipProgress, PieceError>
         requires now { self.old.now ≡ Nothing }
         requires room { length self.old.around.items < 65 }
         ensures progress { (piece : List ℕ) →
@@ -165,11 +168,11 @@ impl Skipping {
             return self.enter(code);
         }
         self.now = leaf(code)?;
-        Ok(Progress::On)
+        Ok(SkipProgress::Continue)
     }
 
     /// Continues between two values.
-    fn between_values(&mut self) -> Result<Progress, PieceError>
+    fn between_values(&mut self) -> Result<SkipProgress, PieceError>
         requires now { self.old.now ≡ Nothing }
         ensures progress { (piece : List ℕ) → Progresses (skipping self.old) (skipping self.new)
             piece piece result }
@@ -177,17 +180,17 @@ impl Skipping {
         ensures no_memory { result ≡ Err Memory → ⊥ }
     {
         match self.around.pop() {
-            None => Ok(Progress::Whole),
+            None => Ok(SkipProgress::Complete),
             Some(Frame::Fields) => {
                 self.now = Current::Field(FieldHead::new());
-                Ok(Progress::On)
+                Ok(SkipProgress::Continue)
             }
             Some(Frame::Elements(code, left)) => match left.checked_sub(1) {
-                None => Ok(Progress::On),
+                None => Ok(SkipProgress::Continue),
                 Some(left) => self.begin(code, Frame::Elements(code, left)),
             },
             Some(Frame::Pairs(key, value, left)) => match left.checked_sub(1) {
-                None => Ok(Progress::On),
+                None => Ok(SkipProgress::Continue),
                 Some(left) => self.begin(key, Frame::PairValue(key, value, left)),
             },
             Some(Frame::PairValue(key, value, left)) => {
@@ -197,7 +200,7 @@ impl Skipping {
     }
 
     /// Continues inside a value.
-    fn step(&mut self, piece: &mut Cursor<'_>) -> Result<Progress, PieceError>
+    fn step(&mut self, piece: &mut Cursor<'_>) -> Result<SkipProgress, PieceError>
         ensures progress { Progresses (skipping self.old) (skipping self.new)
             piece.old piece.new result }
         ensures lighter { Lightens (weight self.old piece.old) (weight self.new piece.new) result }
@@ -208,18 +211,18 @@ impl Skipping {
             Current::Nothing => return self.between_values(),
             Current::Past(part) => {
                 if part.more(piece).is_none() {
-                    return Ok(Progress::Short);
+                    return Ok(SkipProgress::NeedsMore);
                 }
                 self.now = Current::Nothing;
             }
             Current::Size(part) => {
                 let Some(size) = part.more(piece)? else {
-                    return Ok(Progress::Short);
+                    return Ok(SkipProgress::NeedsMore);
                 };
                 self.now = skip_bytes(size);
             }
             Current::Field(part) => match part.more(piece)? {
-                None => return Ok(Progress::Short),
+                None => return Ok(SkipProgress::NeedsMore),
                 Some(Head::Stop) => self.now = Current::Nothing,
                 Some(Head::Field(code, _)) => {
                     self.now = Current::Nothing;
@@ -228,20 +231,20 @@ impl Skipping {
             },
             Current::List(part) => {
                 let Some((code, size)) = part.more(piece)? else {
-                    return Ok(Progress::Short);
+                    return Ok(SkipProgress::NeedsMore);
                 };
                 self.now = Current::Nothing;
                 self.around.push(Frame::Elements(code, size));
             }
             Current::Map(part) => {
                 let Some((key, value, size)) = part.more(piece)? else {
-                    return Ok(Progress::Short);
+                    return Ok(SkipProgress::NeedsMore);
                 };
                 self.now = Current::Nothing;
                 self.around.push(Frame::Pairs(key, value, size));
             }
         }
-        Ok(Progress::On)
+        Ok(SkipProgress::Continue)
     }
 
     /// Continues with a piece. Returns `()` once the value has been skipped. It takes no memory.
@@ -253,9 +256,9 @@ impl Skipping {
     {
         loop {
             match self.step(piece)? {
-                Progress::On => {}
-                Progress::Short => return Ok(None),
-                Progress::Whole => return Ok(Some(())),
+                SkipProgress::Continue => {}
+                SkipProgress::NeedsMore => return Ok(None),
+                SkipProgress::Complete => return Ok(Some(())),
             }
         }
     }

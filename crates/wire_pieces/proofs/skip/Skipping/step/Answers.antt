@@ -4,7 +4,7 @@ use Rattle.std.proofs.lemmas.Result.{err_from_is_err_and}
 use Rattle.wire_pieces.proofs.Steps.{reaches-none, reaches-some, waits-inside, refused-inside}
 use Rattle.wire_pieces.proofs.SkipSteps.{now-waits, now-refused, now-done, size-next, list-next, map-next, field-waits, field-refused, field-stop, field-value}
 use Rattle.wire_pieces.proofs.SkipSteps.{comes-progress, progresses-state, refused-state, comes-to-state}
-use Rattle.wire_pieces.specs.declared.skip.Progress.TheVariants as progress
+use Rattle.wire_pieces.specs.declared.skip.SkipProgress.TheVariants as progress
 use Rattle.wire_pieces.proofs.skip.Skipping.step.Goals as goal
 
 pub returns-in-Nothing-clause-progress : goal.returns-in-Nothing-clause-progress
@@ -13,13 +13,13 @@ returns-in-Nothing-clause-progress c = c.between_values.ensures.progress c.args.
 pub returns-then-is_none-clause-progress : goal.returns-then-is_none-clause-progress
 returns-then-is_none-clause-progress c =
     let none : is_some c.more.result ≡ false = c.if-is_none.ensures in
-    progresses-state _ _ _ _ c.in-Past.is refl _ _ _ (Ok progress.Short)
+    progresses-state _ _ _ _ c.in-Past.is refl _ _ _ (Ok progress.NeedsMore)
     (now-waits _ _ _ _ _ (reaches-none (λ x. x) _ _ _ _ _ none c.more.ensures.reads))
 
 pub returns-else-is_none-clause-progress : goal.returns-else-is_none-clause-progress
 returns-else-is_none-clause-progress c =
     let some : is_some c.more.result ≡ true = c.if-is_none.ensures in
-    progresses-state _ _ _ _ c.in-Past.is refl _ _ _ (Ok progress.On) (now-done _ _ _ _ (reaches-some _ _ _ _ _ some c.more.ensures.reads))
+    progresses-state _ _ _ _ c.in-Past.is refl _ _ _ (Ok progress.Continue) (now-done _ _ _ _ (reaches-some _ _ _ _ _ some c.more.ensures.reads))
 
 pub returns-in_err-size-in-Size-clause-progress : goal.returns-in_err-size-in-Size-clause-progress
 returns-in_err-size-in-Size-clause-progress c =
@@ -28,12 +28,12 @@ returns-in_err-size-in-Size-clause-progress c =
 
 pub returns-in_default-clause-progress : goal.returns-in_default-clause-progress
 returns-in_default-clause-progress c =
-    progresses-state _ _ _ _ c.in-Size.is refl _ _ _ (Ok progress.Short)
+    progresses-state _ _ _ _ c.in-Size.is refl _ _ _ (Ok progress.NeedsMore)
     (now-waits _ _ _ _ _ (waits-inside _ (rw c.in_default.is at c.in_ok-size-in-Size.ensures.reads)))
 
 pub returns-in-Some-clause-progress : goal.returns-in-Some-clause-progress
 returns-in-Some-clause-progress c =
-    progresses-state _ _ _ _ c.in-Size.is refl _ _ _ (Ok progress.On)
+    progresses-state _ _ _ _ c.in-Size.is refl _ _ _ (Ok progress.Continue)
     (size-next _ _ _ _ _ _ c.skip_bytes-self.ensures.reads (rw c.in-Some.is at c.in_ok-size-in-Size.ensures.reads))
 
 pub returns-in_err-more-in-Field-clause-progress : goal.returns-in_err-more-in-Field-clause-progress
@@ -43,11 +43,11 @@ returns-in_err-more-in-Field-clause-progress c =
 
 pub returns-in-None-clause-progress : goal.returns-in-None-clause-progress
 returns-in-None-clause-progress c =
-    progresses-state _ _ _ _ c.in-Field.is refl _ _ _ (Ok progress.Short) (field-waits _ _ _ _ _ (rw c.in-None.is at c.in_ok-more-in-Field.ensures.reads))
+    progresses-state _ _ _ _ c.in-Field.is refl _ _ _ (Ok progress.NeedsMore) (field-waits _ _ _ _ _ (rw c.in-None.is at c.in_ok-more-in-Field.ensures.reads))
 
 pub returns-in-Some-Stop-clause-progress : goal.returns-in-Some-Stop-clause-progress
 returns-in-Some-Stop-clause-progress c =
-    progresses-state _ _ _ _ c.in-Field.is refl _ _ _ (Ok progress.On)
+    progresses-state _ _ _ _ c.in-Field.is refl _ _ _ (Ok progress.Continue)
     (field-stop _ _ _ _ (rw (c.in-Some-Stop.is, c.in-Some-Stop.field-0-is) at c.in_ok-more-in-Field.ensures.reads))
 
 pub returns-in-Some-Field-clause-progress : goal.returns-in-Some-Field-clause-progress
@@ -63,12 +63,12 @@ returns-in_err-code-in-List-clause-progress c =
 
 pub returns-in_default-2-clause-progress : goal.returns-in_default-2-clause-progress
 returns-in_default-2-clause-progress c =
-    progresses-state _ _ _ _ c.in-List.is refl _ _ _ (Ok progress.Short)
+    progresses-state _ _ _ _ c.in-List.is refl _ _ _ (Ok progress.NeedsMore)
     (now-waits _ _ _ _ _ (waits-inside _ (rw c.in_default-2.is at c.in_ok-code-in-List.ensures.reads)))
 
 pub returns-in-Some-2-clause-progress : goal.returns-in-Some-2-clause-progress
 returns-in-Some-2-clause-progress c =
-    progresses-state _ _ _ _ c.in-List.is refl _ _ _ (Ok progress.On)
+    progresses-state _ _ _ _ c.in-List.is refl _ _ _ (Ok progress.Continue)
     (comes-to-state _ _ _ _ refl c.push.ensures.items _ _ _ (list-next _ _ _ _ _ _ (rw c.in-Some-2.is at c.in_ok-code-in-List.ensures.reads)))
 
 pub returns-in_err-key-in-Map-clause-progress : goal.returns-in_err-key-in-Map-clause-progress
@@ -78,10 +78,10 @@ returns-in_err-key-in-Map-clause-progress c =
 
 pub returns-in_default-3-clause-progress : goal.returns-in_default-3-clause-progress
 returns-in_default-3-clause-progress c =
-    progresses-state _ _ _ _ c.in-Map.is refl _ _ _ (Ok progress.Short)
+    progresses-state _ _ _ _ c.in-Map.is refl _ _ _ (Ok progress.NeedsMore)
     (now-waits _ _ _ _ _ (waits-inside _ (rw c.in_default-3.is at c.in_ok-key-in-Map.ensures.reads)))
 
 pub returns-in-Some-3-clause-progress : goal.returns-in-Some-3-clause-progress
 returns-in-Some-3-clause-progress c =
-    progresses-state _ _ _ _ c.in-Map.is refl _ _ _ (Ok progress.On)
+    progresses-state _ _ _ _ c.in-Map.is refl _ _ _ (Ok progress.Continue)
     (comes-to-state _ _ _ _ refl c.push-in-Map.ensures.items _ _ _ (map-next _ _ _ _ _ _ _ (rw c.in-Some-3.is at c.in_ok-key-in-Map.ensures.reads)))
