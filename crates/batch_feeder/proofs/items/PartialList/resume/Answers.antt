@@ -14,5 +14,5 @@ returns-in-Ok-Pending-clause-continues g c =
 
 pub returns-in-Ok-Complete-clause-continues : goal.returns-in-Ok-Complete-clause-continues
 returns-in-Ok-Complete-clause-continues g c =
-    rw c.in-Some.is (continues-to-after _ _ _ _ _ _ _ _ (item-ended g.P.Item.reads _ _ _ _ _ _ (rw c.in-Ok-Complete.field-0-is at c.in-Ok-Complete.ensures.continues))
-    c.next_items.ensures.continues)
+    let arrived = rw c.in-Ok-Complete.field-0-is at c.in-Ok-Complete.ensures.continues in
+    rw c.in-Some.is (continues-to-after _ _ _ _ _ _ _ _ (item-ended g.P.Item.reads _ _ _ _ _ _ arrived) c.next_items.ensures.continues)
