@@ -8,6 +8,7 @@ use jaeger_model::Seq;
 use journal_traces::{TagCandidates, TakenSearch, find_kept, find_kept_ids};
 use std::alloc::{AllocError, Global};
 use std::marker::Model;
+use std::mem::drop;
 use trace_model::{Answer, Limits};
 
 /// A search, and candidate traces among which it finds the same as among all. Contracts see its answer.
@@ -46,14 +47,21 @@ impl<'q> TagSearch<'q> {
     pub(crate) fn answer(self, alloc: Global) -> Result<Answer, AllocError>
         ensures { IfOk result (λ a. a ≡ self.entry) }
     {
-        let prepared = PreparedSearch::new(alloc, self.traces.query())?;
-        let traces = self.traces.traces_that_may_meet(alloc, &prepared)?;
+        let TagSearch {
+            ids_alone,
+            limits,
+            traces: candidates,
+        } = self;
+        let prepared = PreparedSearch::new(alloc, candidates.query())?;
+        let traces = candidates.traces_that_may_meet(alloc, &prepared)?;
+        // The answer needs none of the candidates, and gets their memory.
+        drop(candidates);
         let mut search = TakenSearch::new(alloc, &traces, &prepared);
-        if self.ids_alone {
+        if ids_alone {
             let ids = find_kept_ids(alloc, &mut search)?;
             return Ok(Answer::Ids(Seq::from_vec(ids)));
         }
-        let found = find_kept(alloc, &mut search, self.limits)?;
+        let found = find_kept(alloc, &mut search, limits)?;
         Ok(Answer::Traces(Seq::from_vec(found)))
     }
 }

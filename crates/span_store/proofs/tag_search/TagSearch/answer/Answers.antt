@@ -10,8 +10,8 @@ use Rattle.journal_traces.specs.TakenSearch.{traces_taken, query_taken}
 use Rattle.span_store.specs.FoundAnswers.{found_answer}
 use Rattle.span_store.proofs.tag_search.TagSearch.answer.Goals as goal
 
-pub returns-then-self : goal.returns-then-self
-returns-then-self c =
+pub returns-then-ids_alone : goal.returns-then-ids_alone
+returns-then-ids_alone c =
     let was = c.self.inside in
     let q : Find = was.traces.query in
     let ts : List (List Placed) = traces_spotted was.traces in
@@ -20,7 +20,7 @@ returns-then-self c =
     ap (λ (s : Find × List (List Taken)). found_in (query_taken s) (traces_taken s)) c.new-search.ensures
     ∙ c.in_ok-traces.ensures.found ∙ ap (λ (f : Find). found_in f ts) asked in
     ap say.Ids (c.from_vec.ensures ∙ c.in_ok-ids.ensures ∙ ap ids_of found)
-    ∙ ap (λ b. found_answer was.limits q b ts) (sym c.if-self.true) ∙ c.self.view_is
+    ∙ ap (λ b. found_answer was.limits q b ts) (sym c.if-ids_alone.true) ∙ c.self.view_is
 
 pub returns : goal.returns
 returns c =
@@ -32,4 +32,4 @@ returns c =
     ap (λ (s : Find × List (List Taken)). found_in (query_taken s) (traces_taken s)) c.new-search.ensures
     ∙ c.in_ok-traces.ensures.found ∙ ap (λ (f : Find). found_in f ts) asked in
     ap say.Traces (c.from_vec-2.ensures ∙ c.in_ok-found.ensures ∙ ap (map (adjusted was.limits.max_skew)) found)
-    ∙ ap (λ b. found_answer was.limits q b ts) (sym c.if-self.false) ∙ c.self.view_is
+    ∙ ap (λ b. found_answer was.limits q b ts) (sym c.if-ids_alone.false) ∙ c.self.view_is
