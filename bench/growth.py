@@ -6,6 +6,9 @@
 Four clients store spans in batches of 10 until a server holds as many as a size, each waiting for its 202 before it sends the
 next batch. What is printed is the longest POST of the four, and the seconds that it took: the least of the rounds of the longest, since
 other work of the machine makes a POST longer too, and the median of the seconds.
+
+Then one client stores as many in another server, and the most processor time that the server takes during a POST is printed, the least of the
+rounds: it has what a list that is copied would take, and doesn't grow while a thread waits for a processor.
 """
 import os
 import statistics
@@ -20,14 +23,20 @@ COLUMNS = ["what", "spans stored", "jaeger_one", "plain server"]
 WORKERS = 8
 
 
-def grown(program, load, size):
-    """The milliseconds of the longest POST, and the seconds of all."""
+def filled(program, load, size, counts):
+    """What the clients report who fill a server; with `counts` one client, and the server's processor time too."""
     with started(program, WORKERS) as server:
         command = [load, "--port", str(server.port), "--fill", str(size), "--writers", "0"]
+        command += ["--pid", str(server.run.pid)] if counts else []
         run = subprocess.run(command, capture_output=True, timeout=600, check=True)
         reported = run.stdout.decode().split()
-        numbers = {key: float(value) for key, value in zip(reported[::2], reported[1::2])}
-        return numbers["fill_longest"], numbers["fill_seconds"]
+        return {key: float(value) for key, value in zip(reported[::2], reported[1::2])}
+
+
+def grown(program, load, size):
+    """The milliseconds of the longest POST, the most of processor time in a POST, and the seconds of all."""
+    numbers = filled(program, load, size, counts=False)
+    return numbers["fill_longest"], filled(program, load, size, counts=True)["fill_most_used"], numbers["fill_seconds"]
 
 
 def main():
@@ -50,10 +59,13 @@ def main():
             if not rounds:
                 continue
             longest = [min(it[name][0] for it in rounds) for name in SERVERS]
-            seconds = [statistics.median(it[name][1] for it in rounds) for name in SERVERS]
-            each = {NAMES[name]: [round(it[name][0], 1) for it in rounds] for name in SERVERS}
-            print(f"{size:,} spans: longest POST {longest[0]:.1f} ms, {longest[1]:.1f} of the plain server; in {seconds[0]:.1f} s, {seconds[1]:.1f}; rounds {each}", flush=True)
+            most_used = [min(it[name][1] for it in rounds) for name in SERVERS]
+            seconds = [statistics.median(it[name][2] for it in rounds) for name in SERVERS]
+            each = {NAMES[name]: [(round(it[name][0], 1), round(it[name][1], 1)) for it in rounds] for name in SERVERS}
+            print(f"{size:,} spans: longest POST {longest[0]:.1f} ms, {longest[1]:.1f} of the plain server; processor time in a POST at most "
+                  f"{most_used[0]:.1f} ms, {most_used[1]:.1f}; in {seconds[0]:.1f} s, {seconds[1]:.1f}; rounds {each}", flush=True)
             record.row("the longest POST, ms", size, *(round(it, 1) for it in longest))
+            record.row("the most processor time in a POST, ms", size, *(round(it, 1) for it in most_used))
             record.row("seconds", size, *(round(it, 1) for it in seconds))
     record.save()
 

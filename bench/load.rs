@@ -1,13 +1,14 @@
 //! Clients for `bench/serve.py`: fills a trace server over HTTP, and then writes and reads at once for a while. Standard
 //! library alone, loopback only.
 //!
-//!     load --port P --fill SPANS --writers N --readers N --seconds S [--held SPANS] [--target T] [--pace N] [--most N]
+//!     load --port P --fill SPANS --writers N --readers N --seconds S [--held SPANS] [--target T] [--pace N] [--most N] [--pid N]
 //!
 //! Every batch has 10 spans of a new trace, each with 8 tags. A writer keeps one connection and waits for each 202 before it
 //! sends the next batch; a reader keeps one, asks for random traces of the filling by their ids, or `--target` each time, and
 //! waits for each answer. `--held` is how many spans a run before this one filled the server with. `--pace` is how many batches
 //! a second each writer sends (0: as fast as it can), `--most` how many batches all writers send at most, after which readers
-//! end too. Prints one line of names and numbers. A request that takes 10 seconds, or whose
+//! end too. With the server's `--pid` one client fills it instead of four, and the line has the most processor time that the server
+//! took while a POST of the filling waited. Prints one line of names and numbers. A request that takes 10 seconds, or whose
 //! status is another than 202 for a batch and 200 for a trace, ends the program with status 1.
 
 use std::io::{Read, Write};
@@ -193,6 +194,8 @@ struct Asked {
     seconds: Duration,
     pace: f64,
     most: u64,
+    /// Of the server.
+    pid: Option<i32>,
 }
 
 /// Batches of new traces, until the time or the number is up; returns the nanoseconds of each, all of which were accepted.
@@ -242,26 +245,68 @@ fn read(asked: &Asked, sent: &AtomicU64, seed: u64, end: Instant) -> (Vec<u64>, 
     (times, length)
 }
 
-/// The seconds of the filling, and the nanoseconds of its longest POST.
-fn fill(asked: &Asked) -> (f64, u64) {
+/// `struct timespec`.
+#[repr(C)]
+struct Moment {
+    seconds: i64,
+    nanoseconds: i64,
+}
+
+extern "C" {
+    fn clock_getcpuclockid(pid: i32, clock: *mut i32) -> i32;
+    fn clock_gettime(clock: i32, moment: *mut Moment) -> i32;
+}
+
+/// Counts the processor time of all threads of a process.
+#[derive(Clone, Copy)]
+struct ProcessorClock(i32);
+
+impl ProcessorClock {
+    fn of(pid: i32) -> Self {
+        let mut clock = 0;
+        assert_eq!(unsafe { clock_getcpuclockid(pid, &mut clock) }, 0, "there is such a process");
+        ProcessorClock(clock)
+    }
+
+    fn nanoseconds(self) -> u64 {
+        let mut moment = Moment { seconds: 0, nanoseconds: 0 };
+        assert_eq!(unsafe { clock_gettime(self.0, &mut moment) }, 0, "the process runs");
+        moment.seconds as u64 * 1_000_000_000 + moment.nanoseconds as u64
+    }
+}
+
+/// What a filling took.
+struct Filled {
+    seconds: f64,
+    /// The nanoseconds of the longest POST.
+    longest: u64,
+    /// The most nanoseconds of processor time that the server took during a POST, 0 if they weren't counted.
+    most_used: u64,
+}
+
+fn fill(asked: &Asked) -> Filled {
     let begin = Instant::now();
     let batches = asked.fill / IN_BATCH;
-    let longest = AtomicU64::new(0);
+    let (longest, most_used) = (AtomicU64::new(0), AtomicU64::new(0));
+    let clock = asked.pid.map(ProcessorClock::of);
+    let used = || clock.map_or(0, ProcessorClock::nanoseconds);
+    let fillers = if clock.is_some() { 1 } else { FILLERS };
     thread::scope(|scope| {
-        for filler in 0..FILLERS {
-            let longest = &longest;
+        for filler in 0..fillers {
+            let (longest, most_used, used) = (&longest, &most_used, &used);
             scope.spawn(move || {
                 let mut client = Client::new(asked.port);
                 let mut request = Request::new("orders");
-                for n in (filler..batches).step_by(FILLERS as usize) {
-                    let begin = Instant::now();
+                for n in (filler..batches).step_by(fillers as usize) {
+                    let (begin, used_before) = (Instant::now(), used());
                     client.ask(request.of(trace(n)), "202");
+                    most_used.fetch_max(used() - used_before, Ordering::Relaxed);
                     longest.fetch_max(begin.elapsed().as_nanos() as u64, Ordering::Relaxed);
                 }
             });
         }
     });
-    (begin.elapsed().as_secs_f64(), longest.into_inner())
+    Filled { seconds: begin.elapsed().as_secs_f64(), longest: longest.into_inner(), most_used: most_used.into_inner() }
 }
 
 fn main() {
@@ -286,8 +331,9 @@ fn main() {
         seconds: Duration::from_secs_f64(option("--seconds", 1.0)),
         pace: option("--pace", 0.0),
         most: option("--most", 50_000.0) as u64,
+        pid: words.iter().position(|word| word == "--pid").and_then(|place| words.get(place + 1)?.parse().ok()),
     };
-    let (filled, longest_fill) = fill(&asked);
+    let filled = fill(&asked);
     let start = Barrier::new((asked.writers + asked.readers) as usize);
     let sent = AtomicU64::new(0);
     let begin = Instant::now();
@@ -329,8 +375,10 @@ fn main() {
     let seconds = (last - begin).as_secs_f64().max(1e-9);
     let spans = posts.len() as u64 * IN_BATCH;
     println!(
-        "fill_seconds {filled:.4} fill_longest {:.4} spans {spans} seconds {seconds:.4} rate {:.0} reads {} p50 {:.4} p99 {:.4} worst {:.4} bytes {length} posts_p50 {:.4} posts_p99 {:.4}",
-        longest_fill as f64 / 1e6,
+        "fill_seconds {:.4} fill_longest {:.4} fill_most_used {:.4} spans {spans} seconds {seconds:.4} rate {:.0} reads {} p50 {:.4} p99 {:.4} worst {:.4} bytes {length} posts_p50 {:.4} posts_p99 {:.4}",
+        filled.seconds,
+        filled.longest as f64 / 1e6,
+        filled.most_used as f64 / 1e6,
         spans as f64 / seconds,
         times.len(),
         within(&times, 0.5),

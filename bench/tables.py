@@ -286,10 +286,13 @@ def grown(found):
     """The longest POST while a server grows. The page says so if no rows were kept yet."""
     if "growth" not in found.series:
         return ["*Not measured yet.*"]
-    whats = ("the longest POST, ms", "seconds")
+    heads = {"the longest POST, ms": "The longest POST, ms", "the most processor time in a POST, ms": "Processor time in a POST at most, ms", "seconds": "Seconds"}
+    recorded = {it[0] for it in found.rows("growth")}
+    whats = [what for what in heads if what in recorded]
     rows = ([cell(size), *(cell(it) for what in whats for it in found.of("growth", what, size))]
             for size in sorted({it[1] for it in found.rows("growth")}))
-    return table(["Spans stored", "The longest POST, ms", "Of the plain server", "Seconds", "Of the plain server"], rows) + found.caption("growth")
+    columns = [column for what in whats for column in (heads[what], "Of the plain server")]
+    return table(["Spans stored", *columns], rows) + found.caption("growth")
 
 
 def waits(found):
