@@ -7,4 +7,4 @@ pub returns : goal.returns
 unfolding escape_byte
 returns c =
     Puts-is (c.push_str.ensures ▸ c.string.ensures ▸ c.push_str-2.ensures ▸ c.string-2.ensures ▸ c.push_str-3.ensures)
-    (rw (c.as_str.ensures.value, c.as_str-2.ensures.value) (put_tree-text (operation_tree c.args.self.now)))
+    (rw (c.as_str.ensures, c.as_str-2.ensures.value) (put_tree-text (operation_tree c.args.self.now)))
