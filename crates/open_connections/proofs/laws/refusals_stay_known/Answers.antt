@@ -5,5 +5,5 @@ use Rattle.open_connections.proofs.laws.refusals_stay_known.Goals as goal
 
 pub returns : goal.returns
 returns g c =
-    let line = buffered_line g.C.TryConnection.remaining g.C.TryConnection.gives g.C.TryConnection.has_failed g.C.TryConnection.contents in
+    let line = buffered_line g.C.Input.remaining g.C.Input.gives g.C.Input.has_failed g.C.TryConnection.contents in
     connections_stay_known _ (promises_of g.met.B.Backend.submit_knows g.met.B.Backend.read_knows) line
