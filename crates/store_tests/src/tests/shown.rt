@@ -1,7 +1,7 @@
 use jaeger_model::Seq;
 use std::alloc::{AllocError, Global};
 use std::mem::drop;
-use trace_model::{Answer, AnsweredTrace, Link, ShownTrace};
+use trace_model::{Answer, AnsweredTrace, Link, Name, Operation, ShownTrace};
 
 /// The spans of a trace, without the places of their entries.
 fn spans_text(alloc: Global, trace: &ShownTrace) -> Result<String, AllocError> {
@@ -37,11 +37,34 @@ fn links_text(alloc: Global, links: &[Link]) -> Result<String, AllocError> {
     Ok(text)
 }
 
+/// The names, which may be texts of their own or in entries.
+fn names_text(alloc: Global, names: &[Name]) -> Result<String, AllocError> {
+    let mut text = String::new(alloc);
+    for name in names {
+        let name = name.as_str();
+        text.push_str(format!(in alloc; "{name:?}\n")?.as_str())?;
+    }
+    Ok(text)
+}
+
+/// The operations with their kinds.
+fn operations_text(alloc: Global, operations: &[Operation]) -> Result<String, AllocError> {
+    let mut text = String::new(alloc);
+    for operation in operations {
+        let name = operation.name.as_str();
+        let kind = operation.kind.as_str();
+        text.push_str(format!(in alloc; "{name:?} {kind:?}\n")?.as_str())?;
+    }
+    Ok(text)
+}
+
 /// What an answer shows, as text.
 pub(crate) fn shown(alloc: Global, answer: Answer) -> Result<String, AllocError> {
     match answer {
         Answer::Trace(Some(trace)) => trace_text(alloc, trace),
         Answer::Traces(traces) => traces_text(alloc, traces),
+        Answer::Names(names) => names_text(alloc, names.as_slice()),
+        Answer::Operations(operations) => operations_text(alloc, operations.as_slice()),
         Answer::Links(links) => links_text(alloc, links.as_slice()),
         other => Ok(format!(in alloc; "{other:?}")?),
     }
