@@ -1,7 +1,7 @@
 use jaeger_model::Seq;
 use std::alloc::{AllocError, Global};
 use std::mem::drop;
-use trace_model::{Answer, AnsweredTrace, Link};
+use trace_model::{Answer, AnsweredTrace, Link, Name, Operation};
 
 /// The spans of a trace of an answer, copied or not.
 fn trace_text(alloc: Global, trace: AnsweredTrace) -> Result<String, AllocError> {
@@ -31,11 +31,33 @@ fn links_text(alloc: Global, links: &[Link]) -> Result<String, AllocError> {
     Ok(text)
 }
 
+/// The names, which may be texts of their own or in entries.
+fn names_text(alloc: Global, names: &[Name]) -> Result<String, AllocError> {
+    let mut text = String::new(alloc);
+    for name in names {
+        let name = name.as_str();
+        text.push_str(format!(in alloc; "{name:?};")?.as_str())?;
+    }
+    Ok(text)
+}
+
+/// The operations with their kinds.
+fn operations_text(alloc: Global, operations: &[Operation]) -> Result<String, AllocError> {
+    let mut text = String::new(alloc);
+    for operation in operations {
+        let (name, kind) = (operation.name.as_str(), operation.kind.as_str());
+        text.push_str(format!(in alloc; "{name:?} {kind:?};")?.as_str())?;
+    }
+    Ok(text)
+}
+
 /// What an answer shows, as text: two stores with the same entries show the same.
 pub fn shown(alloc: Global, answer: Answer) -> Result<String, AllocError> {
     match answer {
         Answer::Trace(Some(trace)) => trace_text(alloc, trace),
         Answer::Traces(traces) => traces_text(alloc, traces),
+        Answer::Names(names) => names_text(alloc, names.as_slice()),
+        Answer::Operations(operations) => operations_text(alloc, operations.as_slice()),
         Answer::Links(links) => links_text(alloc, links.as_slice()),
         other => Ok(format!(in alloc; "{other:?}")?),
     }
