@@ -667,6 +667,11 @@ def told_since(server, known):
     return server.told()[len(known):]
 
 
+def told_of_taken(server):
+    """Its lines that say that all connections are taken."""
+    return [line for line in server.told() if line.startswith(ALL_TAKEN)]
+
+
 def spans_of(trace, count):
     return post_body(wire.batch("shop", [wire.span(trace, number) for number in range(1, count + 1)]))
 
@@ -761,15 +766,17 @@ def told_that_it_is_full():
 
 
 def told_that_all_are_taken():
-    with Server("--port", 0, "--workers", 2, "--connections", 1) as server, server.client() as first:
-        first.ask(get("/api/services"), 200)
-        begin = server.told()
-        with server.client() as second:
+    """The other worker may tell it once the first client has the one connection, before the second one waits."""
+    with Server("--port", 0, "--workers", 2, "--connections", 1) as server:
+        with server.client() as first, server.client() as second:
+            first.ask(get("/api/services"), 200)
             second.send(get("/api/services"))
-            time.sleep(0.5)
+            ends = time.monotonic() + 10
+            while not told_of_taken(server) and time.monotonic() < ends:
+                time.sleep(0.05)
             first.socket.close()
             check(second.response().status == 200, "the one that waited isn't served")
-        told = told_since(server, begin)
+        told = told_of_taken(server)
         wanted = f"{ALL_TAKEN}: the next ones wait until one closes; a larger --connections or a shorter --idle helps"
         check(told == [wanted], f"it told {told}")
 
