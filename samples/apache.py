@@ -6,6 +6,7 @@
 Needs Debian's packages thrift-compiler and python3-thrift. `jaeger.thrift` beside this file is compiled in a
 temporary folder; each batch is written by `TBinaryProtocol`, with no message around it.
 """
+import argparse
 import os
 import subprocess
 import sys
@@ -72,4 +73,5 @@ def main():
 
 
 if __name__ == "__main__":
+    argparse.ArgumentParser(description=__doc__, formatter_class=argparse.RawDescriptionHelpFormatter).parse_args()
     main()
