@@ -471,7 +471,7 @@ def speed(found):
     rows = [
         ["decoding, instructions a byte", mine, plain, decoders(found)[0]],
         [f"spans taken in a second, {SIZES[-1]:,} held, by 1, 2, 4 and 8 writers", *by_number(found)],
-        ["a POST beside four writers and two readers at full speed, p99, ms", *of_both(POST, 4)],
+        ["a POST of one of four writers, beside two readers at full speed, p99, ms", *of_both(POST, 4)],
         ["20 traces with their JSON among 100,000 spans, ms", f"{store_ms:.2f}", f"{scan_ms:.0f}", two(scan_ms / store_ms)],
         ["the longest POST while a heavy query runs, 10,000,000 spans held, ms", longest_of(found, 10_000_000), "not compared", ""],
         ["memory at 100,000 spans, bytes a span, by its tags", per_span, "not compared", ""],
@@ -482,7 +482,7 @@ def speed(found):
 
 memory_processes = printed("memory --process-tags", [
     "Tags of a process", "Tags a span", "Spans a batch", "Connections", "MB in", "MB held", "Bytes a span", "Of the bytes in", "MB more for the answer"])
-memory_most = printed("memory, most", ["A body of", "So many", "Bytes of a body", "Bodies", "MB in", "MB more than the empty server", "Of the bytes in"])
+memory_most = printed("memory, most", ["A body of", "How many", "Bytes of a body", "Bodies", "MB in", "MB more than the empty server", "Of the bytes in"])
 
 
 def worst_tags(found):
