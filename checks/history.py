@@ -5,29 +5,30 @@
     checks/history.py --port N           drives a server that listens on 127.0.0.1 already and holds nothing
     checks/history.py --self-test        finds each fault of checks/broken_server.rs, and none where there is none
 
-Writers and readers, each a process of its own, work over real sockets at once. A *look* is one GET and its answer, from which
-it is seen exactly which batches stood in the store at one point. Each batch puts a span into one trace for the whole run, the
-*record*, and two into a trace that 50 batches share, its *page*; a service has the batches of one writer in 20 pages, and an
-operation is one batch. So a look at a page, at the services, at the operations of a service, or a search for one batch shows
-how far the history had come, and at the end the record is the history itself, in order. Looks are kept as a length and a hash.
+Writers and readers, each a process of its own, work over real sockets at once. A query is one GET and its answer, which shows
+exactly which batches were in the store at one point; the output calls it a *look*. Each batch puts a span into one trace for
+the whole run, the *record*, and two into a trace that 50 batches share, its *page*; a service has the batches of one writer in
+20 pages, and an operation is one batch. So a query for a page, for the services, for the operations of a service, or a search
+for one batch shows how far the history had come, and at the end the record is the history itself, in order. Of each answer a
+length and a hash are kept.
 
 Connections are cut in a head, in a body, before an answer and inside it; bodies are damaged (and must be refused) and sent
 again; bodies come in chunks and in pieces; requests are pipelined; some clients read slowly, or ask for the end.
 
 Judged, as docs/serve.md and docs/http-session.md promise it:
 
-  each batch        sent whole and acknowledged (202): stands in the history once. Sent again after an answer that never came:
+  each batch        sent whole and acknowledged (202): is in the history once. Sent again after an answer that never came:
                     at least as often as it was acknowledged, at most as often as it was sent whole. Refused, damaged or cut
-                    before its end: never. It is whole: no look shows one of its spans without the others.
-  each look         shows a beginning of the history, as far as its question lets it be seen. So of any two looks one is a
-                    beginning of the other, and nothing is shown that was never sent.
-  each connection   its batches stand in the order in which they were submitted. No look stands in front of an earlier look of
-                    the same connection, of a batch acknowledged on it, or of a batch whose 202 had come, to whichever
-                    client, before the connection was opened.
+                    before its end: never. It is whole: no answer shows one of its spans without the others.
+  each answer       shows a prefix of the history, as far as its query lets it be seen. So of any two answers one shows a
+                    prefix of the other, and nothing is shown that was never sent.
+  each connection   its batches are in the order in which they were submitted. No answer is from before an earlier answer of
+                    the same connection, a batch acknowledged on it, or a batch whose 202 had come, to whichever client,
+                    before the connection was opened.
 
-Counted and not judged, as tests show it and no page promises it: looks that begin after a 202, or after the answer of a look
-that showed more, had come on another connection while their own was open already, and that stand in front of it. `--strict`
-judges these too.
+Counted and not judged, since no contract says it (docs/serve.md names the test that shows it): queries that begin after a 202,
+or after an answer that showed more, had come on another connection while their own was open already, and whose answer is from
+before that. `--strict` judges these too.
 
 It prints how many looks and acknowledgements it judged. Status 0: all holds. 1: it doesn't; the first violations are told. 2:
 it could not run, or a connection ended in a way that no client asked for. Standard library alone; `--self-test` needs rustc.
@@ -214,7 +215,7 @@ def parsed():
     asked.add_argument("--pace", type=float, help="steps a second of each writer; 25, or 120 with --self-test; 0: no limit")
     asked.add_argument("--looks", type=float, default=300, help="looks a second of each reader; 0: no limit")
     asked.add_argument("--seed", default=str(random.randrange(10**6)), help="of what the clients choose")
-    asked.add_argument("--strict", action="store_true", help="judge looks on connections that were open already")
+    asked.add_argument("--strict", action="store_true", help="judge queries on connections that were open already too")
     asked.add_argument("--self-test", action="store_true")
     options = asked.parse_args()
     if options.seconds is None:
