@@ -69,7 +69,7 @@ def read_accepted(client, count):
 
 
 def fill(server, size, tags, in_batch, connections, process_tags):
-    """Hands in so many spans; gives how many bytes of bodies that were."""
+    """Sends so many spans; gives how many bytes of bodies that were."""
     rng = random.Random(3)
     processes = [tags_of_process(number, process_tags) for number in range(connections)]
     clients = [socket.create_connection(("127.0.0.1", server.port)) for _ in processes]

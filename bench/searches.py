@@ -3,7 +3,7 @@
 
     bench/searches.py [--bin PATH | --folder PATH] [--spans 100000] [--rounds 15] [--load | --count] [--save KIND]
 
-Traces of 10 to 50 spans, each span with 5 to 15 tags, are handed in by batches of up to 10 spans of one service, the traces mixed in time. Then each
+Traces of 10 to 50 spans, each span with 5 to 15 tags, are sent in batches of up to 10 spans of one service, the traces mixed in time. Then each
 question is asked in turn by two programs, each a process of its own:
 
   store  `SpanStore::answer` of the store of one thread, proved and built by `rt run` in a copy of the crates that it stands on (from a plain clone
