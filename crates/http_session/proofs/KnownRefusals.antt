@@ -3,7 +3,7 @@ use Rattle.std.proofs.Common.{List, [], ◌∷◌, All, Some, None, Ok, Err, sym
 use Rattle.std.proofs.lemmas.List.Elements.{All-weaker, All-cons, All-nil}
 use Rattle.jaeger_model.specs.declared.batch.Batch.{Batch}
 use Rattle.trace_model.specs.declared.refusal.Refusal.{Refusal}
-use Rattle.trace_model.specs.declared.refusal.Refusal.TheVariants.{JournalFull, Stale, Conflict}
+use Rattle.trace_model.specs.declared.refusal.Refusal.TheVariants.{JournalFull, Stale, NoMemory, Deferred, Busy, Closed, Stranger, NoReply, Behind, Conflict, Gone}
 use Rattle.trace_model.specs.StoreKnowledge.{refused, ForgetsNothing, KnowsRefusal}
 use Rattle.http_session.specs.Sessions.{Exchange, Step, Run}
 use Rattle.http_session.specs.ResponseOrder.{Line}
@@ -21,7 +21,14 @@ module _ {S : Type 0} (store : Store S) where
   still_known s t b (JournalFull batches spans) keeps known = (known.0, keeps.knowledge (refused b (JournalFull batches spans) known.0) known.1)
   still_known s t b (Stale last) keeps known = (known.0, keeps.knowledge (refused b (Stale last) known.0) known.1)
   still_known s t b (Conflict place) keeps known = (known.0, keeps.knowledge (refused b (Conflict place) known.0) known.1)
-  still_known s t b _ keeps known = tt
+  still_known s t b NoMemory keeps known = tt
+  still_known s t b Deferred keeps known = tt
+  still_known s t b Busy keeps known = tt
+  still_known s t b Closed keeps known = tt
+  still_known s t b Stranger keeps known = tt
+  still_known s t b NoReply keeps known = tt
+  still_known s t b Gone keeps known = tt
+  still_known s t b (Behind front) keeps known = tt
 
   kept_of_one : (s t : S) (v : Verdict) (reply : Reply) → ForgetsNothing store.limits store.knows s t → RefusalIsKnown store.knows s v reply
       → RefusalIsKnown store.knows t v reply

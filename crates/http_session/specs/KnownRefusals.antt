@@ -13,7 +13,7 @@ use Rattle.http_session.specs.declared.verdict.Verdict.TheVariants.{Submit}
 use Rattle.http_session.specs.declared.reply.Reply.{Reply}
 use Rattle.http_session.specs.declared.reply.Reply.TheVariants.{Refused}
 
--- if a batch was refused by 20, 21 or 29, the store knows by which list
+-- if a batch was refused by JournalFull, Stale or Conflict, the store knows by which list
 abbrev pub RefusalIsKnown : {S : Type 0} → (S → KnownList → Type 0) → S → Verdict → Reply → Type 0
 RefusalIsKnown knows t (Submit b) (Refused why) = KnowsRefusal knows b why t
 RefusalIsKnown knows t _ _ = Unit {0}

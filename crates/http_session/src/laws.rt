@@ -59,9 +59,9 @@ pub fn answers_so_far_are_of_one_history<T, C: Connection, B: Backend<T>>()
         (line_of C.remaining C.gives C.Input.has_failed C.contents C.takes C.Output.has_failed) }
 {}
 
-/// A batch that is refused by 20, 21 or 29 is refused by a list, and the store still knows by which one later: at each
-/// moment of the session that submitted the batch, and after it has ended or failed. This holds for a session that has
-/// the store to itself, and for one among others.
+/// A batch that is refused by `JournalFull`, `Stale` or `Conflict` is refused by a list, and the store still knows by
+/// which one later: at each moment of the session that submitted the batch, and after it has ended or failed. This
+/// holds for a session that has the store to itself, and for one among others.
 pub fn refusals_stay_known<T, C: Connection, B: Backend<T>>()
     ensures alone { RefusalsStayKnown (store_of B.submits B.reads B.knows B.limits)
         (line_of C.remaining C.gives C.Input.has_failed C.contents C.takes C.Output.has_failed) }

@@ -10,7 +10,7 @@ use Rattle.trace_model.specs.declared.limits.Limits.{Limits}
 use Rattle.trace_model.specs.declared.query.Query.{Query}
 use Rattle.trace_model.specs.declared.answer.Answer.{Answer}
 use Rattle.trace_model.specs.declared.refusal.Refusal.{Refusal}
-use Rattle.trace_model.specs.declared.refusal.Refusal.TheVariants.{JournalFull, Stale, NoMemory, Busy, Closed, NoReply, Conflict}
+use Rattle.trace_model.specs.declared.refusal.Refusal.TheVariants.{JournalFull, Stale, NoMemory, Deferred, Busy, Closed, Stranger, NoReply, Behind, Conflict, Gone}
 use Rattle.trace_model.specs.Histories.{IsLegal}
 use Rattle.trace_model.specs.ResentBatches.{AnswersFor}
 use Rattle.trace_model.proofs.Prefixes.{prefix_self, prefix_trans}
@@ -61,7 +61,7 @@ unjudged_stale last is = ⊎_elim (λ e. cc) (λ others. ⊎_elim (λ e. cc) (λ
 unjudged_conflict : (place : ℕ) → IsUnjudged (Conflict place) → ⊥
 unjudged_conflict place is = ⊎_elim (λ e. cc) (λ others. ⊎_elim (λ e. cc) (λ more. ⊎_elim (λ e. cc) (λ e. cc) more) others) is
 
--- a refusal by 20, 21 or 29 is by a list
+-- a refusal by JournalFull, Stale or Conflict is by a list
 why_known : (limits : Limits) (b : Batch) (why : Refusal) (t : LiveValue) → IsUnjudged why ⊎ IsJudgedBy limits t.refused_by b why
     → KnowsRefusal (LiveKnows limits) b why t
 why_known limits b (JournalFull batches spans) t is =
@@ -70,7 +70,14 @@ why_known limits b (Stale last) t is =
     ⊎_elim (λ none. absurd (unjudged_stale last none)) (λ by. (by.0, (by.1, by.2, (by.3, by.4, by.5)))) is
 why_known limits b (Conflict place) t is =
     ⊎_elim (λ none. absurd (unjudged_conflict place none)) (λ by. (by.0, (by.1, by.2, (by.3, by.4, by.5)))) is
-why_known limits b _ t is = tt
+why_known limits b NoMemory t is = tt
+why_known limits b Deferred t is = tt
+why_known limits b Busy t is = tt
+why_known limits b Closed t is = tt
+why_known limits b Stranger t is = tt
+why_known limits b NoReply t is = tt
+why_known limits b Gone t is = tt
+why_known limits b (Behind front) t is = tt
 
 -- an entry that answers for another has the same batch
 brings_the_same : (d e : Entry) → AnswersFor d e → d.work ≡ e.work

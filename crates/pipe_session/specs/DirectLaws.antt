@@ -9,7 +9,7 @@ use Rattle.trace_model.specs.declared.answer.Answer.{Answer}
 use Rattle.trace_model.specs.declared.entry.Entry.{Entry}
 use Rattle.trace_model.specs.declared.limits.Limits.{Limits}
 use Rattle.trace_model.specs.declared.refusal.Refusal.{Refusal}
-use Rattle.trace_model.specs.declared.refusal.Refusal.TheVariants.{JournalFull, Stale, NoMemory, Conflict}
+use Rattle.trace_model.specs.declared.refusal.Refusal.TheVariants.{JournalFull, Stale, NoMemory, Deferred, Busy, Closed, Stranger, NoReply, Behind, Conflict, Gone}
 use Rattle.trace_model.specs.LimitedHistories.{LimitedHistory}
 use Rattle.trace_model.specs.Refusals.{with_admitted}
 use Rattle.trace_model.specs.StoreKnowledge.{KnownList, reached, refused, HasAt, ForgetsNothing, RefusesBatch, KnowsRefusal, SubmitKnows, ReadKnows}
@@ -42,7 +42,14 @@ why_known s b (Stale last) is =
     ⊎_elim (λ e. absurd cc) (λ by. (s.entries, (([], sym (append-nil s.entries)), (next_entry s b, refl, by)))) is
 why_known s b (Conflict place) is =
     ⊎_elim (λ e. absurd cc) (λ by. (s.entries, (([], sym (append-nil s.entries)), (next_entry s b, refl, by)))) is
-why_known s b _ is = tt
+why_known s b NoMemory is = tt
+why_known s b Deferred is = tt
+why_known s b Busy is = tt
+why_known s b Closed is = tt
+why_known s b Stranger is = tt
+why_known s b NoReply is = tt
+why_known s b Gone is = tt
+why_known s b (Behind front) is = tt
 
 pub submit_knows : (s : LimitedHistory) (b : Batch) (r : Result ℕ Refusal) (t : LimitedHistory) → DirectSubmits s b r t → SubmitKnows (λ (x : LimitedHistory). x.limits) DirectKnows s b r t
 submit_knows s b (Ok place) t d =

@@ -6,7 +6,7 @@ use Rattle.trace_model.specs.declared.limits.Limits.{Limits}
 use Rattle.trace_model.specs.declared.query.Query.{Query}
 use Rattle.trace_model.specs.declared.answer.Answer.{Answer}
 use Rattle.trace_model.specs.declared.refusal.Refusal.{Refusal}
-use Rattle.trace_model.specs.declared.refusal.Refusal.TheVariants.{JournalFull, Stale, Conflict}
+use Rattle.trace_model.specs.declared.refusal.Refusal.TheVariants.{JournalFull, Stale, NoMemory, Deferred, Busy, Closed, Stranger, NoReply, Behind, Conflict, Gone}
 use Rattle.trace_model.specs.StoreKnowledge.{KnownList, reached, refused, KnowsRefusal, SubmitKnows, ReadKnows}
 
 -- no list is reached, and every list refuses every batch
@@ -18,7 +18,14 @@ refused_by_any : {S : Type 0} (t : S) (b : Batch) (why : Refusal) → KnowsRefus
 refused_by_any t b (JournalFull batches spans) = ([], tt)
 refused_by_any t b (Stale last) = ([], tt)
 refused_by_any t b (Conflict place) = ([], tt)
-refused_by_any t b _ = tt
+refused_by_any t b NoMemory = tt
+refused_by_any t b Deferred = tt
+refused_by_any t b Busy = tt
+refused_by_any t b Closed = tt
+refused_by_any t b Stranger = tt
+refused_by_any t b NoReply = tt
+refused_by_any t b Gone = tt
+refused_by_any t b (Behind front) = tt
 
 -- it refuses for this reason, and stays as it is
 abbrev pub Refuses : {S A : Type 0} → S → Refusal → Result A Refusal → S → Type 0

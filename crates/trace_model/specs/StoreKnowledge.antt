@@ -7,7 +7,7 @@ use Rattle.trace_model.specs.declared.limits.Limits.{Limits}
 use Rattle.trace_model.specs.declared.query.Query.{Query}
 use Rattle.trace_model.specs.declared.answer.Answer.{Answer}
 use Rattle.trace_model.specs.declared.refusal.Refusal.{Refusal}
-use Rattle.trace_model.specs.declared.refusal.Refusal.TheVariants.{JournalFull, Stale, Conflict}
+use Rattle.trace_model.specs.declared.refusal.Refusal.TheVariants.{JournalFull, Stale, NoMemory, Deferred, Busy, Closed, Stranger, NoReply, Behind, Conflict, Gone}
 use Rattle.trace_model.specs.Histories.{IsLegal}
 use Rattle.trace_model.specs.Refusals.{refusal_of}
 use Rattle.trace_model.specs.Answers.{answer}
@@ -62,12 +62,19 @@ pub record AnswersAt {S : Type 0} (limits : S → Limits) (knows : S → KnownLi
 abbrev pub RefusesBatch : Limits → History → Batch → Refusal → Type 0
 RefusesBatch limits h batch why = (e : Entry) × (e.work ≡ brings.Batch batch) × (refusal_of limits h e ≡ Some why)
 
--- if a list is the reason of the refusal (20, 21 or 29), one is known that refused the batch for it
+-- if a list is the reason of the refusal, one is known that refused the batch for it
 abbrev pub KnowsRefusal : {S : Type 0} → (S → KnownList → Type 0) → Batch → Refusal → S → Type 0
 KnowsRefusal knows b (JournalFull batches spans) t = (h : History) × knows t (refused b (JournalFull batches spans) h)
 KnowsRefusal knows b (Stale last) t = (h : History) × knows t (refused b (Stale last) h)
 KnowsRefusal knows b (Conflict place) t = (h : History) × knows t (refused b (Conflict place) h)
-KnowsRefusal knows b _ t = Unit {0}
+KnowsRefusal knows b NoMemory t = Unit {0}
+KnowsRefusal knows b Deferred t = Unit {0}
+KnowsRefusal knows b Busy t = Unit {0}
+KnowsRefusal knows b Closed t = Unit {0}
+KnowsRefusal knows b Stranger t = Unit {0}
+KnowsRefusal knows b NoReply t = Unit {0}
+KnowsRefusal knows b Gone t = Unit {0}
+KnowsRefusal knows b (Behind front) t = Unit {0}
 
 abbrev pub SubmitKnows : {S : Type 0} → (S → Limits) → (S → KnownList → Type 0) → S → Batch → Result ℕ Refusal → S → Type 0
 SubmitKnows limits knows s b (Ok place) t = ForgetsNothing limits knows s t × Places limits knows b place t

@@ -3,8 +3,8 @@
 //! Contracts see a store by what it knows: lists of entries that are prefixes of one growing history, and which of them
 //! refused a batch. The relations of a [`Backend`] say what its calls do, and the laws of the trait say what that means
 //! for what it knows. An accepted batch is at its place in a list that is known from then on. An answer is the plain
-//! store's, for a list that starts with every list known before. A batch that is refused by 20, 21 or 29 is refused by a
-//! list, and the store knows this from then on.
+//! store's, for a list that starts with every list known before. A batch that is refused by `JournalFull`, `Stale` or
+//! `Conflict` is refused by a list, and the store knows this from then on.
 
 ghost use Rattle.std.specs.Prelude.{◌≡◌, ℕ, Result};
 ghost use Rattle.jaeger_model.specs.declared.batch.Batch.{Batch as BatchValue};
@@ -51,7 +51,7 @@ pub trait Backend<T> {
         ensures { reads self.old query.now result self.new };
 
     /// Nothing known is forgotten. An accepted batch is in a list that is known then, and if a list is the reason of a
-    /// refusal (20, 21 or 29), this is known then.
+    /// refusal (`JournalFull`, `Stale` or `Conflict`), this is known then.
     ghost submit_knows: { (s : Self) (b : BatchValue) (r : Result ℕ RefusalValue) (t : Self) →
         submits s b r t → SubmitKnows limits knows s b r t };
 

@@ -19,8 +19,8 @@ live_store limits = store_of (LiveSubmits limits) (LiveReads limits) (LiveKnows 
 abbrev pub AllUnderway : Limits → LiveValue → Slab (OpenConnection Socket) → Type 0
 AllUnderway limits live connections = AllOpen (live_store limits) socket_line live connections
 
--- Each batch of a connection that was refused by 20, 21 or 29 was refused by a legal prefix of `refused_by`, as that is
--- then or later (LiveKnows).
+-- Each batch of a connection that was refused by JournalFull, Stale or Conflict was refused by a legal prefix of
+-- `refused_by`, as that is then or later (LiveKnows).
 abbrev pub RefusalsAreByPrefixes : Limits → Type 0
 RefusalsAreByPrefixes limits =
     (now later : LiveValue) (it : OpenConnection Socket) (progress : ConnectionProgress) (came : HasCome (live_store limits) socket_line now it progress)
