@@ -23,10 +23,19 @@ use std::convert::AsStr;
 use std::io;
 use std::io::Write;
 use text_lines::{ExitStatus, write_text};
-use trace_model::Limits;
+use trace_model::{Limits, TraceLimit};
 
 /// The version of the program, as in `CHANGELOG.md`.
 const VERSION: &str = "0.1.0";
+
+/// The upper ends of the options' ranges, as clap takes them.
+const BATCHES_END: i64 = Limits::MAX_BATCHES as i64;
+
+const SPANS_END: i64 = Limits::MAX_SPANS as i64;
+
+const TRACES_END: i64 = TraceLimit::MAX as i64;
+
+const SKEW_END: i64 = Limits::MAX_SKEW as i64;
 
 /// A subcommand with its options. To add one, add a variant, a function that makes its `clap::Command`, one that reads
 /// its words, and a line in [`judge_words`] and in `program`.
@@ -68,10 +77,10 @@ pub(crate) fn with_limits(
 ) -> Result<clap::Command<'_>, AllocError>
     ensures { IfOk result (λ c. app_of c ≡ limits_on (app_of command.entry)) }
 {
-    let batches = value_parser!(u32).range(1..=1_000_000);
-    let spans = value_parser!(u32).range(1..=10_000_000);
-    let traces = value_parser!(u32).range(0..=1_000_000);
-    let skew = value_parser!(u64).range(0..=9_223_372_036_854_775_807);
+    let batches = value_parser!(u32).range(1..=BATCHES_END);
+    let spans = value_parser!(u32).range(1..=SPANS_END);
+    let traces = value_parser!(u32).range(0..=TRACES_END);
+    let skew = value_parser!(u64).range(0..=SKEW_END);
     command
         .arg(number(
             alloc,
@@ -99,7 +108,7 @@ pub(crate) fn with_limits(
             "max-skew",
             skew,
             "0",
-            "By how many microseconds a span may be moved to mend clock skew",
+            "By how many microseconds a span may be moved; keep 0 if senders give no ip tag",
         ))
 }
 
@@ -167,7 +176,7 @@ fn program<'a>(alloc: Global) -> Result<clap::Command<'a>, AllocError> {
     let program = clap::Command::new(alloc, "jaeger_one")
         .version(VERSION)
         .about("Collects traces of Jaeger clients and answers queries on them")
-        .after_help("Example:\n  jaeger_one serve --port 14268")
+        .after_help("Example:\n  jaeger_one serve --port 14268 --batches 1000000 --spans 2000000")
         .subcommand_required(true);
     let program = with_subcommand(program, get_command(alloc))?;
     let program = with_subcommand(program, pipe_command(alloc))?;

@@ -22,7 +22,7 @@ Options:
       --batches <N>       How many batches are kept, 1 to 1000000 [default: 1000]
       --spans <N>         How many spans are kept, 1 to 10000000 [default: 100000]
       --traces <N>        How many of the newest traces are shown, up to 1000000; 0 for all [default: 0]
-      --max-skew <N>      By how many microseconds a span may be moved to mend clock skew [default: 0]
+      --max-skew <N>      By how many microseconds a span may be moved; keep 0 if senders give no ip tag [default: 0]
   -h, --help              Print help
 ";
 
@@ -32,7 +32,7 @@ Options:
       --batches <N>   How many batches are kept, 1 to 1000000 [default: 1000]
       --spans <N>     How many spans are kept, 1 to 10000000 [default: 100000]
       --traces <N>    How many of the newest traces are shown, up to 1000000; 0 for all [default: 0]
-      --max-skew <N>  By how many microseconds a span may be moved to mend clock skew [default: 0]
+      --max-skew <N>  By how many microseconds a span may be moved; keep 0 if senders give no ip tag [default: 0]
   -h, --help          Print help
 ";
 
@@ -349,7 +349,7 @@ Options:
   -V, --version  Print version
 
 Example:
-  jaeger_one serve --port 14268
+  jaeger_one serve --port 14268 --batches 1000000 --spans 2000000
 ";
 
 /// Nothing is read, and the status is 2.
