@@ -5,40 +5,40 @@ use Rattle.std.specs.Prelude.{int_lt, if◌then◌else◌}
 use Rattle.std.proofs.lemmas.Int.{ints}
 use Rattle.std.proofs.lemmas.Bool.{cases_lt}
 use Rattle.std.proofs.lemmas.List.{drop_more, drop_all, append-nil}
-use Rattle.trace_ring.specs.FirstStarts.{places_from, places_after, IsBounded}
+use Rattle.trace_ring.specs.FirstStarts.{positions_from, positions_after, IsBounded}
 
 pub one_hit : (time : ℤ) (xs : List ℤ) (at place : ℕ) → at < length xs → int_lt time (get_or xs at (pos 0)) ≡ true
-    → places_from time place (drop at xs) ≡ place ∷ places_from time (place + 1) (drop (at + 1) xs)
+    → positions_from time place (drop at xs) ≡ place ∷ positions_from time (place + 1) (drop (at + 1) xs)
 one_hit time xs at place below e =
     let next : suc place ≡ place + 1 = omega arith in
-    ap (places_from time place) (drop_more xs at (pos 0) below)
-    ∙ ap (λ b. if b then place ∷ places_from time (suc place) (drop (at + 1) xs) else places_from time (suc place) (drop (at + 1) xs)) e
-    ∙ ap (λ n. place ∷ places_from time n (drop (at + 1) xs)) next
+    ap (positions_from time place) (drop_more xs at (pos 0) below)
+    ∙ ap (λ b. if b then place ∷ positions_from time (suc place) (drop (at + 1) xs) else positions_from time (suc place) (drop (at + 1) xs)) e
+    ∙ ap (λ n. place ∷ positions_from time n (drop (at + 1) xs)) next
 
 pub one_miss : (time : ℤ) (xs : List ℤ) (at place : ℕ) → at < length xs → int_lt time (get_or xs at (pos 0)) ≡ false
-    → places_from time place (drop at xs) ≡ places_from time (place + 1) (drop (at + 1) xs)
+    → positions_from time place (drop at xs) ≡ positions_from time (place + 1) (drop (at + 1) xs)
 one_miss time xs at place below e =
     let next : suc place ≡ place + 1 = omega arith in
-    ap (places_from time place) (drop_more xs at (pos 0) below)
-    ∙ ap (λ b. if b then place ∷ places_from time (suc place) (drop (at + 1) xs) else places_from time (suc place) (drop (at + 1) xs)) e
-    ∙ ap (λ n. places_from time n (drop (at + 1) xs)) next
+    ap (positions_from time place) (drop_more xs at (pos 0) below)
+    ∙ ap (λ b. if b then place ∷ positions_from time (suc place) (drop (at + 1) xs) else positions_from time (suc place) (drop (at + 1) xs)) e
+    ∙ ap (λ n. positions_from time n (drop (at + 1) xs)) next
 
 -- none of the next k starts is after the time
 pub all_miss : (time : ℤ) (xs : List ℤ) (k at place : ℕ) → ((i : ℕ) → at ≤ i → i < at + k → i < length xs → int_lt time (get_or xs i (pos 0)) ≡ false)
-    → places_from time place (drop at xs) ≡ places_from time (place + k) (drop (at + k) xs)
+    → positions_from time place (drop at xs) ≡ positions_from time (place + k) (drop (at + k) xs)
 all_miss time xs zero at place h =
     let p : place ≡ place + 0 = omega arith in
     let a : at ≡ at + 0 = omega arith in
-    λ i. places_from time (p i) (drop (a i) xs)
+    λ i. positions_from time (p i) (drop (a i) xs)
 all_miss time xs (suc k) at place h = elim (cases_lt at (length xs)) [
   | inl below ↦
       let p : place + 1 + k ≡ place + suc k = omega arith in
       let a : at + 1 + k ≡ at + suc k = omega arith in
       one_miss time xs at place below (h at (omega arith) (omega arith) below)
       ∙ all_miss time xs k (at + 1) (place + 1) (λ i from to le. h i (omega arith) (omega arith) le)
-      ∙ (λ i. places_from time (p i) (drop (a i) xs))
+      ∙ (λ i. positions_from time (p i) (drop (a i) xs))
   | inr past ↦
-      ap (places_from time place) (drop_all at xs past) ∙ sym (ap (places_from time (place + suc k)) (drop_all (at + suc k) xs (omega arith)))
+      ap (positions_from time place) (drop_all at xs past) ∙ sym (ap (positions_from time (place + suc k)) (drop_all (at + suc k) xs (omega arith)))
 ]
 
 not_later : (time bound start : ℤ) → int_lt time bound ≡ false → int_lt bound start ≡ false → int_lt time start ≡ false
@@ -47,7 +47,7 @@ not_later time bound start p q = grind (arith, ints)
 -- the remaining starts of a block whose bound is not after the time
 pub block_miss : (room left : ℕ) (opened bounds : List ℤ) (time : ℤ) (at : ℕ) → IsBounded room left opened bounds → left ≤ at → at < length opened
     → int_lt time (get_or bounds (at / 256) (pos 0)) ≡ false
-    → places_from time (at - left) (drop at opened) ≡ places_from time ((at / 256 + 1) * 256 - left) (drop ((at / 256 + 1) * 256) opened)
+    → positions_from time (at - left) (drop at opened) ≡ positions_from time ((at / 256 + 1) * 256 - left) (drop ((at / 256 + 1) * 256) opened)
 block_miss room left opened bounds time at b from below early =
     let k : ℕ = (at / 256 + 1) * 256 - at in
     let to : at + k ≡ (at / 256 + 1) * 256 = omega arith in
@@ -56,11 +56,11 @@ block_miss room left opened bounds time at b from below early =
     let same : at / 256 ≡ i / 256 = omega arith in
     not_later time (get_or bounds (at / 256) (pos 0)) (get_or opened i (pos 0)) early
     (ap (λ n. int_lt (get_or bounds n (pos 0)) (get_or opened i (pos 0))) same ∙ b.above i le))
-    ∙ (λ i. places_from time (place i) (drop (to i) opened))
+    ∙ (λ i. positions_from time (place i) (drop (to i) opened))
 
 -- ---- the places found so far
-pub found_start : (time : ℤ) (opened : List ℤ) (left : ℕ) → [] ++ places_from time (left - left) (drop left opened) ≡ places_after time (drop left opened)
-found_start time opened left = let none : left - left ≡ 0 = omega arith in ap (λ n. places_from time n (drop left opened)) none
+pub found_start : (time : ℤ) (opened : List ℤ) (left : ℕ) → [] ++ positions_from time (left - left) (drop left opened) ≡ positions_after time (drop left opened)
+found_start time opened left = let none : left - left ≡ 0 = omega arith in ap (λ n. positions_from time n (drop left opened)) none
 
-pub found_end : (time : ℤ) (places : List ℕ) (opened : List ℤ) (at place : ℕ) → length opened ≤ at → places ++ places_from time place (drop at opened) ≡ places
-found_end time places opened at place past = ap (λ xs. places ++ places_from time place xs) (drop_all at opened past) ∙ append-nil places
+pub found_end : (time : ℤ) (places : List ℕ) (opened : List ℤ) (at place : ℕ) → length opened ≤ at → places ++ positions_from time place (drop at opened) ≡ places
+found_end time places opened at place past = ap (λ xs. places ++ positions_from time place xs) (drop_all at opened past) ∙ append-nil places

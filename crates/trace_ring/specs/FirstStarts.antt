@@ -11,13 +11,13 @@ pub record Starts : Type 0 where
   pub left : ℕ
   pub ranges : List Range
 
--- the places of those after a time, counted from this place at the first one
-abbrev pub places_from : ℤ → ℕ → List ℤ → List ℕ
-places_from time place [] = []
-places_from time place (s ∷ ss) = if int_lt time s then place ∷ places_from time (suc place) ss else places_from time (suc place) ss
+-- the positions of those after a time, counted from this one at the first
+abbrev pub positions_from : ℤ → ℕ → List ℤ → List ℕ
+positions_from time position [] = []
+positions_from time position (s ∷ ss) = if int_lt time s then position ∷ positions_from time (suc position) ss else positions_from time (suc position) ss
 
-abbrev pub places_after : ℤ → List ℤ → List ℕ
-places_after time ss = places_from time 0 ss
+abbrev pub positions_after : ℤ → List ℤ → List ℕ
+positions_after time ss = positions_from time 0 ss
 
 -- no start is above the bound of its block
 pub record IsBounded (room left : ℕ) (opened bounds : List ℤ) : Type 0 where

@@ -1,5 +1,5 @@
 ghost use Rattle.std.specs.Prelude.{◌≡◌, ◌+◌, ◌<◌, ◌∷◌, ◌++◌, ℕ, [], length, drop, IfOk};
-ghost use Rattle.trace_ring.specs.FirstStarts.{places_after};
+ghost use Rattle.trace_ring.specs.FirstStarts.{positions_after};
 ghost use Rattle.trace_ring.specs.StartRanges.{IsIn, IsWider, range_at};
 
 use crate::first_starts::bounds::{BLOCK, is_later, raise};
@@ -30,8 +30,10 @@ impl Model for FirstStarts {
 
     ghost view = { λ s. record { starts = drop s.left s.opened.items; used = length s.opened.items; room = s.room; left = s.left; ranges = s.ranges.items } };
 
-    ghost invariant = { λ s. (s.room ≤ vec_capacity s.opened) × (s.room / 256 + 2 ≤ vec_capacity s.bounds)
-        × IsBounded s.room s.left s.opened.items s.bounds.items × (s.room / 256 + 2 ≤ vec_capacity s.ranges)
+    ghost invariant = { λ s. (s.room ≤ vec_capacity s.opened)
+        × (s.room / 256 + 2 ≤ vec_capacity s.bounds)
+        × IsBounded s.room s.left s.opened.items s.bounds.items
+        × (s.room / 256 + 2 ≤ vec_capacity s.ranges)
         × (length s.ranges.items ≡ (length s.opened.items + 255) / 256) };
 }
 
@@ -107,16 +109,16 @@ impl FirstStarts {
         }
     }
 
-    /// Returns the places of the traces that start after this time; the oldest trace is at 0. Skips a block whose
+    /// Returns the positions of the traces that start after this time; the oldest trace is at 0. Skips a block whose
     /// bound isn't later.
     ///
     /// # Errors
     ///
     /// Out of memory, and nothing else.
-    pub fn places_after(&self, alloc: Global, time: i64) -> Result<Vec<usize>, AllocError>
-        ensures { IfOk result (λ v. v.items ≡ places_after time self.now.starts) }
+    pub fn positions_after(&self, alloc: Global, time: i64) -> Result<Vec<usize>, AllocError>
+        ensures { IfOk result (λ v. v.items ≡ positions_after time self.now.starts) }
     {
-        let mut places = Vec::new(alloc);
+        let mut positions = Vec::new(alloc);
         let mut at = self.left;
         while at < self.opened.len() {
             if !is_later(&self.bounds, at / BLOCK, time) {
@@ -124,10 +126,10 @@ impl FirstStarts {
                 continue;
             }
             if is_later(&self.opened, at, time) {
-                places.push(at - self.left)?;
+                positions.push(at - self.left)?;
             }
             at += 1;
         }
-        Ok(places)
+        Ok(positions)
     }
 }
