@@ -80,7 +80,8 @@ impl<'a> LinkCounts<'a> {
     ///
     /// Out of memory, and nothing else.
     pub fn finish(self, alloc: Global) -> Result<Vec<Link>, AllocError>
-        ensures { (traces : List (List Taken)) → AreServicesNumbered traces → self.entry ≡ tallied traces →
+        ensures { (traces : List (List Taken)) → AreServicesNumbered traces →
+            self.entry ≡ tallied traces →
             IfOk result (λ v. v.items ≡ links_in (map placed_all traces)) }
     {
         let ordered = in_order(alloc, self.tallies)?;

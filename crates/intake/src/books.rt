@@ -88,7 +88,7 @@ impl<N: StoreName> Books<N> {
             let Some(job) = self.inbox.pop(rt) else {
                 return Ok(());
             };
-            let (entry, _cell) = job.split();
+            let (entry, _slot) = job.split();
             let entry = entry.into_entry();
             let is_last = is_job(&entry, number, last);
             self.left.push_reserved(entry);

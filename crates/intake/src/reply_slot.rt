@@ -13,7 +13,7 @@ use std::marker::Model;
 use std::sync::Arc;
 use trace_model::Entry;
 
-/// The outcome of an entry.
+/// The outcome of a job: its answer, as the slot keeps it. A ticket whose slot gets none has no reply.
 #[derive(Drop)]
 pub(crate) struct JobOutcome<N: StoreName> {
     pub(crate) answer: Result<Ack<N>, Denial<N>>,

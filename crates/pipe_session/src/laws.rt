@@ -22,17 +22,18 @@ pub fn a_request_has_one_verdict()
 /// If the bytes of the devices are known and memory did not run out, a session that ended as `pipe` promises meets the
 /// premises of the laws below.
 pub fn a_session_that_ended_is_finished()
-    ensures { (bytes before : List ℕ) (left out : Option (List ℕ)) (s t : LimitedHistory) (n : ℕ) (c : Bool)
-        (ends : EndsOf bytes left before out s t n c) →
+    ensures { (bytes before : List ℕ) (left out : Option (List ℕ)) (s t : LimitedHistory)
+        (answered : ℕ) (clean : Bool) (ends : EndsOf bytes left before out s t answered clean) →
         NeverWants (ends.opens ++ last_of ends.ending) →
-        WroteFinished bytes before out s t n c }
+        WroteFinished bytes before out s t answered clean }
 {}
 
 /// If the bytes of the devices are known and memory ran out for no exchange, a session that failed as `pipe` promises
 /// meets the premises of the laws below.
 pub fn a_session_that_failed_is_failed()
-    ensures { (bytes before : List ℕ) (left out : Option (List ℕ)) (s t : LimitedHistory) (i o : Bool)
-        (error : SessionErrorValue) (fails : FailsOf bytes left before out s t i o error) →
+    ensures { (bytes before : List ℕ) (left out : Option (List ℕ)) (s t : LimitedHistory)
+        (in_failed out_failed : Bool) (error : SessionErrorValue)
+        (fails : FailsOf bytes left before out s t in_failed out_failed error) →
         NeverWants (fails.opens ++ exchange_due fails.next) →
         WroteFailed bytes before out s }
 {}
@@ -41,28 +42,31 @@ pub fn a_session_that_failed_is_failed()
 /// the start, however the bytes are read and written. So are the entries at the end, the number of responses, and
 /// whether the input ended between two requests.
 pub fn bytes_written_are_one_function()
-    ensures { (bytes : List ℕ) (s : LimitedHistory) (w v : List ℕ) (t u : LimitedHistory) (n m : ℕ) (c d : Bool) →
-        Finished bytes s w t n c → Finished bytes s v u m d →
-        (w ≡ v) × (t ≡ u) × (n ≡ m) × (c ≡ d) }
+    ensures { (bytes : List ℕ) (s : LimitedHistory) (one other : List ℕ) (t u : LimitedHistory)
+        (one_answered other_answered : ℕ) (one_clean other_clean : Bool) →
+        Finished bytes s one t one_answered one_clean →
+        Finished bytes s other u other_answered other_clean →
+        (one ≡ other) × (t ≡ u) × (one_answered ≡ other_answered) × (one_clean ≡ other_clean) }
 {}
 
 /// A session that fails, by a device or because memory ran out elsewhere, wrote a prefix of what one that ends writes.
 pub fn a_failed_session_wrote_a_prefix()
-    ensures { (bytes : List ℕ) (s : LimitedHistory) (w v : List ℕ) (t : LimitedHistory) (n : ℕ) (c : Bool) →
-        Failed bytes s w → Finished bytes s v t n c → IsPrefix w v }
+    ensures { (bytes : List ℕ) (s : LimitedHistory) (short long : List ℕ) (t : LimitedHistory)
+        (answered : ℕ) (clean : Bool) →
+        Failed bytes s short → Finished bytes s long t answered clean → IsPrefix short long }
 {}
 
 /// Of two sessions that failed over one input, one wrote a prefix of what the other wrote.
 pub fn of_two_failed_sessions_one_wrote_a_prefix()
-    ensures { (bytes : List ℕ) (s : LimitedHistory) (w v : List ℕ) →
-        Failed bytes s w → Failed bytes s v → OneTextBegins w v }
+    ensures { (bytes : List ℕ) (s : LimitedHistory) (one other : List ℕ) →
+        Failed bytes s one → Failed bytes s other → OneTextBegins one other }
 {}
 
 /// The exchanges of a session that ended, before the first one for which memory ran out, were written first, and are
 /// those of a session that failed there. So they are a prefix of what any session writes in which memory never ran out.
 pub fn what_an_ended_session_wrote_before_memory_ran_out()
-    ensures { (bytes before : List ℕ) (left out : Option (List ℕ)) (s t : LimitedHistory) (n : ℕ) (c : Bool)
-        (ends : EndsOf bytes left before out s t n c)
+    ensures { (bytes before : List ℕ) (left out : Option (List ℕ)) (s t : LimitedHistory)
+        (answered : ℕ) (clean : Bool) (ends : EndsOf bytes left before out s t answered clean)
         (xs : List ExchangeValue) → HadMemoryFirst xs (ends.opens ++ last_of ends.ending) →
         WroteFirst bytes before out s (responses xs) }
 {}
@@ -70,8 +74,9 @@ pub fn what_an_ended_session_wrote_before_memory_ran_out()
 /// The exchanges of a session that failed, before the first one for which memory ran out, were written first, and are
 /// those of a session that failed there.
 pub fn what_a_failed_session_wrote_before_memory_ran_out()
-    ensures { (bytes before : List ℕ) (left out : Option (List ℕ)) (s t : LimitedHistory) (i o : Bool)
-        (error : SessionErrorValue) (fails : FailsOf bytes left before out s t i o error)
+    ensures { (bytes before : List ℕ) (left out : Option (List ℕ)) (s t : LimitedHistory)
+        (in_failed out_failed : Bool) (error : SessionErrorValue)
+        (fails : FailsOf bytes left before out s t in_failed out_failed error)
         (xs : List ExchangeValue) → HadMemoryFirst xs (fails.opens ++ exchange_due fails.next) →
         WroteFirst bytes before out s (responses xs) }
 {}

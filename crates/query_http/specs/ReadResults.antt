@@ -10,11 +10,11 @@ use Rattle.query_http.specs.declared.fault.QueryFault.{QueryFault}
 use Rattle.query_http.specs.declared.fault.QueryFault.TheVariants.{NoPath, Bad, NoMemory}
 
 -- the reading's value, or its invalid parameter, unless memory ran out
-abbrev pub AsksQuery : {X Y : Type 0} → (X → Y) → Result X QueryFault → Result Y Parameter → Type 0
-AsksQuery view (Ok x) read = read ≡ Ok (view x)
-AsksQuery view (Err NoMemory) read = Unit {0}
-AsksQuery view (Err (Bad p)) read = read ≡ Err p
-AsksQuery view (Err NoPath) read = ⊥
+abbrev pub IsAsRead : {X Y : Type 0} → (X → Y) → Result X QueryFault → Result Y Parameter → Type 0
+IsAsRead view (Ok x) read = read ≡ Ok (view x)
+IsAsRead view (Err NoMemory) read = Unit {0}
+IsAsRead view (Err (Bad p)) read = read ≡ Err p
+IsAsRead view (Err NoPath) read = ⊥
 
 -- the query of the path's endpoint with this part
 pub record AsksEndpoint (target : List ℕ) (read : Result Query Parameter) : Type 0 where

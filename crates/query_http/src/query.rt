@@ -1,5 +1,5 @@
 ghost use Rattle.std.specs.Prelude.{◌≡◌, IfOk};
-ghost use Rattle.query_http.specs.ReadResults.{AsksQuery, AsksTarget};
+ghost use Rattle.query_http.specs.ReadResults.{IsAsRead, AsksTarget};
 ghost use Rattle.query_http.specs.QueryStrings.{pairs_of};
 ghost use Rattle.query_http.specs.Paths.{endpoint_rows};
 ghost use Rattle.query_http.specs.Queries.{time_at, length_at, limit_at, required, text_of, find_at, text_part, raw_at, operations_at, links_at, query_at};
@@ -26,7 +26,7 @@ const DEFAULT_LOOKBACK_MS: i64 = 86_400_000;
 /// Parses an optional number. A bound on starts is in microseconds.
 #[tactic(auto, unfolding(crate::specs::Queries::time_at))]
 fn optional_number(pairs: &[Pair], parameter: Parameter) -> Result<Option<i64>, QueryFault>
-    ensures { AsksQuery (λ n. n) result (time_at parameter pairs.now) }
+    ensures { IsAsRead (λ n. n) result (time_at parameter pairs.now) }
 {
     let Some(text) = find_parameter(pairs, parameter.name()) else {
         return Ok(None);
@@ -38,7 +38,7 @@ fn optional_number(pairs: &[Pair], parameter: Parameter) -> Result<Option<i64>, 
 /// Parses an optional duration into microseconds; 0 if it is absent.
 #[tactic(auto, unfolding(crate::specs::Queries::length_at))]
 fn optional_duration(pairs: &[Pair], parameter: Parameter) -> Result<i64, QueryFault>
-    ensures { AsksQuery (λ n. n) result (length_at parameter pairs.now) }
+    ensures { IsAsRead (λ n. n) result (length_at parameter pairs.now) }
 {
     match find_parameter(pairs, parameter.name()) {
         Some(text) => read_duration(text).ok_or(QueryFault::Bad(parameter)),
@@ -49,7 +49,7 @@ fn optional_duration(pairs: &[Pair], parameter: Parameter) -> Result<i64, QueryF
 /// Parses the limit on the number of traces that a search returns.
 #[tactic(auto, unfolding(crate::specs::Queries::limit_at, crate::specs::Queries::time_at))]
 fn search_limit(pairs: &[Pair]) -> Result<u64, QueryFault>
-    ensures { AsksQuery (λ n. n) result (limit_at pairs.now) }
+    ensures { IsAsRead (λ n. n) result (limit_at pairs.now) }
 {
     let limit = optional_number(pairs, Parameter::Limit)?;
     // A number has no sign, so it isn't negative.
@@ -59,7 +59,7 @@ fn search_limit(pairs: &[Pair]) -> Result<u64, QueryFault>
 /// Returns a required parameter.
 #[tactic(auto, unfolding(crate::specs::Queries::required))]
 fn required_text(alloc: Global, pairs: &[Pair], parameter: Parameter) -> Result<Text, QueryFault>
-    ensures { AsksQuery (λ t. t) result (required parameter pairs.now) }
+    ensures { IsAsRead (λ t. t) result (required parameter pairs.now) }
 {
     let text = find_parameter(pairs, parameter.name()).ok_or(QueryFault::Bad(parameter))?;
     Ok(copy_text(alloc, text)?)
@@ -75,7 +75,7 @@ fn optional_text(alloc: Global, pairs: &[Pair], name: &str) -> Result<Text, Allo
 /// Parses a search. The error names the first invalid parameter, in the order of the fields.
 #[tactic(auto, unfolding(crate::specs::Queries::find_at))]
 fn read_find(alloc: Global, pairs: &[Pair]) -> Result<Find, QueryFault>
-    ensures { AsksQuery (λ f. f) result (find_at pairs.now) }
+    ensures { IsAsRead (λ f. f) result (find_at pairs.now) }
 {
     let service = required_text(alloc, pairs, Parameter::Service)?;
     let start_min = optional_number(pairs, Parameter::Start)?;
@@ -100,7 +100,7 @@ fn read_find(alloc: Global, pairs: &[Pair]) -> Result<Find, QueryFault>
 /// Decodes a part of a path.
 #[tactic(auto, unfolding(crate::specs::Queries::text_part))]
 fn service_part(alloc: Global, part: &str) -> Result<Text, QueryFault>
-    ensures { AsksQuery (λ t. t) result (text_part part.now) }
+    ensures { IsAsRead (λ t. t) result (text_part part.now) }
 {
     match percent_decode(part.as_bytes()).decode_utf8(alloc) {
         Ok(text) => Ok(Text::from_string(text.into_owned(alloc)?)),
@@ -121,7 +121,7 @@ fn is_raw(pairs: &[Pair]) -> bool
 
 /// Parses the query of the endpoint of one trace.
 fn read_trace_query(pairs: &[Pair], part: &str) -> Result<Query, QueryFault>
-    ensures { AsksQuery (λ q. q) result (query_at at.Trace part.now pairs.now) }
+    ensures { IsAsRead (λ q. q) result (query_at at.Trace part.now pairs.now) }
 {
     let Some(id) = parse_trace(part) else {
         return Err(QueryFault::Bad(Parameter::TraceId));
@@ -135,7 +135,7 @@ fn read_trace_query(pairs: &[Pair], part: &str) -> Result<Query, QueryFault>
 /// Parses the query of the endpoint of operations with their kinds.
 #[tactic(auto, unfolding(crate::specs::Queries::operations_at))]
 fn read_operations(alloc: Global, pairs: &[Pair]) -> Result<Query, QueryFault>
-    ensures { AsksQuery (λ q. q) result (operations_at pairs.now) }
+    ensures { IsAsRead (λ q. q) result (operations_at pairs.now) }
 {
     let service = required_text(alloc, pairs, Parameter::Service)?;
     let kind = optional_text(alloc, pairs, "spanKind")?;
@@ -145,7 +145,7 @@ fn read_operations(alloc: Global, pairs: &[Pair]) -> Result<Query, QueryFault>
 /// Parses the query of the endpoint of dependencies.
 #[tactic(auto, unfolding(crate::specs::Queries::links_at))]
 fn read_links(pairs: &[Pair]) -> Result<Query, QueryFault>
-    ensures { AsksQuery (λ q. q) result (links_at pairs.now) }
+    ensures { IsAsRead (λ q. q) result (links_at pairs.now) }
 {
     let Some(end_ms) = optional_number(pairs, Parameter::EndTs)? else {
         return Err(QueryFault::Bad(Parameter::EndTs));
@@ -169,7 +169,7 @@ pub fn read_query(
     part: &str,
     query_string: &str,
 ) -> Result<Query, QueryFault>
-    ensures { AsksQuery (λ q. q) result (query_at endpoint part.now (pairs_of query_string.now)) }
+    ensures { IsAsRead (λ q. q) result (query_at endpoint part.now (pairs_of query_string.now)) }
 {
     let pairs = query_pairs(alloc, query_string.as_bytes())?;
     match endpoint {

@@ -1,5 +1,5 @@
 ghost use Rattle.std.specs.Prelude.{◌≡◌, IfOk, codes, map};
-ghost use Rattle.query_http.specs.ReadResults.{AsksQuery};
+ghost use Rattle.query_http.specs.ReadResults.{IsAsRead};
 ghost use Rattle.query_http.specs.Queries.{tags_from, or_bad, texts_in, object_texts, tags_at};
 ghost use Rattle.serde_json.specs.View.{view, members_view};
 ghost use Rattle.serde_json.specs.Read.{read};
@@ -34,7 +34,7 @@ fn tag_values<'a>(alloc: Global, pairs: &'a [Pair]) -> Result<Vec<&'a str>, Allo
 
 /// Splits a `tag` at its first colon into a key and a text.
 fn read_tag(alloc: Global, tag: &str) -> Result<(Text, Text), QueryFault>
-    ensures { AsksQuery (λ p. p) result (or_bad bad.Tag (split_at 58 tag.now)) }
+    ensures { IsAsRead (λ p. p) result (or_bad bad.Tag (split_at 58 tag.now)) }
 {
     let Some((key, value)) = split_tag(tag) else {
         return Err(QueryFault::Bad(Parameter::Tag));
@@ -44,7 +44,7 @@ fn read_tag(alloc: Global, tag: &str) -> Result<(Text, Text), QueryFault>
 
 /// Returns the requested pairs of key and text of all parameters `tag`, in order, each split at its first colon.
 fn single_tags(alloc: Global, tags: &[&str]) -> Result<Vec<(Text, Text)>, QueryFault>
-    ensures { AsksQuery (λ v. v.items) result (tags_from (map (λ s. s.now) tags.now)) }
+    ensures { IsAsRead (λ v. v.items) result (tags_from (map (λ s. s.now) tags.now)) }
 {
     let mut pairs = Vec::new(alloc);
     for tag in tags {
@@ -58,7 +58,7 @@ fn object_texts(
     alloc: Global,
     members: &Map<String, Value>,
 ) -> Result<Vec<(Text, Text)>, QueryFault>
-    ensures { AsksQuery (λ v. v.items) result
+    ensures { IsAsRead (λ v. v.items) result
         (or_bad bad.Tags (texts_in (members_view members.now.entries))) }
 {
     let mut pairs = Vec::new(alloc);
@@ -73,7 +73,7 @@ fn object_texts(
 
 /// Parses a JSON text.
 fn read_json(alloc: Global, text: &str) -> Result<Value, QueryFault>
-    ensures { AsksQuery view result (or_bad bad.Tags (read text.now)) }
+    ensures { IsAsRead view result (or_bad bad.Tags (read text.now)) }
 {
     Value::from_str(alloc, text).map_err(|fault| {
         if fault.is_memory() {
@@ -86,7 +86,7 @@ fn read_json(alloc: Global, text: &str) -> Result<Value, QueryFault>
 
 /// Returns the requested pairs of the parameter `tags`, a JSON object of texts, in the order of its keys.
 fn member_tags(alloc: Global, tags: &str) -> Result<Vec<(Text, Text)>, QueryFault>
-    ensures { AsksQuery (λ v. v.items) result (or_bad bad.Tags (object_texts (read tags.now))) }
+    ensures { IsAsRead (λ v. v.items) result (or_bad bad.Tags (object_texts (read tags.now))) }
 {
     let value = read_json(alloc, tags)?;
     let Some(members) = value.as_object() else {
@@ -98,7 +98,7 @@ fn member_tags(alloc: Global, tags: &str) -> Result<Vec<(Text, Text)>, QueryFaul
 /// Returns all requested pairs of key and text: those of each `tag`, then those of `tags`.
 #[tactic(auto, unfolding(crate::specs::Queries::tags_at))]
 pub(crate) fn requested_tags(alloc: Global, pairs: &[Pair]) -> Result<Seq<(Text, Text)>, QueryFault>
-    ensures { AsksQuery (λ v. v) result (tags_at pairs.now) }
+    ensures { IsAsRead (λ v. v) result (tags_at pairs.now) }
 {
     let values = tag_values(alloc, pairs)?;
     let mut tags = single_tags(alloc, &values)?;

@@ -8,7 +8,8 @@ use Rattle.trace_model.specs.declared.answer.Shown.{Shown}
 use Rattle.trace_model.specs.Adjusting.{spans_of}
 use Rattle.trace_model.specs.SharedProcesses.{ShareProcesses}
 use Rattle.query_json.specs.ProcessNames.{among, place}
-use Rattle.query_json.specs.ProcessPlaces.{AreKnown, ComesNext, IsKnown, kept_under}
+use Rattle.trace_adjust.specs.Hosts.{kept_under}
+use Rattle.query_json.specs.ProcessPlaces.{AreKnown, ComesNext, IsKnown}
 use Rattle.query_json.specs.Trees.{processes_of}
 use Rattle.query_json.specs.TraceProcesses.{process_place}
 use Rattle.query_json.proofs.DistinctProcesses.{added_known, among_itself, among_stays, processes_more}

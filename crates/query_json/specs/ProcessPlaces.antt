@@ -12,11 +12,6 @@ use Rattle.query_json.specs.ProcessNumbers.{IsByPlace, IsFirst, numbered}
 use Rattle.query_json.specs.Trees.{processes_of}
 use Rattle.query_json.specs.TraceProcesses.{process_place}
 
--- the map by keys, with one more inserted if its key is known
-abbrev pub kept_under : Option ℕ → ℕ → (ℕ → Option ℕ) → ℕ → Option ℕ
-kept_under None number old key = old key
-kept_under (Some own) number old key = if own == key then Some number else old key
-
 -- the number is the place of the process of one of the first spans, which has that key
 pub record IsKnown (spans : List Shown) (keys : List ℕ) (i key number : ℕ) : Type 0 where
   pub index : ℕ

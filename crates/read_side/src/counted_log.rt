@@ -142,7 +142,7 @@ impl<T> CountedLog<T> {
         requires { length self.old.items < 2 ^ 62 }
         ensures { self.new ≡ with_item self.old item.now }
     {
-        // The first try succeeds: nobody else adds items.
+        // Impossible: a second try. Nobody else adds items.
         for _ in rt.forever() {
             if self.try_add(item) {
                 return;

@@ -26,9 +26,9 @@ pub struct ServiceIndex {
     alloc: Global,
     room: u32,
     used: u32,
-    /// A number for each operation of a service with its kind.
+    /// For each operation of a service, with its kind, the arrival number of a span.
     operations: NameTable,
-    /// A number for each service, found by the service's own.
+    /// For each service the arrival number of a span, found by the service's number.
     services: NameTable,
     /// The rows of the operations, linked for each service.
     links: RowLinks,
@@ -124,7 +124,8 @@ impl ServiceIndex {
         kind: &str,
     ) -> bool
         requires { IsIndexed (T.names texts.now) self.now }
-        ensures { (service : List ℕ) → IsServiceNumberOf (T.names texts.now) service (Some service_number) →
+        ensures { (service : List ℕ) →
+            IsServiceNumberOf (T.names texts.now) service (Some service_number) →
             result ≡ has_operation service operation.now kind.now
             (listing_by (T.names texts.now) self.now) }
     {

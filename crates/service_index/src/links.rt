@@ -7,8 +7,8 @@ use std::alloc::{AllocError, Global};
 use std::marker::Model;
 
 /// Rows in the order of adding, each of one service, with all memory allocated once. The newest row of a service
-/// leads to the others, one after the other. A row is given plus one, so that 0 is none; services are numbered from
-/// 0 in the order of their first rows.
+/// leads to the others, one after the other. A row is given plus one, so that 0 is none; services have rows of their own
+/// here, from 0 in the order of their first rows.
 #[derive(Drop)]
 pub struct RowLinks {
     room: u32,

@@ -20,7 +20,7 @@ use Rattle.trace_adjust.specs.declared.clock.HostClock.{HostClock}
 use Rattle.trace_adjust.specs.KnownClocks.{clock_near, is_unset, written, clock_delta, delta_at, delta_or_none}
 use Rattle.trace_model.specs.SharedProcesses.{ShareProcesses}
 use Rattle.trace_adjust.specs.Hosts.{hosts_of, number_in, kept_under, IsHostKept, AreKept, hosted, all_hosted, AreHostNumbers, IsNumber, IsNumbered, AreHostsNumbered}
-use Rattle.trace_adjust.specs.Hosts.{clock_by, below_by, near_by, host_delta, delta_by}
+use Rattle.trace_adjust.specs.Hosts.{clock_at_by, below_by, near_by, host_delta, delta_by}
 use Rattle.trace_adjust.proofs.Places.{place_push, place_found}
 use Rattle.trace_model.proofs.NameLaws.{same_where, text_is, text_self, text_turned}
 use Rattle.trace_model.proofs.ParentChains.{is_some-map}
@@ -56,7 +56,7 @@ below_hosted m trace c n p known number =
     c.delta p.span)
   where
     by_tests : (a b : Bool) → hosted (hosts_of trace)
-        (if a || not b then clock_by m n (new_delta (hosted (hosts_of trace) c) p.span) p.span else clock_by m c.host c.delta p.span)
+        (if a || not b then clock_at_by m n (new_delta (hosted (hosts_of trace) c) p.span) p.span else clock_at_by m c.host c.delta p.span)
         ≡ (if a || not b then clock_at m (get_or (hosts_of trace) n []) (new_delta (hosted (hosts_of trace) c) p.span) p.span else clock_at m
         (get_or (hosts_of trace) c.host []) c.delta p.span)
     by_tests true b = refl
@@ -67,7 +67,7 @@ below_numbered : (m : ℕ) (hosts : List (List ℕ)) (c : HostClock) (n : ℕ) (
     → IsNumber hosts (below_by m c n s).host
 below_numbered m hosts c n s known own = by_test ((n == 0) || not (n == c.host))
   where
-    by_test : (b : Bool) → IsNumber hosts (if b then clock_by m n (new_delta (hosted hosts c) s) s else clock_by m c.host c.delta s).host
+    by_test : (b : Bool) → IsNumber hosts (if b then clock_at_by m n (new_delta (hosted hosts c) s) s else clock_at_by m c.host c.delta s).host
     by_test true = own
     by_test false = known
 

@@ -60,15 +60,15 @@ abbrev pub AreSet : ℕ → List Placed → List (Option HostClock) → Type 0
 AreSet max_skew trace cs = AreRight max_skew trace (all_hosted (hosts_of trace) cs) × AreHostsNumbered (hosts_of trace) cs
 
 -- ---- the definitions of Adjusting and Settling, by numbers
-abbrev pub clock_by : ℕ → ℕ → ℤ → Span → HostClock
-clock_by max_skew n delta s = record { host = n; delta = delta; start = start_at max_skew delta s; duration = s.duration }
+abbrev pub clock_at_by : ℕ → ℕ → ℤ → Span → HostClock
+clock_at_by max_skew n delta s = record { host = n; delta = delta; start = start_at max_skew delta s; duration = s.duration }
 
 abbrev pub below_by : ℕ → HostClock → ℕ → Span → HostClock
 below_by max_skew c n s =
-    if (n == 0) || not (n == c.host) then clock_by max_skew n (delta_between c.start c.duration s.start s.duration) s else clock_by max_skew c.host c.delta s
+    if (n == 0) || not (n == c.host) then clock_at_by max_skew n (delta_between c.start c.duration s.start s.duration) s else clock_at_by max_skew c.host c.delta s
 
 abbrev pub near_by : ℕ → List (Option HostClock) → ℕ → Span → Option ℕ → Option HostClock
-near_by max_skew cs n s o = clock_near_in (clock_by max_skew n (pos 0) s) (λ (above : HostClock). below_by max_skew above n s) cs o
+near_by max_skew cs n s o = clock_near_in (clock_at_by max_skew n (pos 0) s) (λ (above : HostClock). below_by max_skew above n s) cs o
 
 abbrev pub host_delta : HostClock → ℤ
 host_delta c = c.delta

@@ -2,7 +2,7 @@
 
 ghost use Rattle.std.specs.Prelude.{◌≡◌, pos, ◌==◌, ◌||◌, not};
 ghost use Rattle.trace_model.specs.Adjusting.{delta_between};
-ghost use Rattle.trace_adjust.specs.Hosts.{clock_by, below_by};
+ghost use Rattle.trace_adjust.specs.Hosts.{clock_at_by, below_by};
 
 use crate::lent_placed::LentPlaced;
 use span_steps::delta_between;
@@ -20,7 +20,7 @@ pub(crate) struct HostClock {
 }
 
 fn clock_at(max_skew: u64, host: usize, delta: i128, placed: &LentPlaced) -> HostClock
-    ensures { result ≡ clock_by max_skew host delta placed.now.span }
+    ensures { result ≡ clock_at_by max_skew host delta placed.now.span }
 {
     HostClock {
         host,
@@ -32,7 +32,7 @@ fn clock_at(max_skew: u64, host: usize, delta: i128, placed: &LentPlaced) -> Hos
 
 /// Returns the clock of a span whose parent is not in its trace: its own host's, with no delta.
 pub(crate) fn root_clock(host: usize, placed: &LentPlaced, max_skew: u64) -> HostClock
-    ensures { result ≡ clock_by max_skew host (pos 0) placed.now.span }
+    ensures { result ≡ clock_at_by max_skew host (pos 0) placed.now.span }
 {
     clock_at(max_skew, host, 0, placed)
 }

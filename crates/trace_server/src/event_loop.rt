@@ -149,12 +149,14 @@ impl EventLoop {
     fn must_drop(&mut self, key: usize, progress: ConnectionProgress) -> bool
         ensures open { self.new.connections ≡ self.old.connections }
     {
-        let own = match (progress, self.connections.get(key)) {
-            (ConnectionProgress::Writing, Some(connection)) => connection
-                .connection
-                .waiting_bytes(),
-            _ => return false,
+        let ConnectionProgress::Writing = progress else {
+            return false;
         };
+        let Some(connection) = self.connections.get(key) else {
+            // Impossible: the connection was served a moment ago, and is still open.
+            return false;
+        };
+        let own = connection.connection.waiting_bytes();
         let must_drop = self.has_too_much_waiting(own);
         self.has_given_up |= must_drop;
         must_drop

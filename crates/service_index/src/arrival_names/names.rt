@@ -215,7 +215,8 @@ fn operations_of(
     numbers: &[u32],
 ) -> Result<Vec<Operation>, AllocError>
     requires { AreNumbersBelow (names_of_arrivals arrivals.now).count numbers.now }
-    ensures { IfOk result (λ v. v.items ≡ operations_at (names_of_arrivals arrivals.now) numbers.now) }
+    ensures { IfOk result (λ v. v.items ≡
+        operations_at (names_of_arrivals arrivals.now) numbers.now) }
 {
     let mut operations = Vec::with_capacity(alloc, numbers.len())?;
     for n in numbers {
