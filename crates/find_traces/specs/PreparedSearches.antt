@@ -7,7 +7,7 @@ use Rattle.jaeger_model.specs.declared.batch.Process.{Process}
 use Rattle.jaeger_model.specs.Texts.{text_cmp}
 use Rattle.trace_model.specs.declared.query.Find.{Find}
 use Rattle.trace_model.specs.ServiceLinks.{call_cmp as pair_cmp}
-use Rattle.find_traces.specs.RequestedPairs.{requests_key, key_bits, requests_length, requests_number, asks, requested_count, has_pair, is_in}
+use Rattle.find_traces.specs.RequestedPairs.{Judgement, requests_key, key_bits, requests_length, requests_number, asks, requested_count, has_pair, is_in}
 
 -- the keys, the bits for their lengths, the lengths of the texts, whether one of them may be that of a number, and the
 -- pairs of a search
@@ -23,3 +23,8 @@ pub record IsJudged (q : Find) (o : Process) (met : List (List ℕ × List ℕ))
   pub rising : IsStrictlySortedBy pair_cmp met
   pub asked : (a : List ℕ × List ℕ) → is_in met a ≡ (asks q a && has_pair o.tags a)
   pub count : left + length met ≡ requested_count q
+
+-- the search judged the process so
+pub record IsJudgementOf (q : Find) (o : Process) (j : Judgement) : Type 0 where
+  pub query : j.query ≡ q
+  pub pairs : IsJudged q o j.met j.left

@@ -4,7 +4,6 @@ use Rattle.std.specs.Int.Bits.{bit_or}
 use Rattle.std.specs.List.{fold, list_any}
 use Rattle.std.specs.Set.{distinct_count}
 use Rattle.std.specs.Ordering.{eq_by_cmp, nat_cmp}
-use Rattle.jaeger_model.specs.declared.batch.Process.{Process}
 use Rattle.jaeger_model.specs.declared.tag.Tag.{Tag}
 use Rattle.jaeger_model.specs.Tags.{tag_text}
 use Rattle.jaeger_model.specs.Texts.{text_cmp}
@@ -70,7 +69,8 @@ is_in ps a = list_any (same_pair a) ps
 abbrev pub wants : Find → List (List ℕ × List ℕ) → List ℕ × List ℕ → Bool
 wants q but a = asks q a && not (is_in but a)
 
--- a search, and the process of the spans that it judges
-pub record Beside : Type 0 where
+-- a search, the requested pairs that the tags of a process have, and the number of the others
+pub record Judgement : Type 0 where
   pub query : Find
-  pub process : Process
+  pub met : List (List ℕ × List ℕ)
+  pub left : ℕ

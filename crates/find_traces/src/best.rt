@@ -15,7 +15,8 @@ use std::alloc::{AllocError, Global};
 
 /// Returns the keys of the traces that start last, at most `most` of them. Judges none.
 fn latest_keys<T: Searched>(alloc: Global, traces: &T, most: usize) -> Result<BestKeys, AllocError>
-    ensures keys { IfOk result (λ latest. latest.keys.keys ≡ take most (ranking (T.traces traces.now))) }
+    ensures keys { IfOk result (λ latest. latest.keys.keys ≡
+        take most (ranking (T.traces traces.now))) }
     ensures most { IfOk result (λ latest. latest.most ≡ most) }
 {
     let mut latest = BestKeys::new(alloc, most);

@@ -2,8 +2,11 @@
 
 ghost use Rattle.std.specs.Prelude.{◌≡◌, ◌&&◌, ◌||◌, ℕ, List, IfOk, OnOk, flat_map, ◌++◌};
 ghost use Rattle.std.specs.List.{list_all};
+ghost use Rattle.jaeger_model.specs.declared.batch.Process.{Process as ProcessValue};
 ghost use Rattle.jaeger_model.specs.declared.span.Log.{Log as LogValue};
+ghost use Rattle.trace_model.specs.declared.query.Find.{Find as FindValue};
 ghost use Rattle.trace_model.specs.Searching.{has_tag};
+ghost use Rattle.find_traces.specs.PreparedSearches.{IsJudgementOf};
 ghost use Rattle.find_traces.specs.RequestedPairs.{pair_of, same_pair, is_in, asks, wants, has_pair};
 
 use crate::prepared::PreparedSearch;
@@ -12,12 +15,11 @@ use std::alloc::{AllocError, Global};
 use std::collections::BTreeSet;
 use std::marker::Model;
 
-/// A process whose tags were compared with those that a search requests, once for all its spans. Contracts see the
-/// search and the process.
+/// A process whose tags were compared with those that a search requests, once for all its spans. It keeps the result
+/// alone, and doesn't refer to the process. Contracts see the search and the result.
 #[derive(Drop)]
 pub struct JudgedProcess<'a> {
     prepared: &'a PreparedSearch<'a>,
-    process: &'a Process,
     /// The requested pairs that tags of the process have.
     met: BTreeSet<(Text, Text)>,
     /// The number of the other requested pairs.
@@ -25,14 +27,11 @@ pub struct JudgedProcess<'a> {
 }
 
 impl<'a> Model for JudgedProcess<'a> {
-    ghost use Rattle.find_traces.specs.RequestedPairs.{Beside};
-    ghost use Rattle.find_traces.specs.PreparedSearches.{IsJudged};
+    ghost use Rattle.find_traces.specs.RequestedPairs.{Judgement};
 
-    ghost Value = { Beside };
+    ghost Value = { Judgement };
 
-    ghost view = { λ j. record { query = j.prepared.now; process = j.process.now } };
-
-    ghost invariant = { λ j. IsJudged j.prepared.now j.process.now j.met.keys j.left };
+    ghost view = { λ j. record { query = j.prepared.now; met = j.met.keys; left = j.left } };
 }
 
 /// Adds the pair of a tag, if it is requested and is not among the others.
@@ -137,16 +136,14 @@ impl<'a> JudgedProcess<'a> {
     pub fn new(
         alloc: Global,
         prepared: &'a PreparedSearch<'a>,
-        process: &'a Process,
+        process: &Process,
     ) -> Result<Self, AllocError>
-        ensures { IfOk result (λ j. j ≡
-            record { query = prepared.now; process = process.now }) }
+        ensures { IfOk result (IsJudgementOf prepared.now process.now) }
     {
         let met = process_pairs(alloc, prepared, process)?;
         let left = prepared.count() - met.len();
         Ok(JudgedProcess {
             prepared,
-            process,
             met,
             left,
         })
@@ -158,9 +155,9 @@ impl<'a> JudgedProcess<'a> {
     ///
     /// Out of memory, and nothing else.
     pub fn has_all_tags(&self, alloc: Global, span: &Span) -> Result<bool, AllocError>
-        ensures { IfOk result (λ b. b ≡ list_all
-            (has_tag (record { process = self.now.process; span = span.now }))
-            self.now.query.tags) }
+        ensures { (query : FindValue) (process : ProcessValue) →
+            IsJudgementOf query process self.now → IfOk result (λ b. b ≡
+            list_all (has_tag (record { process = process; span = span.now })) query.tags) }
     {
         if self.left == 0 {
             return Ok(true);

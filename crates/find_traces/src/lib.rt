@@ -1,8 +1,8 @@
 //! Searches: which traces have one span that meets every condition, and in what order they are answered.
 //!
 //! * `prepared`: a search whose requested tags are sorted once.
-//! * `judged_process`: a process as a search judges it, and whether a span of it meets every condition. The
-//!   tags of the process are read once; for each span only the span's own.
+//! * `judged_process`: a process as a search judges it, and whether a span of it has the requested tags. The tags of
+//!   the process are read once; for each span only the span's own.
 //! * `searched`: traces that are judged one by one, wherever their spans are.
 //! * `key`: the sort key of a trace.
 //! * `matched`: the traces that match, judged one after the other and then sorted.

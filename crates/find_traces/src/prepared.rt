@@ -38,7 +38,8 @@ impl<'q> Model for PreparedSearch<'q> {
 
     ghost view = { λ w. w.query.now };
 
-    ghost invariant = { λ w. IsPrepared w.query.now w.keys.keys w.key_bits w.lengths.keys w.has_number w.pairs.keys };
+    ghost invariant = { λ w.
+        IsPrepared w.query.now w.keys.keys w.key_bits w.lengths.keys w.has_number w.pairs.keys };
 }
 
 /// Returns the keys of the pairs.

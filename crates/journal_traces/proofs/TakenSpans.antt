@@ -19,6 +19,7 @@ use Rattle.trace_model.specs.BorrowedSpans.{seen, placed_by_its_entry}
 use Rattle.trace_model.specs.TakenSpans.{Taken}
 use Rattle.journal_traces.specs.declared.process_classes.ProcessClasses.{ProcessClasses}
 use Rattle.journal_traces.specs.ProcessClasses.{Leads}
+use Rattle.journal_traces.specs.TakenSearch.{IsFlagged, may_number_meet}
 use Rattle.journal_traces.specs.TakenTraces.{placed_taken, HasProcess, HaveProcesses}
 use Rattle.journal_traces.proofs.ParentReferences.{matches-adopted}
 use Rattle.journal_traces.proofs.TraceMarks.{or_same}
@@ -39,6 +40,12 @@ match_seen q x s at = sym (matches-adopted q (seen s)) ∙ or_same (matches q (p
 module _ (xs : List Taken) (i : ℕ) (x : Taken) (le : i < length xs) (is : x ≡ get_or xs i x) where
   pub has_process : (process_of : ℕ → Option Process) → HaveProcesses process_of xs → HasProcess process_of x
   has_process process_of all = subst (HasProcess process_of) (sym is) (all i x le)
+
+  pub flag_seen : (q : Find) (first now : List Bool) → now ≡ first → (s : Seen) (n : ℕ) → Some (placed_by_its_entry s) ≡ x.span → n ≡ x.number
+      → All (IsFlagged q first) xs → may_number_meet now n ≡ false → matches q (seen s) ≡ false
+  flag_seen q first now same s n at number all none =
+      let own : IsFlagged q first x = subst (IsFlagged q first) (sym is) (all i x le) in
+      match_seen q x s at ∙ own (sym (λ j. may_number_meet (same j) (number j)) ∙ none)
 
   pub taken_more : placed_taken (take (i + 1) xs) ≡ placed_taken (take i xs) ++ placed_taken (x ∷ [])
   taken_more =
@@ -70,11 +77,14 @@ placed_got [] k = refl
 placed_got (t ∷ ts) zero = refl
 placed_got (t ∷ ts) (suc k) = placed_got ts k
 
+pub all_got : (P : Taken → Type 0) (ts : List (List Taken)) (k : ℕ) → All (All P) ts → All P (slice_index_or ts k [])
+all_got P [] k all = λ j d le. absurd (omega arith)
+all_got P (t ∷ ts) zero all = all 0 t (omega arith)
+all_got P (t ∷ ts) (suc k) all = all_got P ts k (λ j d le. all (suc j) d (omega arith))
+
 pub processes_got : (process_of : ℕ → Option Process) (ts : List (List Taken)) (k : ℕ) → All (HaveProcesses process_of) ts
     → HaveProcesses process_of (slice_index_or ts k [])
-processes_got process_of [] k all = λ j d le. absurd (omega arith)
-processes_got process_of (t ∷ ts) zero all = all 0 t (omega arith)
-processes_got process_of (t ∷ ts) (suc k) all = processes_got process_of ts k (λ j d le. all (suc j) d (omega arith))
+processes_got process_of ts k all = all_got (HasProcess process_of) ts k all
 
 -- ---- the trace of an answer, span by span
 -- the spans up to the index are kept, and if the classes lead to their processes, so do the numbers

@@ -37,7 +37,9 @@ use Rattle.journal_traces.specs.Told.{AreTold}
 use Rattle.journal_traces.specs.MatchingSpans.{meets, met, met_or_none}
 use Rattle.journal_traces.specs.SkippedEntries.{may_meet}
 use Rattle.journal_traces.specs.TagCandidates.{entry_shared, entries_shared, process_numbered, spot_of, taken_spotted, trace_spotted, is_entry_met, may_spot_meet}
-use Rattle.journal_traces.specs.TagCandidates.{may_spots_meet, IsMatchFlagOf, IsSpotWithin, AddsSpan}
+use Rattle.journal_traces.specs.TagCandidates.{may_spots_meet, IsMatchFlag, IsMatchFlagOf, IsSpotWithin, AddsSpan, IsTakenFrom, AreNumberedByEntry, AreJudgedEntries, entry_process}
+use Rattle.journal_traces.specs.TakenSearch.{IsFlagged, IsSearching}
+use Rattle.journal_traces.specs.declared.judged_entries.JudgedEntries.{JudgedEntries}
 use Rattle.journal_traces.specs.ReportedSpots.{is_number}
 use Rattle.journal_traces.specs.SpansAtSpots.{process_at, spans_named}
 use Rattle.journal_traces.specs.TakenTraces.{placed_taken, HasProcess}
@@ -146,27 +148,32 @@ none_at w [] i e = refl
 none_at w (p ∷ ps) zero e = let own = or_false (w p) (list_any w ps) e in ap (λ b. b || false) own.0
 none_at w (p ∷ ps) (suc i) e = let own = or_false (w p) (list_any w ps) e in none_at w ps i own.1
 
-spot_unmet : (q : Find) (ts : List TakenEntry) (met : List Bool) (number index : ℕ) → AllZip (IsMatchFlagOf q) ts met → get_or met number false ≡ false
-    → list_any (matches q) (cons_option (option_and_then (λ (e : Entry). slice_get (placed_brought e.work) index) (slice_get (entries_shared ts) number)) [])
-    ≡ false
+spot_unmet : (q : Find) (es : List Entry) (met : List Bool) (number index : ℕ) → AllZip (IsMatchFlag q) es met → get_or met number false ≡ false
+    → list_any (matches q) (cons_option (option_and_then (λ (e : Entry). slice_get (placed_brought e.work) index) (slice_get es number)) []) ≡ false
 spot_unmet q [] met number index correct e = refl
-spot_unmet q (x ∷ ts) [] number index correct e = absurd correct
-spot_unmet q (x ∷ ts) (b ∷ met) zero index correct e = none_at (matches q) (placed_brought (entry_shared x).work) index (correct.0 e)
-spot_unmet q (x ∷ ts) (b ∷ met) (suc number) index correct e = spot_unmet q ts met number index correct.1 e
+spot_unmet q (x ∷ es) [] number index correct e = absurd correct
+spot_unmet q (x ∷ es) (b ∷ met) zero index correct e = none_at (matches q) (placed_brought x.work) index (correct.0 e)
+spot_unmet q (x ∷ es) (b ∷ met) (suc number) index correct e = spot_unmet q es met number index correct.1 e
+
+-- the flags of the collected entries are those of the entries
+pub flags_shared : (q : Find) (ts : List TakenEntry) (met : List Bool) → AllZip (IsMatchFlagOf q) ts met → AllZip (IsMatchFlag q) (entries_shared ts) met
+flags_shared q [] [] correct = tt
+flags_shared q [] (b ∷ met) correct = absurd correct
+flags_shared q (x ∷ ts) [] correct = absurd correct
+flags_shared q (x ∷ ts) (b ∷ met) correct = (correct.0, flags_shared q ts met correct.1)
 
 any_cons : (w : Placed → Bool) (o : Option Placed) (ps : List Placed) → list_any w (cons_option o []) ≡ false → list_any w ps ≡ false
     → list_any w (cons_option o ps) ≡ false
 any_cons w None ps a b = b
 any_cons w (Some p) ps a b = let own = or_false (w p) false a in λ i. own.0 i || b i
 
-pub trace_unmet : (q : Find) (ts : List TakenEntry) (met : List Bool) (ss : List TakenSpot) → AllZip (IsMatchFlagOf q) ts met → may_spots_meet met ss ≡ false
-    → list_any (matches q) (placed_taken (trace_spotted (entries_shared ts) ss)) ≡ false
-trace_unmet q ts met [] correct e = refl
-trace_unmet q ts met (s ∷ ss) correct e =
-    let es = entries_shared ts in
+pub trace_unmet : (q : Find) (es : List Entry) (met : List Bool) (ss : List TakenSpot) → AllZip (IsMatchFlag q) es met → may_spots_meet met ss ≡ false
+    → list_any (matches q) (placed_taken (trace_spotted es ss)) ≡ false
+trace_unmet q es met [] correct e = refl
+trace_unmet q es met (s ∷ ss) correct e =
     let parts = or_false (may_spot_meet met s) (may_spots_meet met ss) e in
-    any_cons (matches q) (span_at es (spot_of s)) (placed_taken (trace_spotted es ss)) (spot_unmet q ts met s.number s.index correct parts.0)
-    (trace_unmet q ts met ss correct parts.1)
+    any_cons (matches q) (span_at es (spot_of s)) (placed_taken (trace_spotted es ss)) (spot_unmet q es met s.number s.index correct parts.0)
+    (trace_unmet q es met ss correct parts.1)
 
 -- ---- a part of the spots
 pub range_spotted : (es : List Entry) (ss : List TakenSpot) (a b : ℕ) → trace_spotted es (slice_range ss a b) ≡ slice_range (trace_spotted es ss) a b
@@ -190,15 +197,15 @@ spots_unmet : (met : List Bool) (ss : List TakenSpot) → list_any (λ b. b) met
 spots_unmet met [] e = refl
 spots_unmet met (s ∷ ss) e = λ i. unmet_at met s.number e i || spots_unmet met ss e i
 
-module _ (q : Find) (ts : List TakenEntry) (met : List Bool) (ss : List TakenSpot) (correct : AllZip (IsMatchFlagOf q) ts met)
+module _ (q : Find) (es : List Entry) (met : List Bool) (ss : List TakenSpot) (correct : AllZip (IsMatchFlag q) es met)
     (none : list_any (λ b. b) met ≡ false) where
   abbrev spotted : List Taken
-  spotted = trace_spotted (entries_shared ts) ss
+  spotted = trace_spotted es ss
 
   part_unmet : (a b : ℕ) → list_any (matches q) (placed_taken (slice_range spotted a b)) ≡ false
   part_unmet a b =
       let part = slice_range ss a b in
-      ap (λ l. list_any (matches q) (placed_taken l)) (sym (range_spotted (entries_shared ts) ss a b)) ∙ trace_unmet q ts met part correct (spots_unmet met part none)
+      ap (λ l. list_any (matches q) (placed_taken l)) (sym (range_spotted es ss a b)) ∙ trace_unmet q es met part correct (spots_unmet met part none)
 
   pub none_matching : (starts : List ℕ) → matching q (map placed_taken (cut_at spotted starts)) ≡ []
   none_matching [] = refl
@@ -261,20 +268,46 @@ nothing_shared ts s at =
     ap (λ (o : Option TakenEntry). option_and_then (λ (e : Entry). slice_get (placed_brought e.work) s.index) (option_map entry_shared o)) at
     ∙ ap (option_and_then (λ (e : Entry). slice_get (placed_brought e.work) s.index)) (sym (slice_get-map entry_shared ts s.number))
 
-pub numbered_spot : (es : List Entry) (s : TakenSpot) (taken : Option Taken) → option_and_then (λ (x : Taken). x.span) taken ≡ span_at es (spot_of s)
-    → IfSome taken (λ (x : Taken). x.number ≡ s.number) → IfSome taken (HasProcess (process_numbered es))
+numbered_spot : (es : List Entry) (s : TakenSpot) (taken : Option Taken) → option_and_then (λ (x : Taken). x.span) taken ≡ span_at es (spot_of s)
+    → IfSome taken (λ (x : Taken). x.number ≡ s.number) → IfSome taken (IsTakenFrom es)
 numbered_spot es s None at number = tt
-numbered_spot es s (Some x) at number = by x.span at
-  where
-    by : (o : Option Placed) → o ≡ span_at es (spot_of s) → IfSome o (λ (p : Placed). Some p.process ≡ process_numbered es x.number)
-    by None e = tt
-    by (Some p) e = process_there es (spot_of s) p e ∙ ap (process_numbered es) (sym number)
+numbered_spot es s (Some x) at number = (s, at, number)
 
 pub numbered_result : {E : Type 0} → (es : List Entry) (s : TakenSpot) (r : Result (Option Taken) E)
     → IfOk r (λ t. option_and_then (λ (x : Taken). x.span) t ≡ span_at es (spot_of s)) → IfOk r (λ t. IfSome t (λ (x : Taken). x.number ≡ s.number))
-    → IfOk r (λ t. IfSome t (HasProcess (process_numbered es)))
+    → IfOk r (λ t. IfSome t (IsTakenFrom es))
 numbered_result es s (Ok t) at number = numbered_spot es s t at number
 numbered_result es s (Err e) at number = tt
+
+-- ---- what is known of a span by the entry that it was taken from
+taken_process : (es : List Entry) (t : Taken) → IsTakenFrom es t → HasProcess (process_numbered es) t
+taken_process es t from = by t.span from.1
+  where
+    by : (o : Option Placed) → o ≡ span_at es (spot_of from.0) → IfSome o (λ (p : Placed). Some p.process ≡ process_numbered es t.number)
+    by None e = tt
+    by (Some p) e = process_there es (spot_of from.0) p e ∙ ap (process_numbered es) (sym from.2)
+
+taken_flag : (q : Find) (es : List Entry) (flags : List Bool) (t : Taken) → AllZip (IsMatchFlag q) es flags → IsTakenFrom es t → IsFlagged q flags t
+taken_flag q es flags t correct from none =
+    ap (λ o. list_any (matches q) (cons_option o [])) from.1
+    ∙ spot_unmet q es flags from.0.number from.0.index correct (ap (λ n. get_or flags n false) (sym from.2) ∙ none)
+
+-- a search over traces whose entries were judged
+pub searching : (q : Find) (es : List Entry) (traces : List (List Taken)) (j : JudgedEntries) → AreNumberedByEntry es traces → AreJudgedEntries q es j
+    → IsSearching q traces j
+searching q es traces j numbered judged = record {
+  process_of = process_numbered es;
+  each = λ k d le m e below. taken_process es (get_or (get_or traces k d) m e) (numbered k d le m e below);
+  judged = judged.processes;
+  flagged = λ k d le m e below. taken_flag q es j.flags.items (get_or (get_or traces k d) m e) judged.flags (numbered k d le m e below);
+}
+
+-- the number of an entry leads to its process
+pub numbered_process : (ts : List TakenEntry) (i : ℕ) (t : TakenEntry) → i < length ts → t ≡ get_or ts i t
+    → entry_process (entry_shared t) ≡ process_numbered (entries_shared ts) i
+numbered_process [] i t le is = absurd (omega arith)
+numbered_process (x ∷ ts) zero t le is = ap (λ y. entry_process (entry_shared y)) is
+numbered_process (x ∷ ts) (suc i) t le is = numbered_process ts i t (omega arith) is
 
 -- ---- the spots of a trace, one by one
 pub spots_left : (ss : List TakenSpot) (i : ℕ) (d : TakenSpot) → i < length ss

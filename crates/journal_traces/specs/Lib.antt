@@ -8,9 +8,9 @@ pub mod ReportedSpots
 pub mod Numbered
 pub mod TraceParts
 pub mod TakenTraces
+pub mod ProcessConditions
+pub mod TakenSearch
 pub mod TagCandidates
 pub mod WindowTraces
 pub mod ProcessClasses
-pub mod TakenSearch
-pub mod ProcessConditions
 pub mod TraceRanges

@@ -1,21 +1,24 @@
 -- Traces by the spots of their spans among entries that are collected once each.
-use Rattle.std.specs.Prelude.{◌≡◌, ◌<◌, ℕ, suc, Bool, false, List, [], ◌∷◌, ◌++◌, map, length, get_or, Option}
+use Rattle.std.specs.Prelude.{◌≡◌, ◌<◌, ℕ, suc, Bool, false, List, [], ◌∷◌, ◌++◌, map, length, get_or, Option, option_map}
 use Rattle.std.specs.Arc.{arc_value}
-use Rattle.std.specs.List.{list_any, cons_option, All}
+use Rattle.std.specs.List.{list_any, cons_option, All, AllZip}
+use Rattle.jaeger_model.specs.declared.batch.Batch.{Batch}
 use Rattle.jaeger_model.specs.declared.batch.Process.{Process}
 use Rattle.jaeger_model.specs.declared.placed.Placed.{Placed}
 use Rattle.trace_model.specs.declared.entry.Entry.{Entry}
 use Rattle.trace_model.specs.declared.query.Find.{Find}
 use Rattle.trace_model.specs.Searching.{matches}
 use Rattle.trace_model.specs.TakenSpans.{Taken}
-use Rattle.trace_model.specs.EntryWork.{placed_brought}
+use Rattle.trace_model.specs.EntryWork.{batch_brought, placed_brought}
 use Rattle.trace_assembly.specs.declared.spot.Spot.{Spot}
 use Rattle.trace_assembly.specs.LocatedSpans.{span_at}
+use Rattle.journal_traces.specs.declared.judged_entries.JudgedEntries.{JudgedEntries}
 use Rattle.journal_traces.specs.declared.tag_candidates.TakenEntry.{TakenEntry}
 use Rattle.journal_traces.specs.declared.taken_spot.TakenSpot.{TakenSpot}
 use Rattle.journal_traces.specs.TraceParts.{AreStarts}
 use Rattle.journal_traces.specs.SpansAtSpots.{process_at}
-use Rattle.journal_traces.specs.TakenTraces.{placed_taken, HaveProcesses}
+use Rattle.journal_traces.specs.TakenSearch.{AreJudged}
+use Rattle.journal_traces.specs.TakenTraces.{placed_taken}
 
 -- a search, the collected entries, and the traces that the search considers, whose spans have the numbers of their
 -- entries
@@ -66,9 +69,22 @@ may_spots_meet flags ss = list_any (may_spot_meet flags) ss
 abbrev pub process_numbered : List Entry → ℕ → Option Process
 process_numbered es n = process_at es (suc n)
 
--- the number of each span of the traces leads to its process
+-- the process of the entry's batch
+abbrev pub entry_process : Entry → Option Process
+entry_process e = option_map (λ (b : Batch). b.process) (batch_brought e.work)
+
+-- the span is that of a spot in the entry with its number
+abbrev pub IsTakenFrom : List Entry → Taken → Type 0
+IsTakenFrom es t = (s : TakenSpot) × (t.span ≡ span_at es (spot_of s)) × (t.number ≡ s.number)
+
+-- so is each span of the traces
 abbrev pub AreNumberedByEntry : List Entry → List (List Taken) → Type 0
-AreNumberedByEntry es traces = All (HaveProcesses (process_numbered es)) traces
+AreNumberedByEntry es traces = All (All (IsTakenFrom es)) traces
+
+-- the entries have these flags, and processes of them were judged
+pub record AreJudgedEntries (q : Find) (es : List Entry) (j : JudgedEntries) : Type 0 where
+  pub flags : AllZip (IsMatchFlag q) es j.flags.items
+  pub processes : AreJudged q (process_numbered es) j.processes
 
 -- ---- the value of what is collected
 abbrev pub entry_shared : TakenEntry → Entry

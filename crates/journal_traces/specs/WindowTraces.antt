@@ -10,7 +10,7 @@ use Rattle.trace_model.specs.EntryWork.{placed_brought, service_brought}
 use Rattle.service_index.specs.ServicePlaces.{service_at, service_number_in}
 use Rattle.call_links.specs.NumberedCalls.{StandsFor}
 use Rattle.journal_traces.specs.declared.taken_spot.TakenSpot.{TakenSpot}
-use Rattle.journal_traces.specs.declared.window_traces.ReportedEntry.{ReportedEntry}
+use Rattle.journal_traces.specs.declared.window_traces.NumberedEntry.{NumberedEntry}
 use Rattle.journal_traces.specs.declared.window_traces.WindowSpots.{WindowSpots}
 use Rattle.journal_traces.specs.TraceParts.{cut_at, AreStarts}
 use Rattle.journal_traces.specs.Numbered.{AreNumbers}
@@ -20,10 +20,10 @@ use Rattle.journal_traces.specs.TagCandidates.{IsSpotWithin}
 abbrev pub ServedEntry : Type 0
 ServedEntry = Entry × ℕ
 
-abbrev pub entry_seen : ReportedEntry → ServedEntry
+abbrev pub entry_seen : NumberedEntry → ServedEntry
 entry_seen t = (arc_value t.entry, t.service)
 
-abbrev pub entries_seen : List ReportedEntry → List ServedEntry
+abbrev pub entries_seen : List NumberedEntry → List ServedEntry
 entries_seen ts = map entry_seen ts
 
 -- the entries alone

@@ -41,7 +41,8 @@ impl<'a> Model for Judging<'a> {
 
     ghost view = { λ j. (j.prepared.now, j.journal.now.held.entries) };
 
-    ghost invariant = { λ j. AreTold j.prepared.now j.journal.now.held.entries j.reported.now.service_numbers
+    ghost invariant = { λ j. AreTold j.prepared.now
+        j.journal.now.held.entries j.reported.now.service_numbers
         j.service };
 }
 
@@ -52,7 +53,8 @@ impl<'a> Judging<'a> {
         prepared: &'a PreparedSearch<'a>,
         service: Option<u32>,
     ) -> Self
-        requires { AreTold prepared.now journal.now.held.entries reported.now.service_numbers service }
+        requires { AreTold prepared.now journal.now.held.entries
+            reported.now.service_numbers service }
         ensures { result ≡ (prepared.now, journal.now.held.entries) }
     {
         Judging {

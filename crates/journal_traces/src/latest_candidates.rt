@@ -26,7 +26,7 @@ pub fn spots_after<'a>(
         IfOk result (λ v. v.items ≡ map (spots_of assembly.now)
         (filter (λ t. int_lt time (start t)) assembly.now.newest.ids)) }
 {
-    let indices = starts.places_after(alloc, time)?;
+    let indices = starts.positions_after(alloc, time)?;
     let mut spots = Vec::with_capacity(alloc, indices.len())?;
     for index in &indices {
         spots.push(assembly.spots_at(*index))?;

@@ -7,7 +7,7 @@
 //! * `service_candidates`: which traces a search by a service alone considers, if many entries are of that
 //!   service.
 //! * `latest_candidates`: the traces that start latest, after some time.
-//! * `span_conditions`: the conditions of a search that need a span's process.
+//! * `process_conditions`: the conditions of a search that need a span's process.
 //! * `entry_services`: which entries are of a service.
 //! * `judging`: spans judged one after the other.
 //! * `candidates`: the traces that a search considers, as it reads them.
@@ -18,6 +18,7 @@
 //! * `trace_parts`: the items of several traces in one list.
 //! * `entry_numbers`: the numbers of the collected entries.
 //! * `taken_spot`: where a span is among the collected entries.
+//! * `judged_entries`: what a search by tags judged of entries.
 //! * `tag_candidates`: the traces that a search by tags considers, with each of their entries collected once.
 //! * `tag_taking`: collects the candidates of a search by tags from the journal, by numbers alone.
 //! * `taken`: traces whose spans were collected, to be read after the journal is left.
@@ -32,14 +33,15 @@ mod candidates;
 mod entry_numbers;
 mod entry_services;
 mod gathering;
+mod judged_entries;
 mod judging;
 mod latest_candidates;
 mod process_classes;
+mod process_conditions;
 mod pruning;
 mod recurring;
 mod search_candidates;
 mod service_candidates;
-mod span_conditions;
 mod spotted_spans;
 mod tag_candidates;
 mod tag_taking;
@@ -56,6 +58,7 @@ mod window_traces;
 
 pub use candidates::CandidateSearch;
 pub use gathering::gather;
+pub use judged_entries::JudgedEntries;
 pub use latest_candidates::spots_after;
 pub use search_candidates::spots_along;
 pub use service_candidates::spots_reported;

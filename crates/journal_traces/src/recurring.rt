@@ -45,7 +45,7 @@ impl Recurring {
         Ok(())
     }
 
-    /// Adds the spans of the trace at a place. A trace of one entry is ignored, since no process is compared in it.
+    /// Adds the spans of the trace at an index. A trace of one entry is ignored, since no process is compared in it.
     /// Of consecutive spans with one key, only the first is looked up.
     pub(crate) fn add(&mut self, spans: &[TakenSpan], index: usize) -> Result<(), AllocError> {
         if have_one_key(spans) {

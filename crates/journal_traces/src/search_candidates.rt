@@ -113,6 +113,7 @@ fn is_skipped(journal: &Journal, place: u64, filter: &EntryFilter<'_>) -> bool
 {
     match journal.outline(place) {
         Some(outline) => !filter.may_meet(outline),
+        // Impossible in a store: the place is of an entry. No clause says so.
         None => true,
     }
 }

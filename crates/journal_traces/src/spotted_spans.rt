@@ -28,7 +28,8 @@ pub(crate) fn batch_at(journal: &Journal, place: u64) -> Option<&Batch>
     }
 }
 
-/// Returns the span at a spot.
+/// Returns the span at a spot. In a store each spot is of a span. No clause says so: the definitions pass over a spot
+/// of none, and so does the code that is called with one.
 #[tactic(auto, using(crate::proofs::SpansAtSpots::span_there, crate::proofs::SpansAtSpots::no_span_there))]
 pub(crate) fn seen_at(journal: &Journal, spot: Spot) -> Option<Seen<'_>>
     ensures { option_map placed_by_its_entry result ≡ span_at journal.now.held.entries spot }
@@ -105,6 +106,7 @@ fn is_outside(journal: &Journal, spot: Spot, end_ms: i64, lookback_ms: i64) -> b
 {
     match journal.outline(spot.place) {
         Some(outline) => !may_reach(outline.times, end_ms, lookback_ms),
+        // Impossible in a store: a spot is of an entry. No clause says so.
         None => false,
     }
 }

@@ -1,9 +1,10 @@
 //! The traces that a search by tags considers, with each of their entries collected once.
 
-ghost use Rattle.std.specs.Prelude.{◌≡◌, ◌<◌, List, [], ◌∷◌, ◌++◌, map, length, slice_index_or, IfOk, IfSome, OnOk};
+ghost use Rattle.std.specs.Prelude.{◌≡◌, ◌<◌, ℕ, Option, List, [], ◌∷◌, ◌++◌, map, length, slice_index_or, IfOk, IfSome, OnOk};
 ghost use Rattle.std.specs.Arc.{arc_value};
 ghost use Rattle.std.specs.Option.{option_and_then};
-ghost use Rattle.std.specs.List.{list_any, All, AllZip};
+ghost use Rattle.std.specs.List.{list_any, All};
+ghost use Rattle.jaeger_model.specs.declared.batch.Process.{Process as ProcessValue};
 ghost use Rattle.jaeger_model.specs.Parents.{domain};
 ghost use Rattle.trace_model.specs.Searching.{found_in, matches};
 ghost use Rattle.trace_model.specs.BorrowedSpans.{seen};
@@ -11,10 +12,12 @@ ghost use Rattle.trace_model.specs.TakenSpans.{Taken};
 ghost use Rattle.trace_assembly.specs.LocatedSpans.{span_at};
 ghost use Rattle.journal_traces.specs.ProcessConditions.{IsJudgedAs};
 ghost use Rattle.journal_traces.specs.TagCandidates.{spot_of, taken_spotted, trace_spotted, traces_spotted, is_entry_met, may_spot_meet, may_spots_meet, IsMatchFlag};
-ghost use Rattle.journal_traces.specs.TagCandidates.{HasMatchFlag, IsMatchFlagOf, entry_shared, entries_shared, process_numbered, AreNumberedByEntry};
-ghost use Rattle.journal_traces.specs.TakenTraces.{placed_taken, HasProcess, ShareByNumber};
+ghost use Rattle.journal_traces.specs.TagCandidates.{HasMatchFlag, entry_process, entry_shared, entries_shared, IsTakenFrom, AreNumberedByEntry, AreJudgedEntries};
+ghost use Rattle.journal_traces.specs.TakenSearch.{AreJudged, IsSearching};
+ghost use Rattle.journal_traces.specs.TakenTraces.{placed_taken};
 
-use crate::span_conditions::{has_tags, judge};
+use crate::judged_entries::JudgedEntries;
+use crate::process_conditions::{has_tags, judge};
 use crate::taken::TakenTraces;
 use crate::taken_spot::TakenSpot;
 use crate::trace_parts::trace_part;
@@ -64,7 +67,8 @@ impl<'q> Model for TagCandidates<'q> {
           c.starts.items;
     } };
 
-    ghost invariant = { λ c. AreTagCandidates c.query.now c.entries.items c.spots.items c.starts.items };
+    ghost invariant = { λ c.
+        AreTagCandidates c.query.now c.entries.items c.spots.items c.starts.items };
 }
 
 /// Whether a span of a judged process meets every condition of the search.
@@ -83,20 +87,21 @@ fn is_span_met(
     has_tags(alloc, judged, at.span)
 }
 
-/// Whether one of the spans of a batch meets the search. The process is judged once, and no span after one that
+/// Whether one of the spans of a batch, whose process was judged, meets the search. No span is judged after one that
 /// meets it.
 fn is_batch_met(
     alloc: Global,
     prepared: &PreparedSearch<'_>,
+    judged: &Option<JudgedProcess<'_>>,
     batch: &Batch,
 ) -> Result<bool, AllocError>
+    requires { IsJudgedAs prepared.now batch.now.process judged.now }
     ensures { IfOk result (λ b. b ≡ list_any (matches prepared.now) (domain batch.now)) }
 {
     let process = batch.process.get();
-    let judged = judge(alloc, prepared, process)?;
     let spans = batch.spans.as_slice();
     for span in spans {
-        let is_met = is_span_met(alloc, prepared, &judged, Seen { process, span })?;
+        let is_met = is_span_met(alloc, prepared, judged, Seen { process, span })?;
         if is_met {
             return Ok(true);
         }
@@ -104,62 +109,82 @@ fn is_batch_met(
     Ok(false)
 }
 
-/// Whether one of the spans of an entry meets the search.
-fn is_entry_met(
+/// Whether one of the spans of an entry meets the search. Its process is judged once, and kept if one does.
+fn is_entry_met<'a>(
     alloc: Global,
-    prepared: &PreparedSearch<'_>,
+    prepared: &'a PreparedSearch<'a>,
     taken: &TakenEntry,
+    number: usize,
+    judged: &mut JudgedEntries<'a>,
 ) -> Result<bool, AllocError>
-    requires { HasMatchFlag prepared.now taken.now }
-    ensures { IfOk result (λ b. b ≡ is_entry_met prepared.now (entry_shared taken.now)) }
+    requires flag { HasMatchFlag prepared.now taken.now }
+    ensures met { IfOk result (λ b. b ≡ is_entry_met prepared.now (entry_shared taken.now)) }
+    ensures flags { judged.new.flags ≡ judged.old.flags }
+    ensures processes { (process_of : ℕ → Option ProcessValue) →
+        entry_process (entry_shared taken.now) ≡ process_of number →
+        AreJudged prepared.now process_of judged.old.processes →
+        AreJudged prepared.now process_of judged.new.processes }
 {
     if !taken.may_match {
         return Ok(false);
     }
-    match taken.entry.work.batch() {
-        Some(batch) => is_batch_met(alloc, prepared, batch),
-        None => Ok(false),
+    let Some(batch) = taken.entry.work.batch() else {
+        return Ok(false);
+    };
+    let process = judge(alloc, prepared, batch.process.get())?;
+    let is_met = is_batch_met(alloc, prepared, &process, batch)?;
+    if is_met {
+        judged.processes.insert(number, process)?;
     }
+    Ok(is_met)
 }
 
 /// Whether one of the spans of an entry may meet the search. The entry is judged if that is requested; else its own
 /// flag is returned.
-fn may_entry_meet(
+fn may_entry_meet<'a>(
     alloc: Global,
-    prepared: &PreparedSearch<'_>,
+    prepared: &'a PreparedSearch<'a>,
     taken: &TakenEntry,
+    number: usize,
+    judged: &mut JudgedEntries<'a>,
     is_judged: bool,
 ) -> Result<bool, AllocError>
-    requires { HasMatchFlag prepared.now taken.now }
-    ensures { IfOk result (IsMatchFlag prepared.now (entry_shared taken.now)) }
+    requires flag { HasMatchFlag prepared.now taken.now }
+    ensures flag { IfOk result (IsMatchFlag prepared.now (entry_shared taken.now)) }
+    ensures flags { judged.new.flags ≡ judged.old.flags }
+    ensures processes { (process_of : ℕ → Option ProcessValue) →
+        entry_process (entry_shared taken.now) ≡ process_of number →
+        AreJudged prepared.now process_of judged.old.processes →
+        AreJudged prepared.now process_of judged.new.processes }
 {
     if is_judged {
-        is_entry_met(alloc, prepared, taken)
+        is_entry_met(alloc, prepared, taken, number, judged)
     } else {
         Ok(taken.may_match)
     }
 }
 
-/// Returns for each entry whether one of its spans may meet the search. After [`ENOUGH_ENTRIES`] of them do, no
-/// more entries are judged: a search that finds many traces then judges only what it needs for its answer.
-fn may_meet_by_entry(
+/// Judges entries: whether one of the spans of each may meet the search. After [`ENOUGH_ENTRIES`] of them do, no more
+/// entries are judged: a search that finds many traces then judges only what it needs for its answer.
+fn judge_ahead<'a>(
     alloc: Global,
-    prepared: &PreparedSearch<'_>,
+    prepared: &'a PreparedSearch<'a>,
     entries: &[TakenEntry],
-) -> Result<Vec<bool>, AllocError>
+) -> Result<JudgedEntries<'a>, AllocError>
     requires { All (HasMatchFlag prepared.now) entries.now }
-    ensures { IfOk result (λ v. AllZip (IsMatchFlagOf prepared.now) entries.now v.items) }
+    ensures { IfOk result (AreJudgedEntries prepared.now (entries_shared entries.now)) }
 {
     let mut found: usize = 0;
-    let mut flags = Vec::with_capacity(alloc, entries.len())?;
-    for entry in entries {
-        let may_meet = may_entry_meet(alloc, prepared, entry, found < ENOUGH_ENTRIES)?;
+    let mut judged = JudgedEntries::new(alloc);
+    for (number, entry) in entries.iter().enumerate() {
+        let is_judged = found < ENOUGH_ENTRIES;
+        let may_meet = may_entry_meet(alloc, prepared, entry, number, &mut judged, is_judged)?;
         if may_meet {
             found = found.saturating_add(1);
         }
-        flags.push(may_meet)?;
+        judged.flags.push(may_meet)?;
     }
-    Ok(flags)
+    Ok(judged)
 }
 
 /// Whether an entry may have a span that meets the search.
@@ -190,8 +215,7 @@ fn may_spots_meet(flags: &[bool], spots: &[TakenSpot]) -> bool
 fn taken_at(entries: &[TakenEntry], spot: &TakenSpot) -> Result<Option<TakenSpan>, AllocError>
     ensures span { IfOk result (λ t. option_and_then (λ s. s.span) t ≡
         span_at (entries_shared entries.now) (spot_of spot.now)) }
-    ensures number { IfOk result (λ t. IfSome t
-        (HasProcess (process_numbered (entries_shared entries.now)))) }
+    ensures number { IfOk result (λ t. IfSome t (IsTakenFrom (entries_shared entries.now))) }
 {
     match entries.get(spot.number as usize) {
         Some(taken) => TakenSpan::new(&taken.entry, spot.index, spot.number),
@@ -241,7 +265,7 @@ impl<'q> TagCandidates<'q> {
         self.query
     }
 
-    /// Returns the spots of the trace at a place, which counts from 0; none if there is no such trace.
+    /// Returns the spots of the trace at an index, which counts from 0; none if there is no such trace.
     fn spots(&self, index: usize) -> &[TakenSpot]
         ensures { trace_spotted self.now.entries result.now ≡
             slice_index_or self.now.traces index [] }
@@ -302,7 +326,25 @@ impl<'q> TagCandidates<'q> {
         Ok(())
     }
 
-    /// Judges the entries, and returns the traces that have a span of an entry that may meet the search.
+    /// Judges some of the entries: whether one of their spans may meet the search.
+    ///
+    /// # Errors
+    ///
+    /// Out of memory, and nothing else.
+    pub fn judge_entries<'a>(
+        &self,
+        alloc: Global,
+        prepared: &'a PreparedSearch<'a>,
+    ) -> Result<JudgedEntries<'a>, AllocError>
+        requires { prepared.now ≡ self.now.query }
+        ensures { IfOk result (AreJudgedEntries prepared.now self.now.entries) }
+    {
+        // For the prover: the binding lets the clause of `judge_ahead` be used for the result.
+        let judged = judge_ahead(alloc, prepared, &self.entries)?;
+        Ok(judged)
+    }
+
+    /// Returns the traces that have a span of an entry that may meet the search, by what was judged of the entries.
     /// The search finds the same among these as among all. No trace is looked at if no entry has such a span.
     ///
     /// # Errors
@@ -312,20 +354,22 @@ impl<'q> TagCandidates<'q> {
         &self,
         alloc: Global,
         prepared: &PreparedSearch<'_>,
+        judged: &JudgedEntries<'_>,
     ) -> Result<TakenTraces, AllocError>
-        requires { prepared.now ≡ self.now.query }
+        requires { AreJudgedEntries prepared.now self.now.entries judged.now }
         ensures found { IfOk result (λ ts. found_in prepared.now (map placed_taken ts) ≡
             found_in prepared.now (traces_spotted self.now)) }
-        ensures numbers { IfOk result ShareByNumber }
+        ensures judged { IfOk result (λ ts. IsSearching prepared.now ts judged.now) }
     {
         let mut traces = TakenTraces::new(alloc);
-        let flags = may_meet_by_entry(alloc, prepared, &self.entries)?;
-        if !may_any_meet(&flags) {
+        let count = self.starts.len();
+        let flags = judged.flags.as_slice();
+        if !may_any_meet(flags) {
             return Ok(traces);
         }
-        for index in 0..self.starts.len() {
+        for index in 0..count {
             let spots = self.spots(index);
-            if may_spots_meet(&flags, spots) {
+            if may_spots_meet(flags, spots) {
                 take_spots(&mut traces, &self.entries, spots)?;
             }
         }

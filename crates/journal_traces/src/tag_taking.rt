@@ -37,12 +37,13 @@ struct EntryMatcher<'a> {
 
 /// Whether the outline of the entry at a place meets the search.
 fn is_outlined(matcher: &EntryMatcher<'_>, place: u64) -> bool
+    requires { IsSome (entry_at matcher.now.journal.now.held.entries place) }
     ensures { (e : EntryValue) → Some e ≡ entry_at matcher.now.journal.now.held.entries place →
         IsMatchFlag matcher.now.filter e result }
 {
     match matcher.journal.outline(place) {
         Some(outline) => matcher.filter.may_meet(outline),
-        None => false,
+        None => unreachable!(),
     }
 }
 
@@ -66,7 +67,8 @@ fn number_of(
     requires there { Some (arc_value entry.now) ≡
         entry_at matcher.now.journal.now.held.entries place }
     requires query { taken.old.query ≡ matcher.now.filter }
-    requires numbers { AreNumbers matcher.now.journal.now.held.entries taken.old.entries numbers.old }
+    requires numbers { AreNumbers matcher.now.journal.now.held.entries
+        taken.old.entries numbers.old }
     ensures number { IfOk result (λ n. slice_get taken.new.entries n ≡ Some (arc_value entry.now)) }
     ensures numbers { OnOk result
         (AreNumbers matcher.now.journal.now.held.entries taken.new.entries numbers.new) }
@@ -88,7 +90,8 @@ fn take_spot(
     spot: Spot,
 ) -> Result<(), AllocError>
     requires query { taken.old.query ≡ matcher.now.filter }
-    requires numbers { AreNumbers matcher.now.journal.now.held.entries taken.old.entries numbers.old }
+    requires numbers { AreNumbers matcher.now.journal.now.held.entries
+        taken.old.entries numbers.old }
     ensures numbers { OnOk result
         (AreNumbers matcher.now.journal.now.held.entries taken.new.entries numbers.new) }
     ensures query { taken.new.query ≡ taken.old.query }
@@ -113,7 +116,8 @@ fn take_spots(
     spots: Spots<'_>,
 ) -> Result<(), AllocError>
     requires query { taken.old.query ≡ matcher.now.filter }
-    requires numbers { AreNumbers matcher.now.journal.now.held.entries taken.old.entries numbers.old }
+    requires numbers { AreNumbers matcher.now.journal.now.held.entries
+        taken.old.entries numbers.old }
     ensures numbers { OnOk result
         (AreNumbers matcher.now.journal.now.held.entries taken.new.entries numbers.new) }
     ensures query { taken.new.query ≡ taken.old.query }

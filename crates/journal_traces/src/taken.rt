@@ -48,7 +48,7 @@ impl TakenTraces {
         self.starts.len()
     }
 
-    /// Returns the spans of the trace at a place, which counts from 0; none if there is no such trace.
+    /// Returns the spans of the trace at an index, which counts from 0; none if there is no such trace.
     pub fn trace(&self, index: usize) -> &[TakenSpan]
         ensures { result.now ≡ slice_index_or self.now index [] }
     {

@@ -74,7 +74,7 @@ fn kept_trace<'a>(
     })
 }
 
-/// Returns the trace at a place as it is to be shown, without spans if there is none.
+/// Returns the trace at an index as it is to be shown, without spans if there is none.
 fn kept_at<'a>(
     alloc: Global,
     traces: &'a TakenTraces,
@@ -91,7 +91,7 @@ fn kept_at<'a>(
     Ok(AnsweredTrace::kept(trace))
 }
 
-/// Returns the keys that are in several of the traces at the places.
+/// Returns the keys that are in several of the traces at the indices.
 fn recurring_at(
     alloc: Global,
     traces: &TakenTraces,
@@ -113,7 +113,7 @@ fn recurring_in(alloc: Global, traces: &TakenTraces) -> Result<Recurring, AllocE
     Ok(recurring)
 }
 
-/// Returns the traces at the places as they are to be shown.
+/// Returns the traces at the indices as they are to be shown.
 #[tactic(auto, using(std::proofs::lemmas::List::map_more))]
 fn all_kept(
     alloc: Global,
@@ -142,7 +142,7 @@ fn all_kept(
 /// Out of memory, and nothing else.
 pub fn find_kept(
     alloc: Global,
-    search: &mut TakenSearch<'_>,
+    search: &mut TakenSearch<'_, '_>,
     limits: Limits,
 ) -> Result<Vec<AnsweredTrace>, AllocError>
     ensures { IfOk result (λ v. v.items ≡ map (adjusted limits.max_skew)
@@ -161,7 +161,7 @@ pub fn find_kept(
 /// Out of memory, and nothing else.
 pub fn find_kept_ids(
     alloc: Global,
-    search: &mut TakenSearch<'_>,
+    search: &mut TakenSearch<'_, '_>,
 ) -> Result<Vec<TraceId>, AllocError>
     ensures { IfOk result (λ v. v.items ≡
         ids_of (found_in (query_taken search.old) (traces_taken search.old))) }

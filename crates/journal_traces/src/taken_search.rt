@@ -1,36 +1,33 @@
 //! A search over traces that were collected from a store.
 
-ghost use Rattle.std.specs.Prelude.{◌≡◌, ℕ, Option, Some, [], ◌∷◌, IfOk};
-ghost use Rattle.std.specs.List.{list_any};
+ghost use Rattle.std.specs.Prelude.{◌≡◌, false, ℕ, Option, Some, IfOk};
+ghost use Rattle.std.specs.List.{list_any, All};
 ghost use Rattle.jaeger_model.specs.declared.batch.Process.{Process as ProcessValue};
 ghost use Rattle.trace_model.specs.Searching.{matches, first_start, first_id};
 ghost use Rattle.trace_model.specs.BorrowedSpans.{seen};
-ghost use Rattle.journal_traces.specs.TakenTraces.{placed_taken, HasProcess, HaveProcesses, ShareByNumber};
-ghost use Rattle.journal_traces.specs.TakenSearch.{AreJudged, traces_taken, query_taken};
+ghost use Rattle.journal_traces.specs.TakenTraces.{placed_taken, HaveProcesses, ShareByNumber};
+ghost use Rattle.journal_traces.specs.TakenSearch.{AreJudged, IsFlagged, IsSearching, may_number_meet, traces_taken, query_taken};
 
-use crate::span_conditions::{has_tags, judge};
+use crate::judged_entries::JudgedEntries;
+use crate::process_conditions::{has_tags, judge};
 use crate::taken::TakenTraces;
-use find_traces::{JudgedProcess, PreparedSearch, Searched};
+use find_traces::{PreparedSearch, Searched};
 use jaeger_model::{Seen, TraceId};
 use span_steps::meets_span_conditions;
 use std::alloc::{AllocError, Global};
-use std::collections::BTreeMap;
 use std::marker::Model;
 use trace_model::TakenSpan;
 
-/// Judged processes by their keys; `None` for one that is not of the search's service.
-type JudgedByKey<'a> = BTreeMap<u32, Option<JudgedProcess<'a>>>;
-
-/// A search over taken traces. It judges the process of each key at most once; only then is its service
-/// compared. Contracts see the search and the traces, each with its taken spans.
+/// A search over taken traces, after some of their entries were judged. It judges the process of each other entry at
+/// most once; only then is its service compared. Contracts see the search and the traces, each with its taken spans.
 #[derive(Drop)]
-pub struct TakenSearch<'a> {
-    traces: &'a TakenTraces,
+pub struct TakenSearch<'t, 'a> {
+    traces: &'t TakenTraces,
     prepared: &'a PreparedSearch<'a>,
-    judged: JudgedByKey<'a>,
+    judged: JudgedEntries<'a>,
 }
 
-impl<'a> Model for TakenSearch<'a> {
+impl<'t, 'a> Model for TakenSearch<'t, 'a> {
     ghost use Rattle.std.specs.Prelude.{List};
     ghost use Rattle.trace_model.specs.declared.query.Find.{Find};
     ghost use Rattle.trace_model.specs.TakenSpans.{Taken};
@@ -43,31 +40,36 @@ impl<'a> Model for TakenSearch<'a> {
     ghost invariant = { λ s. IsSearching s.prepared.now s.traces.now s.judged };
 }
 
-/// Whether a span whose process has this key meets every condition of the search. Its process is judged unless it
+/// Whether a span of the entry with this number meets every condition of the search. Its process is judged unless it
 /// was before, and only if the span has the requested operation, duration and start.
 fn is_match<'a>(
     alloc: Global,
     prepared: &'a PreparedSearch<'a>,
-    judged: &mut JudgedByKey<'a>,
-    key: u32,
-    at: Seen<'a>,
+    judged: &mut JudgedEntries<'a>,
+    number: usize,
+    at: Seen<'_>,
 ) -> Result<bool, AllocError>
     ensures found { (process_of : ℕ → Option ProcessValue) →
-        AreJudged prepared.now process_of judged.old → Some at.entry.process.now ≡ process_of key →
+        AreJudged prepared.now process_of judged.old.processes →
+        Some at.entry.process.now ≡ process_of number →
+        (may_number_meet judged.old.flags.items number ≡ false →
+        matches prepared.now (seen at.entry) ≡ false) →
         IfOk result (λ b. b ≡ matches prepared.now (seen at.entry)) }
+    ensures flags { judged.new.flags ≡ judged.old.flags }
     ensures judged { (process_of : ℕ → Option ProcessValue) →
-        AreJudged prepared.now process_of judged.old → Some at.entry.process.now ≡ process_of key →
-        AreJudged prepared.now process_of judged.new }
+        AreJudged prepared.now process_of judged.old.processes →
+        Some at.entry.process.now ≡ process_of number →
+        AreJudged prepared.now process_of judged.new.processes }
 {
-    if !meets_span_conditions(at, prepared.query()) {
+    if !judged.may_meet(number) || !meets_span_conditions(at, prepared.query()) {
         return Ok(false);
     }
-    if let Some(process) = judged.get(&key) {
+    if let Some(process) = judged.processes.get(&number) {
         return has_tags(alloc, process, at.span);
     }
     let process = judge(alloc, prepared, at.process)?;
     let is_match = has_tags(alloc, &process, at.span)?;
-    judged.insert(key, process)?;
+    judged.processes.insert(number, process)?;
     Ok(is_match)
 }
 
@@ -75,18 +77,23 @@ fn is_match<'a>(
 fn is_found<'a>(
     alloc: Global,
     prepared: &'a PreparedSearch<'a>,
-    judged: &mut JudgedByKey<'a>,
-    spans: &'a [TakenSpan],
+    judged: &mut JudgedEntries<'a>,
+    spans: &[TakenSpan],
 ) -> Result<bool, AllocError>
     ensures found { (process_of : ℕ → Option ProcessValue) →
-        AreJudged prepared.now process_of judged.old → HaveProcesses process_of spans.now →
+        AreJudged prepared.now process_of judged.old.processes →
+        HaveProcesses process_of spans.now →
+        All (IsFlagged prepared.now judged.old.flags.items) spans.now →
         IfOk result (λ b. b ≡ list_any (matches prepared.now) (placed_taken spans.now)) }
+    ensures flags { judged.new.flags ≡ judged.old.flags }
     ensures judged { (process_of : ℕ → Option ProcessValue) →
-        AreJudged prepared.now process_of judged.old → HaveProcesses process_of spans.now →
-        AreJudged prepared.now process_of judged.new }
+        AreJudged prepared.now process_of judged.old.processes →
+        HaveProcesses process_of spans.now →
+        AreJudged prepared.now process_of judged.new.processes }
 {
     for span in spans {
-        let is_match = is_match(alloc, prepared, judged, span.process_key(), span.reported())?;
+        let number = span.process_key() as usize;
+        let is_match = is_match(alloc, prepared, judged, number, span.reported())?;
         if is_match {
             return Ok(true);
         }
@@ -94,21 +101,25 @@ fn is_found<'a>(
     Ok(false)
 }
 
-impl<'a> TakenSearch<'a> {
-    /// Makes a search over the traces that has judged nothing.
-    pub fn new(alloc: Global, traces: &'a TakenTraces, prepared: &'a PreparedSearch<'a>) -> Self
-        requires { ShareByNumber traces.now }
+impl<'t, 'a> TakenSearch<'t, 'a> {
+    /// Makes a search over the traces, of whose entries some were judged.
+    pub fn new(
+        traces: &'t TakenTraces,
+        prepared: &'a PreparedSearch<'a>,
+        judged: JudgedEntries<'a>,
+    ) -> Self
+        requires { IsSearching prepared.now traces.now judged }
         ensures { result ≡ (prepared.now, traces.now) }
     {
         TakenSearch {
             traces,
             prepared,
-            judged: BTreeMap::new(alloc),
+            judged,
         }
     }
 
     /// Returns the traces.
-    pub(crate) fn traces(&self) -> &'a TakenTraces
+    pub(crate) fn traces(&self) -> &'t TakenTraces
         ensures traces { result.now ≡ self.now.1 }
         ensures shared { ShareByNumber result.now }
     {
@@ -116,7 +127,7 @@ impl<'a> TakenSearch<'a> {
     }
 }
 
-impl<'a> Searched for TakenSearch<'a> {
+impl<'t, 'a> Searched for TakenSearch<'t, 'a> {
     ghost traces = { traces_taken };
 
     ghost query = { query_taken };

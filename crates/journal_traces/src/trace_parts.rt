@@ -3,7 +3,7 @@
 ghost use Rattle.std.specs.Prelude.{◌≡◌, ◌+◌, ◌<◌, ◌≤◌, [], length, slice_index_or, slice_range};
 ghost use Rattle.journal_traces.specs.TraceParts.{cut_at, AreStarts};
 
-/// Returns the start of the trace after the one at a place, or the end.
+/// Returns the start of the trace after the one at an index, or the end.
 fn next_start(starts: &[usize], index: usize, end: usize) -> usize
     requires { index < length starts.now }
     ensures { result ≡ slice_index_or starts.now (index + 1) end }
@@ -22,7 +22,7 @@ fn part<T>(items: &[T], start: usize, end: usize) -> &[T]
     &items[start..end]
 }
 
-/// Returns the items of the trace at a place, which counts from 0; none if there is no such trace.
+/// Returns the items of the trace at an index, which counts from 0; none if there is no such trace.
 pub(crate) fn trace_part<'a, T>(items: &'a [T], starts: &[usize], index: usize) -> &'a [T]
     requires { AreStarts (length items.now) starts.now }
     ensures { result.now ≡ slice_index_or (cut_at items.now starts.now) index [] }

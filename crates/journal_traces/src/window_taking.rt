@@ -39,7 +39,8 @@ fn number_of(
     place: u64,
 ) -> Result<u32, AllocError>
     requires few { length journal.now.held.entries < 2 ^ 32 }
-    requires service_numbers { AreServiceNumbers journal.now.held.entries reported.now.service_numbers }
+    requires service_numbers { AreServiceNumbers journal.now.held.entries
+        reported.now.service_numbers }
     requires there { Some (arc_value entry.now) ≡ entry_at journal.now.held.entries place }
     requires taken { AreWindowSpots journal.now.held.entries taken.old numbers.old }
     ensures number { IfOk result (λ n.
@@ -86,7 +87,8 @@ fn take_spot(
     spot: Spot,
 ) -> Result<(), AllocError>
     requires few { length journal.now.held.entries < 2 ^ 32 }
-    requires service_numbers { AreServiceNumbers journal.now.held.entries reported.now.service_numbers }
+    requires service_numbers { AreServiceNumbers journal.now.held.entries
+        reported.now.service_numbers }
     requires taken { AreWindowSpots journal.now.held.entries taken.old numbers.old }
     ensures taken { OnOk result (AreWindowSpots journal.now.held.entries taken.new numbers.new) }
     ensures traces { OnOk result (AddsSpan (span_at journal.now.held.entries spot)
@@ -109,7 +111,8 @@ fn take_spots(
     spots: Spots<'_>,
 ) -> Result<(), AllocError>
     requires few { length journal.now.held.entries < 2 ^ 32 }
-    requires service_numbers { AreServiceNumbers journal.now.held.entries reported.now.service_numbers }
+    requires service_numbers { AreServiceNumbers journal.now.held.entries
+        reported.now.service_numbers }
     requires taken { AreWindowSpots journal.now.held.entries taken.old numbers.old }
     ensures taken { OnOk result (AreWindowSpots journal.now.held.entries taken.new numbers.new) }
     ensures spans { OnOk result (map placed_taken (traces_reported taken.new) ≡

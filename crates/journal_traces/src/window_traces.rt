@@ -15,7 +15,7 @@ use trace_model::Entry;
 
 /// An entry that is shared with the store, and the number of its service.
 #[derive(Drop)]
-pub(crate) struct ReportedEntry {
+pub(crate) struct NumberedEntry {
     pub(crate) entry: Arc<Entry>,
     pub(crate) service: u32,
 }
@@ -24,7 +24,7 @@ pub(crate) struct ReportedEntry {
 #[derive(Drop)]
 pub(crate) struct WindowSpots {
     /// Each entry once, by its number.
-    pub(crate) entries: Vec<ReportedEntry>,
+    pub(crate) entries: Vec<NumberedEntry>,
     /// The spots of all traces, one trace after the other.
     pub(crate) spots: Vec<TakenSpot>,
     /// For each trace the number of spots before its first one.
@@ -78,12 +78,12 @@ impl WindowSpots {
         ensures starts { self.new.starts ≡ self.old.starts }
     {
         let entry = Arc::try_clone(entry)?;
-        self.entries.push(ReportedEntry { entry, service })?;
+        self.entries.push(NumberedEntry { entry, service })?;
         Ok(())
     }
 }
 
-/// Returns the spots of the trace at a place, which counts from 0; none if there is no such trace.
+/// Returns the spots of the trace at an index, which counts from 0; none if there is no such trace.
 fn spots_of(taken: &WindowSpots, index: usize) -> &[TakenSpot]
     requires { AreStarts (length taken.now.spots.items) taken.now.starts.items }
     ensures { result.now ≡
@@ -93,7 +93,7 @@ fn spots_of(taken: &WindowSpots, index: usize) -> &[TakenSpot]
 }
 
 /// Returns the span at a spot, with the number of its service.
-fn span_at<'a>(entries: &'a [ReportedEntry], spot: TakenSpot) -> Option<NumberedSpan<'a>>
+fn span_at<'a>(entries: &'a [NumberedEntry], spot: TakenSpot) -> Option<NumberedSpan<'a>>
     ensures { result ≡ taken_reported (entries_seen entries.now) spot }
 {
     let reported = entries.get(spot.number as usize)?;
@@ -103,7 +103,7 @@ fn span_at<'a>(entries: &'a [ReportedEntry], spot: TakenSpot) -> Option<Numbered
 /// Returns the spans at these spots, in their order.
 fn spans_at<'a>(
     alloc: Global,
-    entries: &'a [ReportedEntry],
+    entries: &'a [NumberedEntry],
     spots: &[TakenSpot],
 ) -> Result<Vec<NumberedSpan<'a>>, AllocError>
     ensures { IfOk result (λ v. v.items ≡ trace_reported (entries_seen entries.now) spots.now) }
@@ -133,7 +133,7 @@ impl WindowTraces {
         self.taken.starts.len()
     }
 
-    /// Returns the spans of the trace at a place, which counts from 0; none if there is no such trace.
+    /// Returns the spans of the trace at an index, which counts from 0; none if there is no such trace.
     ///
     /// # Errors
     ///

@@ -143,6 +143,7 @@ fn apply_limit(shown: &mut Assembly, starts: &mut FirstStarts, limit: u32)
         AreRanged starts.new shown.new.newest.ids spans }
 {
     shown.set_limit(limit);
+    // A trace is dropped only while there are more than the limit.
     while let Some(_evicted) = shown.drop_oldest() {
         starts.drop_oldest();
     }

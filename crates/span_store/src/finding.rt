@@ -9,7 +9,7 @@ use jaeger_model::TraceId;
 use journal_traces::{CandidateSearch, TakenTraces, take_trace};
 use std::alloc::{AllocError, Global};
 
-/// Collects the trace at a place, without spans if there is none.
+/// Collects the trace at an index, without spans if there is none.
 fn take_at(
     taken: &mut TakenTraces,
     traces: &CandidateSearch<'_>,
@@ -28,7 +28,7 @@ fn take_at(
     }
 }
 
-/// Collects the traces at the places.
+/// Collects the traces at the indices.
 fn take_places(
     alloc: Global,
     traces: &CandidateSearch<'_>,

@@ -56,7 +56,9 @@ pub struct SpanStore {
     shown: Assembly,
     /// The start of each shown trace's first span, and the ranges of the starts of all its spans.
     starts: FirstStarts,
+    /// The names of services and operations.
     names: ArrivalNames,
+    /// For each entry the number of its service, and where the entries of each service are.
     reported: ServicePlaces,
 }
 

@@ -100,7 +100,8 @@ impl SpanStore {
     /// Returns the number of the service of a search that has no other condition, if many entries are of it: most
     /// traces have a span of it then.
     fn common_service(&self, query: &Find) -> Option<u32>
-        ensures { IfSome result (λ n. Some n ≡ service_number_of self.now.entries query.now.service) }
+        ensures { IfSome result (λ n. Some n ≡
+            service_number_of self.now.entries query.now.service) }
     {
         if !is_by_service_alone(query) {
             return None;

@@ -4,7 +4,7 @@ use Rattle.std.proofs.lemmas.Int.{to_z-of_z}
 use Rattle.std.proofs.lemmas.List.{take_all, take_more, map_push}
 use Rattle.trace_assembly.specs.AssembledRows.{spots_of}
 use Rattle.journal_traces.proofs.SpansAtSpots.{no_id}
-use Rattle.trace_ring.specs.FirstStarts.{places_after}
+use Rattle.trace_ring.specs.FirstStarts.{positions_after}
 use Rattle.journal_traces.proofs.LateTraces.{placed, within}
 use Rattle.journal_traces.proofs.latest_candidates.spots_after.Goals as goal
 
@@ -13,7 +13,7 @@ spots_at-requires c =
     let time : ℤ = to_z w64 (of_z w64 c.args.time) in
     let starts : List ℤ = c.args.starts.now.starts in
     let i = c.loop-index.index-index in
-    let are : c.deref-index-items.result.now ≡ places_after time starts = c.deref-index-items.ensures.value ∙ c.in_ok-indices.ensures in
+    let are : c.deref-index-items.result.now ≡ positions_after time starts = c.deref-index-items.ensures.value ∙ c.in_ok-indices.ensures in
     let below : i < length c.deref-index-items.result.now = let h = c.loop-index-test.true in omega arith in
     let here : get_or c.deref-index-items.result.now i 0 < length starts =
     subst (λ (ps : List ℕ). get_or ps i 0 < length starts) (sym are) (within time starts i (subst (λ (ps : List ℕ). i < length ps) are below)) in
@@ -37,5 +37,5 @@ returns c = λ start are.
     let end : length c.deref-index-items.result.now ≤ c.loop-index.index-index = let h = c.loop-index-test.false in omega arith in
     c.loop-index.invariant ∙ ap (map (λ p. f (get_or ids p no_id)))
     (take_all c.loop-index.index-index c.deref-index-items.result.now end ∙ c.deref-index-items.ensures.value ∙ c.in_ok-indices.ensures
-    ∙ ap (places_after time) are)
+    ∙ ap (positions_after time) are)
     ∙ placed f start time ids ∙ (λ i. map f (filter (λ t. int_lt (to_z-of_z w64 c.args.time c.ranges.time i) (start t)) ids))

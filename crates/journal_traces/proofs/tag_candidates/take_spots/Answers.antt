@@ -5,10 +5,10 @@ use Rattle.trace_model.specs.TakenSpans.{Taken}
 use Rattle.trace_assembly.specs.LocatedSpans.{span_at}
 use Rattle.trace_assembly.specs.declared.spot.Spot.{Spot}
 use Rattle.journal_traces.specs.declared.taken_spot.TakenSpot.{TakenSpot}
-use Rattle.journal_traces.specs.TagCandidates.{entries_shared, process_numbered, spot_of}
-use Rattle.journal_traces.specs.TakenTraces.{placed_taken, HasProcess}
+use Rattle.journal_traces.specs.TagCandidates.{entries_shared, IsTakenFrom, spot_of}
+use Rattle.journal_traces.specs.TakenTraces.{placed_taken}
 use Rattle.journal_traces.proofs.TracesAtSpots.{spots_left, no_spots_left, spots_named}
-use Rattle.journal_traces.proofs.TakingSpans.{IsTaking, taking_more, taking_over, taken_spans}
+use Rattle.journal_traces.proofs.TakingSpans.{IsTaking, taking_more, taking_over, taken_spans, taken_numbers}
 use Rattle.journal_traces.proofs.tag_candidates.take_spots.Goals as goal
 use Rattle.journal_traces.proofs.tag_candidates.take_spots.Goals.{in-Some+in_ok-push-in-Some, in-None}
 
@@ -19,7 +19,7 @@ loop-spot-preserved c =
     let i = c.loop-spot.spot-index in
     let d : TakenSpot = record { number = 0; index = 0 } in
     let s = get_or ss i d in
-    let P : Taken → Type 0 = HasProcess (process_numbered es) in
+    let P : Taken → Type 0 = IsTakenFrom es in
     let left : List Spot = map spot_of (drop i ss) in
     let rest : List Spot = map spot_of (drop (i + 1) ss) in
     let all : List Spot = map spot_of ss in
@@ -42,6 +42,13 @@ pub returns-clause-spans : goal.returns-clause-spans
 returns-clause-spans c =
     let es = entries_shared c.args.entries.now in
     let ss = c.args.spots.now in
-    taken_spans (HasProcess (process_numbered es)) es c.args.traces.now c.loop-spot.traces (map spot_of (drop c.loop-spot.spot-index ss)) (map spot_of ss)
+    taken_spans (IsTakenFrom es) es c.args.traces.now c.loop-spot.traces (map spot_of (drop c.loop-spot.spot-index ss)) (map spot_of ss)
     (no_spots_left ss c.loop-spot.spot-index c.loop-spot-test.false) c.loop-spot.invariant
     ∙ ap (λ l. map placed_taken c.args.traces.now ++ l ∷ []) (spots_named es ss)
+
+pub returns-clause-numbers : goal.returns-clause-numbers
+returns-clause-numbers c =
+    let es = entries_shared c.args.entries.now in
+    let ss = c.args.spots.now in
+    taken_numbers (IsTakenFrom es) es c.args.traces.now c.loop-spot.traces (map spot_of (drop c.loop-spot.spot-index ss)) (map spot_of ss)
+    c.loop-spot.invariant

@@ -3,8 +3,8 @@ use Rattle.trace_model.specs.Places.{entry_at}
 use Rattle.journal_traces.proofs.TracesAtSpots.{unoutlined}
 use Rattle.journal_traces.proofs.tag_taking.is_outlined.Goals as goal
 
-pub returns-in-Some : goal.returns-in-Some
-returns-in-Some c = λ e at none.
+pub returns : goal.returns
+returns c = λ e at none.
     let t = c.args.matcher.now in
     unoutlined t.filter e (entry_at t.journal.now.held.entries c.args.place) c.in-Some.outline at (sym c.in-Some.is ∙ c.outline.ensures)
     (sym c.may_meet.ensures ∙ none)

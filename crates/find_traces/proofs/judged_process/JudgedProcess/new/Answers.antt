@@ -1,4 +1,4 @@
-use Rattle.std.proofs.Common.{arith}
+use Rattle.std.proofs.Common.{refl, arith}
 use Rattle.find_traces.proofs.RequestedPairs.{met_few}
 use Rattle.find_traces.proofs.judged_process.JudgedProcess.new.Goals as goal
 
@@ -9,13 +9,16 @@ overflow_sub-left c =
     let count = c.count.ensures in
     omega arith
 
-pub invariant_of-result : goal.invariant_of-result
-invariant_of-result c =
+pub returns : goal.returns
+returns c =
     let few = met_few c.args.prepared.now c.args.process.now c.in_ok-met.met.keys c.len.ensures.ordered c.in_ok-met.ensures in
     let length = c.len.ensures.len in
     let count = c.count.ensures in
     record {
-      rising = c.len.ensures.ordered;
-      asked = c.in_ok-met.ensures;
-      count = omega arith;
+      query = refl;
+      pairs = record {
+        rising = c.len.ensures.ordered;
+        asked = c.in_ok-met.ensures;
+        count = omega arith;
+      };
     }

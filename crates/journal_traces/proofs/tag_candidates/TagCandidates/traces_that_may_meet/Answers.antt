@@ -1,17 +1,16 @@
 use Rattle.std.proofs.Common.{◌≡◌, ◌∙◌, ◌<◌, ◌≤◌, ◌++◌, ◌∷◌, [], ◌+◌, false, List, map, length, take, ap, sym, subst, arith}
 use Rattle.std.specs.Prelude.{slice_index_or}
-use Rattle.std.specs.List.{list_any, All, AllZip}
+use Rattle.std.specs.List.{list_any, AllZip}
 use Rattle.std.proofs.lemmas.List.{length-map, take_all}
 use Rattle.jaeger_model.specs.declared.placed.Placed.{Placed}
 use Rattle.trace_model.specs.declared.entry.Entry.{Entry}
 use Rattle.trace_model.specs.Searching.{matches, matching}
 use Rattle.trace_model.specs.TakenSpans.{Taken}
-use Rattle.journal_traces.specs.declared.tag_candidates.TakenEntry.{TakenEntry}
-use Rattle.journal_traces.specs.TagCandidates.{TagCandidatesValue, AreNumberedByEntry, IsMatchFlagOf, entries_shared, process_numbered, trace_spotted, traces_spotted, may_spots_meet}
-use Rattle.journal_traces.specs.TakenTraces.{placed_taken, HaveProcesses}
+use Rattle.journal_traces.specs.TagCandidates.{TagCandidatesValue, AreNumberedByEntry, IsMatchFlag, entries_shared, trace_spotted, traces_spotted, may_spots_meet}
+use Rattle.journal_traces.specs.TakenTraces.{placed_taken}
 use Rattle.journal_traces.proofs.TraceParts.{cuts}
 use Rattle.journal_traces.proofs.TakenSpans.{placed_got}
-use Rattle.journal_traces.proofs.TracesAtSpots.{trace_kept, trace_passed, trace_unmet, matching_found, none_matching}
+use Rattle.journal_traces.proofs.TracesAtSpots.{trace_kept, trace_passed, trace_unmet, matching_found, none_matching, searching}
 use Rattle.journal_traces.proofs.tag_candidates.TagCandidates.traces_that_may_meet.Goals as goal
 use Rattle.journal_traces.proofs.tag_candidates.TagCandidates.traces_that_may_meet.Goals.{then-may_spots_meet+in_ok-take_spots, else-may_spots_meet}
 
@@ -27,12 +26,12 @@ loop-index-preserved c =
     let old : List (List Taken) = c.loop-index.traces in
     let many : length v.traces ≡ length was.starts.items =
     ap (λ (s : TagCandidatesValue). length s.traces) (sym c.self.view_is) ∙ cuts (trace_spotted (entries_shared was.entries.items) was.spots.items) was.starts.items in
-    let le : k < length xs = omega (arith, many, length-map v.traces placed_taken, c.loop-index-test.true, c.len-index-end.ensures) in
+    let le : k < length xs = omega (arith, many, length-map v.traces placed_taken, c.loop-index-test.true, c.len-count.ensures) in
     let is : t ≡ slice_index_or xs k [] = ap placed_taken c.spots-spots.ensures ∙ placed_got v.traces k in
     let own : entries_shared was.entries.items ≡ v.entries = ap (λ (s : TagCandidatesValue). s.entries) c.self.view_is in
     elim c.if-may_spots_meet.branch [
       | then-may_spots_meet+in_ok-take_spots w ↦
-          let here : entries_shared w.deref-then-may_spots_meet.result.now ≡ v.entries = ap entries_shared w.deref-then-may_spots_meet.ensures.value ∙ own in
+          let here : entries_shared w.deref.result.now ≡ v.entries = ap entries_shared w.deref.ensures.value ∙ own in
           let new : List (List Taken) = w.take_spots.new.traces in
           let numbered : List Entry → List (List Taken) → Type 0 = λ es ts. AreNumberedByEntry es ts in
           let put : map placed_taken new ≡ map placed_taken old ++ t ∷ [] =
@@ -47,11 +46,8 @@ loop-index-preserved c =
                 (w.in_ok-take_spots.ensures.numbers (subst (λ es. numbered es old) (sym here) c.loop-index.invariant.numbers)));
           }
       | else-may_spots_meet w ↦
-          let here : entries_shared c.deref.result.now ≡ v.entries = ap entries_shared c.deref.ensures.value ∙ own in
-          let unmet = ap (λ m. may_spots_meet m ss) (sym c.deref-in-loop-index.ensures.value) ∙ sym c.may_spots_meet.ensures ∙ w.if-may_spots_meet.false in
-          let none : list_any (matches q) t ≡ false =
-          ap (λ es. list_any (matches q) (placed_taken (trace_spotted es ss))) (sym here)
-          ∙ trace_unmet q c.deref.result.now c.in_ok-flags.flags.items ss c.in_ok-flags.ensures unmet in
+          let unmet = ap (λ m. may_spots_meet m ss) (sym c.as_slice-flags.ensures.value) ∙ sym c.may_spots_meet.ensures ∙ w.if-may_spots_meet.false in
+          let none : list_any (matches q) t ≡ false = trace_unmet q v.entries c.args.judged.now.flags.items ss c.requires.flags unmet in
           let numbered : List (List Taken) → Type 0 = λ ts. AreNumberedByEntry v.entries ts in
           record {
             matching =
@@ -69,25 +65,27 @@ returns-clause-found c =
     let xs : List (List Placed) = traces_spotted v in
     let many : length v.traces ≡ length was.starts.items =
     ap (λ (s : TagCandidatesValue). length s.traces) (sym c.self.view_is) ∙ cuts (trace_spotted (entries_shared was.entries.items) was.spots.items) was.starts.items in
-    let end : length xs ≤ c.loop-index.index = omega (arith, many, length-map v.traces placed_taken, c.loop-index-test.false, c.len-index-end.ensures) in
+    let end : length xs ≤ c.loop-index.index = omega (arith, many, length-map v.traces placed_taken, c.loop-index-test.false, c.len-count.ensures) in
     matching_found q (map placed_taken c.loop-index.traces) xs (c.loop-index.invariant.matching ∙ ap (matching q) (take_all c.loop-index.index xs end))
+
+pub returns-clause-judged : goal.returns-clause-judged
+returns-clause-judged c = searching c.args.prepared.now c.args.self.now.entries c.loop-index.traces c.args.judged.now c.loop-index.invariant.numbers c.requires
 
 pub returns-then-not-may_any_meet-clause-found : goal.returns-then-not-may_any_meet-clause-found
 returns-then-not-may_any_meet-clause-found c =
     let q = c.args.prepared.now in
     let was = c.self.inside in
-    let flags = c.in_ok-flags.flags.items in
-    let correct = subst (λ (ts : List TakenEntry). AllZip (IsMatchFlagOf q) ts flags) c.deref.ensures.value c.in_ok-flags.ensures in
-    let none = ap (list_any (λ b. b)) (sym c.deref-2.ensures.value) ∙ sym c.may_any_meet.ensures ∙ c.if-not-may_any_meet.true in
+    let flags = c.args.judged.now.flags.items in
+    let own : entries_shared was.entries.items ≡ c.args.self.now.entries = ap (λ (s : TagCandidatesValue). s.entries) c.self.view_is in
+    let correct = subst (λ (es : List Entry). AllZip (IsMatchFlag q) es flags) (sym own) c.requires.flags in
+    let none = ap (list_any (λ b. b)) (sym c.as_slice-flags.ensures.value) ∙ sym c.may_any_meet.ensures ∙ c.if-not-may_any_meet.true in
     matching_found q (map placed_taken c.new-traces.result) (traces_spotted c.args.self.now)
     (ap (λ (ts : List (List Taken)). matching q (map placed_taken ts)) c.new-traces.ensures
-    ∙ sym (none_matching q was.entries.items flags was.spots.items correct none was.starts.items)
+    ∙ sym (none_matching q (entries_shared was.entries.items) flags was.spots.items correct none was.starts.items)
     ∙ ap (λ (s : TagCandidatesValue). matching q (traces_spotted s)) c.self.view_is)
 
-pub returns-then-not-may_any_meet-clause-numbers : goal.returns-then-not-may_any_meet-clause-numbers
-returns-then-not-may_any_meet-clause-numbers c =
-    let process_of = process_numbered c.args.self.now.entries in
-    record {
-      process_of = process_of;
-      each = subst (All (HaveProcesses process_of)) (sym c.new-traces.ensures) (λ j d le. absurd (omega arith));
-    }
+pub returns-then-not-may_any_meet-clause-judged : goal.returns-then-not-may_any_meet-clause-judged
+returns-then-not-may_any_meet-clause-judged c =
+    let es = c.args.self.now.entries in
+    searching c.args.prepared.now es c.new-traces.result c.args.judged.now
+    (subst (λ (ts : List (List Taken)). AreNumberedByEntry es ts) (sym c.new-traces.ensures) (λ j d le. absurd (omega arith))) c.requires

@@ -13,7 +13,7 @@ use std::alloc::{AllocError, Global};
 pub(crate) fn judge<'a>(
     alloc: Global,
     prepared: &'a PreparedSearch<'a>,
-    process: &'a Process,
+    process: &Process,
 ) -> Result<Option<JudgedProcess<'a>>, AllocError>
     ensures { IfOk result (IsJudgedAs prepared.now process.now) }
 {
