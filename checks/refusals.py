@@ -24,8 +24,10 @@ functions or `crate`; the first line that says why; seconds of a processor, of a
     by a name     refused only where a proof names what the edit took away, which says little of a contract: keep the names, change a value
     at a limit    the prover gave no verdict within its limits
     not refused   the whole crate is still proved with the edit
-    bad edit      it doesn't apply, or the compiler or the prover can't read it
+    bad edit      it doesn't apply, or the compiler, the borrow checker or the prover can't read it
     not tried     the check was killed or stopped for another reason
+
+A line whose edit is gone is dropped.
 
 An edit that is refused on a function is refused by `rt must-fail` too: that function is a part of the crate. The line doesn't show that
 the function is proved with its own body, which `rt ci` shows: a function that has no proof counts here as refused. Nor does it show that the edit
@@ -33,6 +35,7 @@ is refused over other libraries than those that it was tried with: a change in a
 line has that outcome, or `all`. Status 1 if an edit that was tried was not refused for its meaning.
 """
 
+import collections
 import concurrent.futures
 import contextlib
 import hashlib
@@ -66,6 +69,8 @@ UNPROVED = re.compile(r"fn (\S+): (?:not proved|no proof)")
 VERDICT = re.compile(r"fn \w+::(?P<name>\S+): (?P<said>.*)")
 # The part of a verdict that names a file that could be written.
 EXPECTED = re.compile(r" expected answers in [^;]*;")
+# What a verdict says of a function that the borrow checker can't read: no clause was looked at.
+BORROWS = re.compile(r"the borrow checker(?:'s part| does not cover)")
 # What stands in a verdict for the functions that this one calls, and where the name of a closure says in which function it is.
 CALLS = re.compile(r"(?:; |: )?it calls `.*")
 CLOSURE = re.compile(r"(?P<module>(?:\w+::)*)fn::(?P<name>.+)::\w+\+Fn(?:Mut|Once)?::\w+")
@@ -88,11 +93,12 @@ def crate_sum(crate):
 class Rows:
     """The lines of results.tsv, which crates that are tried side by side share."""
 
-    def __init__(self):
-        """Reads the lines that earlier runs left."""
+    def __init__(self, edits):
+        """Reads the lines that earlier runs left of these edits."""
         lines = RESULTS.read_text(encoding="utf-8").splitlines()[1:] if RESULTS.is_file() else []
         rows = [dict(zip(COLUMNS, line.split("\t"))) for line in lines]
-        self.by_edit, self.lock = {(row["crate"], row["edit"]): row for row in rows}, threading.Lock()
+        there = {(name, label(edit)) for name, found in edits.items() for edit in found}
+        self.by_edit, self.lock = {key: row for row in rows if (key := (row["crate"], row["edit"])) in there}, threading.Lock()
 
     def keep(self, rows):
         """Takes in rows, and writes all lines in the order of crates and edits."""
@@ -213,7 +219,16 @@ def outcome_of(status, said, edited):
     meant = [line for file, text, line in errors if not (file.startswith("proofs/") and GONE.search(text))]
     if errors and not meant:
         return BY_NAME, errors[0][2]
-    return REFUSED, next(iter(meant), next((line for line in lines if UNPROVED.match(line)), lines[-1]))
+    unproved = [line for line in lines if UNPROVED.match(line)]
+    if not meant and unproved and not any(is_of_meaning(line) for line in unproved):
+        return BAD, next((line for line in unproved if BORROWS.search(line)), unproved[0])
+    return REFUSED, next(iter(meant), next(filter(is_of_meaning, unproved), lines[-1]))
+
+
+def is_of_meaning(verdict):
+    """Whether a function isn't proved for a goal of its own: not for a function that it calls, nor for the borrow checker."""
+    is_by_calls = CALLS.search(verdict) and CALLS.sub("", verdict).endswith((": no proof", ": not proved"))
+    return not BORROWS.search(verdict) and not is_by_calls
 
 
 class Check:
@@ -249,7 +264,7 @@ class Check:
         if own:
             return next(iter(meant), None)
         verdicts = [it for function in change.functions for it in self.verdicts.get(self.names[function], [])]
-        return next((it[0] for it in verdicts if CALLS.sub("", it["said"]).startswith("no proof: ")), None)
+        return next((it[0] for it in verdicts if CALLS.sub("", it["said"]).startswith("no proof: ") and is_of_meaning(it[0])), None)
 
     def proves(self, change):
         """Whether each function that this changes is proved."""
@@ -402,15 +417,26 @@ def try_all(edits, rows, asked):
             raise
 
 
+def present_lines(rows, edits):
+    """Returns how many lines are of the present text of their crate and of their edit."""
+    count = 0
+    for name, found in edits.items():
+        text = crate_sum(TOP / "crates" / name)
+        sums = ((rows.by_edit.get((name, label(edit))), (text, sum_of(edit.read_bytes()))) for edit in found)
+        count += sum(bool(row) and (row["crate_sum"], row["edit_sum"]) == both for row, both in sums)
+    return count
+
+
 def report(rows, edits):
     """Prints the edits that were not refused for their meaning, and the counts; returns the exit status."""
-    there = {(name, label(edit)) for name, found in edits.items() for edit in found}
-    lines = [row for key, row in sorted(rows.by_edit.items()) if key in there]
+    lines = [row for _, row in sorted(rows.by_edit.items())]
     for row in lines:
         if row["outcome"] != REFUSED:
             print(f"{row['outcome']}: {row['crate']} {row['edit']}: {row['why']}")
     counts = ", ".join(f"{sum(row['outcome'] == it for row in lines)} {it}" for it in OUTCOMES)
-    print(f"{len(lines)} of {len(there)} edits have a line: {counts}")
+    print(f"{len(lines)} of {sum(map(len, edits.values()))} edits have a line: {counts}")
+    commits = collections.Counter(row["commit"] for row in lines)
+    print(f"{present_lines(rows, edits)} lines are of the present text of their crate; by commit: {', '.join(f'{n} {it}' for it, n in commits.most_common())}")
     return 0 if all(row["outcome"] == REFUSED for row in lines) else 1
 
 
@@ -431,7 +457,8 @@ def arguments():
 
 def main():
     """Tries what is asked, and reports."""
-    asked, rows, edits = arguments(), Rows(), edits_by_crate()
+    asked, edits = arguments(), edits_by_crate()
+    rows = Rows(edits)
     if lacking := [name for name in asked.crates if name not in edits]:
         sys.exit(f"there is no crate {lacking[0]}")
     if not asked.counts:
