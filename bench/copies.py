@@ -1,5 +1,5 @@
 #!/usr/bin/env python3
-"""What two copies of the store cost beside the store of one thread, in one run on one machine; bench/README.md says how.
+"""What two copies of the store cost beside the store of one thread, in one run on one machine; bench/figures.md says how.
 
     bench/copies.py [--bin PATH | --folder PATH] [--sizes 1000,10000,100000] [--timed 100] [--rounds 9] [--spread] [--save KIND]
 

@@ -1,5 +1,5 @@
 #!/usr/bin/env python3
-"""The longest POST while a server grows, beside a plain server that keeps its spans in one list; bench/README.md says how.
+"""The longest POST while a server grows, beside a plain server that keeps its spans in one list; bench/figures.md says how.
 
     bench/growth.py [--bin PATH] [--sizes 1000000,10000000] [--rounds 3] [--save KIND]
 

@@ -1,5 +1,5 @@
 #!/usr/bin/env python3
-"""What `jaeger_one serve` takes and answers over loopback, beside a plain scanning server; bench/README.md says how.
+"""What `jaeger_one serve` takes and answers over loopback, beside a plain scanning server; bench/figures.md says how.
 
     bench/serve.py [--bin PATH] [--sizes 1000,10000,100000] [--seconds 0.6] [--rounds 3] [--only ours|plain] [--itself] [--save KIND]
 

@@ -20,7 +20,8 @@ import textwrap
 import results
 from plots import plot
 
-PAGES = ["README.md", "bench/README.md", "docs/operating.md", "docs/serve.md", "docs/store.md", "docs/MAINTAINING.md"]
+FIGURES = "bench/figures.md"
+PAGES = ["README.md", "bench/README.md", FIGURES, "docs/operating.md", "docs/serve.md", "docs/store.md", "docs/MAINTAINING.md"]
 BLOCK = re.compile(r"(<!-- results: (\w+) -->\n).*?(<!-- end of results -->)", re.S)
 SIZES = [1000, 10_000]
 WRITERS = [1, 2, 4, 8]
@@ -161,12 +162,13 @@ class Results:
 
 
     def days(self, *names):
-        """Of several series only the days, the programs and the machines; the tables of their sections have the rest."""
+        """Of several series only the days, the programs, their commits and the machines; the tables of their sections have the rest."""
         series = [self.series[name] for name in names]
         dates = [day(it) for it in sorted({it["date"] for it in series})]
         programs = " and ".join(sorted({it["program"] for it in series}))
+        commits = sorted({it["commit"] for it in series if it.get("commit")})
         machines_of = sorted({it["machine"] for it in series})
-        return note([f"{' to '.join(dict.fromkeys((dates[0], dates[-1])))}; program: {programs}; "
+        return note([f"{' to '.join(dict.fromkeys((dates[0], dates[-1])))}; program: {programs}, of commit{'s' if commits[1:] else ''} {', '.join(commits)}; "
                      f"machine{'s' if machines_of[1:] else ''} {' and '.join(machines_of)}"])
 
 
@@ -446,14 +448,6 @@ def glance_rest(found):
     yield "a batch with a `seqNo`, beside one without, in `play`, microseconds", f"{span(more, cell)} more", "`resent.py`"
 
 
-def by_number(found):
-    """The spans that both servers take in a second beside no reader, by the number of writers, and the ratios."""
-    both = [found.of("serve", ALONE, writers, SIZES[-1])[:2] for writers in WRITERS]
-    ours, plain = zip(*both)
-    ratios = (two(mine / other) for mine, other in both)
-    return [", ".join(map(cell, ours)), ", ".join(map(cell, plain)), ", ".join(ratios)]
-
-
 def longest_of(found, size):
     """The longest POST beside a query of a store of so many spans."""
     return cell(max(row[5] for row in found.rows("held") if row[1:3] == [size, "spans"]))
@@ -468,16 +462,18 @@ def speed(found):
     _, store_ms, scan_ms = found.of("searches", "20 of a common service, with JSON")
     per_span = ", ".join(f"{found.of('memory', 100_000, tags)[2]:,} with {tags}" for tags in (1, 5, 10))
     mine, plain = (cell(found.of("compare --count", name)) for name in ("rattle", "rust"))
+    mine_full, plain_full = found.of("growth", "the longest POST, ms", 10_000_000)
     rows = [
         ["decoding, instructions a byte", mine, plain, decoders(found)[0]],
-        [f"spans taken in a second, {SIZES[-1]:,} held, by 1, 2, 4 and 8 writers", *by_number(found)],
+        *([f"spans taken in a second from {writers} writer{'s' * (writers > 1)}", *of_both(ALONE, writers)] for writers in WRITERS),
         ["a POST of one of four writers, beside two readers at full speed, p99, ms", *of_both(POST, 4)],
         ["20 traces with their JSON among 100,000 spans, ms", f"{store_ms:.2f}", f"{scan_ms:.0f}", two(scan_ms / store_ms)],
-        ["the longest POST while a heavy query runs, 10,000,000 spans held, ms", longest_of(found, 10_000_000), "not compared", ""],
+        ["the longest POST while a store fills to 10,000,000 spans, ms", cell(mine_full), cell(plain_full), two(plain_full / mine_full)],
+        ["the longest POST at another worker than a heavy query's, 10,000,000 spans held, ms", longest_of(found, 10_000_000), "not compared", ""],
         ["memory at 100,000 spans, bytes a span, by its tags", per_span, "not compared", ""],
     ]
     heads = ["What", "Kiwibismuth", "Plain Rust", "Times as good"]
-    return table(heads, rows) + found.days("compare --count", "serve", "searches", "held", "memory")
+    return table(heads, rows) + found.days("compare --count", "serve", "searches", "growth", "held", "memory")
 
 
 memory_processes = printed("memory --process-tags", [
@@ -591,7 +587,7 @@ def itself_quote(found):
 def core_quote(found):
     """How many spans a core is reckoned to take."""
     costs = span_costs(found)
-    return ("docs/operating.md", f"A span takes [{span(costs, cell)} microseconds of CPU](../bench/README.md#servepy) in batches of ten, so one core is "
+    return ("docs/operating.md", f"A span takes [{span(costs, cell)} microseconds of CPU](../bench/figures.md#servepy) in batches of ten, so one core is "
             f"reckoned to take {span([1e6 / cost for cost in costs])} spans a second")
 
 
@@ -721,7 +717,8 @@ def read(path):
 def wanted(found):
     """Each file with the text that it should have."""
     for path in PAGES:
-        yield path, made(found, read(path))
+        page = made(found, read(path))
+        yield path, page.replace("](#machines)", "](README.md#machines)") if path == FIGURES else page
     for path, drawn in PLOTS.items():
         yield path, drawn(found)
 

@@ -3,7 +3,7 @@
 
     checks/pages.py [PAGE..]
 
-It reads README.md, docs/ and the READMEs of bench/, checks/, cases/, deploy/ and wrong-bodies/, or the pages that are named. What it checks:
+It reads README.md, docs/, bench/figures.md and the READMEs of bench/, checks/, cases/, deploy/ and wrong-bodies/, or the pages that are named. What it checks:
 
 * each link to a file of the repository, and its #anchor;
 * each path in backticks, from the top, from crates/ or by its last parts;
@@ -24,7 +24,7 @@ from collections import defaultdict
 from crates import asked_of, lists
 from sources import CRATES, TOP, modules
 
-PAGES = ["README.md", "CONTRIBUTING.md", "CHANGELOG.md", "bench/README.md", "checks/README.md", "cases/README.md", "deploy/README.md",
+PAGES = ["README.md", "CONTRIBUTING.md", "CHANGELOG.md", "bench/README.md", "bench/figures.md", "checks/README.md", "cases/README.md", "deploy/README.md",
          "wrong-bodies/README.md"]
 # What the pages name and the repository doesn't have: of Rust and the toolchain, of Jaeger, of nginx, systemd and clap, of containers.
 WORDS = set("""
@@ -36,7 +36,7 @@ proxy_next_upstream proxy_pass proxy_read_timeout worker_connections worker_rlim
 proxy_request_buffering SPAN_STORAGE_TYPE busybox chroot htpasswd jq ldd openssl ports shareProcessNamespace systemctl tini wget listening.txt urls.txt
 --admin --cacert --cap-drop --collector --disable-dns --init --log-level --memory --metrics-backend --name --network --now --previous --query --read-only --restart --sampling --security-opt
 --anew --exclude-dir --fail-alloc --fail-early --help --retry --test --version
-PORT Type::function minLogs path/file.rt probe
+PORT Type::function minLogs sha256sum path/file.rt probe
 """.split())
 PLACEHOLDER = re.compile(r"\b[A-Z]{3,}\b")
 
