@@ -161,6 +161,8 @@ SHAPES = {
         lambda n: [post(batch("a", [binary_tag("b", bytes(200 * n))], a_trace_each(8 * n))), finds("&tag=b:x&limit=0")],
     "requested tags, entries; a search":
         lambda n: [post(batch("a", [text_tag("", "")], [span(k)])) for k in range(1, 4 * n)] + [finds("&tag=:" * (n * 13 // 10) + "&tag=x:y")],
+    "requested tags that each process has, entries; a search for all":
+        lambda n: [post(batch("a", tags(n * 2 // 5, "x"), [span(k)])) for k in range(1, n // 10)] + [finds("".join(f"&tag=x{k}:" for k in range(n * 2 // 5)) + "&limit=0")],
     "equal processes, a trace each; a search for 20":
         lambda n: [post(batch("a", tags(n), a_trace_each(n))) for _ in range(10)] + [finds("&limit=20")],
     "a trace each; a search for one":
