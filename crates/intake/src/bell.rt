@@ -4,8 +4,8 @@ use std::sync::Wait;
 use std::sync::atomic::{AtomicU64, Ordering};
 use std::thread::yield_now;
 
-/// Counts its rings. A thread that has read the count before it looks for work sleeps only until the next ring, so
-/// that no ring is missed.
+/// Counts its rings, some of them twice. A thread that has read the count before it looks for work sleeps only until
+/// the next ring, so that no ring is missed (`checks/bell.py` searches a model of it for a schedule that misses one).
 #[derive(Drop)]
 pub(crate) struct Bell {
     rings: AtomicU64,
@@ -21,19 +21,22 @@ impl Bell {
         }
     }
 
-    /// Returns the number of rings so far.
+    /// Returns the count of its rings so far.
     pub(crate) fn rings(&self) -> u64 {
         self.rings.load(Ordering::SeqCst)
     }
 
     /// Rings, and wakes all sleeping threads. If none sleeps, it makes no system call; of several rings after one
-    /// sleep only the first makes one. Returns whether it woke a thread.
+    /// sleep only the first makes one. Returns whether it took down a flag.
     pub(crate) fn ring(&self) -> bool {
         self.rings.fetch_add(1, Ordering::SeqCst);
         // A thread that hasn't announced its sleep yet finds the new count when it is about to.
         let wakes = self.awaited.load(Ordering::SeqCst) != 0
             && self.awaited.swap(0, Ordering::SeqCst) != 0;
         if wakes {
+            // The flag may be that of a thread which has read the count since the first addition and isn't asleep
+            // yet. The second one keeps it awake: without its flag nobody would wake it.
+            self.rings.fetch_add(1, Ordering::SeqCst);
             self.rings.wake_all();
         }
         wakes
@@ -50,7 +53,7 @@ impl Bell {
         false
     }
 
-    /// Waits until it has rung more often than `rings`: spins for a while, letting other threads run between the
+    /// Waits until its count isn't `rings` any more: spins for a while, letting other threads run between the
     /// spins, and then sleeps. It may wake for no reason. Returns whether it slept.
     pub(crate) fn wait<R: Wait>(&self, rt: &R, rings: u64, spins: u32) -> bool {
         if self.rings_soon(rings, spins) {

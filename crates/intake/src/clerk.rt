@@ -204,7 +204,7 @@ impl<N: StoreName> Clerk<N> {
         &self.accounts
     }
 
-    /// Waits until the bell has rung more often than `rings`. Looks for a ring before it sleeps if the clerk has
+    /// Waits until the bell's count isn't `rings` any more. Looks for a ring before it sleeps if the clerk has
     /// served at least [`BURST`] jobs since it last slept. Returns whether it slept.
     fn await_job<R: Wait>(&self, rt: &R, rings: u64, served: u64) -> bool {
         let spins = if served >= BURST { SPINS } else { 0 };
