@@ -10,6 +10,7 @@ pub mod TracesAtSpots
 pub mod TraceParts
 pub mod TakingSpans
 pub mod TakenSpans
+pub mod SpanConditions
 pub mod TagMasks
 pub mod NearMatches
 pub mod OutlineBounds

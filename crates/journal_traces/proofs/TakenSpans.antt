@@ -19,7 +19,7 @@ use Rattle.trace_model.specs.BorrowedSpans.{seen, placed_by_its_entry}
 use Rattle.trace_model.specs.TakenSpans.{Taken}
 use Rattle.journal_traces.specs.declared.process_classes.ProcessClasses.{ProcessClasses}
 use Rattle.journal_traces.specs.ProcessClasses.{Leads}
-use Rattle.journal_traces.specs.TakenSearch.{IsFlagged, may_number_meet}
+use Rattle.journal_traces.specs.TakenSearch.{IsFlagged}
 use Rattle.journal_traces.specs.TakenTraces.{placed_taken, HasProcess, HaveProcesses}
 use Rattle.journal_traces.proofs.ParentReferences.{matches-adopted}
 use Rattle.journal_traces.proofs.TraceMarks.{or_same}
@@ -41,11 +41,8 @@ module _ (xs : List Taken) (i : ℕ) (x : Taken) (le : i < length xs) (is : x �
   pub has_process : (process_of : ℕ → Option Process) → HaveProcesses process_of xs → HasProcess process_of x
   has_process process_of all = subst (HasProcess process_of) (sym is) (all i x le)
 
-  pub flag_seen : (q : Find) (first now : List Bool) → now ≡ first → (s : Seen) (n : ℕ) → Some (placed_by_its_entry s) ≡ x.span → n ≡ x.number
-      → All (IsFlagged q first) xs → may_number_meet now n ≡ false → matches q (seen s) ≡ false
-  flag_seen q first now same s n at number all none =
-      let own : IsFlagged q first x = subst (IsFlagged q first) (sym is) (all i x le) in
-      match_seen q x s at ∙ own (sym (λ j. may_number_meet (same j) (number j)) ∙ none)
+  pub flag_here : (q : Find) (first now : List Bool) → now ≡ first → All (IsFlagged q first) xs → IsFlagged q now x
+  flag_here q first now same all = subst (λ (f : List Bool). IsFlagged q f x) (sym same) (subst (IsFlagged q first) (sym is) (all i x le))
 
   pub taken_more : placed_taken (take (i + 1) xs) ≡ placed_taken (take i xs) ++ placed_taken (x ∷ [])
   taken_more =

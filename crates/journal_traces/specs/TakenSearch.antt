@@ -10,6 +10,8 @@ use Rattle.trace_model.specs.Searching.{matches}
 use Rattle.trace_model.specs.TakenSpans.{Taken}
 use Rattle.find_traces.specs.RequestedPairs.{Judgement}
 use Rattle.journal_traces.specs.declared.judged_entries.JudgedEntries.{JudgedEntries}
+use Rattle.journal_traces.specs.declared.process_classes.ProcessClasses.{ProcessClasses}
+use Rattle.journal_traces.specs.ProcessClasses.{Leads}
 use Rattle.journal_traces.specs.ProcessConditions.{IsJudgedAs}
 use Rattle.journal_traces.specs.TakenTraces.{placed_taken, HaveProcesses}
 
@@ -39,6 +41,14 @@ pub record IsSearching (q : Find) (traces : List (List Taken)) (j : JudgedEntrie
   pub each : All (HaveProcesses process_of) traces
   pub judged : AreJudged q process_of j.processes
   pub flagged : All (All (IsFlagged q j.flags.items)) traces
+
+-- and the classes of the numbers lead to their processes
+pub record IsSearchingBy (q : Find) (traces : List (List Taken)) (j : JudgedEntries) (c : ProcessClasses) : Type 0 where
+  pub process_of : ℕ → Option Process
+  pub each : All (HaveProcesses process_of) traces
+  pub judged : AreJudged q process_of j.processes
+  pub flagged : All (All (IsFlagged q j.flags.items)) traces
+  pub leads : Leads process_of c
 
 abbrev pub traces_taken : Find × List (List Taken) → List (List Placed)
 traces_taken s = map placed_taken s.1

@@ -7,14 +7,17 @@ use find_traces::JudgedProcess;
 use std::alloc::Global;
 use std::collections::BTreeMap;
 
+/// Processes that were judged, by the numbers of entries that have them; `None` for one that is not of the search's
+/// service.
+pub(crate) type JudgedProcesses<'a> = BTreeMap<usize, Option<JudgedProcess<'a>>>;
+
 /// What a search judged of entries, by their numbers, so that it judges the process of each entry at most once.
 #[derive(Drop)]
 pub struct JudgedEntries<'a> {
     /// For each entry whether one of its spans may meet the search.
     pub(crate) flags: Vec<bool>,
-    /// The processes that were judged of entries that may meet the search; `None` for one that is not of the search's
-    /// service.
-    pub(crate) processes: BTreeMap<usize, Option<JudgedProcess<'a>>>,
+    /// The processes that were judged of entries that may meet the search.
+    pub(crate) processes: JudgedProcesses<'a>,
 }
 
 impl<'a> JudgedEntries<'a> {

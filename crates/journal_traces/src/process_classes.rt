@@ -1,6 +1,6 @@
 //! Classes of process keys whose processes are equal.
 
-ghost use Rattle.std.specs.Prelude.{◌≡◌, ◌==◌, ℕ, Option, Some, IfOk, IfSome, OnOk, if◌then◌else◌};
+ghost use Rattle.std.specs.Prelude.{◌≡◌, ◌==◌, ℕ, Option, Some, IfOk, IfSome, OnOk, OnErr, if◌then◌else◌};
 ghost use Rattle.std.specs.BTreeMap.{get};
 ghost use Rattle.std.specs.Ordering.{nat_cmp};
 ghost use Rattle.jaeger_model.specs.declared.batch.Process.{Process as ProcessValue};
@@ -21,11 +21,11 @@ pub(crate) struct KeyClass {
 }
 
 /// The classes of the keys of taken spans: keys whose processes are equal have one class, which is the first
-/// of them. A process is compared with the others once for each key. A key that doesn't recur is a class of
-/// its own, and its process isn't compared here: that is done in its one trace.
+/// of them. A process is compared with the others once for each key.
 #[derive(Drop)]
 pub(crate) struct ProcessClasses<'a> {
-    recurring: Recurring,
+    /// The keys whose processes are compared, or `None` for all. Each other key is a class of its own.
+    compared: Option<Recurring>,
     /// The class of each process.
     by_process: BTreeMap<ByContent<'a>, u32>,
     /// The class of each key.
@@ -43,19 +43,35 @@ fn known(by_key: &BTreeMap<u32, u32>, key: u32) -> Option<u32>
 
 /// Stores the class of a key.
 fn keep(by_key: &mut BTreeMap<u32, u32>, key: u32, class: u32) -> Result<(), AllocError>
-    ensures { OnOk result ((n : ℕ) → get nat_cmp by_key.new n ≡
+    ensures kept { OnOk result ((n : ℕ) → get nat_cmp by_key.new n ≡
         (if key == n then Some class else get nat_cmp by_key.old n)) }
+    ensures err { OnErr result ((n : ℕ) → get nat_cmp by_key.new n ≡ get nat_cmp by_key.old n) }
 {
     by_key.insert(key, class)?;
     Ok(())
 }
 
 impl<'a> ProcessClasses<'a> {
-    pub(crate) fn new(alloc: Global, recurring: Recurring) -> Self
+    /// Makes the classes of keys of which those that recur are compared. The process of another one is compared in
+    /// its one trace, and not here.
+    pub(crate) fn of_recurring(alloc: Global, recurring: Recurring) -> Self
+        ensures { (process_of : ℕ → Option ProcessValue) → Leads process_of result }
+    {
+        Self::comparing(alloc, Some(recurring))
+    }
+
+    /// Makes the classes of keys that are all compared.
+    pub(crate) fn of_all(alloc: Global) -> Self
+        ensures { (process_of : ℕ → Option ProcessValue) → Leads process_of result }
+    {
+        Self::comparing(alloc, None)
+    }
+
+    fn comparing(alloc: Global, compared: Option<Recurring>) -> Self
         ensures { (process_of : ℕ → Option ProcessValue) → Leads process_of result }
     {
         ProcessClasses {
-            recurring,
+            compared,
             by_process: BTreeMap::new(alloc),
             by_key: BTreeMap::new(alloc),
             last: None,
@@ -69,7 +85,7 @@ impl<'a> ProcessClasses<'a> {
             IfOk result (λ class. process_of class ≡ process_of key) }
         ensures leads { (process_of : ℕ → Option ProcessValue) →
             process_of key ≡ Some process.now → Leads process_of self.old →
-            OnOk result (Leads process_of self.new) }
+            Leads process_of self.new }
     {
         let content = ByContent(process);
         if let Some(class) = self.by_process.get(&content).copied() {
@@ -90,6 +106,14 @@ impl<'a> ProcessClasses<'a> {
         }
     }
 
+    /// Whether the process of a key is compared with the others.
+    fn is_compared(&self, key: u32) -> bool {
+        match &self.compared {
+            Some(recurring) => recurring.has(key),
+            None => true,
+        }
+    }
+
     /// Looks up the class of a span's key.
     fn find_class(&mut self, span: &'a TakenSpan, key: u32) -> Result<u32, AllocError>
         requires { key ≡ span.now.number }
@@ -98,9 +122,9 @@ impl<'a> ProcessClasses<'a> {
             IfOk result (λ class. process_of class ≡ process_of key) }
         ensures leads { (process_of : ℕ → Option ProcessValue) →
             HasProcess process_of span.now → Leads process_of self.old →
-            OnOk result (Leads process_of self.new) }
+            Leads process_of self.new }
     {
-        if !self.recurring.has(key) {
+        if !self.is_compared(key) {
             return Ok(key);
         }
         if let Some(class) = known(&self.by_key, key) {
@@ -118,7 +142,7 @@ impl<'a> ProcessClasses<'a> {
             IfOk result (λ class. process_of class ≡ process_of span.now.number) }
         ensures leads { (process_of : ℕ → Option ProcessValue) →
             HasProcess process_of span.now → Leads process_of self.old →
-            OnOk result (Leads process_of self.new) }
+            Leads process_of self.new }
     {
         let key = span.process_key();
         if let Some(class) = self.last_class(key) {

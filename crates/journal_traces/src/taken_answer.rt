@@ -126,7 +126,7 @@ fn all_kept(
         (slice_index_or (map placed_taken traces.now) i [])) indices.now) }
 {
     let recurring = recurring_at(alloc, traces, indices)?;
-    let mut classes = ProcessClasses::new(alloc, recurring);
+    let mut classes = ProcessClasses::of_recurring(alloc, recurring);
     let mut kept = Vec::with_capacity(alloc, indices.len())?;
     for index in indices {
         kept.push(kept_at(alloc, traces, *index, limits, &mut classes)?)?;
@@ -186,7 +186,7 @@ pub fn keep_all(
         map (adjusted limits.max_skew) (map placed_taken traces.now)) }
 {
     let recurring = recurring_in(alloc, traces)?;
-    let mut classes = ProcessClasses::new(alloc, recurring);
+    let mut classes = ProcessClasses::of_recurring(alloc, recurring);
     let mut kept = Vec::with_capacity(alloc, traces.count())?;
     for index in 0..traces.count() {
         kept.push(kept_at(alloc, traces, index, limits, &mut classes)?)?;

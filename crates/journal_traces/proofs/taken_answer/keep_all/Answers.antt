@@ -11,7 +11,7 @@ loop-index-init c =
     let process_of = c.requires.process_of in
     record {
       kept = c.in_ok-kept.ensures.items;
-      classes = record { process_of = process_of; each = c.requires.each; leads = c.new-classes.ensures process_of };
+      classes = record { process_of = process_of; each = c.requires.each; leads = c.of_recurring-classes.ensures process_of };
     }
 
 pub loop-index-preserved : goal.loop-index-preserved

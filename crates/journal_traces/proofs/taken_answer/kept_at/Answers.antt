@@ -1,5 +1,4 @@
-use Rattle.std.proofs.Common.{ℕ, Option, sym, subst}
-use Rattle.jaeger_model.specs.declared.batch.Process.{Process}
+use Rattle.std.proofs.Common.{sym, subst}
 use Rattle.journal_traces.specs.TakenTraces.{HaveProcesses}
 use Rattle.journal_traces.proofs.TakenSpans.{processes_got}
 use Rattle.journal_traces.proofs.taken_answer.kept_at.Goals as goal

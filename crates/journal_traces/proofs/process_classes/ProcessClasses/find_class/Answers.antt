@@ -2,7 +2,6 @@ use Rattle.std.proofs.Common.{◌≡◌, ◌∙◌, ℕ, Some, sym, nat_cmp}
 use Rattle.std.specs.Prelude.{Option}
 use Rattle.std.specs.BTreeMap.{get}
 use Rattle.jaeger_model.specs.declared.batch.Process.{Process}
-use Rattle.journal_traces.specs.ProcessClasses.{Leads}
 use Rattle.journal_traces.specs.TakenTraces.{HasProcess}
 use Rattle.journal_traces.proofs.KeyClasses.{key_put}
 use Rattle.journal_traces.proofs.TakenSpans.{process_seen}
@@ -27,6 +26,16 @@ returns-clause-leads c = λ process_of has leads.
       by_process = next.by_process;
       by_key = λ n class e.
           key_put process_of c.args.key c.in_ok-class.class same n (get nat_cmp c.class_of_process.new.self.by_key n) class
-          (next.by_key n class) (sym (c.in_ok-keep.ensures n) ∙ e);
+          (next.by_key n class) (sym (c.in_ok-keep.ensures.kept n) ∙ e);
+      last = next.last;
+    }
+
+pub returns-in_err-keep-clause-leads : goal.returns-in_err-keep-clause-leads
+returns-in_err-keep-clause-leads c = λ process_of has leads.
+    let own = sym (process_seen process_of c.args.span.now c.reported.result c.args.key c.reported.ensures c.requires has) in
+    let next = c.in_ok-class.ensures.leads process_of own leads in
+    record {
+      by_process = next.by_process;
+      by_key = λ n class e. next.by_key n class (sym (c.in_err-keep.ensures.err n) ∙ e);
       last = next.last;
     }

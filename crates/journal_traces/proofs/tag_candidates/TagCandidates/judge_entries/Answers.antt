@@ -1,4 +1,4 @@
-use Rattle.std.proofs.Common.{◌≡◌, ◌∙◌, List, ap, sym, subst}
+use Rattle.std.proofs.Common.{◌≡◌, ◌∙◌, List, ap, subst}
 use Rattle.trace_model.specs.declared.entry.Entry.{Entry}
 use Rattle.journal_traces.specs.TagCandidates.{TagCandidatesValue, AreJudgedEntries, entries_shared}
 use Rattle.journal_traces.proofs.tag_candidates.TagCandidates.judge_entries.Goals as goal

@@ -22,4 +22,4 @@ returns-clause-found c =
     (λ b. b ≡ list_any (matches (query_taken c.args.self.now)) (slice_index_or (traces_taken c.args.self.now) k []))
     (λ b e. e ∙ ap (list_any own) (ap placed_taken c.trace.ensures ∙ placed_got was.traces.now k)
     ∙ ap (λ (s : Find × List (List Taken)). list_any (matches (query_taken s)) (slice_index_or (traces_taken s) k [])) c.self.view_is)
-    (c.is_found.ensures.found kept.process_of kept.judged processes flagged)
+    (c.is_found.ensures.found kept.process_of kept.judged kept.leads processes flagged)
