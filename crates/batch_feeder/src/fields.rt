@@ -230,7 +230,7 @@ pub(crate) fn enter_in_pieces<S: PieceSlots>(
     }
 }
 
-/// Stores the first bytes of a head, for which the piece is too short.
+/// Stores the first bytes of a head, for which the piece is too short. The slots are there only for the contract.
 #[inline(never)]
 fn enter_head<S: PieceSlots>(
     _slots: &S,

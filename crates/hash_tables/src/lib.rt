@@ -15,7 +15,7 @@
 //!
 //! An [`IdTable`] is such a table of trace ids: it maps an id to the number of its row. That is the number of
 //! ids that were added before it, and no id is ever removed. Ids are found by a hash under a key that is drawn
-//! at the program's start, so no client can choose ids that are slow to find.
+//! at the program's start, so that a client can't choose ids that are slow to find. No contract shows that.
 //!
 //! * `places`: the [`RowPlaces`].
 //! * `growing`: the number of places, and the table that is prepared for the next growth.

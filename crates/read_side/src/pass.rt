@@ -178,7 +178,7 @@ impl<N: StoreName> Pass<N> {
     /// Learns a receipt, enters the published list, and succeeds if the front that the pass had seen before the
     /// call is at most the receipt's. Then all that it had read is a prefix of the receipt's list.
     ///
-    /// The server doesn't call it. The specification names it, and tests check by it what a pass has seen.
+    /// The server doesn't call it: tests check by it what a pass has seen.
     ///
     /// # Errors
     ///

@@ -141,7 +141,7 @@ impl Model for AnsweredTrace {
 }
 
 impl AnsweredTrace {
-    /// Makes an answer of a trace that is copied already. Allocates nothing.
+    /// Makes an answer of a trace that is copied already, as a plain store and tests have it. Allocates nothing.
     pub fn made(trace: ShownTrace) -> AnsweredTrace
         ensures { result ≡ trace }
     {

@@ -14,10 +14,10 @@ use std::sync::atomic::{AtomicBool, AtomicU32, AtomicU64, Ordering};
 use text_lines::{ExitStatus, RunError};
 use trace_model::{Answer, Limits, Refusal};
 
-/// The measured size of a span with one tag, in bytes.
+/// The measured size of a span with one tag, in bytes, in batches of ten whose processes have four tags.
 const BYTES_WITH_ONE_TAG: u64 = 420;
 
-/// The measured size of a span with five tags, in bytes.
+/// The measured size of a span with five tags, in bytes, in the same batches.
 const BYTES_WITH_FIVE_TAGS: u64 = 710;
 
 /// The numbers of requests answered 500 at which a line is printed.
