@@ -1,10 +1,10 @@
 -- Pairs that a search requests and that tags have.
 use Rattle.std.proofs.Common.{◌≡◌, ℕ, ◌+◌, ◌*◌, ◌<◌, ◌≤◌, Bool, true, false, true≢false, ◌||◌, ◌&&◌, cond, List, [], ◌∷◌, ◌++◌, length, get_or, take, refl, sym}
-use Rattle.std.proofs.Common.{ap, ◌∙◌, inl, inr, arith, Some, None}
-use Rattle.std.specs.Prelude.{◌%◌, ◌^◌, not, flat_map, if◌then◌else◌, ◌==◌}
+use Rattle.std.proofs.Common.{ap, ◌∙◌, inl, inr, arith, Some, None, Option, Bor, Less, Equal, suc}
+use Rattle.std.specs.Prelude.{◌%◌, ◌^◌, not, flat_map, if◌then◌else◌, ◌==◌, is_some, IfSome, option_copied}
 use Rattle.std.specs.Int.{bit_at}
 use Rattle.std.specs.Int.Bits.{bit_or}
-use Rattle.std.specs.List.{IsDistinct, fold, list_any, list_all}
+use Rattle.std.specs.List.{AllByRecursion, IsDistinct, fold, list_any, list_all}
 use Rattle.std.specs.List.Sorted.{IsStrictlySortedBy}
 use Rattle.std.specs.Ordering.{eq_by_cmp, is_eq, nat_cmp}
 use Rattle.std.specs.Cmp.{IsEquivalence, eq_by_cmp_equiv, nat_cmp_total}
@@ -27,10 +27,10 @@ use Rattle.jaeger_model.specs.Texts.{text_cmp}
 use Rattle.trace_model.specs.declared.query.Find.{Find}
 use Rattle.trace_model.specs.ServiceLinks.{call_cmp as pair_cmp}
 use Rattle.trace_model.specs.Searching.{tag_matches, has_tag, tags_of}
-use Rattle.find_traces.specs.RequestedPairs.{pair_of, same_pair, with_key, key_bits, asks, requested_count, if_requested, has_pair, is_in, wants, may_be_number}
+use Rattle.find_traces.specs.RequestedPairs.{pair_of, same_pair, pairs_lent, with_key, key_bits, asks, requested_count, if_requested, has_pair, is_in, wants, may_be_number}
 use Rattle.find_traces.specs.PreparedSearches.{IsJudged}
 use Rattle.find_traces.proofs.CountedKeys.{few, counted, none_left}
-use Rattle.trace_model.proofs.NameLaws.{call_total, then_eq}
+use Rattle.trace_model.proofs.NameLaws.{call_total, call_exact, then_eq, any_map}
 
 pub text_laws : IsEquivalence (eq_by_cmp text_cmp)
 text_laws = eq_by_cmp_equiv nat_list_cmp_total
@@ -146,6 +146,31 @@ asked_some q x p h = by (asks q x) refl h
     by : (b : Bool) → asks q x ≡ b → (if b then Some x else None) ≡ Some p → (asks q x ≡ true) × (p ≡ x)
     by true e g = (e, cc)
     by false e g = absurd cc
+
+-- what a look-up among the requested pairs finds
+pub asked_got : (q : Find) (ps : List (List ℕ × List ℕ)) (x : List ℕ × List ℕ) (found : Option (Bor (List ℕ × List ℕ)))
+    → ((a : List ℕ × List ℕ) → is_in ps a ≡ asks q a) → is_some found ≡ is_in ps x → IfSome found (λ r. pair_cmp x r.now ≡ Equal)
+    → option_copied found ≡ if_requested q x
+asked_got q ps x None asked there same = ap (λ b. if b then Some x else None) (there ∙ asked x)
+asked_got q ps x (Some r) asked there same = ap Some (sym (call_exact x r.now same)) ∙ ap (λ b. if b then Some x else None) (there ∙ asked x)
+
+-- ---- pairs that are referred to
+pub lent_length : (rs : List (Bor (List ℕ × List ℕ))) → length (pairs_lent rs) ≡ length rs
+lent_length [] = refl
+lent_length (r ∷ rs) = ap suc (lent_length rs)
+
+pub lent_in : (a : List ℕ × List ℕ) (rs : List (Bor (List ℕ × List ℕ))) → is_in (pairs_lent rs) a ≡ list_any (λ r. same_pair a r.now) rs
+lent_in a rs = any_map (same_pair a) (λ r. r.now) rs
+
+lent_above : (r : Bor (List ℕ × List ℕ)) (rs : List (Bor (List ℕ × List ℕ))) → AllByRecursion (λ s. pair_cmp r.now s.now ≡ Less) rs
+    → AllByRecursion (λ b. pair_cmp r.now b ≡ Less) (pairs_lent rs)
+lent_above r [] all = tt
+lent_above r (s ∷ rs) all = (all.0, lent_above r rs all.1)
+
+pub lent_sorted : (rs : List (Bor (List ℕ × List ℕ))) → IsStrictlySortedBy (λ r s. pair_cmp r.now s.now) rs → IsStrictlySortedBy pair_cmp (pairs_lent rs)
+unfolding IsStrictlySortedBy
+lent_sorted [] s = tt
+lent_sorted (r ∷ rs) s = (lent_above r rs s.0, lent_sorted rs s.1)
 
 pub asked_none : (q : Find) (x : List ℕ × List ℕ) → if_requested q x ≡ None → asks q x ≡ false
 asked_none q x h = by (asks q x) refl h

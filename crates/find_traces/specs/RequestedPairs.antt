@@ -1,5 +1,6 @@
 -- The pairs of a key and a text that a search requests, and which of them tags have.
-use Rattle.std.specs.Prelude.{ℕ, ◌%◌, ◌^◌, ◌==◌, nat_le, Bool, true, not, ◌&&◌, ◌||◌, List, [], ◌∷◌, length, Option, Some, None, if◌then◌else◌}
+use Rattle.std.specs.Prelude.{ℕ, ◌%◌, ◌^◌, ◌==◌, nat_le, Bool, true, not, ◌&&◌, ◌||◌, List, [], ◌∷◌, length, map, Option, Some, None, if◌then◌else◌}
+use Rattle.std.specs.Borrow.{Bor}
 use Rattle.std.specs.Int.Bits.{bit_or}
 use Rattle.std.specs.List.{fold, list_any}
 use Rattle.std.specs.Set.{distinct_count}
@@ -64,6 +65,10 @@ has_pair ts a = list_any (λ (t : Tag). same_pair a (pair_of t)) ts
 -- the pair is among these
 abbrev pub is_in : List (List ℕ × List ℕ) → List ℕ × List ℕ → Bool
 is_in ps a = list_any (same_pair a) ps
+
+-- the pairs that are referred to
+abbrev pub pairs_lent : List (Bor (List ℕ × List ℕ)) → List (List ℕ × List ℕ)
+pairs_lent lent = map (λ r. r.now) lent
 
 -- the pair is requested and is not among those
 abbrev pub wants : Find → List (List ℕ × List ℕ) → List ℕ × List ℕ → Bool

@@ -7,7 +7,7 @@ ghost use Rattle.jaeger_model.specs.declared.span.Log.{Log as LogValue};
 ghost use Rattle.trace_model.specs.declared.query.Find.{Find as FindValue};
 ghost use Rattle.trace_model.specs.Searching.{has_tag};
 ghost use Rattle.find_traces.specs.PreparedSearches.{IsJudgementOf};
-ghost use Rattle.find_traces.specs.RequestedPairs.{pair_of, same_pair, is_in, asks, wants, has_pair};
+ghost use Rattle.find_traces.specs.RequestedPairs.{pair_of, same_pair, is_in, asks, wants, has_pair, pairs_lent};
 
 use crate::prepared::PreparedSearch;
 use jaeger_model::{Log, Process, Span, Tag, Text};
@@ -20,31 +20,31 @@ use std::marker::Model;
 #[derive(Drop)]
 pub struct JudgedProcess<'a> {
     prepared: &'a PreparedSearch<'a>,
-    /// The requested pairs that tags of the process have.
-    met: BTreeSet<(Text, Text)>,
+    /// The requested pairs that tags of the process have, lent by the search: no text is copied for a process.
+    met: BTreeSet<&'a (Text, Text)>,
     /// The number of the other requested pairs.
     left: usize,
 }
 
 impl<'a> Model for JudgedProcess<'a> {
-    ghost use Rattle.find_traces.specs.RequestedPairs.{Judgement};
+    ghost use Rattle.find_traces.specs.RequestedPairs.{Judgement, pairs_lent};
 
     ghost Value = { Judgement };
 
-    ghost view = { λ j. record { query = j.prepared.now; met = j.met.keys; left = j.left } };
+    ghost view = { λ j. record { query = j.prepared.now; met = pairs_lent j.met.keys; left = j.left } };
 }
 
 /// Adds the pair of a tag, if it is requested and is not among the others.
-fn add_pair(
+fn add_pair<'a>(
     alloc: Global,
-    prepared: &PreparedSearch<'_>,
+    prepared: &'a PreparedSearch<'a>,
     tag: &Tag,
-    others: &BTreeSet<(Text, Text)>,
-    pairs: &mut BTreeSet<(Text, Text)>,
+    others: &BTreeSet<&'a (Text, Text)>,
+    pairs: &mut BTreeSet<&'a (Text, Text)>,
 ) -> Result<(), AllocError>
-    ensures { OnOk result ((a : List ℕ × List ℕ) → is_in pairs.new.keys a ≡
-        (is_in pairs.old.keys a
-        || (wants prepared.now others.now.keys a && same_pair a (pair_of tag.now)))) }
+    ensures { OnOk result ((a : List ℕ × List ℕ) → is_in (pairs_lent pairs.new.keys) a ≡
+        (is_in (pairs_lent pairs.old.keys) a
+        || (wants prepared.now (pairs_lent others.now.keys) a && same_pair a (pair_of tag.now)))) }
 {
     if let Some(pair) = prepared.requested_pair(alloc, tag)? {
         if !others.contains(&pair) {
@@ -56,15 +56,16 @@ fn add_pair(
 
 /// Adds the pairs of the tags that are requested and not among the others. Of a tag whose key has another length than
 /// each requested one, only that length is read.
-fn add_pairs(
+fn add_pairs<'a>(
     alloc: Global,
-    prepared: &PreparedSearch<'_>,
+    prepared: &'a PreparedSearch<'a>,
     tags: &[Tag],
-    others: &BTreeSet<(Text, Text)>,
-    pairs: &mut BTreeSet<(Text, Text)>,
+    others: &BTreeSet<&'a (Text, Text)>,
+    pairs: &mut BTreeSet<&'a (Text, Text)>,
 ) -> Result<(), AllocError>
-    ensures { OnOk result ((a : List ℕ × List ℕ) → is_in pairs.new.keys a ≡
-        (is_in pairs.old.keys a || (wants prepared.now others.now.keys a && has_pair tags.now a))) }
+    ensures { OnOk result ((a : List ℕ × List ℕ) → is_in (pairs_lent pairs.new.keys) a ≡
+        (is_in (pairs_lent pairs.old.keys) a
+        || (wants prepared.now (pairs_lent others.now.keys) a && has_pair tags.now a))) }
 {
     for tag in tags {
         if prepared.may_request_key(&tag.key) {
@@ -75,15 +76,15 @@ fn add_pairs(
 }
 
 /// Adds the pairs of the fields of the logs that are requested and not among the others.
-fn add_fields(
+fn add_fields<'a>(
     alloc: Global,
-    prepared: &PreparedSearch<'_>,
+    prepared: &'a PreparedSearch<'a>,
     logs: &[Log],
-    others: &BTreeSet<(Text, Text)>,
-    pairs: &mut BTreeSet<(Text, Text)>,
+    others: &BTreeSet<&'a (Text, Text)>,
+    pairs: &mut BTreeSet<&'a (Text, Text)>,
 ) -> Result<(), AllocError>
-    ensures { OnOk result ((a : List ℕ × List ℕ) → is_in pairs.new.keys a ≡
-        (is_in pairs.old.keys a || (wants prepared.now others.now.keys a
+    ensures { OnOk result ((a : List ℕ × List ℕ) → is_in (pairs_lent pairs.new.keys) a ≡
+        (is_in (pairs_lent pairs.old.keys) a || (wants prepared.now (pairs_lent others.now.keys) a
         && has_pair (flat_map (λ (l : LogValue). l.fields) logs.now) a))) }
 {
     for log in logs {
@@ -93,12 +94,12 @@ fn add_fields(
 }
 
 /// Returns the requested pairs that tags of the process have.
-fn process_pairs(
+fn process_pairs<'a>(
     alloc: Global,
-    prepared: &PreparedSearch<'_>,
+    prepared: &'a PreparedSearch<'a>,
     process: &Process,
-) -> Result<BTreeSet<(Text, Text)>, AllocError>
-    ensures { IfOk result (λ s. (a : List ℕ × List ℕ) → is_in s.keys a ≡
+) -> Result<BTreeSet<&'a (Text, Text)>, AllocError>
+    ensures { IfOk result (λ s. (a : List ℕ × List ℕ) → is_in (pairs_lent s.keys) a ≡
         (asks prepared.now a && has_pair process.now.tags a)) }
 {
     let mut met = BTreeSet::new(alloc);
@@ -111,14 +112,14 @@ fn process_pairs(
 }
 
 /// Returns the requested pairs that the span's own tags and log fields have, except for the others.
-fn own_pairs(
+fn own_pairs<'a>(
     alloc: Global,
-    prepared: &PreparedSearch<'_>,
+    prepared: &'a PreparedSearch<'a>,
     span: &Span,
-    others: &BTreeSet<(Text, Text)>,
-) -> Result<BTreeSet<(Text, Text)>, AllocError>
-    ensures { IfOk result (λ s. (a : List ℕ × List ℕ) → is_in s.keys a ≡
-        (wants prepared.now others.now.keys a && (has_pair span.now.tags a
+    others: &BTreeSet<&'a (Text, Text)>,
+) -> Result<BTreeSet<&'a (Text, Text)>, AllocError>
+    ensures { IfOk result (λ s. (a : List ℕ × List ℕ) → is_in (pairs_lent s.keys) a ≡
+        (wants prepared.now (pairs_lent others.now.keys) a && (has_pair span.now.tags a
         || has_pair (flat_map (λ (l : LogValue). l.fields) span.now.logs) a))) }
 {
     let mut own = BTreeSet::new(alloc);

@@ -1,6 +1,6 @@
 //! Searches whose requested tags are sorted once.
 
-ghost use Rattle.std.specs.Prelude.{◌≡◌, ◌==◌, ◌%◌, ◌^◌, ℕ, List, [], IfOk, MatchOption, length, true, false};
+ghost use Rattle.std.specs.Prelude.{◌≡◌, ◌==◌, ◌%◌, ◌^◌, ℕ, List, [], IfOk, MatchOption, length, option_copied, true, false};
 ghost use Rattle.std.specs.Bool.{OnTrue, OnFalse};
 ghost use Rattle.std.specs.Int.{bit_at};
 ghost use Rattle.std.specs.List.{list_any};
@@ -223,14 +223,14 @@ impl<'q> PreparedSearch<'q> {
         }
     }
 
-    /// Returns the key and the text of the tag, if the search requests both together. The text is made only if the
-    /// key is requested and some requested text may be equal to it.
+    /// Returns the requested pair of the tag's key and text, if there is one. The text is made only if the key is
+    /// requested and some requested text may be equal to it.
     pub(crate) fn requested_pair(
         &self,
         alloc: Global,
         tag: &Tag,
-    ) -> Result<Option<(Text, Text)>, AllocError>
-        ensures { IfOk result (λ p. p ≡ if_requested self.now (pair_of tag.now)) }
+    ) -> Result<Option<&(Text, Text)>, AllocError>
+        ensures { IfOk result (λ p. option_copied p ≡ if_requested self.now (pair_of tag.now)) }
     {
         if !self.keys.contains(&tag.key) {
             return Ok(None);
@@ -239,10 +239,6 @@ impl<'q> PreparedSearch<'q> {
             return Ok(None);
         }
         let pair = (tag.key.clone()?, text_of(alloc, &tag.value)?);
-        if self.pairs.contains(&pair) {
-            Ok(Some(pair))
-        } else {
-            Ok(None)
-        }
+        Ok(self.pairs.get(&pair))
     }
 }
