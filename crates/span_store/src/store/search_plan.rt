@@ -49,6 +49,9 @@ const TRY_GROWTH: usize = 8;
 /// The greatest number of tries.
 const MAX_TRIES: u32 = 16;
 
+/// The number of tries that may find too little: the latest traces may be of a sender whose clock is wrong.
+const PATIENT_TRIES: u32 = 2;
+
 /// A try has at most one in sixteen of all traces.
 const TRIED_ONE_IN: usize = 16;
 
@@ -231,7 +234,8 @@ impl SpanStore {
 
     /// Returns the spots of the shown traces that a search without tags considers, those of the one opened first at
     /// the front. The search finds the same among these traces as among all. A search with a limit tries those that
-    /// start last first. If it finds some, but fewer than its limit, it tries more.
+    /// start last first. If it finds fewer than its limit, it tries more a few times, and further on only if it found
+    /// some.
     pub(super) fn narrowed(&self, query: &Find) -> Result<Vec<Spots<'_>>, AllocError>
         ensures { IfOk result (λ v. FindsTheSame self.now query.now v.items) }
     {
@@ -239,7 +243,7 @@ impl SpanStore {
             return self.candidates_timed(query);
         }
         let mut count = first_try(query.limit);
-        for _ in 0..MAX_TRIES {
+        for tried in 0..MAX_TRIES {
             if !self.should_try_latest(query, count) {
                 break;
             }
@@ -247,7 +251,7 @@ impl SpanStore {
             if let Some(spots) = latest {
                 return Ok(spots);
             }
-            if !is_promising(query.limit, found) {
+            if tried >= PATIENT_TRIES && !is_promising(query.limit, found) {
                 break;
             }
             count = count.saturating_mul(TRY_GROWTH);
