@@ -15,6 +15,7 @@
             who waits; the same a second time
   waits     a worker whose clients read nothing of answers of 100,000 spans: beyond 2 GB of text it closes the next such connections, says
             so once, and serves others; it takes 300 MB and some twenty seconds
+  texts     the same of answers that are one span of 25 MB of text, which is in memory as text: beyond 268 MB
   answers   a server without memory for an answer (its data may not grow) answers 500 and says so once, with the refusal's number and how
             many there were; once the limit is lifted the same query is answered 200
   opening   a server without memory for a store with its limits ends with status 5 and says why
@@ -174,6 +175,26 @@ def waits():
         return f"{len(slow)} answers of {text / 1e6:.1f} MB, {server.memory() / 1000:.0f} MB held; {wanted}"
 
 
+def texts():
+    with Server("--workers", 1, "--idle", 0) as server, contextlib.ExitStack() as stack:
+        with server.client() as client:
+            tags = wire.structs(10, [wire.text_tag("controls", "\x01" * 4_190_000)])
+            client.ask(post_body(wire.batch("shop", [wire.span(1, 1, more=tags)])), 202)
+            text = len(client.ask(get("/api/traces/1"), 200).body)
+        begin, slow = server.told(), []
+        while server.told() == begin and len(slow) * text < 1 << 30:
+            slow.append(stack.enter_context(server.client(patience=60, room=4096)))
+            slow[-1].send(get("/api/traces/1"))
+            check(slow[-1].more(), "no response began")
+        told = server.told()[len(begin):]
+        wanted = "too much waits for clients that don't read: further connections of such clients are closed; queries with a limit help"
+        check(told == [wanted], f"with {len(slow)} answers of {text} bytes it said {told}")
+        check(0 < len(slow) * text - (256 << 20) < 2 * text, f"it said so of {len(slow)} answers of {text} bytes")
+        check(slow[0].more(), "a client that came before gets no more of its answer")
+        server.is_well()
+        return f"{len(slow)} answers of {text / 1e6:.1f} MB, {server.memory() / 1000:.0f} MB held; {wanted}"
+
+
 def answers():
     many, all_of_them = 10_000, get("/api/traces?service=shop&limit=0")
     with Server("--workers", 1, "--spans", 400_000, "--idle", 0) as server, server.client(patience=60) as client:
@@ -208,7 +229,7 @@ def main():
     options = asked.parse_args()
     Server.binary = options.bin
     cases = {"memory": memory, "refusals": lambda: refusals(options.posts), "idle": idle, "told": told, "files": files, "waits": waits,
-             "answers": answers, "opening": opening}
+             "texts": texts, "answers": answers, "opening": opening}
     run_cases(cases, options.only)
 
 

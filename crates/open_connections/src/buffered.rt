@@ -8,6 +8,7 @@ ghost use Rattle.open_connections.specs.UnsentResponses.{TakesFirst};
 
 use crate::nonblocking::TryConnection;
 use crate::pending_response::PendingResponse;
+use crate::waiting_bytes::WaitingBytes;
 use http_session::{Respond, Response};
 use session_devices::{Connection, Failed, Input, Output};
 use std::alloc::Global;
@@ -87,11 +88,11 @@ impl<C: TryConnection> BufferedConnection<C> {
         self.waiting.is_some()
     }
 
-    /// Returns the number of bytes that wait to be written.
-    pub fn waiting_bytes(&self) -> usize {
+    /// Counts the bytes that wait to be written.
+    pub fn waiting_bytes(&self) -> WaitingBytes {
         match &self.waiting {
-            Some(waiting) => waiting.len(),
-            None => 0,
+            Some(waiting) => waiting.waiting_bytes(),
+            None => WaitingBytes::NONE,
         }
     }
 

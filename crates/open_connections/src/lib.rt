@@ -9,6 +9,7 @@
 //! promises. That the last piece does so too is its clause `turn`.
 //!
 //! * `nonblocking`: connections whose writes never block.
+//! * `waiting_bytes`: counts of the response bytes that wait.
 //! * `pending_response`: a response that waits to be written. `buffered`: a connection that keeps its waiting response.
 //! * `socket`: a TCP stream as a connection.
 //! * `open`: a connection and its session.
@@ -25,6 +26,7 @@ mod pending_response;
 mod readiness;
 mod set;
 mod socket;
+mod waiting_bytes;
 
 pub use buffered::BufferedConnection;
 pub use nonblocking::TryConnection;
@@ -32,3 +34,4 @@ pub use open::{ConnectionProgress, OpenConnection, TurnTime};
 pub use readiness::{Event, MAX_EVENTS, Readiness};
 pub use set::{ConnectionSet, ConnectionTurn};
 pub use socket::Socket;
+pub use waiting_bytes::WaitingBytes;

@@ -3,6 +3,7 @@
 ghost use Rattle.std.specs.Prelude.{◌≡◌, ◌≤◌, ◌<◌, ◌^◌, ◌==◌, [], drop, length};
 ghost use Rattle.query_json.specs.Parts.{to_come};
 
+use crate::waiting_bytes::WaitingBytes;
 use http_session::Response;
 use std::marker::Model;
 
@@ -12,6 +13,8 @@ pub(crate) struct PendingResponse {
     response: Response,
     /// The number of bytes of the current part that were written.
     sent: usize,
+    /// Whether a part was written whole. The first part may be the head alone.
+    has_advanced: bool,
 }
 
 impl Model for PendingResponse {
@@ -31,7 +34,11 @@ impl PendingResponse {
     pub(crate) fn new(response: Response) -> PendingResponse
         ensures { to_come result ≡ to_come response }
     {
-        PendingResponse { response, sent: 0 }
+        PendingResponse {
+            response,
+            sent: 0,
+            has_advanced: false,
+        }
     }
 
     /// Returns the number of bytes still to be written.
@@ -40,6 +47,18 @@ impl PendingResponse {
         ensures bound { result < 2 ^ 63 }
     {
         self.response.remaining() - self.sent
+    }
+
+    /// Counts the bytes still to be written. Of these the current part is in memory; until the head was written, all
+    /// count so.
+    pub(crate) fn waiting_bytes(&self) -> WaitingBytes {
+        let all = self.len();
+        let made = if self.has_advanced {
+            self.response.part().len()
+        } else {
+            all
+        };
+        WaitingBytes { all, made }
     }
 
     /// Returns whether everything was written.
@@ -68,6 +87,7 @@ impl PendingResponse {
         } else {
             self.response.advance();
             self.sent = 0;
+            self.has_advanced = true;
         }
     }
 }

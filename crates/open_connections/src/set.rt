@@ -9,6 +9,7 @@ ghost use Rattle.open_connections.specs.OpenConnections.{AllOpen, IsEmpty, IsRes
 use crate::buffered::BufferedConnection;
 use crate::nonblocking::TryConnection;
 use crate::open::{ConnectionProgress, OpenConnection, TurnTime};
+use crate::waiting_bytes::WaitingBytes;
 use http_session::SpareRoom;
 use http_session::laws::a_new_session_is_underway;
 use matchit::Router;
@@ -27,8 +28,8 @@ pub struct ConnectionSet<C> {
     router: Router<Endpoint>,
     /// The buffer that its sessions read into, one after the other.
     spare: SpareRoom,
-    /// The number of response bytes that wait to be written.
-    waiting: usize,
+    /// The response bytes that wait to be written.
+    waiting: WaitingBytes,
 }
 
 impl<C> Model for ConnectionSet<C> {
@@ -69,7 +70,7 @@ impl<C: TryConnection + Drop> ConnectionSet<C> {
                 connections: Slab::new(alloc),
                 router,
                 spare: SpareRoom::new(alloc),
-                waiting: 0,
+                waiting: WaitingBytes::NONE,
             }),
             Err(_) => Err(AllocError),
         }
@@ -85,8 +86,8 @@ impl<C: TryConnection + Drop> ConnectionSet<C> {
         self.connections.len()
     }
 
-    /// Returns the number of response bytes that wait for clients to take them.
-    pub fn waiting_bytes(&self) -> usize {
+    /// Counts the response bytes that wait for clients to take them.
+    pub fn waiting_bytes(&self) -> WaitingBytes {
         self.waiting
     }
 
@@ -158,7 +159,7 @@ impl<C: TryConnection + Drop> ConnectionSet<C> {
             return ConnectionTurn::Absent;
         };
         let mut open = open;
-        self.waiting = self.waiting.saturating_sub(open.connection.waiting_bytes());
+        self.waiting = self.waiting.without(open.connection.waiting_bytes());
         let progress = open.take_turn(rt, alloc, &self.router, backend, &mut self.spare);
         if !progress.is_open() {
             let OpenConnection {
@@ -172,7 +173,7 @@ impl<C: TryConnection + Drop> ConnectionSet<C> {
         }
         open.active = at.now;
         open.round = at.round;
-        self.waiting = self.waiting.saturating_add(open.connection.waiting_bytes());
+        self.waiting = self.waiting.and(open.connection.waiting_bytes());
         // It keeps its key, which `try_remove` has reserved.
         let _key = self.connections.insert_reserved(open);
         ConnectionTurn::Open(progress)
@@ -188,7 +189,7 @@ impl<C: TryConnection + Drop> ConnectionSet<C> {
         ensures rest { IsRest self.old self.new }
     {
         let open = self.connections.try_remove(key)?;
-        self.waiting = self.waiting.saturating_sub(open.connection.waiting_bytes());
+        self.waiting = self.waiting.without(open.connection.waiting_bytes());
         Some(open)
     }
 

@@ -168,7 +168,10 @@ impl Acceptor {
         match accept(rt, server) {
             Accepted::Stream(stream) => {
                 server.notices.end_shortage();
-                self.deferrals = 0;
+                // A worker that was deferred to for as long as this is busy: the other connections don't wait for it.
+                if self.deferrals < MAX_DEFERRALS {
+                    self.deferrals = 0;
+                }
                 self.outcome.served = self.outcome.served.saturating_add(1);
                 server.quota.count_accepted();
                 return Some(stream);

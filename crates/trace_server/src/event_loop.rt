@@ -14,7 +14,7 @@ use crate::worker::WorkerContext;
 use crate::worker_store::WorkerStore;
 use open_connections::{
     BufferedConnection, ConnectionProgress, ConnectionSet, ConnectionTurn, Event, MAX_EVENTS,
-    Readiness, Socket, TurnTime,
+    Readiness, Socket, TurnTime, WaitingBytes,
 };
 use read_side::StoreName;
 use std::alloc::Global;
@@ -31,12 +31,23 @@ use std::time::{Clock, Duration};
 /// The number of seconds between two checks for connections that were silent for too long.
 const CHECK_SECONDS: u64 = 1;
 
-/// The limit of the response bytes that wait at a worker for several clients. They are counted as they will be sent:
-/// the part of an answer that isn't written yet takes about a tenth of its bytes in memory.
+/// The limit of the response bytes that wait at a worker for several clients. Most of them aren't made yet, and take
+/// about a tenth of their number in memory.
 const MAX_WAITING_BYTES: usize = 2 << 30;
+
+/// The limit of those of them that are in memory as text.
+const MAX_MADE_BYTES: usize = 256 << 20;
 
 /// The number of milliseconds after which a worker checks whether others have accepted all connections.
 const SESSIONS_PAUSE: u64 = 20;
+
+/// Returns whether too many bytes wait if these, of one client, are kept beside those of others. The bytes of a single
+/// client may always wait.
+fn is_too_much(own: WaitingBytes, others: WaitingBytes) -> bool {
+    let all = own.and(others);
+    (all.all > MAX_WAITING_BYTES && others.all > 0)
+        || (all.made > MAX_MADE_BYTES && others.made > 0)
+}
 
 /// Returns the earlier of two optional times.
 fn earlier(one: Option<Duration>, other: Option<Duration>) -> Option<Duration> {
@@ -136,13 +147,11 @@ impl EventLoop {
         true
     }
 
-    /// Returns whether too many bytes wait for the clients of this worker, `own` of them for one client.
-    fn has_too_much_waiting(&self, own: usize) -> bool {
-        let all = self
-            .connections
+    /// Counts the bytes that wait for the clients of this worker.
+    fn waiting_bytes(&self) -> WaitingBytes {
+        self.connections
             .waiting_bytes()
-            .saturating_add(self.lingering.waiting_bytes());
-        all > MAX_WAITING_BYTES && all > own
+            .and(self.lingering.waiting_bytes())
     }
 
     /// Returns whether to drop a connection because its response waits and too many bytes wait in all.
@@ -157,7 +166,7 @@ impl EventLoop {
             return false;
         };
         let own = connection.connection.waiting_bytes();
-        let must_drop = self.has_too_much_waiting(own);
+        let must_drop = is_too_much(own, self.waiting_bytes().without(own));
         self.has_given_up |= must_drop;
         must_drop
     }
@@ -177,7 +186,7 @@ impl EventLoop {
         ensures open { self.new.connections ≡ self.old.connections }
     {
         let own = buffered.waiting_bytes();
-        if own > 0 && self.has_too_much_waiting(own) {
+        if own.all > 0 && is_too_much(own, self.waiting_bytes()) {
             self.has_given_up = true;
             return;
         }
@@ -410,7 +419,12 @@ impl EventLoop {
         } else {
             None
         };
-        earlier(earlier(check, last), acceptor.due())
+        let accept = if acceptor.may_accept(server.quota) {
+            acceptor.due()
+        } else {
+            None
+        };
+        earlier(earlier(check, last), accept)
     }
 
     /// Waits until a connection is ready or something else is due.

@@ -1,7 +1,7 @@
 //! Connections whose sessions have ended while their clients may still read or send.
 
 use crate::connection::{DISCARD_SECONDS, Discarded, close_sending, discard_some};
-use open_connections::{BufferedConnection, Socket};
+use open_connections::{BufferedConnection, Socket, WaitingBytes};
 use slab::Slab;
 use std::alloc::Global;
 use std::time::Duration;
@@ -32,8 +32,8 @@ pub(crate) enum Awaits {
 #[derive(Drop)]
 pub(crate) struct Lingering {
     connections: Slab<LingeringConnection>,
-    /// The number of response bytes that wait to be written.
-    waiting: usize,
+    /// The response bytes that wait to be written.
+    waiting: WaitingBytes,
 }
 
 impl LingeringConnection {
@@ -57,7 +57,7 @@ impl Lingering {
     pub(crate) fn new(alloc: Global) -> Lingering {
         Lingering {
             connections: Slab::new(alloc),
-            waiting: 0,
+            waiting: WaitingBytes::NONE,
         }
     }
 
@@ -69,8 +69,8 @@ impl Lingering {
         self.connections.len()
     }
 
-    /// Returns the number of response bytes that wait for clients to take them.
-    pub(crate) fn waiting_bytes(&self) -> usize {
+    /// Counts the response bytes that wait for clients to take them.
+    pub(crate) fn waiting_bytes(&self) -> WaitingBytes {
         self.waiting
     }
 
@@ -85,7 +85,7 @@ impl Lingering {
         let Ok(key) = self.connections.insert(lingering) else {
             return None;
         };
-        self.waiting = self.waiting.saturating_add(waiting);
+        self.waiting = self.waiting.and(waiting);
         Some(key)
     }
 
@@ -100,9 +100,7 @@ impl Lingering {
     /// Removes a connection.
     pub(crate) fn remove(&mut self, key: usize) {
         if let Some(lingering) = self.connections.try_remove(key) {
-            self.waiting = self
-                .waiting
-                .saturating_sub(lingering.buffered.waiting_bytes());
+            self.waiting = self.waiting.without(lingering.buffered.waiting_bytes());
         }
     }
 
@@ -115,8 +113,8 @@ impl Lingering {
         let before = lingering.buffered.waiting_bytes();
         let is_of_use = lingering.write(now, idle_limit);
         let has_closed_sending = lingering.has_closed_sending;
-        let written = before.saturating_sub(lingering.buffered.waiting_bytes());
-        self.waiting = self.waiting.saturating_sub(written);
+        let after = lingering.buffered.waiting_bytes();
+        self.waiting = self.waiting.without(before).and(after);
         match (is_of_use, has_closed_sending) {
             (false, _) => {
                 self.remove(key);
