@@ -33,8 +33,8 @@ jaeger_thrift OTEL_EXPORTER_JAEGER_ENDPOINT JAEGER_ENDPOINT JAEGER_PASSWORD JAEG
 Origin groupbyattrs JAEGER_REPORTER_FLUSH_INTERVAL OTEL_BSP_MAX_EXPORT_BATCH_SIZE OTEL_BSP_SCHEDULE_DELAY
 ExecStart LimitNOFILE MemoryMax MemorySwapMax add_header client_body_in_file_only client_body_timeout client_header_timeout client_max_body_size keepalive_timeout large_client_header_buffers non_idempotent
 proxy_next_upstream proxy_pass proxy_read_timeout worker_connections worker_rlimit_nofile
-proxy_request_buffering SPAN_STORAGE_TYPE busybox chroot htpasswd jq ldd openssl ports shareProcessNamespace systemctl tini wget listening.txt urls.txt
---admin --cacert --cap-drop --collector --disable-dns --init --log-level --memory --metrics-backend --name --network --now --previous --query --read-only --restart --sampling --security-opt
+proxy_request_buffering SPAN_STORAGE_TYPE OOMKilled busybox chroot docker healthcheck healthy htpasswd inactive jq ldd openssl podman ports shareProcessNamespace systemctl tini wget listening.txt urls.txt
+--admin --cacert --cap-drop --collector --disable-dns --init --log-level --memory --memory-swap --metrics-backend --name --network --now --previous --query --read-only --restart --sampling --security-opt
 --anew --exclude-dir --fail-alloc --fail-early --help --retry --test --version
 PORT Type::function minLogs sha256sum path/file.rt probe
 """.split())

@@ -1,0 +1,95 @@
+#!/bin/sh
+# A restart by a second server, without a pause: docs/recipes.md has each step and its reason. Copy it to
+# /usr/local/sbin/jaeger_one_switch (mode 755), and run it as root, by hand or by cron:
+#
+#   jaeger_one_switch FOLDER
+#
+# A new, empty server gets the batches; what the old one holds is exported to a folder of its own in FOLDER; then the new
+# one gets the queries too, and the old one ends. No batch is lost of a sender that sends each again until it has a 202.
+# It needs deploy/nginx.conf, the unit deploy/jaeger_one.service without RuntimeMaxSec=, senders that send to nginx alone,
+# ports 14268 and 14269, memory for two stores, and curl and Python 3. It ends with 0 if all of it was done; else a line
+# says what was, and which server has what.
+set -eu
+PATH=/usr/sbin:/usr/bin:/sbin:/bin
+
+conf=/etc/nginx/conf.d/jaeger_one.conf
+units=/etc/systemd/system
+patience=600  # seconds for nginx's old workers to end, which serve what began before
+
+fail() { echo "jaeger_one_switch: $*" >&2; exit 1; }
+
+port_of() { sed -n "/^upstream jaeger_one_$1 /,/^}/s/^ *server 127\.0\.0\.1:\([0-9]*\);.*/\1/p" $conf; }
+
+# Has nginx send batches (send) or queries (read) to another port, and waits until no old worker of it is left. 1: nginx
+# doesn't take the change, and goes on as before. 2: an old worker is still there.
+move() {
+    cp $conf $conf.before && sed -i "/^upstream jaeger_one_$1 /,/^}/s/:$2;/:$3;/" $conf || return 1
+    if ! nginx -t -q || ! nginx -s reload; then
+        mv $conf.before $conf
+        return 1
+    fi
+    rm -f $conf.before
+    sleep 1  # nginx takes a moment to begin
+    for _ in $(seq $patience); do
+        ps -C nginx -o args | grep -q 'is shutting down' || return 0
+        sleep 1
+    done
+    return 2
+}
+
+[ $# = 1 ] && [ -d "$1" ] || fail "give the folder for exports"
+exec 9> /run/jaeger_one_switch.lock
+flock -n 9 || fail "another one runs"
+
+old=$(port_of send)
+[ "$old" = "$(port_of read)" ] || fail "nginx sends batches and queries to different ports: end the last switch by hand"
+case $old in
+    14268) new=14269 old_unit=jaeger_one new_unit=jaeger_one_b ;;
+    14269) new=14268 old_unit=jaeger_one_b new_unit=jaeger_one ;;
+    *) fail "nginx sends to port '$old', which is neither 14268 nor 14269" ;;
+esac
+systemctl is-active -q $old_unit || fail "$old_unit doesn't run"
+! systemctl is-active -q $new_unit || fail "$new_unit runs already"
+! grep -q '^RuntimeMaxSec=' $units/$old_unit.service ||
+    fail "$old_unit has a RuntimeMaxSec=, by which it may end before its export"
+
+sed "s/--port $old/--port $new/" $units/$old_unit.service > $units/$new_unit.service
+systemctl daemon-reload
+systemctl start $new_unit
+for _ in $(seq 60); do
+    curl -fsS --max-time 2 -o /dev/null http://127.0.0.1:$new/api/services 2> /dev/null && break
+    sleep 1
+done
+if ! curl -fsS --max-time 2 -o /dev/null http://127.0.0.1:$new/api/services; then
+    systemctl stop $new_unit
+    fail "$new_unit doesn't answer: see journalctl -u $new_unit. Nothing is changed"
+fi
+
+move send $old $new || case $? in
+    1) systemctl stop $new_unit; fail "nginx doesn't take the change. Nothing is changed" ;;
+    *) fail "an old worker of nginx doesn't end: $new_unit takes batches, $old_unit has the older ones" ;;
+esac
+
+began=$(date +%Y%m%dT%H%M%S)
+folder=$(realpath "$1")/$began
+mkdir "$folder" && cd "$folder" || fail "$folder can't be made: $new_unit takes batches, $old_unit has the older ones"
+base=http://127.0.0.1:$old
+curl -fsS $base/api/services | python3 -c '
+import json, sys, urllib.parse
+for number, name in enumerate(filter(None, json.load(sys.stdin)["data"])):
+    service = urllib.parse.quote(name, safe="")
+    print(f"url = \"{sys.argv[1]}/api/traces?limit=0&service={service}\"\noutput = \"traces-{number}-{service[:200]}.json\"")' $base > urls.txt ||
+    fail "the export failed: $new_unit takes batches, $old_unit has the older ones"
+if [ -s urls.txt ]; then
+    curl -fsS --fail-early --compressed -K urls.txt ||
+        fail "the export failed: $new_unit takes batches, $old_unit has the older ones"
+fi
+
+move read $old $new || case $? in
+    1) fail "nginx doesn't take the change: $new_unit takes batches, queries go to $old_unit, $folder has the export" ;;
+    *) fail "an old worker of nginx doesn't end: stop and disable $old_unit then, enable $new_unit; $folder has the export" ;;
+esac
+systemctl stop $old_unit
+systemctl enable -q $new_unit
+systemctl disable -q $old_unit
+echo "$new_unit serves on port $new; what $old_unit held is in $folder"
