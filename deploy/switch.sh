@@ -6,9 +6,10 @@
 #
 # A new, empty server gets the batches; what the old one holds is exported to a folder of its own in FOLDER; then the new
 # one gets the queries too, and the old one ends. No batch is lost of a sender that sends each again until it has a 202.
-# It needs deploy/nginx.conf, the unit deploy/jaeger_one.service without RuntimeMaxSec=, senders that send to nginx alone,
-# ports 14268 and 14269, memory for two stores, and curl and Python 3. It ends with 0 if all of it was done; else a line
-# says what was, and which server has what.
+# It needs deploy/nginx.conf, the unit deploy/jaeger_one.service without RuntimeMaxSec= and without files beside it
+# (systemctl edit), senders that send to nginx alone, ports 14268 and 14269, memory for two stores, curl and Python 3, and
+# no connection to another site of this nginx that lasts for more than ten minutes. It ends with 0 if all was done; else a
+# line says what was, and which server has what.
 set -eu
 PATH=/usr/sbin:/usr/bin:/sbin:/bin
 
@@ -20,24 +21,39 @@ fail() { echo "jaeger_one_switch: $*" >&2; exit 1; }
 
 port_of() { sed -n "/^upstream jaeger_one_$1 /,/^}/s/^ *server 127\.0\.0\.1:\([0-9]*\);.*/\1/p" $conf; }
 
-# Has nginx send batches (send) or queries (read) to another port, and waits until no old worker of it is left. 1: nginx
-# doesn't take the change, and goes on as before. 2: an old worker is still there.
+property() { systemctl show -p "$1" --value $old_unit; }
+
+# Has nginx send batches (send) or queries (read) to another port, and waits until all workers that it had are gone: only
+# then none of them sends to the old port. 1: nginx refuses the change, and goes on as before. 2: an old worker is there.
 move() {
+    workers=$(echo $(ps -o pid= --ppid "$(cat /run/nginx.pid)"))
+    [ -n "$workers" ] || return 1
     cp $conf $conf.before && sed -i "/^upstream jaeger_one_$1 /,/^}/s/:$2;/:$3;/" $conf || return 1
     if ! nginx -t -q || ! nginx -s reload; then
         mv $conf.before $conf
         return 1
     fi
     rm -f $conf.before
-    sleep 1  # nginx takes a moment to begin
     for _ in $(seq $patience); do
-        ps -C nginx -o args | grep -q 'is shutting down' || return 0
+        ps -p "$workers" > /dev/null || return 0
         sleep 1
     done
     return 2
 }
 
+serves() {
+    systemctl is-active -q $new_unit && curl -fs --max-time 2 -o /dev/null http://127.0.0.1:$new/api/services
+}
+
+# Ends the new server, which has nothing yet.
+undo() {
+    systemctl disable -q $new_unit
+    systemctl stop $new_unit
+    fail "$*. Nothing is changed"
+}
+
 [ $# = 1 ] && [ -d "$1" ] || fail "give the folder for exports"
+exports=$(realpath "$1")
 exec 9> /run/jaeger_one_switch.lock
 flock -n 9 || fail "another one runs"
 
@@ -49,47 +65,47 @@ case $old in
     *) fail "nginx sends to port '$old', which is neither 14268 nor 14269" ;;
 esac
 systemctl is-active -q $old_unit || fail "$old_unit doesn't run"
-! systemctl is-active -q $new_unit || fail "$new_unit runs already"
-! grep -q '^RuntimeMaxSec=' $units/$old_unit.service ||
-    fail "$old_unit has a RuntimeMaxSec=, by which it may end before its export"
+! systemctl is-active -q $new_unit || fail "$new_unit runs already, and nginx sends it nothing: stop it"
+[ "$(property RuntimeMaxUSec)" = infinity ] || fail "$old_unit has a RuntimeMaxSec=, by which it may end before its export"
+[ -z "$(property DropInPaths)" ] || fail "the files of 'systemctl edit' wouldn't be those of $new_unit: write them into $old_unit"
+process=$(property MainPID)
 
-sed "s/--port $old/--port $new/" $units/$old_unit.service > $units/$new_unit.service
+sed "s/--port $old/--port $new/" $units/$old_unit.service > $units/$new_unit.new && mv $units/$new_unit.new $units/$new_unit.service ||
+    fail "$units/$new_unit.service can't be written"
 systemctl daemon-reload
-systemctl start $new_unit
+systemctl enable -q $new_unit
+systemctl start $new_unit || undo "$new_unit doesn't start"
 for _ in $(seq 60); do
-    curl -fsS --max-time 2 -o /dev/null http://127.0.0.1:$new/api/services 2> /dev/null && break
+    serves && break
     sleep 1
 done
-if ! curl -fsS --max-time 2 -o /dev/null http://127.0.0.1:$new/api/services; then
-    systemctl stop $new_unit
-    fail "$new_unit doesn't answer: see journalctl -u $new_unit. Nothing is changed"
-fi
+serves || undo "$new_unit doesn't answer: see journalctl -u $new_unit"
 
 move send $old $new || case $? in
-    1) systemctl stop $new_unit; fail "nginx doesn't take the change. Nothing is changed" ;;
-    *) fail "an old worker of nginx doesn't end: $new_unit takes batches, $old_unit has the older ones" ;;
+    1) undo "nginx doesn't take the change" ;;
+    *) fail "an old worker of nginx is still there, see its error.log: $new_unit may take batches, $old_unit has the older ones" ;;
 esac
 
-began=$(date +%Y%m%dT%H%M%S)
-folder=$(realpath "$1")/$began
-mkdir "$folder" && cd "$folder" || fail "$folder can't be made: $new_unit takes batches, $old_unit has the older ones"
+folder=$exports/$(date +%Y%m%dT%H%M%S)
+mkdir -m 700 "$folder" && cd "$folder" || fail "$folder can't be made: $new_unit takes batches, $old_unit has the older ones"
 base=http://127.0.0.1:$old
-curl -fsS $base/api/services | python3 -c '
+curl -fsS --max-time 120 $base/api/services | python3 -c '
 import json, sys, urllib.parse
 for number, name in enumerate(filter(None, json.load(sys.stdin)["data"])):
     service = urllib.parse.quote(name, safe="")
     print(f"url = \"{sys.argv[1]}/api/traces?limit=0&service={service}\"\noutput = \"traces-{number}-{service[:200]}.json\"")' $base > urls.txt ||
     fail "the export failed: $new_unit takes batches, $old_unit has the older ones"
 if [ -s urls.txt ]; then
-    curl -fsS --fail-early --compressed -K urls.txt ||
+    curl -fsS --fail-early --compressed --speed-limit 1 --speed-time 300 -K urls.txt ||
         fail "the export failed: $new_unit takes batches, $old_unit has the older ones"
 fi
 
 move read $old $new || case $? in
     1) fail "nginx doesn't take the change: $new_unit takes batches, queries go to $old_unit, $folder has the export" ;;
-    *) fail "an old worker of nginx doesn't end: stop and disable $old_unit then, enable $new_unit; $folder has the export" ;;
+    *) fail "an old worker of nginx is still there, see its error.log: stop and disable $old_unit once it has ended; $folder has the export" ;;
 esac
-systemctl stop $old_unit
-systemctl enable -q $new_unit
+[ "$(property MainPID)" = "$process" ] || lost=", but it was started anew meanwhile, and what it held before is lost"
 systemctl disable -q $old_unit
+systemctl stop $old_unit
+[ -z "${lost:-}" ] || fail "$new_unit serves on port $new; what $old_unit held is in $folder$lost"
 echo "$new_unit serves on port $new; what $old_unit held is in $folder"
