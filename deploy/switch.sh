@@ -6,7 +6,7 @@
 #
 # A new, empty server gets the batches; what the old one holds is exported to a folder of its own in FOLDER; then the new
 # one gets the queries too, and the old one ends. No batch is lost of a sender that sends each again until it has a 202.
-# It needs deploy/nginx.conf, the unit deploy/jaeger_one.service without RuntimeMaxSec= and without files beside it
+# It needs deploy/nginx.conf, the unit deploy/jaeger_one.service without RuntimeMaxSec=, --traces and files beside it
 # (systemctl edit), senders that send to nginx alone, ports 14268 and 14269, memory for two stores, curl and Python 3, and
 # no connection to another site of this nginx that lasts for more than ten minutes. It ends with 0 if all was done; else a
 # line says what was, and which server has what.
@@ -21,7 +21,7 @@ fail() { echo "jaeger_one_switch: $*" >&2; exit 1; }
 
 port_of() { sed -n "/^upstream jaeger_one_$1 /,/^}/s/^ *server 127\.0\.0\.1:\([0-9]*\);.*/\1/p" $conf; }
 
-property() { systemctl show -p "$1" --value $old_unit; }
+property() { systemctl show -p "$1" --value $2; }
 
 # Has nginx send batches (send) or queries (read) to another port, and waits until all workers that it had are gone: only
 # then none of them sends to the old port. 1: nginx refuses the change, and goes on as before. 2: an old worker is there.
@@ -47,9 +47,9 @@ serves() {
 
 # Ends the new server, which has nothing yet.
 undo() {
-    systemctl disable -q $new_unit
-    systemctl stop $new_unit
-    fail "$*. Nothing is changed"
+    systemctl disable -q $new_unit || :
+    systemctl stop $new_unit || :
+    fail "$*. $old_unit serves as before"
 }
 
 [ $# = 1 ] && [ -d "$1" ] || fail "give the folder for exports"
@@ -66,15 +66,17 @@ case $old in
 esac
 systemctl is-active -q $old_unit || fail "$old_unit doesn't run"
 ! systemctl is-active -q $new_unit || fail "$new_unit runs already, and nginx sends it nothing: stop it"
-[ "$(property RuntimeMaxUSec)" = infinity ] || fail "$old_unit has a RuntimeMaxSec=, by which it may end before its export"
-[ -z "$(property DropInPaths)" ] || fail "the files of 'systemctl edit' wouldn't be those of $new_unit: write them into $old_unit"
-process=$(property MainPID)
+[ "$(property RuntimeMaxUSec $old_unit)" = infinity ] || fail "$old_unit has a RuntimeMaxSec=, by which it may end before its export"
+[ -z "$(property DropInPaths $old_unit)$(property DropInPaths $new_unit)" ] ||
+    fail "the files of 'systemctl edit' wouldn't be those of both units: write them into $old_unit.service"
+! grep -q '^ExecStart=.* --traces' $units/$old_unit.service || fail "with --traces the export would lack the traces that are hidden"
+others=$(ss -Htnp state established "( dport = :$old )" | grep -v '"nginx"' || :)
+[ -z "$others" ] || fail "others than nginx are connected to port $old: $others"
+process=$(property MainPID $old_unit)
 
 sed "s/--port $old/--port $new/" $units/$old_unit.service > $units/$new_unit.new && mv $units/$new_unit.new $units/$new_unit.service ||
     fail "$units/$new_unit.service can't be written"
-systemctl daemon-reload
-systemctl enable -q $new_unit
-systemctl start $new_unit || undo "$new_unit doesn't start"
+systemctl daemon-reload && systemctl enable -q $new_unit && systemctl start $new_unit || undo "$new_unit doesn't start"
 for _ in $(seq 60); do
     serves && break
     sleep 1
@@ -91,7 +93,7 @@ mkdir -m 700 "$folder" && cd "$folder" || fail "$folder can't be made: $new_unit
 base=http://127.0.0.1:$old
 curl -fsS --max-time 120 $base/api/services | python3 -c '
 import json, sys, urllib.parse
-for number, name in enumerate(filter(None, json.load(sys.stdin)["data"])):
+for number, name in enumerate(filter(None, json.load(sys.stdin.buffer)["data"])):
     service = urllib.parse.quote(name, safe="")
     print(f"url = \"{sys.argv[1]}/api/traces?limit=0&service={service}\"\noutput = \"traces-{number}-{service[:200]}.json\"")' $base > urls.txt ||
     fail "the export failed: $new_unit takes batches, $old_unit has the older ones"
@@ -104,8 +106,7 @@ move read $old $new || case $? in
     1) fail "nginx doesn't take the change: $new_unit takes batches, queries go to $old_unit, $folder has the export" ;;
     *) fail "an old worker of nginx is still there, see its error.log: stop and disable $old_unit once it has ended; $folder has the export" ;;
 esac
-[ "$(property MainPID)" = "$process" ] || lost=", but it was started anew meanwhile, and what it held before is lost"
-systemctl disable -q $old_unit
-systemctl stop $old_unit
+[ "$(property MainPID $old_unit)" = "$process" ] || lost=", but it was started anew meanwhile: what it held before may be lost"
+systemctl disable -q $old_unit && systemctl stop $old_unit || fail "$old_unit can't be stopped; $new_unit serves, $folder has the export"
 [ -z "${lost:-}" ] || fail "$new_unit serves on port $new; what $old_unit held is in $folder$lost"
 echo "$new_unit serves on port $new; what $old_unit held is in $folder"
