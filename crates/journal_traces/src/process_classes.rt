@@ -52,8 +52,8 @@ fn keep(by_key: &mut BTreeMap<u32, u32>, key: u32, class: u32) -> Result<(), All
 }
 
 impl<'a> ProcessClasses<'a> {
-    /// Makes the classes of keys of which those that recur are compared. The process of another one is compared in
-    /// its one trace, and not here.
+    /// Makes the classes of keys, and compares only those that recur. The process of another one is compared in its
+    /// one trace, and not here.
     pub(crate) fn of_recurring(alloc: Global, recurring: Recurring) -> Self
         ensures { (process_of : ℕ → Option ProcessValue) → Leads process_of result }
     {

@@ -29,7 +29,8 @@ pub fn a_prefix_decides()
 
 /// Bytes that can't become a body whatever follows don't start with a body.
 pub fn bad_bytes_have_no_body()
-    ensures { (most : ℕ) (bytes : List ℕ) → ReadsChunks most bytes bad → HasNone (IsDecided most) bytes }
+    ensures { (most : ℕ) (bytes : List ℕ) → ReadsChunks most bytes bad →
+        HasNone (IsDecided most) bytes }
 {}
 
 /// A body starts with all its chunks and the line after them, or with those up to the size line that makes it too
