@@ -51,7 +51,9 @@ impl PendingResponse {
 
     /// Counts the bytes still to be written. Of these the current part is in memory; until the head was written, all
     /// count so.
-    pub(crate) fn waiting_bytes(&self) -> WaitingBytes {
+    pub(crate) fn waiting_bytes(&self) -> WaitingBytes
+        ensures { result.all ≡ length (to_come self.now) }
+    {
         let all = self.len();
         let made = if self.has_advanced {
             self.response.part().len()
