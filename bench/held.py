@@ -164,6 +164,7 @@ LATEST = {
 PLAIN = {
     "all dependencies": DEPENDENCIES,
     **LATEST,
+    "the 100,000 latest of a service": search("&limit=100000", "s3"),
     "the 20 latest of a service with a tag": search("&tag=error:true&limit=20", "s3"),
     "all of a service with no such tag": search("&tag=error:maybe&limit=20", "s3"),
     "a trace": get("/api/traces/7"),

@@ -12,7 +12,7 @@ abbrev pub form_answer : Form → Answer
 form_answer (collected.Ready answer) = answer
 form_answer (collected.Services found) = say.Names (sorted_set text_cmp found.items)
 form_answer (collected.OperationNames found) = say.Names (names_of found.items)
-form_answer (collected.Tags search) = search
+form_answer (collected.Search search) = search
 form_answer (collected.Found traces) = traces
 form_answer (collected.Links links) = links
 form_answer (collected.Operations found kind) = say.Operations (filter (is_asked_kind kind.now) (sorted_set operation_cmp found.items))

@@ -7,8 +7,8 @@ ghost use Rattle.trace_model.specs.declared.refusal.Refusal.TheVariants.{NoMemor
 ghost use Rattle.span_store.specs.declared.collected.Form.TheVariants as collected;
 ghost use Rattle.span_store.specs.CollectedAnswers.{form_answer};
 
+use crate::collected_search::CollectedSearch;
 use crate::found_traces::FoundTraces;
-use crate::tag_search::TagSearch;
 use crate::window_links::WindowLinks;
 use jaeger_model::{Seq, Text};
 use service_index::{sorted_names, sorted_operation_names, sorted_operations};
@@ -29,9 +29,9 @@ pub(crate) enum Form<'q> {
     /// The operations of a service, in no particular order, for a query of this kind. The names refer to their
     /// entries.
     Operations(Vec<Operation>, &'q Text),
-    /// A search by tags.
-    Tags(TagSearch<'q>),
-    /// The traces that a search without tags found.
+    /// A search, and the traces that it has to judge.
+    Search(CollectedSearch<'q>),
+    /// The traces that a search found.
     Found(FoundTraces),
     /// The traces of a window, for a query of their links.
     Links(WindowLinks),
@@ -100,7 +100,7 @@ impl<'q> Collected<'q> {
             Form::Services(services) => Ok(answer_services(services)),
             Form::OperationNames(operations) => Ok(answer_names(alloc, operations)?),
             Form::Operations(operations, kind) => Ok(answer_operations(operations, kind)),
-            Form::Tags(search) => Ok(search.answer(alloc)?),
+            Form::Search(search) => Ok(search.answer(alloc)?),
             Form::Found(traces) => Ok(traces.answer(alloc)?),
             Form::Links(links) => Ok(links.answer(alloc)?),
         }

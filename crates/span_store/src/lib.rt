@@ -7,9 +7,9 @@
 //!
 //! * `arrange`: what one more entry changes in what is shown.
 //! * `collected`: what the answer to a query needs of a store.
-//! * `finding`: searches over traces in the journal.
-//! * `found_traces`, `tag_search`, `window_links`: what a search found or may find, and traces whose links are
+//! * `collected_search`, `found_traces`, `window_links`: what a search may find or found, and traces whose links are
 //!   requested, collected from the store.
+//! * `finding`: searches over traces in the journal.
 //! * `store`: the [`SpanStore`].
 //! * `store/search_plan`: which traces a search considers.
 //! * `replaying`: a store made of a list of entries.
@@ -17,11 +17,11 @@
 
 mod arrange;
 mod collected;
+mod collected_search;
 mod finding;
 mod found_traces;
 mod replaying;
 mod store;
-mod tag_search;
 mod window_links;
 
 pub use collected::Collected;

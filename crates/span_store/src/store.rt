@@ -10,11 +10,11 @@ ghost use Rattle.trace_model.specs.ShownSpans.{ring};
 ghost use Rattle.trace_model.specs.declared.admission.Admission.TheVariants.{Added};
 ghost use Rattle.trace_model.specs.Refusals.{followed_by, with_admitted};
 ghost use Rattle.arrival_journal.specs.Journals.{admission_by, place_by};
-ghost use Rattle.trace_assembly.specs.LocatedSpans.{located_events, shown_spots};
 ghost use Rattle.call_links.specs.NumberedCalls.{links_in, AreServicesNumbered};
 ghost use Rattle.journal_traces.specs.TakenTraces.{placed_taken};
 ghost use Rattle.service_index.specs.ServicePlaces.{service_number_of, places_of};
 ghost use Rattle.span_store.specs.CollectedAnswers.{form_answer};
+ghost use Rattle.span_store.specs.FoundAnswers.{FindsTheSame};
 ghost use Rattle.span_store.specs.StoreIndexes.{AreNamesOf, ArePlacesOf};
 ghost use Rattle.span_store.specs.NextEntry.{next_entry};
 
@@ -22,9 +22,10 @@ mod search_plan;
 
 use crate::arrange::apply_entry;
 use crate::collected::{Collected, Form};
+use crate::collected_search::CollectedSearch;
 use crate::finding;
 use crate::found_traces::FoundTraces;
-use crate::tag_search::TagSearch;
+use crate::store::search_plan::is_judged_outside;
 use crate::window_links::WindowLinks;
 use arrival_journal::{Journal, Record};
 use find_traces::PreparedSearch;
@@ -204,7 +205,7 @@ impl SpanStore {
         place
     }
 
-    /// Returns the traces that are shown, the one opened first at the front. Only tests call it.
+    /// Returns the traces that are shown, the one opened first at the front.
     ///
     /// # Errors
     ///
@@ -214,14 +215,6 @@ impl SpanStore {
             ring self.now.limits.traces (events self.now.entries)) }
     {
         ring_ids(self.alloc, self.shown.ring())
-    }
-
-    /// Returns the spots of the shown spans of a trace, in the order of their arrival; none if the trace isn't
-    /// shown.
-    pub fn spots(&self, id: TraceId) -> Spots<'_>
-        ensures { result ≡ shown_spots self.now.limits.traces (located_events self.now.entries) id }
-    {
-        self.shown.spots(id)
     }
 
     /// Returns the answer, which is that of the plain store for the entries.
@@ -333,14 +326,19 @@ impl SpanStore {
         }
     }
 
-    /// Collects the candidates of a search by tags.
-    fn tag_search<'q>(&self, query: &'q Find, ids_alone: bool) -> Result<TagSearch<'q>, AllocError>
+    /// Collects the traces with these spots for a search that judges them after the store is left.
+    fn collected_search<'q>(
+        &self,
+        query: &'q Find,
+        ids_alone: bool,
+        spots: &[Spots<'_>],
+    ) -> Result<CollectedSearch<'q>, AllocError>
+        requires { FindsTheSame self.now query.now spots.now }
         ensures { IfOk result (λ s. s ≡ answer self.now.limits self.now.entries
             (if ids_alone then ask.FindIds query.now else ask.Find query.now)) }
     {
         // For the prover: `len`'s clause `legal` is used below.
         let _legal = self.journal.len();
-        let spots = self.candidates(query)?;
         let service = self.service_number(query);
         let traces = take_candidates(
             self.alloc,
@@ -348,51 +346,53 @@ impl SpanStore {
             &self.reported,
             service,
             query,
-            &spots,
+            spots,
         )?;
-        Ok(TagSearch::new(ids_alone, self.limits(), traces))
+        Ok(CollectedSearch::new(ids_alone, self.limits(), traces))
     }
 
-    /// Returns the ids of the traces that a search without tags finds.
-    fn found_ids(&self, query: &Find) -> Result<Answer, AllocError>
+    /// Returns the ids of the traces that a search without tags finds among those with these spots.
+    fn found_ids(&self, query: &Find, spots: &[Spots<'_>]) -> Result<Answer, AllocError>
+        requires { FindsTheSame self.now query.now spots.now }
         ensures { IfOk result (λ a. a ≡ answer self.now.limits self.now.entries
             (ask.FindIds query.now)) }
     {
         let prepared = PreparedSearch::new(self.alloc, query)?;
-        let spots = self.narrowed(query)?;
-        let mut traces = self.candidate_search(&prepared, &spots);
+        let mut traces = self.candidate_search(&prepared, spots);
         let ids = finding::find_ids(self.alloc, &mut traces)?;
         Ok(Answer::Ids(Seq::from_vec(ids)))
     }
 
-    /// Collects the traces that a search without tags finds, in the order of the answer.
-    fn found_traces(&self, query: &Find) -> Result<FoundTraces, AllocError>
+    /// Collects the traces that a search without tags finds among those with these spots, in the order of the answer.
+    fn found_traces(&self, query: &Find, spots: &[Spots<'_>]) -> Result<FoundTraces, AllocError>
+        requires { FindsTheSame self.now query.now spots.now }
         ensures { IfOk result (λ t. t ≡ answer self.now.limits self.now.entries
             (ask.Find query.now)) }
     {
         // For the prover: `len`'s clause `legal` is used below.
         let _legal = self.journal.len();
         let prepared = PreparedSearch::new(self.alloc, query)?;
-        let spots = self.narrowed(query)?;
-        let found = finding::take_found(self.alloc, self.candidate_search(&prepared, &spots))?;
+        let found = finding::take_found(self.alloc, self.candidate_search(&prepared, spots))?;
         // For the prover: the binding lets the clauses of `new` be used for the result.
         let traces = FoundTraces::new(self.limits(), found);
         Ok(traces)
     }
 
-    /// Collects what a search finds: the traces as they are shown, or only their ids. Without tags, numbers and the
-    /// names of operations decide it.
+    /// Collects what a search finds: the traces as they are shown, or only their ids. Numbers and the names of
+    /// operations decide it, or it is left to what is judged after the store is left.
     fn search<'q>(&self, query: &'q Find, ids_alone: bool) -> Result<Form<'q>, AllocError>
         ensures { IfOk result (λ f. form_answer f ≡ answer self.now.limits self.now.entries
             (if ids_alone then ask.FindIds query.now else ask.Find query.now)) }
     {
-        if !query.tags.as_slice().is_empty() {
-            return Ok(Form::Tags(self.tag_search(query, ids_alone)?));
+        let spots = self.considered(query)?;
+        if is_judged_outside(query, spots.len()) {
+            let search = self.collected_search(query, ids_alone, &spots)?;
+            return Ok(Form::Search(search));
         }
         if ids_alone {
-            return Ok(Form::Ready(self.found_ids(query)?));
+            return Ok(Form::Ready(self.found_ids(query, &spots)?));
         }
-        Ok(Form::Found(self.found_traces(query)?))
+        Ok(Form::Found(self.found_traces(query, &spots)?))
     }
 
     /// Collects the shown traces that have a span in a window of time, the one opened first at the front: those

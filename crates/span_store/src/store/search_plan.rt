@@ -9,6 +9,8 @@
 //! * Without tags and with a window of starts, it considers the traces that may have a span there, if they are few
 //!   (`candidates_within`).
 //! * Without tags and with a limit, it tries the traces that start last first (`latest`).
+//!
+//! What it considers it judges there, or after the store is left (`is_judged_outside`).
 
 ghost use Rattle.std.specs.Prelude.{◌≡◌, ◌<◌, [], Some, IfOk, IfSome};
 ghost use Rattle.std.specs.Bool.{OnFalse, OnTrue};
@@ -74,6 +76,23 @@ fn are_few(count: usize, all: usize) -> bool {
 /// Whether a search that found this number of traces is likely to reach its limit in a larger try.
 fn is_promising(limit: u64, found: usize) -> bool {
     found.saturating_mul(TRY_GROWTH) as u64 >= limit
+}
+
+/// The number of candidates that a search without tags may judge inside the store.
+const MAX_JUDGED_INSIDE: usize = 4_096;
+
+/// A search without tags judges its candidates inside the store if it finds at most one in sixteen of them.
+const FOUND_ONE_IN: usize = 16;
+
+/// Whether a search judges its candidates after the store is left, so that it doesn't hold up the writer meanwhile. One
+/// by tags does, since tags are read. One without tags does if it has many candidates and may find a large part of
+/// them: else it is quicker to judge them here, and to collect only what it finds.
+pub(super) fn is_judged_outside(query: &Find, candidates: usize) -> bool {
+    if !query.tags.as_slice().is_empty() {
+        return true;
+    }
+    let many = (candidates / FOUND_ONE_IN) as u64;
+    candidates > MAX_JUDGED_INSIDE && (query.limit == 0 || query.limit >= many)
 }
 
 /// Whether a search has reached its limit.
@@ -153,7 +172,7 @@ impl SpanStore {
 
     /// Returns the spots of the shown traces that a search considers, those of the one opened first at the front.
     /// The search finds the same among these traces as among all. No tag is read.
-    pub(super) fn candidates(&self, query: &Find) -> Result<Vec<Spots<'_>>, AllocError>
+    fn candidates(&self, query: &Find) -> Result<Vec<Spots<'_>>, AllocError>
         ensures { IfOk result (λ v. FindsTheSame self.now query.now v.items) }
     {
         if !self.may_find(query) {
@@ -236,7 +255,7 @@ impl SpanStore {
     /// the front. The search finds the same among these traces as among all. A search with a limit tries those that
     /// start last first. If it finds fewer than its limit, it tries more a few times, and further on only if it found
     /// some.
-    pub(super) fn narrowed(&self, query: &Find) -> Result<Vec<Spots<'_>>, AllocError>
+    fn narrowed(&self, query: &Find) -> Result<Vec<Spots<'_>>, AllocError>
         ensures { IfOk result (λ v. FindsTheSame self.now query.now v.items) }
     {
         if query.limit == 0 {
@@ -257,5 +276,17 @@ impl SpanStore {
             count = count.saturating_mul(TRY_GROWTH);
         }
         self.candidates_timed(query)
+    }
+
+    /// Returns the spots of the shown traces that a search considers, those of the one opened first at the front. The
+    /// search finds the same among these traces as among all.
+    pub(super) fn considered(&self, query: &Find) -> Result<Vec<Spots<'_>>, AllocError>
+        ensures { IfOk result (λ v. FindsTheSame self.now query.now v.items) }
+    {
+        if query.tags.as_slice().is_empty() {
+            self.narrowed(query)
+        } else {
+            self.candidates(query)
+        }
     }
 }

@@ -15,6 +15,5 @@ returns c =
     ap say.Ids (
     c.from_vec.ensures ∙ c.in_ok-ids.ensures
     ∙ (λ i. ids_of (found_in (among.query i) (traces_named (among.entries i) (among.spots i))))
-    ∙ ap (λ (f : Find). ids_of (found_in f (traces_named held.entries c.deref.result.now))) c.in_ok-prepared.ensures
-    ∙ ap (λ (ss : List (List Spot)). ids_of (found_in q (traces_named held.entries ss))) c.deref.ensures.value
-    ∙ ap ids_of c.in_ok-spots.ensures)
+    ∙ ap (λ (f : Find). ids_of (found_in f (traces_named held.entries c.args.spots.now))) c.in_ok-prepared.ensures
+    ∙ ap ids_of c.requires)

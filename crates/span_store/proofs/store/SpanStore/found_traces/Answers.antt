@@ -29,8 +29,7 @@ returns c =
     let found : map placed_taken c.in_ok-found.found ≡ found_in q (traces held.limits.traces (events held.entries)) =
     c.in_ok-found.ensures.found
     ∙ (λ i. found_in (among.query i) (traces_named (among.entries i) (among.spots i)))
-    ∙ ap (λ (f : Find). found_in f (traces_named held.entries c.deref.result.now)) c.in_ok-prepared.ensures
-    ∙ ap (λ (ss : List (List Spot)). found_in q (traces_named held.entries ss)) c.deref.ensures.value
-    ∙ c.in_ok-spots.ensures in
+    ∙ ap (λ (f : Find). found_in f (traces_named held.entries c.args.spots.now)) c.in_ok-prepared.ensures
+    ∙ c.requires in
     c.new-traces.ensures ∙ ap (λ (l : Limits). say.Traces (map (adjusted l.max_skew) (map placed_taken c.in_ok-found.found))) c.limits.ensures
     ∙ ap (λ (ts : List (List Placed)). say.Traces (map (adjusted held.limits.max_skew) ts)) found

@@ -1,4 +1,4 @@
-//! A search by tags, after its candidates were collected from the store.
+//! A search whose candidates were collected from the store, and which judges them after the store is left.
 ghost use Rattle.std.specs.Prelude.{◌≡◌, map, IfOk};
 ghost use Rattle.trace_model.specs.Searching.{found_in};
 ghost use Rattle.journal_traces.specs.TagCandidates.{traces_spotted};
@@ -17,7 +17,7 @@ use trace_model::{Answer, Limits};
 
 /// A search, and candidate traces among which it finds the same as among all. Contracts see its answer.
 #[derive(Drop)]
-pub(crate) struct TagSearch<'q> {
+pub(crate) struct CollectedSearch<'q> {
     /// Whether only the ids of the traces are requested.
     ids_alone: bool,
     /// The limits of the store.
@@ -25,7 +25,7 @@ pub(crate) struct TagSearch<'q> {
     traces: TagCandidates<'q>,
 }
 
-impl<'q> Model for TagSearch<'q> {
+impl<'q> Model for CollectedSearch<'q> {
     ghost use Rattle.trace_model.specs.declared.answer.Answer.{Answer};
     ghost use Rattle.journal_traces.specs.TagCandidates.{traces_spotted};
     ghost use Rattle.span_store.specs.FoundAnswers.{found_answer};
@@ -52,12 +52,16 @@ fn taken_from<'a>(
     Ok((traces, judged))
 }
 
-impl<'q> TagSearch<'q> {
-    pub(crate) fn new(ids_alone: bool, limits: Limits, traces: TagCandidates<'q>) -> TagSearch<'q>
+impl<'q> CollectedSearch<'q> {
+    pub(crate) fn new(
+        ids_alone: bool,
+        limits: Limits,
+        traces: TagCandidates<'q>,
+    ) -> CollectedSearch<'q>
         ensures { result ≡
             found_answer limits traces.entry.query ids_alone (traces_spotted traces.entry) }
     {
-        TagSearch {
+        CollectedSearch {
             ids_alone,
             limits,
             traces,
@@ -68,7 +72,7 @@ impl<'q> TagSearch<'q> {
     pub(crate) fn answer(self, alloc: Global) -> Result<Answer, AllocError>
         ensures { IfOk result (λ a. a ≡ self.entry) }
     {
-        let TagSearch {
+        let CollectedSearch {
             ids_alone,
             limits,
             traces: candidates,

@@ -8,7 +8,7 @@ use Rattle.trace_model.specs.TakenSpans.{Taken}
 use Rattle.journal_traces.specs.TagCandidates.{traces_spotted}
 use Rattle.journal_traces.specs.TakenSearch.{traces_taken, query_taken}
 use Rattle.span_store.specs.FoundAnswers.{found_answer}
-use Rattle.span_store.proofs.tag_search.TagSearch.answer.Goals as goal
+use Rattle.span_store.proofs.collected_search.CollectedSearch.answer.Goals as goal
 
 pub returns-then-ids_alone : goal.returns-then-ids_alone
 returns-then-ids_alone c =

@@ -8,15 +8,14 @@ use Rattle.journal_traces.specs.TagCandidates.{traces_spotted}
 use Rattle.journal_traces.specs.SpansAtSpots.{traces_named}
 use Rattle.span_store.specs.FoundAnswers.{found_answer}
 use Rattle.span_store.proofs.FoundAmongCandidates.{found_is}
-use Rattle.span_store.proofs.store.SpanStore.tag_search.Goals as goal
+use Rattle.span_store.proofs.store.SpanStore.collected_search.Goals as goal
 
 pub returns : goal.returns
 returns c =
     let held : LimitedHistory = c.args.self.now in
     let q : Find = c.args.query.now in
     let ts : List (List Placed) = traces_spotted c.in_ok-traces.traces in
-    let named : ts ≡ traces_named held.entries c.in_ok-spots.spots.items =
-    c.in_ok-traces.ensures.spans ∙ ap (λ (v : LimitedHistory). traces_named v.entries c.deref.result.now) c.self.view_is
-    ∙ ap (λ (ss : List (List Spot)). traces_named held.entries ss) c.deref.ensures.value in
+    let named : ts ≡ traces_named held.entries c.args.spots.now =
+    c.in_ok-traces.ensures.spans ∙ ap (λ (v : LimitedHistory). traces_named v.entries c.args.spots.now) c.self.view_is in
     c.new.ensures ∙ (λ i. found_answer (c.limits.ensures i) (c.in_ok-traces.ensures.query i) c.args.ids_alone ts)
-    ∙ found_is held q c.args.ids_alone ts (ap (found_in q) named ∙ c.in_ok-spots.ensures)
+    ∙ found_is held q c.args.ids_alone ts (ap (found_in q) named ∙ c.requires)
