@@ -496,6 +496,22 @@ def slow_readers():
                 check(client.response().body == whole, "the answer that was read late is another one")
 
 
+def quick_reader():
+    """A client that takes a large answer as fast as it comes: the one worker answers another client before that answer ends."""
+    with Server("--port", 0, "--workers", 1) as server, server.client() as quick, server.client() as other:
+        other.ask(get("/api/x"), 404)
+        size = len(large_store(server, 1000))
+        quick.send(get("/api/traces/1"))
+        check(quick.more(), "the answer did not begin")
+        reader = threading.Thread(target=quick.response)
+        reader.start()
+        other.ask(get("/api/x"), 404)
+        taken = len(quick.input)
+        reader.join()
+        check(taken < size // 2, f"the other client was answered after {taken:,} of {size:,} bytes")
+        return f"answered after {taken:,} of {size:,} bytes"
+
+
 def store_with_long_names(server, count=300):
     """A store in which each kind of answer is long: services that each call the next, and operations of one service."""
     def name(kind, number):
@@ -635,6 +651,21 @@ def many_at_once():
             check(status == 202, f"a batch was answered {status}")
         for client in clients:
             client.socket.close()
+
+
+def a_long_answer():
+    """While its one worker makes an answer for longer than `--idle`, nobody counts as silent: not the client that asked, nor another one."""
+    with Server("--port", 0, "--workers", 1, "--idle", 1, "--batches", 1000, "--spans", 200_000) as server:
+        with server.client() as client:
+            for number in range(200):
+                client.ask(post_body(wire.batch("many", [wire.span(1 + 1000 * number + k, 1) for k in range(1000)])), 202)
+        with server.client() as asking, server.client() as other:
+            other.ask(get("/api/x"), 404)
+            asking.send(get("/api/traces?service=many&limit=0"))
+            time.sleep(0.05)
+            stop(server, 2.5)
+            other.ask(get("/api/x"), 404)
+            check(len(asking.response().traces()) == 200_000, "the long answer was cut")
 
 
 def stopped_and_continued(idle):
@@ -864,6 +895,7 @@ CASES = {
     "200 connections, 2 workers": in_turn_at_two_workers,
     "a pause at each byte": cut_at_each_byte,
     "slow readers hold no worker": slow_readers,
+    "a quick reader of a large answer holds no worker": quick_reader,
     "a response taken a byte at a time": byte_at_a_time,
     "each kind of answer read slowly": each_kind_read_slowly,
     "half-closed, read late": lambda: read_late(get("/api/traces/1") * 2, 2),
@@ -875,6 +907,7 @@ CASES = {
     "reset right after connecting": reset_at_once,
     "closed right after connecting": closed_at_once,
     "500 clients connect at once": many_at_once,
+    "an answer that takes longer than --idle": a_long_answer,
     "stopped and continued": lambda: stopped_and_continued(10),
     "stopped and continued, no idle limit": lambda: stopped_and_continued(0),
 }

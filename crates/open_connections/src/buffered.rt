@@ -13,6 +13,10 @@ use http_session::{Respond, Response};
 use session_devices::{Connection, Failed, Input, Output};
 use std::alloc::Global;
 
+/// The number of bytes from which on a turn writes no more: the other connections of its thread come first then, even
+/// if the client takes all that it is given.
+const MAX_WRITTEN_BYTES: usize = 4 << 20;
+
 /// A connection, and the part of a response that it could not take at once. Contracts count the waiting bytes as
 /// written.
 #[derive(Drop)]
@@ -23,7 +27,7 @@ pub struct BufferedConnection<C> {
     alloc: Global,
 }
 
-/// Writes the waiting bytes, as far as the connection takes them now.
+/// Writes the waiting bytes, as far as the connection takes them now and a turn writes.
 ///
 /// # Errors
 ///
@@ -38,12 +42,14 @@ fn write_some<C: TryConnection>(
     ensures input_works { C.has_failed connection.new ≡ C.has_failed connection.old }
     ensures err { OnErr result (0 < length (to_come waiting.new)) }
 {
-    while !waiting.is_empty() {
+    let mut written: usize = 0;
+    while !waiting.is_empty() && written < MAX_WRITTEN_BYTES {
         let count = connection.try_write(waiting.chunk())?;
         if count == 0 {
             break;
         }
         waiting.consume(count);
+        written = written.saturating_add(count);
     }
     Ok(())
 }
@@ -96,7 +102,7 @@ impl<C: TryConnection> BufferedConnection<C> {
         }
     }
 
-    /// Writes the waiting bytes, as far as the connection takes them now.
+    /// Writes the waiting bytes, as far as the connection takes them now and a turn writes.
     ///
     /// # Errors
     ///

@@ -24,7 +24,7 @@ pub struct OpenConnection<C> {
     pub session: Session,
     /// For the prover: the connection before anything was read from it. Only contracts read it.
     pub began: Snapshot<BufferedConnection<C>>,
-    /// When it last made progress, or was opened.
+    /// When it had its last turn, or was opened.
     pub active: Duration,
     /// The round of its thread in which it was last served.
     pub round: u64,
@@ -43,7 +43,7 @@ pub enum ConnectionProgress {
     HoldsMore,
     /// More of a request is awaited.
     Paused,
-    /// A request was answered, and the client has not yet taken the response. Nothing is read meanwhile.
+    /// A request was answered, and the client has not yet taken all of the response. Nothing is read meanwhile.
     Writing,
     /// The session has ended: the client closed the connection after its last request.
     Ended,

@@ -5,7 +5,7 @@ use crate::connection_quota::ConnectionQuota;
 use crate::notices::print_accepts_no_more;
 use crate::worker::{WorkerContext, WorkerOutcome};
 use libc::net::listen;
-use libc::{EMFILE, ENOMEM};
+use libc::{EMFILE, ENOMEM, EPERM};
 use read_side::StoreName;
 use std::io;
 use std::io::ErrorKind;
@@ -24,13 +24,32 @@ const DEFERRAL: u64 = 1;
 /// The number of times that it does so before it accepts the connection itself, after 127 ms in all.
 const MAX_DEFERRALS: u32 = 7;
 
+/// The number of milliseconds without accepting after a connection was lost while it waited to be accepted.
+const LOSS_PAUSE: u64 = 1;
+
 /// The length of the system's queue of connections that wait to be accepted, if the system allows it.
 const LISTEN_BACKLOG: i32 = 4_096;
 
 // Error numbers of Linux that `libc` here has no names for.
 const ENFILE: i32 = 23;
 
+const ENONET: i32 = 64;
+
+const EPROTO: i32 = 71;
+
+const ENOPROTOOPT: i32 = 92;
+
+const EOPNOTSUPP: i32 = 95;
+
+const ENETDOWN: i32 = 100;
+
+const ENETUNREACH: i32 = 101;
+
 const ENOBUFS: i32 = 105;
+
+const EHOSTDOWN: i32 = 112;
+
+const EHOSTUNREACH: i32 = 113;
 
 /// The result of accepting.
 #[derive(Drop)]
@@ -38,6 +57,8 @@ enum Accepted {
     Stream(TcpStream),
     /// No connection is waiting.
     NoneWaiting,
+    /// The network lost the connection that was waiting, or a firewall forbids it. Others may be waiting.
+    Lost,
     /// The system has no room for one more.
     Shortage(io::Error),
     /// No more connections can be accepted.
@@ -66,6 +87,25 @@ fn is_passing(error: &io::Error) -> bool {
     )
 }
 
+/// Returns whether the network lost the waiting connection, or a firewall forbids it: `accept` reports these errors of
+/// the connection as its own, and says nothing of the next one.
+fn is_loss(error: &io::Error) -> bool {
+    matches!(
+        error.raw_os_error(),
+        Some(
+            ENETDOWN
+                | EPROTO
+                | ENOPROTOOPT
+                | EHOSTDOWN
+                | ENONET
+                | EHOSTUNREACH
+                | EOPNOTSUPP
+                | ENETUNREACH
+                | EPERM
+        )
+    )
+}
+
 /// Returns whether the system has no memory, buffer or file descriptor left for one more connection.
 fn is_shortage(error: &io::Error) -> bool {
     matches!(
@@ -90,6 +130,7 @@ fn accept<N: StoreName, G: CallObserver, R: Wait>(
             Ok((stream, _)) => return Accepted::Stream(stream),
             Err(error) if error.kind() == ErrorKind::WouldBlock => return Accepted::NoneWaiting,
             Err(error) if is_passing(&error) => {}
+            Err(error) if is_loss(&error) => return Accepted::Lost,
             Err(error) if is_shortage(&error) => return Accepted::Shortage(error),
             Err(error) => return Accepted::Failed(error),
         }
@@ -168,7 +209,8 @@ impl Acceptor {
         match accept(rt, server) {
             Accepted::Stream(stream) => {
                 server.notices.end_shortage();
-                // A worker that was deferred to for as long as this is busy: the other connections don't wait for it.
+                // After this number the other workers count as busy: keep it, so that the other waiting connections are
+                // accepted at once.
                 if self.deferrals < MAX_DEFERRALS {
                     self.deferrals = 0;
                 }
@@ -180,6 +222,7 @@ impl Acceptor {
                 self.deferrals = 0;
                 self.pending = false;
             }
+            Accepted::Lost => self.pause(now, LOSS_PAUSE),
             Accepted::Shortage(error) => {
                 server.notices.print_shortage(rt, &error);
                 self.pause(now, SHORTAGE_PAUSE);

@@ -55,6 +55,7 @@ pub(crate) fn discard_some(stream: &TcpStream) -> Discarded {
             Ok(0) => return Discarded::Last,
             Ok(_) => {}
             Err(error) if error.kind() == ErrorKind::WouldBlock => return Discarded::All,
+            Err(error) if error.kind() == ErrorKind::Interrupted => {}
             Err(_) => return Discarded::Last,
         }
     }

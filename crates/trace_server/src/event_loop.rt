@@ -9,6 +9,7 @@ use crate::acceptor::Acceptor;
 use crate::call_observer::CallObserver;
 use crate::connection::{idle_limit, prepare};
 use crate::lingering::{Awaits, Lingering};
+use crate::patient_clock::PatientClock;
 use crate::source::Source;
 use crate::worker::WorkerContext;
 use crate::worker_store::WorkerStore;
@@ -66,6 +67,8 @@ pub(crate) struct EventLoop {
     lingering: Lingering,
     /// The keys of connections that hold unanswered bytes, and whether their clients have closed their side.
     holding: VecDeque<(usize, bool)>,
+    clock: PatientClock,
+    /// The round, and its time by the clock.
     at: TurnTime,
     /// When to check for connections that were silent for too long.
     next_check: Duration,
@@ -97,15 +100,14 @@ impl EventLoop {
         let Ok(connections) = ConnectionSet::new(alloc) else {
             return Err(io::Error::from(ErrorKind::OutOfMemory));
         };
+        let now = rt.monotonic()?;
         Ok(EventLoop {
             readiness,
             connections,
             lingering: Lingering::new(alloc),
             holding: VecDeque::new(alloc),
-            at: TurnTime {
-                now: rt.monotonic()?,
-                round: 0,
-            },
+            clock: PatientClock::new(now),
+            at: TurnTime { now, round: 0 },
             next_check: Duration::ZERO,
             permits: 0,
             idle_limit: idle_limit(idle),
@@ -436,11 +438,18 @@ impl EventLoop {
         } else {
             Some(Duration::ZERO)
         };
+        if let Ok(now) = rt.monotonic() {
+            self.clock.end_round(now);
+        }
         if self.readiness.wait(timeout).is_err() {
             sleep(rt, Duration::from_millis(1));
         }
+        let now = match rt.monotonic() {
+            Ok(now) => self.clock.begin_round(now),
+            Err(_) => self.at.now,
+        };
         self.at = TurnTime {
-            now: rt.monotonic().unwrap_or(self.at.now),
+            now,
             round: self.at.round.wrapping_add(1),
         };
     }

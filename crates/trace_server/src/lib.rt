@@ -10,6 +10,7 @@
 //! * `call_observer`: an observer of the calls to the store. `worker_store`: a worker's store.
 //! * `worker`: a worker. `threads`: work in threads.
 //! * `event_loop`: the loop that waits for a worker's connections and serves them. `source`: what it waits for, by tokens.
+//!   `patient_clock`: its clock.
 //! * `acceptor`: accepts connections. `loads`: the number of connections of each worker.
 //!   `connection_quota`: the number in all.
 //! * `connection`: sockets before and after their sessions. `lingering`: connections after their last response.
@@ -34,6 +35,7 @@ pub mod laws;
 mod lingering;
 mod loads;
 mod notices;
+mod patient_clock;
 mod periodic;
 mod reporting;
 mod serving;

@@ -9,8 +9,8 @@ use std::time::{Clock, Duration};
 /// The number of milliseconds between two checks whether the workers have ended.
 const MAX_PAUSE: u64 = 100;
 
-/// Prints the counts periodically until the workers have ended. It runs in a thread of its own, so a standard error
-/// that nobody reads blocks no worker.
+/// Prints the counts periodically until the workers have ended. It runs in a thread of its own, so a line that a standard
+/// error doesn't take blocks no worker. Workers print the other lines, which may block them.
 #[derive(Drop)]
 pub(crate) struct PeriodicCounts {
     /// The number of seconds between two lines; 0 for no lines.

@@ -34,7 +34,10 @@ pub(crate) struct WorkerStore<'a, N: StoreName, G, R> {
     observer: &'a G,
     notices: &'a Notices,
     worker: u32,
+    /// The number of batches submitted and queries asked.
     calls: u64,
+    /// The number of batches submitted.
+    batches: u64,
     live: Live<N>,
 }
 
@@ -63,6 +66,7 @@ impl<'a, N: StoreName, G, R> WorkerStore<'a, N, G, R> {
             notices,
             worker,
             calls: 0,
+            batches: 0,
             live,
         }
     }
@@ -77,6 +81,7 @@ impl<'a, N: StoreName, G, R> WorkerStore<'a, N, G, R> {
             notices: _,
             worker: _,
             calls: _,
+            batches: _,
             live,
         } = self;
         live
@@ -111,7 +116,8 @@ impl<'a, N: StoreName, G: CallObserver, R: Wait + Eprint> Backend<R> for WorkerS
 
     fn submit(&mut self, rt: &R, alloc: Global, batch: Batch) -> Result<u64, Refusal> {
         self.calls = self.calls.saturating_add(1);
-        if self.calls % GROWN_FOR == 0 {
+        self.batches = self.batches.saturating_add(1);
+        if self.batches % GROWN_FOR == 0 {
             grow_heap(alloc);
         }
         self.observer.before(self.rt, self.worker, self.calls);
