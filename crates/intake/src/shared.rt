@@ -62,7 +62,7 @@ impl<N: StoreName> Shared<N> {
     /// Closes the desk: no seat submits anything from then on.
     pub(crate) fn close(&self) {
         self.closed.store(true, Ordering::SeqCst);
-        let _woken = self.jobs.ring();
+        self.jobs.ring();
     }
 
     /// Stores the outcome of a seat's job, and its receipt, if it has one.
@@ -84,7 +84,7 @@ impl<N: StoreName> Shared<N> {
         slot.store_outcome(outcome);
         // Impossible: a seat without a bell. Its ticket would sleep until the clerk ends.
         if let Some(bell) = self.bell(seat) {
-            let _woken = bell.ring();
+            bell.ring();
         }
     }
 
@@ -92,7 +92,7 @@ impl<N: StoreName> Shared<N> {
     pub(crate) fn end(&self) {
         self.ended.store(true, Ordering::SeqCst);
         for bell in &self.replies {
-            let _woken = bell.ring();
+            bell.ring();
         }
     }
 }

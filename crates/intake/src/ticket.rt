@@ -139,7 +139,7 @@ impl<N: StoreName> Ticket<N> {
     fn await_ring<R: Wait>(&self, rt: &R, rings: u64) {
         match self.shared.bell(self.entry.seat) {
             Some(bell) => {
-                let _slept = bell.wait(rt, rings, self.spins);
+                bell.wait(rt, rings, self.spins);
             }
             // Impossible: each seat has a bell.
             None => yield_now(),

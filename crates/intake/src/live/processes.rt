@@ -3,7 +3,6 @@
 ghost use Rattle.std.specs.Prelude.{◌≡◌};
 
 use jaeger_model::{Batch, SharedProcess};
-use std::mem::replace;
 
 /// Returns the last process if both are equal, so that `process` is dropped. Otherwise returns `process`, which is the
 /// last one from then on.
@@ -15,7 +14,7 @@ fn share(last: &mut Option<SharedProcess>, process: SharedProcess) -> SharedProc
             return before.clone().unwrap_or(process);
         }
     }
-    let _before = replace(last, process.clone().ok());
+    *last = process.clone().ok();
     process
 }
 
