@@ -51,13 +51,13 @@ TESTS = [
     ("wire_tests", "tests::piece_faults::sizes_beyond_the_bytes", None),
     ("store_tests", "tests::stores::apply_without_memory", "tests::stores::a_store_is_opened"),
     ("store_tests", "tests::stores::memory_for_answers", None),
-    ("web_tests", "tests::answers::memory_for_a_tree", None),
-    ("web_tests", "tests::responses::memory_for_a_response", None),
-    ("web_tests", "tests::parts::memory_for_parts", "tests::parts::parts_are_made"),
+    ("session_tests", "tests::answers::memory_for_a_tree", None),
+    ("session_tests", "tests::responses::memory_for_a_response", None),
+    ("session_tests", "tests::parts::memory_for_parts", "tests::parts::parts_are_made"),
     ("session_tests", "tests::pipes::memory_for_a_session", None),
-    ("read_tests", "tests::rows::admit_all_or_nothing", None),
-    ("read_tests", "tests::sent_again::the_one_batch_sent_again", None),
-    ("intake_tests", "tests::rows::closed_before_no_memory", None),
+    ("thread_tests", "tests::reading::rows::admit_all_or_nothing", None),
+    ("thread_tests", "tests::reading::sent_again::the_one_batch_sent_again", None),
+    ("thread_tests", "tests::submitting::rows::closed_before_no_memory", None),
 ]
 
 # What a test prints that could not go on itself since an allocation was refused: the error that its call gave, by `Debug`.

@@ -496,20 +496,55 @@ def slow_readers():
                 check(client.response().body == whole, "the answer that was read late is another one")
 
 
+def many_spans(server, count=200_000):
+    """A store of so many traces with a span each, in bodies of a thousand."""
+    with server.client() as client:
+        for first in range(1, count, 1000):
+            client.ask(post_body(wire.batch("many", [wire.span(first + k, 1) for k in range(1000)])), 202)
+
+
+class Counting(threading.Thread):
+    """Asks for all traces of `many_spans`, and counts the bytes of the answer as fast as they come."""
+
+    def __init__(self, client):
+        super().__init__()
+        self.client = client
+        self.taken, self.size, self.ended = 0, None, False
+        self.start()
+
+    def run(self):
+        self.client.send(get("/api/traces?service=many&limit=0"))
+        head = b""
+        while b"\r\n\r\n" not in head:
+            head += self.client.socket.recv(4096)
+        top, _, body = head.partition(b"\r\n\r\n")
+        self.size = int(top.lower().partition(b"content-length: ")[2].split(b"\r\n")[0])
+        self.taken, room = len(body), bytearray(1 << 20)
+        while self.taken < self.size:
+            count = self.client.socket.recv_into(room)
+            if not count:
+                return
+            self.taken += count
+        self.ended = True
+
+
+ROOM_FOR_MANY = ["--batches", 1000, "--spans", 200_000]
+
+
 def quick_reader():
     """A client that takes a large answer as fast as it comes: the one worker answers another client before that answer ends."""
-    with Server("--port", 0, "--workers", 1) as server, server.client() as quick, server.client() as other:
+    with Server("--port", 0, "--workers", 1, *ROOM_FOR_MANY) as server, server.client() as quick, server.client() as other:
         other.ask(get("/api/x"), 404)
-        size = len(large_store(server, 1000))
-        quick.send(get("/api/traces/1"))
-        check(quick.more(), "the answer did not begin")
-        reader = threading.Thread(target=quick.response)
-        reader.start()
+        many_spans(server)
+        reader = Counting(quick)
+        while not reader.taken and reader.is_alive():
+            time.sleep(0.001)
         other.ask(get("/api/x"), 404)
-        taken = len(quick.input)
+        taken = reader.taken
         reader.join()
-        check(taken < size // 2, f"the other client was answered after {taken:,} of {size:,} bytes")
-        return f"answered after {taken:,} of {size:,} bytes"
+        check(reader.ended, "the large answer was cut")
+        check(taken < reader.size // 2, f"the other client was answered after {taken:,} of {reader.size:,} bytes")
+        return f"answered after {taken:,} of {reader.size:,} bytes"
 
 
 def store_with_long_names(server, count=300):
@@ -655,17 +690,17 @@ def many_at_once():
 
 def a_long_answer():
     """While its one worker makes an answer for longer than `--idle`, nobody counts as silent: not the client that asked, nor another one."""
-    with Server("--port", 0, "--workers", 1, "--idle", 1, "--batches", 1000, "--spans", 200_000) as server:
-        with server.client() as client:
-            for number in range(200):
-                client.ask(post_body(wire.batch("many", [wire.span(1 + 1000 * number + k, 1) for k in range(1000)])), 202)
+    with Server("--port", 0, "--workers", 1, "--idle", 2, *ROOM_FOR_MANY) as server:
+        many_spans(server)
         with server.client() as asking, server.client() as other:
             other.ask(get("/api/x"), 404)
-            asking.send(get("/api/traces?service=many&limit=0"))
+            reader = Counting(asking)
             time.sleep(0.05)
-            stop(server, 2.5)
+            stop(server, 4)
+            check(not reader.taken, "the answer began before the server was stopped: this case needs more spans")
             other.ask(get("/api/x"), 404)
-            check(len(asking.response().traces()) == 200_000, "the long answer was cut")
+            reader.join()
+            check(reader.ended, f"the long answer was cut after {reader.taken:,} of {reader.size:,} bytes")
 
 
 def stopped_and_continued(idle):

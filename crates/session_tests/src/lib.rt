@@ -1,9 +1,13 @@
-//! Tests of sessions: devices that fail, requests in pieces, and complete sessions over a store with one owner
-//! (`session_devices`, `http_requests`, `pipe_session` and the crates below it). `cases/` tests the bytes of sessions.
+//! Tests of sessions and of answers over HTTP (`query_json`, `query_http`, `session_devices`, `http_requests`,
+//! `http_session`, `pipe_session`, `open_connections`) that no case can be: devices that fail, requests in pieces,
+//! complete sessions over a store with one owner, and the memory for answers. `cases/` tests the bytes of sessions.
 //!
+//! * `responses`: the memory for a response.
+//! * `parts`: answers of more than 1 MB, in parts.
+//! * `answers`: the memory for the JSON of an answer and of an error, as text and as a tree.
 //! * `devices`: devices over memory, and over std's readers and writers.
-//! * `requests`: the next request of an input, every kind of end, and no unnecessary read.
-//! * `chunked`: requests with chunked bodies, and the same sessions as with a Content-Length.
+//! * `requests`: a request, or why it is malformed, without an unnecessary read.
+//! * `chunked`: chunked bodies, also the largest one, and the same responses as to a body with a Content-Length.
 //! * `pipes`: complete sessions, also with devices that fail at each call, and one in which memory runs out.
 //! * `refusals`: each refusal of a store as a response.
 //! * `large`: an answer that is sent in several parts, and an output that fails inside it.

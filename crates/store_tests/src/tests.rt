@@ -1,15 +1,17 @@
 //! The tests, by their subject, and what they share.
 
+mod adjusters;
 mod collisions;
 mod entries;
+mod histories;
 mod journals;
 mod large;
 mod limits;
-mod names;
 mod queries;
 mod replays;
 mod rings;
 mod sameness;
+mod searches;
 mod shown;
 mod stores;
 mod tables;

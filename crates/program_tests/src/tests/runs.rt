@@ -12,20 +12,7 @@ pub(crate) const HEAD: &str =
 
 pub(crate) const TAIL: &str = "080007000000010a000800000000000003e80a000900000000000000320000";
 
-/// The rest of that batch if it has the number 1.
-pub(crate) const NUMBERED: &str =
-    "080007000000010a000800000000000003e80a00090000000000000032000a0003000000000000000100";
-
-/// The rest of that batch if its span takes 51 microseconds instead of 50.
-pub(crate) const LONGER: &str =
-    "080007000000010a000800000000000003e80a00090000000000000033000a0003000000000000000100";
-
-/// A batch of service `a` without spans, except its stop byte.
-pub(crate) const OPEN: &str = "0c00010b00010000000161000f00020c00000000";
-
 pub(crate) const SPAN: &str = "0000000000000001 0000000000000002 1000 50 a op\n";
-
-pub(crate) const NONE: &str = "trace not found\n";
 
 /// Runs the words over the input, and checks the status and the output.
 pub(crate) fn check<H: Host + Net<Stream = TcpStream, Listener = TcpListener>>(

@@ -127,29 +127,46 @@ fn is_same<R: Threads + Wait + Abort + RandomSource + Sync>(
     Ok(!live.as_slice().is_empty() && live.as_slice() == direct.as_slice())
 }
 
+/// The number of batches that a store has room for, and what is sent.
+const SESSIONS: [(u32, &[&[u8]]); 8] = [
+    (1000, &[UNTYPED, BATCH]),
+    (1000, &[NOWHERE]),
+    (1000, &[DELETE, SERVICES]),
+    (1000, &[CUT, SERVICES]),
+    (1, &[POST, BATCH, POST, BATCH, SERVICES]),
+    (1000, &[POST, BATCH, TRACE, SERVICES]),
+    (
+        1000,
+        &[
+            POST_NUMBERED,
+            NUMBERED,
+            POST_NUMBERED,
+            NUMBERED,
+            POST_NUMBERED,
+            RENUMBERED,
+            TRACE,
+        ],
+    ),
+    (
+        1,
+        &[
+            POST_NUMBERED,
+            NUMBERED,
+            POST_NUMBERED,
+            NUMBERED,
+            POST,
+            BATCH,
+            TRACE,
+        ],
+    ),
+];
+
+/// The last two sessions send a numbered batch again: with another one, and to a full store.
 #[test]
 fn pipe_through_live(rt: HostRuntime) -> Result<(), Fail> {
-    let alloc = rt.alloc();
-    let many = Limits::new(1000, 100_000, 0, 0).expect(&rt, "limits");
-    let one = Limits::new(1, 100_000, 0, 0).expect(&rt, "limits");
-    assert!(rt; is_same(&rt, alloc, many, &[UNTYPED, BATCH])?);
-    assert!(rt; is_same(&rt, alloc, many, &[NOWHERE])?);
-    assert!(rt; is_same(&rt, alloc, many, &[DELETE, SERVICES])?);
-    assert!(rt; is_same(&rt, alloc, many, &[CUT, SERVICES])?);
-    assert!(rt; is_same(&rt, alloc, one, &[POST, BATCH, POST, BATCH, SERVICES])?);
-    assert!(rt; is_same(&rt, alloc, many, &[POST, BATCH, TRACE, SERVICES])?);
-    Ok(())
-}
-
-#[test]
-fn resent_through_live(rt: HostRuntime) -> Result<(), Fail> {
-    let alloc = rt.alloc();
-    let many = Limits::new(1000, 100_000, 0, 0).expect(&rt, "limits");
-    let one = Limits::new(1, 100_000, 0, 0).expect(&rt, "limits");
-    let first = joined(alloc, &[POST_NUMBERED, NUMBERED])?;
-    let other = joined(alloc, &[POST_NUMBERED, RENUMBERED])?;
-    let (first, other) = (first.as_slice(), other.as_slice());
-    assert!(rt; is_same(&rt, alloc, many, &[first, first, other, TRACE])?);
-    assert!(rt; is_same(&rt, alloc, one, &[first, first, POST, BATCH, TRACE])?);
+    for (batches, sent) in SESSIONS {
+        let limits = Limits::new(batches, 100_000, 0, 0).expect(&rt, "limits");
+        assert!(rt; is_same(&rt, rt.alloc(), limits, sent)?);
+    }
     Ok(())
 }

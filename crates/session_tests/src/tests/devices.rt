@@ -1,39 +1,13 @@
-use session_devices::{Failed, Input, MemoryInput, MemoryOutput, Output, Watched};
+use session_devices::{Input, MemoryOutput, Output, Watched};
 use std::io::{Read, Write};
 use std::test::*;
 
+/// A device over memory takes a part of what is written. Those of std don't report a failure.
 #[test]
-fn memory_in_steps(rt: HostRuntime) -> Result<(), Fail> {
-    let mut input = MemoryInput::new(b"abcde", 2, 4);
-    let mut buf = [0u8; 4];
-    assert_eq!(rt; input.read(&mut buf), Ok(2));
-    assert!(rt; &buf[..2] == b"ab".as_slice());
-    assert_eq!(rt; input.read(&mut buf[..1]), Ok(1));
-    assert_eq!(rt; input.read(&mut buf), Ok(2));
-    assert!(rt; &buf[..2] == b"de".as_slice());
-    assert!(rt; !input.failed());
-    assert_eq!(rt; input.read(&mut buf), Err(Failed));
-    assert!(rt; input.failed());
-    assert_eq!(rt; input.read(&mut buf), Ok(0));
-    assert!(rt; input.failed());
-    Ok(())
-}
-
-#[test]
-fn memory_up_to_its_room(rt: HostRuntime) -> Result<(), Fail> {
+fn memory_and_std_devices(rt: HostRuntime) -> Result<(), Fail> {
     let mut output = MemoryOutput::new(rt.alloc(), 3, 2);
-    assert_eq!(rt; output.write(b""), Ok(0));
-    assert_eq!(rt; output.write(b"abcd"), Ok(2));
-    assert_eq!(rt; output.write(b"cd"), Ok(1));
-    assert!(rt; !output.failed());
-    assert_eq!(rt; output.write(b"d"), Err(Failed));
-    assert!(rt; output.failed());
-    assert!(rt; output.as_slice() == b"abc".as_slice());
-    Ok(())
-}
-
-#[test]
-fn std_devices_watched(rt: HostRuntime) -> Result<(), Fail> {
+    assert_eq!(rt; Output::write(&mut output, b"abcd"), Ok(2));
+    assert!(rt; !Output::failed(&output));
     let bytes: &[u8] = b"abc";
     let mut input = Watched::new(bytes);
     let mut buf = [0u8; 2];

@@ -11,8 +11,7 @@ use std::test::*;
 use trace_model::{Entry, Limits};
 use trace_samples::beside;
 use trace_samples::exchanges::{
-    ACCEPTED, BATCH, CONFLICT, NO_SERVICES, NUMBERED, ONE_SERVICE, ONE_SPAN, POST, POST_NUMBERED,
-    RENUMBERED, SERVICES, TRACE,
+    ACCEPTED, BATCH, NO_SERVICES, ONE_SERVICE, ONE_SPAN, POST, SERVICES, TRACE,
 };
 
 const NO_TRACE: &[u8] =
@@ -34,19 +33,6 @@ const ROWS_SHORT_OF_MEMORY: [[&[u8]; 3]; 4] = [
     [ACCEPTED, NO_MEMORY, ONE_SPAN],
     [ACCEPTED, ONE_SERVICE, NO_MEMORY],
 ];
-
-/// A batch with a number, the same batch, and one with its number and other spans.
-const SENT_AGAIN: &[&[u8]] = &[
-    POST_NUMBERED,
-    NUMBERED,
-    POST_NUMBERED,
-    NUMBERED,
-    POST_NUMBERED,
-    RENUMBERED,
-];
-
-/// The responses to them.
-const TWO_ACCEPTED: &[&[u8]] = &[ACCEPTED, ACCEPTED, CONFLICT];
 
 /// Concatenates the parts.
 pub(crate) fn joined(alloc: Global, parts: &[&[u8]]) -> Result<Vec<u8>, Fail> {
@@ -185,27 +171,6 @@ fn one_byte_a_call(rt: HostRuntime) -> Result<(), Fail> {
     Ok(())
 }
 
-/// Returns whether a session with a batch that is sent again answers it, and keeps one entry.
-fn is_kept_once(alloc: Global, keys: RandomState, step: usize) -> Result<bool, Fail> {
-    let bytes = joined(alloc, SENT_AGAIN)?;
-    let wanted = joined(alloc, TWO_ACCEPTED)?;
-    let played = played(alloc, keys, bytes.as_slice(), (step, 0), (10_000, step))?;
-    Ok(
-        played.ended == Ok(ALL_ANSWERED)
-            && played.output.as_slice() == wanted.as_slice()
-            && played.entries == 1,
-    )
-}
-
-#[test]
-fn one_entry_of_a_batch_sent_again(rt: HostRuntime) -> Result<(), Fail> {
-    let keys = RandomState::new(&rt)?;
-    for step in [1, 10_000] {
-        assert!(rt; is_kept_once(rt.alloc(), keys, step)?);
-    }
-    Ok(())
-}
-
 /// Returns whether what was read is answered if the input fails at a certain call.
 fn is_read_before(
     alloc: Global,
@@ -289,28 +254,6 @@ fn first_unwritten(alloc: Global, keys: RandomState) -> Result<Option<usize>, Fa
 fn a_writer_that_fails_after_each_byte(rt: HostRuntime) -> Result<(), Fail> {
     let keys = RandomState::new(&rt)?;
     assert_eq!(rt; first_unwritten(rt.alloc(), keys)?, None);
-    Ok(())
-}
-
-/// Returns whether a session with this room stopped after these numbers of responses and bytes, and the store has the
-/// batch.
-fn is_stopped(
-    alloc: Global,
-    keys: RandomState,
-    room: usize,
-    written: (u64, u64),
-) -> Result<bool, Fail> {
-    let bytes = three_requests(alloc)?;
-    let played = played(alloc, keys, bytes.as_slice(), (10_000, 0), (room, 10_000))?;
-    Ok(played.ended == Err(unwritten(written)) && played.has_the_batch)
-}
-
-/// A response of 44 bytes that is cut, and one after it.
-#[test]
-fn a_writer_that_takes_20_or_54_bytes(rt: HostRuntime) -> Result<(), Fail> {
-    let keys = RandomState::new(&rt)?;
-    assert!(rt; is_stopped(rt.alloc(), keys, 20, (0, 20))?);
-    assert!(rt; is_stopped(rt.alloc(), keys, 54, (1, 10))?);
     Ok(())
 }
 

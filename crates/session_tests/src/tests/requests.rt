@@ -89,109 +89,70 @@ fn is_ended(front: &Result<ReadOutcome, ReadError>, fault: Option<RequestFault>)
     }
 }
 
-/// Returns whether these bytes, read `step` at a time, are a request, or malformed for this reason.
-pub(crate) fn has_end(
-    alloc: Global,
-    bytes: &[u8],
-    step: usize,
-    fault: Option<RequestFault>,
-) -> bool {
-    let front = look(alloc, bytes, step);
+/// Returns whether these bytes are a request, or malformed for this reason, without an unnecessary read. There is one
+/// read for each byte, and `ends` that find the end. The next one would fail.
+fn is_decided(alloc: Global, bytes: &[u8], ends: u64, fault: Option<RequestFault>) -> bool {
+    let reads = (bytes.len() as u64).saturating_add(ends);
+    let front = look_in(alloc, MemoryInput::new(bytes, 1, reads.saturating_add(1)));
     let said = is_ended(&front, fault);
     drop(front);
     said
 }
 
-/// Returns whether no bytes are a clean end.
-fn is_clean(alloc: Global) -> bool {
-    let front = look(alloc, b"", 1);
-    let said = matches!(&front, Ok(ReadOutcome::Clean));
-    drop(front);
-    said
-}
-
-const ENDS: [(&[u8], Option<RequestFault>); 18] = [
-    (b"GET / HTTP/1.1\nContent-Length: 3\n\nabc", None),
+/// Bytes that are decided before the input ends, and why they are malformed, or `None` for a request.
+const NOT_TOO_MANY: [(&[u8], Option<RequestFault>); 37] = [
+    (b"GET / HTTP/1.1\r\n\r\n", None),
+    (b"GET / HTTP/1.1\nContent-Length: 0\n\n", None),
     (
         b"\r\n\r\nGET / HTTP/1.0\r\nconnection: x, Close\r\n\r\n",
         None,
     ),
-    (
-        b"GET / HTTP/1.1\r\nContent-Length: 3\r\n\r\nab",
-        Some(RequestFault::Body),
-    ),
-    (
-        b"GET / HTTP/1.1\r\nContent-Length: 3\r\ncontent-length: 3\r\n\r\nabc",
-        Some(RequestFault::Body),
-    ),
-    (
-        b"GET / HTTP/1.1\r\nContent-Length: +3\r\n\r\nabc",
-        Some(RequestFault::Body),
-    ),
-    (
-        b"GET / HTTP/1.1\r\nContent-Length: 4194305\r\n\r\n",
-        Some(RequestFault::TooLarge),
-    ),
-    (b"GET / HTTP/1.1\r\nContent-Len", Some(RequestFault::Head)),
-    (b"\r\n", Some(RequestFault::Head)),
-    (
-        b"GET / HTTP/1.1\r\nContent-Length:\r\n\r\n",
-        Some(RequestFault::Body),
-    ),
-    (
-        b"GET / HTTP/1.1\r\nContent-Length: +0\r\n\r\n",
-        Some(RequestFault::Body),
-    ),
-    (
-        b"GET / HTTP/1.1\r\nContent-Length: 0, 0\r\n\r\n",
-        Some(RequestFault::Body),
-    ),
-    (
-        b"GET / HTTP/1.1\r\nContent-Length: 00000000000000000000\r\n\r\n",
-        Some(RequestFault::Body),
-    ),
+    (b"POST / HTTP/1.1\r\nContent-Length: 3\r\n\r\nabc", None),
+    (b"GET / HTTP/2\r\n", Some(RequestFault::Head)),
     (b"GET / HTTP/1.2\r\n\r\n", Some(RequestFault::Head)),
     (b"GET / HTTP/2.0\r\n\r\n", Some(RequestFault::Head)),
+    (b"GET  / HTTP/1.1\r\n\r\n", Some(RequestFault::Head)),
+    (b"GET / HTTP/1.1\r\na b\r\n", Some(RequestFault::Head)),
     (
         b"GET / HTTP/1.1\r\na: \x01\r\n\r\n",
         Some(RequestFault::Head),
     ),
     (b"GET / HTTP/1.1\r\n: b\r\n\r\n", Some(RequestFault::Head)),
     (b"GET / HTTP/1.1\r\nA : b\r\n\r\n", Some(RequestFault::Head)),
-    (b"GET  / HTTP/1.1\r\n\r\n", Some(RequestFault::Head)),
-];
-
-#[test]
-fn each_end(rt: HostRuntime) {
-    for (bytes, fault) in &ENDS {
-        for step in [1, 10_000] {
-            assert!(rt; has_end(rt.alloc(), bytes, step, *fault), "{bytes:?}");
-        }
-    }
-    assert!(rt; is_clean(rt.alloc()));
-}
-
-/// Returns whether these bytes are a request, or malformed for this reason, without a read for more: the input returns
-/// them one at a time and fails when it is asked for more.
-fn is_decided(alloc: Global, bytes: &[u8], fault: Option<RequestFault>) -> bool {
-    let front = look_in(alloc, MemoryInput::new(bytes, 1, bytes.len() as u64 + 1));
-    let said = is_ended(&front, fault);
-    drop(front);
-    said
-}
-
-const NOT_TOO_MANY: [(&[u8], Option<RequestFault>); 11] = [
-    (b"GET / HTTP/1.1\r\n\r\n", None),
-    (b"GET / HTTP/1.1\nContent-Length: 0\n\n", None),
-    (b"POST / HTTP/1.1\r\nContent-Length: 3\r\n\r\nabc", None),
-    (b"GET / HTTP/2\r\n", Some(RequestFault::Head)),
-    (b"GET / HTTP/1.1\r\na b\r\n", Some(RequestFault::Head)),
     (
         b"POST / HTTP/1.1\r\nContent-Length: 4194305\r\n\r\n",
         Some(RequestFault::TooLarge),
     ),
     (
         b"POST / HTTP/1.1\r\nContent-Length: +3\r\n\r\n",
+        Some(RequestFault::Body),
+    ),
+    (
+        b"POST / HTTP/1.1\r\nContent-Length: +0\r\n\r\n",
+        Some(RequestFault::Body),
+    ),
+    (
+        b"POST / HTTP/1.1\r\nContent-Length: 0, 0\r\n\r\n",
+        Some(RequestFault::Body),
+    ),
+    (
+        b"POST / HTTP/1.1\r\nContent-Length:\r\n\r\n",
+        Some(RequestFault::Body),
+    ),
+    (
+        b"POST / HTTP/1.1\r\nContent-Length: 00000000000000000000\r\n\r\n",
+        Some(RequestFault::Body),
+    ),
+    (
+        b"POST / HTTP/1.1\r\nTransfer-Encoding:\r\n\r\n",
+        Some(RequestFault::Body),
+    ),
+    (
+        b"POST / HTTP/1.1\r\nTransfer-Encoding: identity\r\n\r\n",
+        Some(RequestFault::Body),
+    ),
+    (
+        b"POST / HTTP/1.1\r\nContent-Length: 0\r\nTransfer-Encoding: chunked\r\n\r\n",
         Some(RequestFault::Body),
     ),
     (
@@ -203,18 +164,107 @@ const NOT_TOO_MANY: [(&[u8], Option<RequestFault>); 11] = [
         Some(RequestFault::Body),
     ),
     (
+        b"POST / HTTP/1.1\r\nTransfer-Encoding: chunked\r\n\r\n\r\n",
+        Some(RequestFault::Body),
+    ),
+    (
+        b"POST / HTTP/1.1\r\nTransfer-Encoding: chunked\r\n\r\n;x\r\n\r\n",
+        Some(RequestFault::Body),
+    ),
+    (
+        b"POST / HTTP/1.1\r\nTransfer-Encoding: chunked\r\n\r\n-1\r\n",
+        Some(RequestFault::Body),
+    ),
+    (
+        b"POST / HTTP/1.1\r\nTransfer-Encoding: chunked\r\n\r\n 1\r\n",
+        Some(RequestFault::Body),
+    ),
+    (
+        b"POST / HTTP/1.1\r\nTransfer-Encoding: chunked\r\n\r\n1\nx\r\n",
+        Some(RequestFault::Body),
+    ),
+    (
+        b"POST / HTTP/1.1\r\nTransfer-Encoding: chunked\r\n\r\n1;a\nb\r\n",
+        Some(RequestFault::Body),
+    ),
+    (
+        b"POST / HTTP/1.1\r\nTransfer-Encoding: chunked\r\n\r\n10000000000000000\r\n",
+        Some(RequestFault::Body),
+    ),
+    (
         b"POST / HTTP/1.1\r\nTransfer-Encoding: chunked\r\n\r\n3\r\nabcd",
+        Some(RequestFault::Body),
+    ),
+    (
+        b"POST / HTTP/1.1\r\nTransfer-Encoding: chunked\r\n\r\n3\r\nabc\n",
+        Some(RequestFault::Body),
+    ),
+    (
+        b"POST / HTTP/1.1\r\nTransfer-Encoding: chunked\r\n\r\n0\r\nA b\r\n\r\n",
         Some(RequestFault::Body),
     ),
     (
         b"POST / HTTP/1.1\r\nTransfer-Encoding: chunked\r\n\r\n400001\r\n",
         Some(RequestFault::TooLarge),
     ),
+    (
+        b"POST / HTTP/1.1\r\nTransfer-Encoding: chunked\r\n\r\n1\r\nx\r\n400000\r\n",
+        Some(RequestFault::TooLarge),
+    ),
+    (
+        b"POST / HTTP/1.1\r\nTransfer-Encoding: chunked\r\n\r\nffffffffffffffff\r\n",
+        Some(RequestFault::TooLarge),
+    ),
+    (
+        b"POST / HTTP/1.1\r\nTransfer-Encoding: chunked\r\n\r\n2\r\nab\r\nfffffffffffffffe\r\n",
+        Some(RequestFault::TooLarge),
+    ),
+];
+
+/// Bytes that are malformed because the input ends after them.
+const CUT_SHORT: [(&[u8], RequestFault); 10] = [
+    (b"\r\n", RequestFault::Head),
+    (b"GET / HTTP/1.1\r\nContent-Len", RequestFault::Head),
+    (
+        b"POST / HTTP/1.1\r\nContent-Length: 3\r\n\r\nab",
+        RequestFault::Body,
+    ),
+    (
+        b"POST / HTTP/1.1\r\nTransfer-Encoding: chunked\r\n\r\n",
+        RequestFault::Body,
+    ),
+    (
+        b"POST / HTTP/1.1\r\nTransfer-Encoding: chunked\r\n\r\n3\r\nab",
+        RequestFault::Body,
+    ),
+    (
+        b"POST / HTTP/1.1\r\nTransfer-Encoding: chunked\r\n\r\n3\r\nabc",
+        RequestFault::Body,
+    ),
+    (
+        b"POST / HTTP/1.1\r\nTransfer-Encoding: chunked\r\n\r\n3\r\nabc\r",
+        RequestFault::Body,
+    ),
+    (
+        b"POST / HTTP/1.1\r\nTransfer-Encoding: chunked\r\n\r\n3\r\nabc\r\n",
+        RequestFault::Body,
+    ),
+    (
+        b"POST / HTTP/1.1\r\nTransfer-Encoding: chunked\r\n\r\n0\r\n",
+        RequestFault::Body,
+    ),
+    (
+        b"POST / HTTP/1.1\r\nTransfer-Encoding: chunked\r\n\r\n0\r\nA: b\r\n",
+        RequestFault::Body,
+    ),
 ];
 
 #[test]
 fn no_read_too_many(rt: HostRuntime) {
     for (bytes, fault) in &NOT_TOO_MANY {
-        assert!(rt; is_decided(rt.alloc(), bytes, *fault), "{bytes:?}");
+        assert!(rt; is_decided(rt.alloc(), bytes, 0, *fault), "{bytes:?}");
+    }
+    for (bytes, fault) in &CUT_SHORT {
+        assert!(rt; is_decided(rt.alloc(), bytes, 1, Some(*fault)), "{bytes:?}");
     }
 }

@@ -1,5 +1,0 @@
-use Rattle.intake_tests.proofs.tests.rows.plays.Given as goal
-
--- the store that was just opened
-abbrev pub ghosts-played : goal.ghosts-played
-ghosts-played g a = record { book = a.name.seen.book; limits = a.limits }

@@ -1,8 +1,0 @@
-//! The tests, by their subject, and what they share.
-
-mod closed;
-mod ending;
-mod fixture;
-mod limits;
-mod resent;
-mod rows;

@@ -1,0 +1,5 @@
+use Rattle.thread_tests.proofs.tests.submitting.rows.plays.Given as goal
+
+-- the store that was just opened
+abbrev pub ghosts-played : goal.ghosts-played
+ghosts-played g a = record { book = a.name.seen.book; limits = a.limits }

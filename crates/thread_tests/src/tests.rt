@@ -1,0 +1,4 @@
+//! The tests, by their subject.
+
+mod reading;
+mod submitting;

@@ -1,7 +1,0 @@
-//! The tests, by their subject, and what they share.
-
-mod answers;
-mod parts;
-mod responses;
-mod script_lines;
-mod targets;
