@@ -11,6 +11,7 @@ A comparison is printed as how many times as good `jaeger_one` is: 2 is twice th
 below 1 the other one is better. A difference that is no larger than the series' `noise` is printed as such.
 """
 import datetime
+import glob
 import math
 import os
 import re
@@ -652,7 +653,11 @@ def gate_quotes(found):
     tried, now, by_clock = found.of("gate", "the whole from nothing, commit 43f411d3, kit 13b, four cores of 2.5 GHz, beside up to eight other jobs")
     yield "docs/MAINTAINING.md", f"An earlier version with its {edits} wrong bodies took {processor} and {clock}, also beside other work"
     yield "docs/MAINTAINING.md", f"with its {tried} wrong bodies took {now} minutes of a processor and {by_clock} by the clock"
-    yield "README.md", f"tries {tried} mutants"
+    product, tests = (found.of("gate", name)[1] for name in ("the product, commit 735a13fa, kit 13f, in parts, six to eight jobs on four cores of 2.5 GHz",
+                                                             "the tests, the same"))
+    edits, processor, _ = found.of("gate", "the wrong bodies, the same")
+    yield "docs/MAINTAINING.md", f"the product {product} minutes of a processor, the tests {tests}, the {edits} wrong bodies"
+    yield "README.md", f"tries {len(glob.glob('crates/*/must-fail/*.edit', root_dir=results.ROOT))} mutants"
     yield "README.md", f"{by_clock} minutes on four cores of 2.5 GHz, beside other jobs"
     least, most = found.of("proofs", "a test crate before its first test")
     once, often = found.of("proofs", "a public function whose contract names much, once a crate")
