@@ -8,7 +8,9 @@ A table is the text between `<!-- results: NAME -->` and `<!-- end of results --
 sentences that quote a figure are in `quotes` below: the pages must have them word for word. Plots are in bench/plots/.
 
 A comparison is printed as how many times as good `jaeger_one` is: 2 is twice the rate, or half of the time or memory, and
-below 1 the other one is better. A difference that is no larger than the series' `noise` is printed as such.
+below 1 the other one is better. A difference that is no larger than the series' `noise` is printed as such. If the series
+`serve` has `runs`, its ratios of spans a second over several runs by spans held, writers and run, their range is printed instead.
+Both are written by hand.
 """
 import datetime
 import glob
@@ -73,6 +75,10 @@ def span(values, form=two):
     return texts[0] if texts[0] == texts[-1] else f"{texts[0]} to {texts[-1]}"
 
 
+def two_places(value):
+    return f"{value:.2f}"
+
+
 def cell(value):
     """A value as it was printed; `-` where there is none."""
     if value is None:
@@ -129,6 +135,14 @@ class Results:
         """These over all sizes and these numbers of writers, as text."""
         found = [self.gain(what, number, held) for number in writers for held in SIZES]
         return f"{span(found)}, {NOISE}" if all(map(self.is_noise, found)) else span(found)
+
+    def gains_alone(self, *writers):
+        """Those of spans a second while nobody reads: over all runs, if they were written down, else of the one run."""
+        runs = self.series["serve"].get("runs")
+        if not runs:
+            return self.gains(ALONE, *writers)
+        ratios = [ratio for of_size in runs.values() for number in writers for ratio in of_size[WRITERS.index(number)]]
+        return f"{span(ratios, two_places)}, in {len(runs[str(SIZES[0])][0])} runs"
 
     def rates(self, what, writers):
         return span([self.of("serve", what, writers, held)[0] for held in SIZES], cell)
@@ -243,7 +257,7 @@ def heavy(found):
     if not has_quarters(found):
         return heavy_of_halves(found)
     heads = ["Body, then what is asked", "MB in", "MB out", "Million instructions: a quarter, half, the whole", "Ratios", "MB of memory", "Ratios",
-             "Memory of bytes sent", "Bars of the ratios"]
+             "Memory of bytes sent", "Limits of the ratios"]
     rows = ([it[0], f"{it[1]:.2f}", f"{it[2]:.2f}", *(", ".join(map(cell, it[first:end])) for first, end in ((3, 6), (6, 8), (8, 11), (11, 13))),
              cell(it[13]), ", ".join(map(cell, it[14:16]))] for it in found.rows("heavy"))
     return table(heads, rows) + found.caption("heavy")
@@ -372,8 +386,8 @@ def decoders(found):
     return [two(found.of("compare --count", name) / mine) for name in ("rust", "apache")]
 
 
-def by_writers(found, what):
-    return "; ".join(f"{word} {found.gains(what, writers)}" for word, writers in zip(("one writer", "two", "four", "eight"), WRITERS))
+def by_writers(gains):
+    return "; ".join(f"{word} {gains(writers)}" for word, writers in zip(("one writer", "two", "four", "eight"), WRITERS))
 
 
 def looks(found):
@@ -386,8 +400,8 @@ def glance_beside(found):
     search = {name: two(scan / store) for name, _, store, scan in found.rows("searches")}
     rows = [
         ["decoding, by instructions", f"{rust} of plain Rust; {apache} of Apache Thrift's C++, which checks no UTF-8", "`compare.py --count`"],
-        ["spans that `serve` takes in a second", by_writers(found, ALONE), "`serve.py`"],
-        ["the same for a second of the server's processors", by_writers(found, COST), "`serve.py`"],
+        ["spans that `serve` takes in a second", by_writers(found.gains_alone), "`serve.py`"],
+        ["the same for a second of the server's processors, in the last run", by_writers(lambda writers: found.gains(COST, writers)), "`serve.py`"],
         ["spans taken in a second beside two readers at full speed", found.gains(BESIDE, *WRITERS), "`serve.py`"],
         ["a POST then, p99", f"up to four writers {found.gains(POST, 1, 2, 4)}; eight {found.gains(POST, 8)}", "`serve.py`"],
         ["a trace by its id, nobody writing, processor time", found.gains(ONE, 0), "`serve.py`"],
@@ -458,7 +472,7 @@ def speed(found):
     """The README's table."""
     def of_both(what, writers):
         sides = (span([found.of("serve", what, writers, size)[at] for size in SIZES], cell) for at in (0, 1))
-        return [*sides, found.gains(what, writers)]
+        return [*sides, found.gains_alone(writers) if what == ALONE else found.gains(what, writers)]
 
     _, store_ms, scan_ms = found.of("searches", "20 of a common service, with JSON")
     per_span = ", ".join(f"{found.of('memory', 100_000, tags)[2]:,} with {tags}" for tags in (1, 5, 10))
@@ -497,7 +511,7 @@ def operating_memory(found):
         for in_batch in IN_BATCH:
             by_turns = [bytes_of(process_tags, tags, in_batch, CONNECTIONS[1]) for process_tags in PROCESS_TAGS]
             rows.append([cell(tags), cell(in_batch), bytes_of(PROCESS_TAGS[0], tags, in_batch, CONNECTIONS[0]), *by_turns])
-    heads = ["Tags a span", "Spans a batch", "One process", "Twenty by turns, of 4 tags each", *(f"of {process_tags}" for process_tags in PROCESS_TAGS[1:])]
+    heads = ["Tags a span", "Spans a batch", "One process", "20 processes in turn, of 4 tags each", *(f"of {process_tags}" for process_tags in PROCESS_TAGS[1:])]
     return table(heads, rows) + found.caption("memory --process-tags", MACHINES)
 
 
@@ -543,8 +557,14 @@ def operating_most(found):
 
 def at_start():
     """The bytes a span with one tag and with five, by which `serve` reckons in the line at its start."""
-    source = read("crates/trace_server/src/notices.rt")
+    source = read("crates/server_notices/src/starting.rt")
     return [int(re.search(rf"const BYTES_WITH_{word}: u64 = (\d+);", source)[1]) for word in ("ONE_TAG", "FIVE_TAGS")]
+
+
+def most_waiting():
+    """The bytes of responses that may wait at a worker."""
+    number, bits = re.search(r"const MAX_WAITING_BYTES: usize = (\d+) << (\d+);", read("crates/trace_server/src/event_loop.rt")).groups()
+    return int(number) << int(bits)
 
 
 TABLES = {name: it for name, it in globals().items() if name in (
@@ -555,8 +575,19 @@ TABLES = {name: it for name, it in globals().items() if name in (
 def quotes(found):
     """The sentences that quote figures, with their pages."""
     noise = ("bench/README.md", f"the ratios of the rounds of `serve.py` differ by up to {found.series['serve']['noise']} of themselves")
-    return [noise, *unplaced(found), held_quote(found), itself_quote(found), core_quote(found), *memory_quotes(found), *connection_quotes(found),
+    return [noise, *runs_quote(found), *unplaced(found), held_quote(found), itself_quote(found), core_quote(found), *memory_quotes(found), *connection_quotes(found),
             *gate_quotes(found)]
+
+
+def runs_quote(found):
+    """The ratios of spans a second of each run. The numbers of writers are named at the first size alone."""
+    said = []
+    for size, of_size in found.series["serve"].get("runs", {}).items():
+        names = [""] * len(WRITERS) if said else [" with one writer", " with two", " with four", " with eight"]
+        listed = "; ".join(", ".join(map(two_places, ratios)) + name for ratios, name in zip(of_size, names))
+        said.append(f"at {int(size):,} held {listed}")
+    if said:
+        yield FIGURES, "; ".join(said)
 
 
 def unplaced(found):
@@ -586,10 +617,10 @@ def itself_quote(found):
 
 
 def core_quote(found):
-    """How many spans a core is reckoned to take."""
+    """How many spans a core takes by estimate."""
     costs = span_costs(found)
-    return ("docs/operating.md", f"A span takes [{span(costs, cell)} microseconds of CPU](../bench/figures.md#servepy) in batches of ten, so one core is "
-            f"reckoned to take {span([1e6 / cost for cost in costs])} spans a second")
+    return ("docs/operating.md", f"A span takes [{span(costs, cell)} microseconds of CPU](../bench/figures.md#servepy) in batches of ten, so one core takes "
+            f"{span([1e6 / cost for cost in costs])} spans a second by estimate")
 
 
 def memory_quotes(found):
@@ -599,7 +630,7 @@ def memory_quotes(found):
     of_processes = found.rows("memory --process-tags")
     yield page, f"An empty server takes {found.of('memory', 0, 1)[1]:.0f} MB"
     of_bytes = [it[-2] for it in of_processes] + [it[3] / it[2] for it in found.rows("memory") if it[0] == 100_000]
-    yield page, f"reckon with {min(of_bytes):.1f} to {max(of_bytes):.1f} times the bytes that come"
+    yield page, f"take {min(of_bytes):.1f} to {max(of_bytes):.1f} times the bytes that come"
     yield page, f"spans * ({OF_SPAN} + {OF_TAG} * tags of a span) + batches * ({OF_BATCH} + {OF_PROCESS_TAG} * tags of a process)"
     yield page, f"= {megabytes(reckoned(2_880_000, 5, 576_000, 4) / 1e6)}"
     yield page, f"so with {reckoned(10, 5, 1, 4) / 10:.0f} bytes a span"
@@ -607,26 +638,30 @@ def memory_quotes(found):
     worst = worst_tags(found)
     yield page, f"times {worst:.1f}, the most bytes of memory that were measured for each byte of a body of tags"
     yield page, f"times {worst:.1f}: {megabytes(1024 * 4_194_304 * worst / 1e6)} with the defaults"
+    small, large = (megabytes(1000 * body * worst / 1e6) for body in (1_048_576, 4_194_304))
+    yield "docs/serve.md", (f"for 1,000 batches expect [up to {small}](operating.md#what-else-takes-memory-and-the-most) with bodies of at most 1 MB, and up to {large} at "
+                            "the server's own limit")
+    yield "README.md", f"take [{found.of('memory', 100_000, 1)[1]} MB (one tag) to {found.of('memory', 100_000, 10)[1]} MB (ten tags)]"
     start = at_start()
     told = [f"{-(-100_000 * each // 1_000_000)} MB" for each in start]
     small = max(found.of("memory --process-tags", PROCESS_TAGS[-1], tags, 1, 20)[2] / each for tags, each in zip(TAGS, start))
     more = f"more if tags are long, up to {math.ceil(small)} times with one span a batch and twenty process tags"
     yield page, f"`that may take {told[0]} with one tag a span, {told[1]} with five; {more}`"
-    yield page, f"reckoned at {start[0]} and {start[1]} bytes a span"
+    yield page, f"at {start[0]} and {start[1]} bytes a span"
     answer = span([it[-1] * 10 for it in (one, five)])
     single = two(max(it[-1] for it in of_processes if it[2] == 1) * 10)
-    yield page, f"| of more | {answer} bytes for each span, or {single} where each trace has one span; and 272 KB |"
+    yield page, f"| of more | {answer} bytes for each span, or {single} if each trace has one span; and 272 KB |"
     yield from shipped_quotes()
 
 
 def shipped_quotes():
-    """What the files of deploy/ say of their limits, and that these are safe."""
+    """What a page says of the limits of the files of deploy/, which are the same, and that these are safe."""
     for path, form in SHIPPED.items():
         text = read(path).replace('"', "").replace(",", "")
         batches, spans = (int(re.search(rf"--{name} (\d+)", text)[1]) for name in ("batches", "spans"))
         limit = int(re.search(form, text)[1]) << 30
         most = reckoned(spans, 10, batches, 20)
-        yield path, f"{spans:,} spans of ten tags in {batches:,} batches of processes with twenty tags are reckoned at {most / 1e9:.1f} GB"
+        yield "docs/operating.md", f"{spans:,} spans of ten tags in {batches:,} batches of processes with twenty tags take {most / 1e9:.1f} GB"
         if most > 0.85 * limit:
             yield path, f"a limit of memory that leaves a seventh beside {most / 1e9:.1f} GB"
 
@@ -638,12 +673,12 @@ def connection_quotes(found):
 
     read = at("slow readers", 1000, "bytes a span of an answer")
     texts = [found.of("memory", 100_000, 5)[3] * 10, float(at("slow readers", 1000, "bytes of text a span"))]
-    waits = [f"{two(2e9 / text * float(read) / 1e6)} MB" for text in texts]
+    waits = [f"{two(most_waiting() / text * float(read) / 1e6)} MB" for text in texts]
     yield "docs/serve.md", f"| connected, and silent so far | {at('silent', 10_000, 'bytes a connection')} bytes |"
     yield "docs/serve.md", f"| silent after a request | {at('parked', 5000, 'bytes a connection')} bytes |"
     yield "docs/serve.md", f"| the same, with 1,000 clients instead of 5,000 | {at('parked', 1000, 'bytes a connection')} bytes |"
-    yield "docs/serve.md", f"and {read} bytes for each span of a larger one"
-    yield "docs/serve.md", f"which takes {waits[0]} (spans with five tags) to {waits[1]} (spans without tags)"
+    yield "docs/operating.md", f"which takes {waits[0]} (spans with five tags) to {waits[1]} (spans without tags)"
+    yield "docs/operating.md", f"268 MB of text and {waits[1]} of what isn't text yet"
     yield "docs/operating.md", f"and 272 KB | {read} bytes for each span, and 272 KB |"
 
 
@@ -657,7 +692,7 @@ def gate_quotes(found):
                                                              "the tests, the same"))
     edits, processor, _ = found.of("gate", "the wrong bodies, the same")
     yield "docs/MAINTAINING.md", f"the product {product} minutes of a processor, the tests {tests}, the {edits} wrong bodies"
-    yield "README.md", f"tries {len(glob.glob('crates/*/must-fail/*.edit', root_dir=results.ROOT))} mutants"
+    yield "README.md", f"tries {len(glob.glob('crates/*/must-fail/*.edit', root_dir=results.ROOT))} wrong bodies"
     yield "README.md", f"{by_clock} minutes on four cores of 2.5 GHz, beside other jobs"
     least, most = found.of("proofs", "a test crate before its first test")
     once, often = found.of("proofs", "a public function whose contract names much, once a crate")

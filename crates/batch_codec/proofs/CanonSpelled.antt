@@ -27,8 +27,8 @@ use Rattle.batch_codec.specs.Batches.{whole_process, whole_span, whole_batch}
 use Rattle.batch_codec.specs.CanonicalTexts.{list_field, list_if_any, number_if_any, value_type, value_field, tag_fields, canon_tag, log_fields, canon_log}
 use Rattle.batch_codec.specs.CanonicalTexts.{reference_fields, canon_reference, process_fields, canon_process, span_front, span_middle, span_fields, canon_span}
 use Rattle.batch_codec.specs.CanonicalTexts.{batch_fields, canon}
-use Rattle.batch_codec.specs.EncodableBatches.{AreProper, IsProperValue, IsProperTag, IsProperLog, IsProperReference, IsProperProcess, IsProperFront, IsProperMiddle}
-use Rattle.batch_codec.specs.EncodableBatches.{IsProperSpan, IsProperNumber, IsProper}
+use Rattle.batch_codec.specs.EncodableBatches.{AreProper, IsProperValue, IsProperTag, IsProperLog, IsProperReference, IsProperProcess}
+use Rattle.batch_codec.specs.EncodableBatches.{IsProperFront, IsProperMiddle, IsProperSpan, IsProperNumber, IsProper}
 use Rattle.std.proofs.Math.Facts.{sfits_lit, sfits_to_z}
 use Rattle.std.proofs.lemmas.Int.{of_z-to_z}
 use Rattle.std.proofs.Common.{Fits}

@@ -5,6 +5,7 @@ ghost use Rattle.batch_codec.specs.Decoding.{Decodes, Gives};
 ghost use Rattle.batch_codec.specs.ProcessReading.{process_at};
 
 use crate::fault::{DecodeError, Decoded, Part};
+use crate::field_ids::batch::{PROCESS, SEQ_NO, SPANS};
 use crate::fields::{Slots, read_fields, required};
 use crate::items::read_list;
 use crate::process::read_process;
@@ -47,8 +48,8 @@ impl BatchSlots {
     pub fn whole(self) -> Decoded<Batch>
         ensures exact { result ≡ batch_from self }
     {
-        let process = required(self.process, Part::Batch, 1)?;
-        let spans = required(self.spans, Part::Batch, 2)?;
+        let process = required(self.process, Part::Batch, PROCESS as u8)?;
+        let spans = required(self.spans, Part::Batch, SPANS as u8)?;
         Ok(Batch {
             process,
             spans,
@@ -75,9 +76,9 @@ impl<'a> Slots<'a> for BatchSlots {
     #[tactic(auto, unfolding(crate::specs::BatchReading::take_batch))]
     fn put(&mut self, alloc: Global, code: u8, id: i16, cursor: &mut Cursor<'a>) -> Decoded<()> {
         match (code, id) {
-            (STRUCT, 1) => self.process = Some(read_shared(alloc, cursor)?),
-            (LIST, 2) => self.spans = Some(read_list(alloc, cursor)?),
-            (I64, 3) => self.seq_no = Some(read_i64(cursor)?),
+            (STRUCT, PROCESS) => self.process = Some(read_shared(alloc, cursor)?),
+            (LIST, SPANS) => self.spans = Some(read_list(alloc, cursor)?),
+            (I64, SEQ_NO) => self.seq_no = Some(read_i64(cursor)?),
             _ => cursor.skip(code)?,
         }
         Ok(())
@@ -119,5 +120,6 @@ pub fn decode(alloc: Global, bytes: &[u8]) -> Decoded<Batch>
     // The batch or the first fault, unless memory ran out.
     ensures exact { Gives result (decoded bytes.now) }
 {
+    // For the prover: the clauses `found` and `complete` are proved from that of this call, which is `exact`.
     read_whole(alloc, bytes)
 }

@@ -41,7 +41,7 @@ pub fn required<T>(slot: Option<T>, part: Part, id: u8) -> Decoded<T>
     slot.ok_or(DecodeError::Missing(part, id))
 }
 
-/// Stores the value that was read in its slot.
+/// Stores the value that was read in its slot. For the prover: `put` of a span then holds no list where a call may fail.
 pub(crate) fn keep<T: Drop>(slot: &mut T, read: Decoded<T>) -> Decoded<()>
     ensures kept { (x : T) → read ≡ Ok x → slot.new ≡ x }
     ensures same { (x : T) → read ≡ Ok x → IsOk result }

@@ -14,9 +14,9 @@ pub enum HexFault {
 }
 
 impl fmt::Display for HexFault {
-    ghost use Rattle.batch_codec.specs.HexFaultTexts.{fault_text};
+    ghost use Rattle.batch_codec.specs.HexFaultTexts.{hex_fault_text};
 
-    ghost output = { λ f. Some (fault_text f) };
+    ghost output = { λ f. Some (hex_fault_text f) };
 
     fn fmt<W: fmt::Write>(&self, f: &mut fmt::Formatter<W>) -> fmt::Result {
         match self {

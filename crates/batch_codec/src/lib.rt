@@ -7,6 +7,7 @@
 //! (`specs/*Reading.antt`). [`laws`] states the place of a fault without mentioning a reading.
 //!
 //! * `fault`: why bytes aren't a batch.
+//! * [`field_ids`]: the ids of the fields of the structs of `jaeger.thrift`.
 //! * `values`, `fields`, `items`: single values, a struct's fields up to its stop byte, and a list of structs. A
 //!   list reserves memory for as many items as it claims only if the remaining bytes can hold them ([`room`]).
 //! * `tag`, `log`, `reference`, `process`, `span`, `batch`: one struct of `jaeger.thrift` each. The fields read so
@@ -21,6 +22,7 @@
 
 mod batch;
 mod fault;
+pub mod field_ids;
 mod fields;
 mod hex_fault;
 mod hex_text;

@@ -2,6 +2,7 @@ ghost use Rattle.std.specs.Prelude.{◌≡◌};
 ghost use Rattle.batch_codec.specs.LogReading.{log_at, log_from};
 
 use crate::fault::{Decoded, Part};
+use crate::field_ids::log::{FIELDS, TIMESTAMP};
 use crate::fields::{Slots, read_fields, required};
 use crate::items::{Element, read_list};
 use crate::values::read_i64;
@@ -44,8 +45,8 @@ impl LogSlots {
     pub fn whole(self) -> Decoded<Log>
         ensures exact { result ≡ log_from self }
     {
-        let at = required(self.at, Part::Log, 1)?;
-        let fields = required(self.fields, Part::Log, 2)?;
+        let at = required(self.at, Part::Log, TIMESTAMP as u8)?;
+        let fields = required(self.fields, Part::Log, FIELDS as u8)?;
         Ok(Log { at, fields })
     }
 }
@@ -58,8 +59,8 @@ impl<'a> Slots<'a> for LogSlots {
     #[tactic(auto, unfolding(crate::specs::LogReading::take_log))]
     fn put(&mut self, alloc: Global, code: u8, id: i16, cursor: &mut Cursor<'a>) -> Decoded<()> {
         match (code, id) {
-            (I64, 1) => self.at = Some(read_i64(cursor)?),
-            (LIST, 2) => self.fields = Some(read_list(alloc, cursor)?),
+            (I64, TIMESTAMP) => self.at = Some(read_i64(cursor)?),
+            (LIST, FIELDS) => self.fields = Some(read_list(alloc, cursor)?),
             _ => cursor.skip(code)?,
         }
         Ok(())

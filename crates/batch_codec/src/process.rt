@@ -3,6 +3,7 @@ ghost use Rattle.batch_codec.specs.Decoding.{Decodes, Gives};
 ghost use Rattle.batch_codec.specs.ProcessReading.{process_at, process_from};
 
 use crate::fault::{Decoded, Part};
+use crate::field_ids::process::{SERVICE_NAME, TAGS};
 use crate::fields::{Slots, read_fields, required};
 use crate::items::read_list;
 use crate::values::{TextSlice, read_text};
@@ -26,8 +27,8 @@ impl<'a> Slots<'a> for ProcessSlots<'a> {
     #[tactic(auto, unfolding(crate::specs::ProcessReading::take_process))]
     fn put(&mut self, alloc: Global, code: u8, id: i16, cursor: &mut Cursor<'a>) -> Decoded<()> {
         match (code, id) {
-            (STRING, 1) => self.service = Some(read_text(cursor)?),
-            (LIST, 2) => self.tags = read_list(alloc, cursor)?,
+            (STRING, SERVICE_NAME) => self.service = Some(read_text(cursor)?),
+            (LIST, TAGS) => self.tags = read_list(alloc, cursor)?,
             _ => cursor.skip(code)?,
         }
         Ok(())
@@ -38,7 +39,7 @@ impl<'a> Slots<'a> for ProcessSlots<'a> {
 fn process_of(alloc: Global, slots: ProcessSlots<'_>) -> Decoded<Process>
     ensures { Gives result (process_from slots.entry) }
 {
-    let service = required(slots.service, Part::Process, 1)?;
+    let service = required(slots.service, Part::Process, SERVICE_NAME as u8)?;
     Ok(Process {
         service: service.to_text(alloc)?,
         tags: slots.tags,

@@ -4,6 +4,7 @@ ghost use Rattle.batch_codec.specs.Decoding.{Decodes, Spends};
 ghost use Rattle.batch_codec.specs.ReferenceReading.{reference_at, reference_from, kind_at, kind_of_number};
 
 use crate::fault::{DecodeError, Decoded, Part};
+use crate::field_ids::reference::{REF_TYPE, SPAN_ID, TRACE_ID_HIGH, TRACE_ID_LOW};
 use crate::fields::{Slots, read_fields, required};
 use crate::items::Element;
 use crate::values::{read_i32, read_id, refuse};
@@ -51,10 +52,10 @@ impl ReferenceSlots {
     pub fn whole(self) -> Decoded<SpanRef>
         ensures exact { result ≡ reference_from self }
     {
-        let kind = required(self.kind, Part::SpanRef, 1)?;
-        let low = required(self.trace_low, Part::SpanRef, 2)?;
-        let high = required(self.trace_high, Part::SpanRef, 3)?;
-        let id = required(self.id, Part::SpanRef, 4)?;
+        let kind = required(self.kind, Part::SpanRef, REF_TYPE as u8)?;
+        let low = required(self.trace_low, Part::SpanRef, TRACE_ID_LOW as u8)?;
+        let high = required(self.trace_high, Part::SpanRef, TRACE_ID_HIGH as u8)?;
+        let id = required(self.id, Part::SpanRef, SPAN_ID as u8)?;
         Ok(SpanRef {
             kind,
             trace: TraceId { high, low },
@@ -71,10 +72,10 @@ impl<'a> Slots<'a> for ReferenceSlots {
     #[tactic(auto, unfolding(crate::specs::ReferenceReading::take_reference))]
     fn put(&mut self, _alloc: Global, code: u8, id: i16, cursor: &mut Cursor<'a>) -> Decoded<()> {
         match (code, id) {
-            (I32, 1) => self.kind = Some(read_kind(cursor)?),
-            (I64, 2) => self.trace_low = Some(read_id(cursor)?),
-            (I64, 3) => self.trace_high = Some(read_id(cursor)?),
-            (I64, 4) => self.id = Some(read_id(cursor)?),
+            (I32, REF_TYPE) => self.kind = Some(read_kind(cursor)?),
+            (I64, TRACE_ID_LOW) => self.trace_low = Some(read_id(cursor)?),
+            (I64, TRACE_ID_HIGH) => self.trace_high = Some(read_id(cursor)?),
+            (I64, SPAN_ID) => self.id = Some(read_id(cursor)?),
             _ => cursor.skip(code)?,
         }
         Ok(())

@@ -3,6 +3,10 @@ ghost use Rattle.batch_codec.specs.Decoding.{Decodes, Spends, Takes};
 ghost use Rattle.batch_codec.specs.SpanReading.{span_at, span_from, take_span};
 
 use crate::fault::{Decoded, Part};
+use crate::field_ids::span::{
+    DURATION, FLAGS, LOGS, OPERATION_NAME, PARENT_SPAN_ID, REFERENCES, SPAN_ID, START_TIME, TAGS,
+    TRACE_ID_HIGH, TRACE_ID_LOW,
+};
 use crate::fields::{Slots, keep, read_fields, required};
 use crate::items::{Element, read_list};
 use crate::values::{read_i32, read_i64, read_id, read_owned_text};
@@ -75,14 +79,14 @@ impl SpanSlots {
         ensures no_longer { OnOk result (length cursor.new ≤ length cursor.old) }
     {
         match (code, id) {
-            (I64, 1) => self.trace_low = Some(read_id(cursor)?),
-            (I64, 2) => self.trace_high = Some(read_id(cursor)?),
-            (I64, 3) => self.id = Some(read_id(cursor)?),
-            (I64, 4) => self.parent = Some(read_id(cursor)?),
-            (STRING, 5) => self.operation = Some(read_owned_text(alloc, cursor)?),
-            (I32, 7) => self.flags = Some(read_i32(cursor)?),
-            (I64, 8) => self.start = Some(read_i64(cursor)?),
-            (I64, 9) => self.duration = Some(read_i64(cursor)?),
+            (I64, TRACE_ID_LOW) => self.trace_low = Some(read_id(cursor)?),
+            (I64, TRACE_ID_HIGH) => self.trace_high = Some(read_id(cursor)?),
+            (I64, SPAN_ID) => self.id = Some(read_id(cursor)?),
+            (I64, PARENT_SPAN_ID) => self.parent = Some(read_id(cursor)?),
+            (STRING, OPERATION_NAME) => self.operation = Some(read_owned_text(alloc, cursor)?),
+            (I32, FLAGS) => self.flags = Some(read_i32(cursor)?),
+            (I64, START_TIME) => self.start = Some(read_i64(cursor)?),
+            (I64, DURATION) => self.duration = Some(read_i64(cursor)?),
             _ => cursor.skip(code)?,
         }
         Ok(())
@@ -97,14 +101,14 @@ impl SpanSlots {
     pub fn whole(self) -> Decoded<Span>
         ensures exact { result ≡ span_from self }
     {
-        let low = required(self.trace_low, Part::Span, 1)?;
-        let high = required(self.trace_high, Part::Span, 2)?;
-        let id = required(self.id, Part::Span, 3)?;
-        let parent = required(self.parent, Part::Span, 4)?;
-        let operation = required(self.operation, Part::Span, 5)?;
-        let flags = required(self.flags, Part::Span, 7)?;
-        let start = required(self.start, Part::Span, 8)?;
-        let duration = required(self.duration, Part::Span, 9)?;
+        let low = required(self.trace_low, Part::Span, TRACE_ID_LOW as u8)?;
+        let high = required(self.trace_high, Part::Span, TRACE_ID_HIGH as u8)?;
+        let id = required(self.id, Part::Span, SPAN_ID as u8)?;
+        let parent = required(self.parent, Part::Span, PARENT_SPAN_ID as u8)?;
+        let operation = required(self.operation, Part::Span, OPERATION_NAME as u8)?;
+        let flags = required(self.flags, Part::Span, FLAGS as u8)?;
+        let start = required(self.start, Part::Span, START_TIME as u8)?;
+        let duration = required(self.duration, Part::Span, DURATION as u8)?;
         Ok(Span {
             trace: TraceId { high, low },
             id: SpanId(id),
@@ -126,9 +130,9 @@ impl<'a> Slots<'a> for SpanSlots {
     #[tactic(auto, unfolding(crate::specs::SpanReading::take_span))]
     fn put(&mut self, alloc: Global, code: u8, id: i16, cursor: &mut Cursor<'a>) -> Decoded<()> {
         match (code, id) {
-            (LIST, 6) => keep(&mut self.references, read_list(alloc, cursor)),
-            (LIST, 10) => keep(&mut self.tags, read_list(alloc, cursor)),
-            (LIST, 11) => keep(&mut self.logs, read_list(alloc, cursor)),
+            (LIST, REFERENCES) => keep(&mut self.references, read_list(alloc, cursor)),
+            (LIST, TAGS) => keep(&mut self.tags, read_list(alloc, cursor)),
+            (LIST, LOGS) => keep(&mut self.logs, read_list(alloc, cursor)),
             (LIST, _) => Ok(cursor.skip(code)?),
             _ => self.put_value(alloc, code, id, cursor),
         }

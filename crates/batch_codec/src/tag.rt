@@ -4,6 +4,7 @@ ghost use Rattle.batch_codec.specs.Decoding.{Decodes, Gives, Spends};
 ghost use Rattle.batch_codec.specs.TagReading.{tag_at, tag_from, type_at, type_of_number};
 
 use crate::fault::{DecodeError, Decoded, Part};
+use crate::field_ids::tag::{KEY, V_BINARY, V_BOOL, V_DOUBLE, V_LONG, V_STR, V_TYPE};
 use crate::fields::{Slots, read_fields, required};
 use crate::items::Element;
 use crate::values::{
@@ -67,13 +68,13 @@ impl<'a> Slots<'a> for TagSlots<'a> {
     #[tactic(auto, unfolding(crate::specs::TagReading::take_tag))]
     fn put(&mut self, alloc: Global, code: u8, id: i16, cursor: &mut Cursor<'a>) -> Decoded<()> {
         match (code, id) {
-            (STRING, 1) => self.key = Some(read_text(cursor)?),
-            (I32, 2) => self.kind = Some(read_type(cursor)?),
-            (STRING, 3) => self.text = read_text(cursor)?,
-            (DOUBLE, 4) => self.double = read_double(cursor)?,
-            (BOOL, 5) => self.boolean = read_bool(cursor)?,
-            (I64, 6) => self.long = read_i64(cursor)?,
-            (STRING, 7) => self.binary = read_binary(cursor)?,
+            (STRING, KEY) => self.key = Some(read_text(cursor)?),
+            (I32, V_TYPE) => self.kind = Some(read_type(cursor)?),
+            (STRING, V_STR) => self.text = read_text(cursor)?,
+            (DOUBLE, V_DOUBLE) => self.double = read_double(cursor)?,
+            (BOOL, V_BOOL) => self.boolean = read_bool(cursor)?,
+            (I64, V_LONG) => self.long = read_i64(cursor)?,
+            (STRING, V_BINARY) => self.binary = read_binary(cursor)?,
             _ => cursor.skip(code)?,
         }
         Ok(())
@@ -124,8 +125,8 @@ pub fn read_type(cursor: &mut Cursor<'_>) -> Decoded<TagType>
 fn tag_of(alloc: Global, slots: TagSlots<'_>) -> Decoded<Tag>
     ensures { Gives result (tag_from slots.entry) }
 {
-    let key = required(slots.key, Part::Tag, 1)?;
-    let kind = required(slots.kind, Part::Tag, 2)?;
+    let key = required(slots.key, Part::Tag, KEY as u8)?;
+    let kind = required(slots.kind, Part::Tag, V_TYPE as u8)?;
     let value = match kind {
         TagType::Text => Value::Text(slots.text.to_text(alloc)?),
         TagType::Double => Value::Double(slots.double),

@@ -5,12 +5,15 @@ ghost use Rattle.std.proofs.Common.{SFits};
 ghost use Rattle.batch_codec.specs.BatchReading.{decoded};
 ghost use Rattle.batch_codec.specs.Batches.{IsBatch, type_number, kind_number};
 ghost use Rattle.batch_codec.specs.EncodedBatches.{WritesBatch};
-ghost use Rattle.batch_codec.specs.CanonicalTexts.{Encodes, fits_length, front_text, text_field, i32_field, i64_field, id_field, double_field, list_field, list_fits};
-ghost use Rattle.batch_codec.specs.CanonicalTexts.{list_if_any, value_type, value_field, value_fits, span_front, span_middle, span_fields, span_fits, canon_process};
+ghost use Rattle.batch_codec.specs.CanonicalTexts.{Encodes, fits_length, front_text, text_field, i32_field, i64_field, id_field, double_field};
+ghost use Rattle.batch_codec.specs.CanonicalTexts.{list_field, list_fits, list_if_any, value_type, value_field, value_fits};
+ghost use Rattle.batch_codec.specs.CanonicalTexts.{span_front, span_middle, span_fields, span_fits, canon_process};
 ghost use Rattle.batch_codec.specs.CanonicalTexts.{process_fits, number_if_any, canon, batch_fits};
-ghost use Rattle.batch_codec.specs.EncodableBatches.{AreProper, IsProperValue, IsProperFront, IsProperMiddle, IsProperSpan, IsProperProcess, IsProperNumber, IsProper};
+ghost use Rattle.batch_codec.specs.EncodableBatches.{AreProper, IsProperValue, IsProperFront, IsProperMiddle, IsProperSpan};
+ghost use Rattle.batch_codec.specs.EncodableBatches.{IsProperProcess, IsProperNumber, IsProper};
 
 use crate::fault::{DecodeError, Decoded};
+use crate::field_ids::{batch, log, process, reference, span, tag};
 use jaeger_model::{Batch, Log, Process, RefKind, Span, SpanRef, Tag, TagValue, ValueRef};
 use std::alloc::Global;
 use thrift_binary::{Out, WireError, WriteError, types};
@@ -129,14 +132,14 @@ fn write_value(out: &mut Out, value: &TagValue) -> Result<(), WriteError>
     ensures proper { OnOk result (IsProperValue value.now) }
 {
     match value.get() {
-        ValueRef::Text(text) => write_text(out, 3, text.as_bytes()),
-        ValueRef::Double(bytes) => write_double(out, 4, *bytes),
+        ValueRef::Text(text) => write_text(out, tag::V_STR, text.as_bytes()),
+        ValueRef::Double(bytes) => write_double(out, tag::V_DOUBLE, *bytes),
         ValueRef::Bool(flag) => {
-            out.field(types::BOOL, 5)?;
+            out.field(types::BOOL, tag::V_BOOL)?;
             out.bool(flag)
         }
-        ValueRef::Long(number) => write_i64(out, 6, number),
-        ValueRef::Bytes(bytes) => write_text(out, 7, bytes),
+        ValueRef::Long(number) => write_i64(out, tag::V_LONG, number),
+        ValueRef::Bytes(bytes) => write_text(out, tag::V_BINARY, bytes),
     }
 }
 
@@ -152,8 +155,8 @@ impl Spelled for Tag {
 
     #[tactic(auto, unfolding(crate::specs::CanonicalTexts::canon_tag, crate::specs::CanonicalTexts::tag_fits))]
     fn write(&self, out: &mut Out) -> Result<(), WriteError> {
-        write_text(out, 1, self.key.as_str().as_bytes())?;
-        write_i32(out, 2, type_number(&self.value))?;
+        write_text(out, tag::KEY, self.key.as_str().as_bytes())?;
+        write_i32(out, tag::V_TYPE, type_number(&self.value))?;
         write_value(out, &self.value)?;
         out.stop()
     }
@@ -171,8 +174,8 @@ impl Spelled for Log {
 
     #[tactic(auto, unfolding(crate::specs::CanonicalTexts::canon_log, crate::specs::CanonicalTexts::log_fits))]
     fn write(&self, out: &mut Out) -> Result<(), WriteError> {
-        write_i64(out, 1, self.at)?;
-        write_list(out, 2, self.fields.as_slice())?;
+        write_i64(out, log::TIMESTAMP, self.at)?;
+        write_list(out, log::FIELDS, self.fields.as_slice())?;
         out.stop()
     }
 }
@@ -199,10 +202,10 @@ impl Spelled for SpanRef {
 
     #[tactic(auto, unfolding(crate::specs::CanonicalTexts::canon_reference, crate::specs::CanonicalTexts::reference_fits))]
     fn write(&self, out: &mut Out) -> Result<(), WriteError> {
-        write_i32(out, 1, kind_number(self.kind))?;
-        write_id(out, 2, self.trace.low)?;
-        write_id(out, 3, self.trace.high)?;
-        write_id(out, 4, self.id.0)?;
+        write_i32(out, reference::REF_TYPE, kind_number(self.kind))?;
+        write_id(out, reference::TRACE_ID_LOW, self.trace.low)?;
+        write_id(out, reference::TRACE_ID_HIGH, self.trace.high)?;
+        write_id(out, reference::SPAN_ID, self.id.0)?;
         out.stop()
     }
 }
@@ -213,11 +216,15 @@ fn write_front(out: &mut Out, span: &Span) -> Result<(), WriteError>
         (fits_length (length span.now.operation)) out.old result out.new }
     ensures proper { OnOk result (IsProperFront span.now) }
 {
-    write_id(out, 1, span.trace.low)?;
-    write_id(out, 2, span.trace.high)?;
-    write_id(out, 3, span.id.0)?;
-    write_id(out, 4, span.parent.0)?;
-    write_text(out, 5, span.operation.as_str().as_bytes())
+    write_id(out, span::TRACE_ID_LOW, span.trace.low)?;
+    write_id(out, span::TRACE_ID_HIGH, span.trace.high)?;
+    write_id(out, span::SPAN_ID, span.id.0)?;
+    write_id(out, span::PARENT_SPAN_ID, span.parent.0)?;
+    write_text(
+        out,
+        span::OPERATION_NAME,
+        span.operation.as_str().as_bytes(),
+    )
 }
 
 /// Writes the flags and the times of a span.
@@ -225,9 +232,9 @@ fn write_middle(out: &mut Out, span: &Span) -> Result<(), WriteError>
     ensures writes { Encodes (front_text (span_middle span.now)) true out.old result out.new }
     ensures proper { OnOk result (IsProperMiddle span.now) }
 {
-    write_i32(out, 7, span.flags)?;
-    write_i64(out, 8, span.start)?;
-    write_i64(out, 9, span.duration)
+    write_i32(out, span::FLAGS, span.flags)?;
+    write_i64(out, span::START_TIME, span.start)?;
+    write_i64(out, span::DURATION, span.duration)
 }
 
 /// Writes all fields of a span.
@@ -238,10 +245,11 @@ fn write_fields(out: &mut Out, span: &Span) -> Result<(), WriteError>
     ensures proper { OnOk result (IsProperSpan span.now) }
 {
     write_front(out, span)?;
-    write_if_any(out, 6, span.references.as_slice())?;
+    write_if_any(out, span::REFERENCES, span.references.as_slice())?;
     write_middle(out, span)?;
-    write_if_any(out, 10, span.tags.as_slice())?;
-    write_if_any(out, 11, span.logs.as_slice())?;
+    write_if_any(out, span::TAGS, span.tags.as_slice())?;
+    write_if_any(out, span::LOGS, span.logs.as_slice())?;
+    // For the prover: the `?` takes the cases of the clause `writes` of the last call apart.
     Ok(())
 }
 
@@ -269,8 +277,12 @@ fn write_process(out: &mut Out, process: &Process) -> Result<(), WriteError>
         out.new }
     ensures proper { OnOk result (IsProperProcess process.now) }
 {
-    write_text(out, 1, process.service.as_str().as_bytes())?;
-    write_if_any(out, 2, process.tags.as_slice())?;
+    write_text(
+        out,
+        process::SERVICE_NAME,
+        process.service.as_str().as_bytes(),
+    )?;
+    write_if_any(out, process::TAGS, process.tags.as_slice())?;
     out.stop()
 }
 
@@ -291,10 +303,10 @@ fn write_batch(out: &mut Out, batch: &Batch) -> Result<(), WriteError>
     ensures writes { Encodes (canon batch.now) (batch_fits batch.now) out.old result out.new }
     ensures proper { OnOk result (IsProper batch.now) }
 {
-    out.field(types::STRUCT, 1)?;
+    out.field(types::STRUCT, batch::PROCESS)?;
     write_process(out, batch.process.get())?;
-    write_list(out, 2, batch.spans.as_slice())?;
-    write_number_if_any(out, 3, batch.seq_no)?;
+    write_list(out, batch::SPANS, batch.spans.as_slice())?;
+    write_number_if_any(out, batch::SEQ_NO, batch.seq_no)?;
     out.stop()
 }
 

@@ -21,7 +21,8 @@ waits-same a b c p q same g = record { comes = record { same = λ rest. g.comes.
 module _ {A P S V T : Type 0} (holding : A → S) (set : S → T) (reads : Reading A) (resumes : P → Reading A) (holds : P → V → Type 0)
     (continues : V → Reading T) where
   pub enlisted : (before after : S) (next : Option (Step V)) (w v : List ℕ) (r : Result Arrival DecodeError)
-      → Enlists holding reads resumes holds before after next w v r
+      → Enlists (record { holding = holding; reads = reads; resumes = resumes }) holds
+      (record { before = before; after = after; piece = w; left = v }) next r
       → ((p : P) (v : V) → holds p v → (w : List ℕ) → continues v w ≡ (resumes p w >>= λ x. Ok (set (holding x.0), x.1)))
       → Opens (λ u. reads u >>= λ x. Ok (set (holding x.0), x.1)) continues (set after) next w v r
   enlisted before after next w v (Ok Complete) g on = rw g.1 (comes-inside (λ x. Ok (set (holding x.0), x.1)) g.2)

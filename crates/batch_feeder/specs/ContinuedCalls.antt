@@ -49,11 +49,24 @@ Places {A = A} holding old new before after piece left (Ok Complete) = (x : A) �
 Places holding old new before after piece left (Ok Pending) = NeedsMore (Wire Truncated) old new piece left × (after ≡ before)
 Places holding old new before after piece left (Err e) = Faults old piece e
 
+-- A kind of value that is stored in a slot: the slot with a value, how a value is read, and how one is read on that has begun.
+pub record Stored (A P S : Type 0) : Type 0 where
+  pub holding : A → S
+  pub reads : Reading A
+  pub resumes : P → Reading A
+
+-- a slot and the bytes of a piece, before and after a call
+pub record SlotChange (S : Type 0) : Type 0 where
+  pub before : S
+  pub after : S
+  pub piece : List ℕ
+  pub left : List ℕ
+
 -- a value that began and was stored in its slot: complete, or what has arrived of it, or a fault
-abbrev pub Lays : {A P S : Type 0} → (A → S) → Reading A → (P → Reading A) → S → S → List ℕ → List ℕ → Result (Option P) DecodeError → Type 0
-Lays {A = A} holding reads resumes before after piece left (Ok None) = (x : A) × (after ≡ holding x) × Comes reads (λ w. Ok (x, w)) piece left
-Lays holding reads resumes before after piece left (Ok (Some p)) = NeedsMore (Wire Truncated) reads (resumes p) piece left × (after ≡ before)
-Lays holding reads resumes before after piece left (Err e) = Faults reads piece e
+abbrev pub Lays : {A P S : Type 0} → Stored A P S → SlotChange S → Result (Option P) DecodeError → Type 0
+Lays {A = A} value slot (Ok None) = (x : A) × (slot.after ≡ value.holding x) × Comes value.reads (λ w. Ok (x, w)) slot.piece slot.left
+Lays value slot (Ok (Some p)) = NeedsMore (Wire Truncated) value.reads (value.resumes p) slot.piece slot.left × (slot.after ≡ slot.before)
+Lays value slot (Err e) = Faults value.reads slot.piece e
 
 -- a value that began: complete, or what has arrived of it, or a fault
 abbrev pub BeginsValue : {A P : Type 0} → Reading A → (P → Reading A) → Option P → List ℕ → List ℕ → Result (Option A) DecodeError → Type 0

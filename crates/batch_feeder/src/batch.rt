@@ -7,18 +7,12 @@ use crate::process::PartialProcess;
 use crate::skipped::PartialSkipped;
 use crate::structs::Struct;
 use crate::values::PartialI64;
+use batch_codec::field_ids::batch::{PROCESS, SEQ_NO, SPANS};
 use batch_codec::{BatchSlots, Decoded, SpanSlots, read_i64};
 use jaeger_model::{Batch, SharedProcess};
 use std::alloc::Global;
 use thrift_binary::Cursor;
 use thrift_binary::types::{I64, LIST, STRUCT};
-
-// The ids of a batch's fields in `jaeger.thrift`.
-const PROCESS: i16 = 1;
-
-const SPANS: i16 = 2;
-
-const SEQ_NO: i16 = 3;
 
 /// The least number of bytes of a batch: 11 of the process, 8 of the spans and the stop byte.
 const MIN_BATCH_BYTES: usize = 20;

@@ -370,6 +370,7 @@ impl Feeder {
     pub fn finish(self) -> Decoded<Batch>
         ensures gives { result ≡ answers self [] }
     {
+        // For the prover: its borrow checker doesn't cover moving out of a part of a part, `self.state`.
         let state = self.state;
         match state {
             State::Reading(reading) => {

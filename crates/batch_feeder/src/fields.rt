@@ -144,20 +144,7 @@ pub(crate) enum FieldsEnd {
 pub(crate) fn is_truncated(error: DecodeError) -> bool
     ensures { IsTruncated error result }
 {
-    match error {
-        DecodeError::Wire(fault) => match fault {
-            WireError::Truncated => true,
-            WireError::BadLength => false,
-            WireError::BadType => false,
-            WireError::BadBool => false,
-            WireError::BadText => false,
-            WireError::TooDeep => false,
-        },
-        DecodeError::Missing(_, _) => false,
-        DecodeError::BadEnum => false,
-        DecodeError::Trailing => false,
-        DecodeError::Memory => false,
-    }
+    matches!(error, DecodeError::Wire(WireError::Truncated))
 }
 
 /// Reads complete fields without copying them, from the first byte of a head on.
@@ -284,6 +271,7 @@ pub(crate) fn enter_fields<S: Fields>(
 pub(crate) fn hold_next<V: Drop>(next: &mut Option<V>, step: V)
     ensures { next.new ≡ Some step }
 {
+    // For the prover: the call is generic in the value, so that the old one is dropped without its type being opened.
     *next = Some(step);
 }
 

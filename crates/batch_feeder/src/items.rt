@@ -92,6 +92,7 @@ impl<P: Item> PartialList<P> {
             result.items.items result.left result.head result.one w
             ≡ list_of wire STRUCT P.reads w }
     {
+        // For the prover: the binding lets the clause `fresh` of `new` be used for the result.
         let head = ListHead::new();
         PartialList {
             items: Vec::new(alloc),
@@ -178,9 +179,14 @@ impl<P: Item> PartialList<P> {
         alloc: Global,
         piece: &mut Cursor<'_>,
     ) -> Decoded<Option<Self>>
-        ensures continues { Lays S.holding (list_of wire STRUCT P.reads)
-            (λ p. list_from P.reads P.Partial.resumes p.items.items p.left p.head p.one)
-            slot.old slot.new piece.old piece.new result }
+        ensures continues { Lays
+            (record {
+              holding = S.holding;
+              reads = list_of wire STRUCT P.reads;
+              resumes = λ p. list_from P.reads P.Partial.resumes p.items.items p.left p.head p.one;
+            })
+            (record { before = slot.old; after = slot.new; piece = piece.old; left = piece.new })
+            result }
         ensures no_longer { OnOk result (length piece.new ≤ length piece.old) }
     {
         let mut part = PartialList::new(alloc);
@@ -234,9 +240,15 @@ pub(crate) fn enter_list<P: Item, S: Slot<Seq<P::Value>>, V: Drop, F: FnOnce(Par
     piece: &mut Cursor<'_>,
 ) -> Decoded<Arrival>
     requires callable { F.IsAlwaysCallable held }
-    ensures continues { Enlists S.holding (list_of wire STRUCT P.reads)
-        (λ p. list_from P.reads P.Partial.resumes p.items.items p.left p.head p.one) (F.post held)
-        slot.old slot.new next.new piece.old piece.new result }
+    ensures continues { Enlists
+        (record {
+          holding = S.holding;
+          reads = list_of wire STRUCT P.reads;
+          resumes = λ p. list_from P.reads P.Partial.resumes p.items.items p.left p.head p.one;
+        })
+        (F.post held)
+        (record { before = slot.old; after = slot.new; piece = piece.old; left = piece.new })
+        next.new result }
     ensures no_longer { OnOk result (length piece.new ≤ length piece.old) }
 {
     // For the prover: the match takes the cases of the clause `continues` apart.

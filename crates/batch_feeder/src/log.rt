@@ -5,16 +5,12 @@ use crate::skipped::PartialSkipped;
 use crate::structs::Struct;
 use crate::tag::PartialTag;
 use crate::values::PartialI64;
+use batch_codec::field_ids::log::{FIELDS, TIMESTAMP};
 use batch_codec::{Decoded, LogSlots, MIN_LOG_BYTES, read_i64};
 use jaeger_model::Log;
 use std::alloc::Global;
 use thrift_binary::Cursor;
 use thrift_binary::types::{I64, LIST};
-
-// The ids of a log's fields in `jaeger.thrift`.
-const TIMESTAMP: i16 = 1;
-
-const FIELDS: i16 = 2;
 
 /// The partially received value of a field of a log.
 #[derive(Drop)]

@@ -5,17 +5,13 @@ use crate::skipped::PartialSkipped;
 use crate::structs::Struct;
 use crate::tag::PartialTag;
 use crate::texts::PartialText;
+use batch_codec::field_ids::process::{SERVICE_NAME, TAGS};
 use batch_codec::{Decoded, Part, read_owned_text, required};
 use jaeger_model::{Process, Seq, Tag, Text};
 use std::alloc::Global;
 use std::marker::Model;
 use thrift_binary::Cursor;
 use thrift_binary::types::{LIST, STRING};
-
-// The ids of a process's fields in `jaeger.thrift`.
-const SERVICE_NAME: i16 = 1;
-
-const TAGS: i16 = 2;
 
 /// The least number of bytes of a process: 7 of the service and the stop byte.
 const MIN_PROCESS_BYTES: usize = 8;

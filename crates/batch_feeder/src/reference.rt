@@ -3,20 +3,12 @@ use crate::fields::{Fields, InPlace, PieceSlots};
 use crate::partial::{Arrival, place};
 use crate::skipped::PartialSkipped;
 use crate::values::PartialId;
+use batch_codec::field_ids::reference::{REF_TYPE, SPAN_ID, TRACE_ID_HIGH, TRACE_ID_LOW};
 use batch_codec::{Decoded, MIN_REFERENCE_BYTES, ReferenceSlots, read_id, read_kind};
 use jaeger_model::SpanRef;
 use std::alloc::Global;
 use thrift_binary::Cursor;
 use thrift_binary::types::{I32, I64};
-
-// The ids of a reference's fields in `jaeger.thrift`.
-const REF_TYPE: i16 = 1;
-
-const TRACE_ID_LOW: i16 = 2;
-
-const TRACE_ID_HIGH: i16 = 3;
-
-const SPAN_ID: i16 = 4;
 
 /// The partially received value of a field of a reference.
 #[derive(Drop)]

@@ -34,9 +34,6 @@ impl Partial for PartialSkipped {
     ghost resumes = { skip_from };
 
     fn more(&mut self, _alloc: Global, piece: &mut Cursor<'_>) -> Decoded<Option<()>> {
-        match self.part.more(piece) {
-            Ok(value) => Ok(value),
-            Err(error) => Err(fault_of(error)),
-        }
+        self.part.more(piece).map_err(fault_of)
     }
 }

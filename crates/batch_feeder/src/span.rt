@@ -6,34 +6,15 @@ use crate::structs::Struct;
 use crate::tag::PartialTag;
 use crate::texts::PartialText;
 use crate::values::{PartialI32, PartialI64, PartialId};
+use batch_codec::field_ids::span::{
+    DURATION, FLAGS, LOGS, OPERATION_NAME, PARENT_SPAN_ID, REFERENCES, SPAN_ID, START_TIME, TAGS,
+    TRACE_ID_HIGH, TRACE_ID_LOW,
+};
 use batch_codec::{Decoded, LogSlots, MIN_SPAN_BYTES, ReferenceSlots, SpanSlots, read_span};
 use jaeger_model::Span;
 use std::alloc::Global;
 use thrift_binary::Cursor;
 use thrift_binary::types::{I32, I64, LIST, STRING};
-
-// The ids of a span's fields in `jaeger.thrift`.
-const TRACE_ID_LOW: i16 = 1;
-
-const TRACE_ID_HIGH: i16 = 2;
-
-const SPAN_ID: i16 = 3;
-
-const PARENT_SPAN_ID: i16 = 4;
-
-const OPERATION_NAME: i16 = 5;
-
-const REFERENCES: i16 = 6;
-
-const FLAGS: i16 = 7;
-
-const START_TIME: i16 = 8;
-
-const DURATION: i16 = 9;
-
-const TAGS: i16 = 10;
-
-const LOGS: i16 = 11;
 
 /// The partially received value of a field of a span.
 #[derive(Drop)]

@@ -6,6 +6,7 @@ use crate::partial::{Arrival, place};
 use crate::skipped::PartialSkipped;
 use crate::texts::{PartialBinary, PartialText};
 use crate::values::{PartialBool, PartialDouble, PartialI64};
+use batch_codec::field_ids::tag::{KEY, V_BINARY, V_BOOL, V_DOUBLE, V_LONG, V_STR, V_TYPE};
 use batch_codec::{
     Decoded, MIN_TAG_BYTES, Part, TagType, read_bool, read_double, read_i64, read_owned_binary,
     read_owned_text, read_type, required,
@@ -15,21 +16,6 @@ use std::alloc::Global;
 use std::marker::Model;
 use thrift_binary::Cursor;
 use thrift_binary::types::{BOOL, DOUBLE, I32, I64, STRING};
-
-// The ids of a tag's fields in `jaeger.thrift`.
-const KEY: i16 = 1;
-
-const V_TYPE: i16 = 2;
-
-const V_STR: i16 = 3;
-
-const V_DOUBLE: i16 = 4;
-
-const V_BOOL: i16 = 5;
-
-const V_LONG: i16 = 6;
-
-const V_BINARY: i16 = 7;
 
 /// The fields of a tag that were read so far.
 #[derive(Drop)]

@@ -26,10 +26,7 @@ impl Partial for PartialBool {
     ghost resumes = { bool_from };
 
     fn more(&mut self, _alloc: Global, piece: &mut Cursor<'_>) -> Decoded<Option<bool>> {
-        match self.part.more(piece) {
-            Ok(value) => Ok(value),
-            Err(error) => Err(fault_of(error)),
-        }
+        self.part.more(piece).map_err(fault_of)
     }
 }
 

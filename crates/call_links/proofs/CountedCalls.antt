@@ -18,9 +18,11 @@ use Rattle.trace_model.specs.TakenSpans.{Taken}
 use Rattle.trace_model.proofs.NameLaws.{then_eq, is_eq-reverse}
 use Rattle.trace_model.proofs.SortedSets.{has, sorted_set-rises, sorted_set-has}
 use Rattle.call_links.specs.declared.tally.LinkTally.{LinkTally}
-use Rattle.call_links.specs.NumberedCalls.{CallSpans, NumberedCall, numbered_call, text_in, StandsFor, AreCallsNumberedBy, texts_called, numbers_called, calls_in_trace}
+use Rattle.call_links.specs.NumberedCalls.{CallSpans, NumberedCall, numbered_call, text_in, StandsFor}
+use Rattle.call_links.specs.NumberedCalls.{AreCallsNumberedBy, texts_called, numbers_called, calls_in_trace}
 use Rattle.call_links.specs.NumberedCalls.{calls_in_traces}
-use Rattle.call_links.specs.LinkTallies.{PairNumbers, PairTexts, LinkTallies, number_cmp, same_numbers, times_called, tally_seen, tallies_seen, so_far, with_call, with_trace, tallied}
+use Rattle.call_links.specs.LinkTallies.{PairNumbers, PairTexts, LinkTallies, number_cmp, same_numbers, times_called}
+use Rattle.call_links.specs.LinkTallies.{tally_seen, tallies_seen, so_far, with_call, with_trace, tallied}
 use Rattle.call_links.specs.LinkTallies.{texts_for, tally_of}
 use Rattle.call_links.proofs.Pairs.{insert_through, insert_paired, lookup_paired, paired_is}
 

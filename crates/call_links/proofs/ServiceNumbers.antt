@@ -9,7 +9,8 @@ use Rattle.jaeger_model.specs.Parents.{parent}
 use Rattle.jaeger_model.specs.Texts.{same_text}
 use Rattle.trace_model.specs.ServiceLinks.{has_id, parent_in, call_from, calls_of}
 use Rattle.trace_model.specs.TakenSpans.{Taken}
-use Rattle.call_links.specs.NumberedCalls.{NumberedService, NumberedCall, service_in, service_of, has_number, call_between, call_by, calls_in_trace, calls_in_traces}
+use Rattle.call_links.specs.NumberedCalls.{NumberedService, NumberedCall, service_in, service_of, has_number}
+use Rattle.call_links.specs.NumberedCalls.{call_between, call_by, calls_in_trace, calls_in_traces}
 use Rattle.call_links.specs.NumberedCalls.{placed_all, texts_called, StandsFor, AreCallsNumberedBy, AreNumberedBy, IsNumberedBy}
 use Rattle.trace_model.proofs.Lists.{each_append}
 use Rattle.trace_model.proofs.NameLaws.{same_where}

@@ -22,7 +22,7 @@ use Rattle.trace_model.specs.BorrowedSpans.{placed_by_its_entry}
 use Rattle.trace_model.specs.TakenSpans.{Taken}
 use Rattle.trace_model.proofs.ParentChains.{is_some-map}
 use Rattle.trace_model.proofs.Tables.{entered, kept, entry_map}
-use Rattle.call_links.specs.NumberedCalls.{NumberedService, service_in, service_seen, service_of, has_number, text_in, call_between, call_by, calls_in_trace}
+use Rattle.call_links.specs.NumberedCalls.{NumberedService, service_in, service_seen, service_of, has_number, text_in, call_by, calls_in_trace}
 
 -- ---- a span as its entry keeps it
 id_stays : (s : Span) → (with_parent s).id ≡ s.id
@@ -110,15 +110,10 @@ put_back q id g o p v before put again had =
     by false same = refl
 
 -- ---- calls by a table
-pub call_at : (t : ℕ → Option NumberedService) (n id : ℕ) (o : Option Placed) → Some id ≡ option_map (λ (p : Placed). (parent p.span).0) o
-    → call_by t (record { span = o; number = n }) ≡ (if id == 0 then None else call_between (t id) (n, text_in o))
-call_at t n id None e = absurd cc
-call_at t n id (Some p) e = let same : (parent p.span).0 ≡ id = cc e in ap (λ k. if k == 0 then None else call_between (t k) (n, p.process.service)) same
-
--- a table of the services of the first spans yields the calls of the trace
 same_filter_map : {X Y : Type 0} (f g : X → Option Y) → ((x : X) → f x ≡ g x) → (xs : List X) → filter_map f xs ≡ filter_map g xs
 same_filter_map f g h [] = refl
 same_filter_map f g h (x ∷ xs) = λ i. cons_option (h x i) (same_filter_map f g h xs i)
 
+-- a table of the services of the first spans yields the calls of the trace
 pub gathered_calls : (t : ℕ → Option NumberedService) (xs : List Taken) → ((id : ℕ) → t id ≡ service_of id xs) → filter_map (call_by t) xs ≡ calls_in_trace xs
 gathered_calls t xs h = same_filter_map (call_by t) (call_by (λ id. service_of id xs)) (λ x. λ i. call_by (λ id. h id i) x) xs

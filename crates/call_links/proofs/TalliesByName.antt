@@ -188,7 +188,8 @@ module _ (names : List (List ℕ)) (rises : IsStrictlySortedBy text_cmp names) w
   pub ranked_is : (rank : ℕ → ℕ) (es : LinkTallies) → AllByRecursion (IsRanked rank) es
       → map (λ (e : PairNumbers × (PairTexts × ℕ)). e.1) (ranked rank es) ≡ fold (put call_cmp) [] (map (λ (e : PairNumbers × (PairTexts × ℕ)). e.1) es)
   ranked_is rank es a =
-      ap (map (λ (e : PairNumbers × (PairTexts × ℕ)). e.1)) (ranked_from rank es [] a tt) ∙ map-map (λ (e : PairNumbers × (PairTexts × ℕ)). e.1) at_places _ ∙ map-id _
+      ap (map (λ (e : PairNumbers × (PairTexts × ℕ)). e.1)) (ranked_from rank es [] a tt)
+      ∙ map-map (λ (e : PairNumbers × (PairTexts × ℕ)). e.1) at_places _ ∙ map-id _
 
 or_true : (a b : Bool) → b ≡ true → (a || b) ≡ true
 or_true true b e = refl
@@ -353,7 +354,8 @@ module _ (text : ℕ → List ℕ) (number : List ℕ → ℕ) where
 
   -- a tally in order of its ranks, as links
   pub linked : (cs : List NumberedCall) → AreCallsNumberedBy text number cs
-      → map (λ (e : PairNumbers × (PairTexts × ℕ)). link_of e.1) (ranked (ranks_in (tally_of text (map numbers_called cs))) (tally_of text (map numbers_called cs)))
+      → map (λ (e : PairNumbers × (PairTexts × ℕ)). link_of e.1)
+      (ranked (ranks_in (tally_of text (map numbers_called cs))) (tally_of text (map numbers_called cs)))
       ≡ counted (map texts_called cs)
   linked cs a =
       let ns = map numbers_called cs in
@@ -362,7 +364,8 @@ module _ (text : ℕ → List ℕ) (number : List ℕ → ℕ) where
       let es = ranked (ranks_in (tally_of text ns)) (tally_of text ns) in
       sym (map-map link_of (λ (e : PairNumbers × (PairTexts × ℕ)). e.1) es)
       ∙ ap (map link_of) (
-      in_order (times_called ns) ks own ∙ ap (fold (put call_cmp) []) (by_texts cs ks a own) ∙ put_all call_total call_exact (number_of cs) (map (texts_for text) ks)
+      in_order (times_called ns) ks own ∙ ap (fold (put call_cmp) []) (by_texts cs ks a own)
+      ∙ put_all call_total call_exact (number_of cs) (map (texts_for text) ks)
       ∙ ap (with_values (number_of cs)) (texts_once ns ∙ ap (sorted_set call_cmp) (all_texts_are cs a))
       )
       ∙ map-map link_of (λ t. (t, number_of cs t)) (sorted_set call_cmp (map texts_called cs))

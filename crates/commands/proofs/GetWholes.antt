@@ -19,7 +19,8 @@ use Rattle.commands.specs.GetRuns.{TakesBatch, all_lines, trace_by_id, line_resu
 lines_judged : (s : LimitedHistory) (limits : Limits) (lines : List (List ℕ)) (reply : LineReply) (t : LimitedHistory) → s ≡ nothing_held limits
     → TakesEach TakesBatch s 1 lines reply t
     → (t ≡ (all_lines limits lines).held) × (reply ≡ (all_lines limits lines).reply)
-lines_judged s limits lines reply t start e = lines_come_to line_result (λ (a b : LimitedHistory). a ≡ b) TakesBatch each s (nothing_held limits) 1 lines reply t start e
+lines_judged s limits lines reply t start e =
+    lines_come_to line_result (λ (a b : LimitedHistory). a ≡ b) TakesBatch each s (nothing_held limits) 1 lines reply t start e
   where
     each : (w : LimitedHistory) (n : ℕ) (line : List ℕ) (reply : LineReply) (v : LimitedHistory) → TakesBatch w n line reply v → (s : LimitedHistory) → w ≡ s
         → (v ≡ (line_result n s line).held) × (reply ≡ (line_result n s line).reply)
@@ -27,7 +28,8 @@ lines_judged s limits lines reply t start e = lines_come_to line_result (λ (a b
 
 module _ (in0 in1 out0 out1 out2 : Option (List ℕ)) (i o : Bool) (limits : Limits) (id : TraceId) (held0 held1 : LimitedHistory) (faulty : Bool) where
   pub finishes : held0 ≡ nothing_held limits → AllAnswered TakesBatch in0 in1 out0 out1 held0 held1 faulty → (found : Bool) (status : ExitStatus)
-      → found ≡ is_some (trace_by_id held1 id) → Appends out1 out2 (trace_lines (trace_by_id held1 id)) → status ≡ status_at faulty found → i ≡ false → o ≡ false
+      → found ≡ is_some (trace_by_id held1 id) → Appends out1 out2 (trace_lines (trace_by_id held1 id))
+      → status ≡ status_at faulty found → i ≡ false → o ≡ false
       → Finishes in0 in1 out0 out2 i o (output_of limits id) (status_of limits id) status
   finishes start a found status f reply s ie oe =
       let lines = lines_of a.all.input in

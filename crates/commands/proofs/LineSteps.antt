@@ -9,7 +9,8 @@ use Rattle.span_store.specs.NextEntry.{next_entry}
 use Rattle.commands.specs.declared.get.line_fault.LineFault.TheVariants.{NoBatch}
 use Rattle.commands.specs.JudgedLines.{admitted, judged_line, without_blanks}
 
-pub line_skipped : (held : LimitedHistory) (line : List ℕ) → (length (without_blanks line) == 0) ≡ true → record { fault = None; held = held } ≡ judged_line held line
+pub line_skipped : (held : LimitedHistory) (line : List ℕ) → (length (without_blanks line) == 0) ≡ true
+    → record { fault = None; held = held } ≡ judged_line held line
 unfolding judged_line
 line_skipped held line none = rw none refl
 

@@ -45,7 +45,8 @@ unfolding played
 played_step n m line r e is =
     ap (λ b. if b then skipped m else played_as n m (step_in line)) e ∙ ap (λ x. played_as n m x) (sym is)
 
-takes_as : (w1 : Option Machine) (n : ℕ) (line : List ℕ) (m : Machine) (reply : LineReply) (p : LineResult Machine) → played n m line ≡ p → IsMachineAt w1 p.held
+takes_as : (w1 : Option Machine) (n : ℕ) (line : List ℕ) (m : Machine) (reply : LineReply) (p : LineResult Machine) → played n m line ≡ p
+    → IsMachineAt w1 p.held
     → reply ≡ p.reply
     → IsMachineAt w1 (played n m line).held × (reply ≡ (played n m line).reply)
 takes_as w1 n line m reply p e stands says =

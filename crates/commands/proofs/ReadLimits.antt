@@ -8,7 +8,7 @@ use Rattle.http_session.specs.declared.exchanges.SessionErrorKind.TheVariants.{R
 use Rattle.text_lines.specs.declared.exit_status.ExitStatus.{ExitStatus}
 use Rattle.text_lines.specs.declared.exit_status.ExitStatus.TheVariants.{DeviceFailed}
 use Rattle.session_devices.specs.declared.limits.TheConstants.{MAX_READS}
-use Rattle.text_lines.specs.ReadCounts.{GivesEach, MakesReads, StatusIsReads}
+use Rattle.text_lines.specs.ReadCounts.{GivesEach, MakesReads, StatusIsReads, reads_of}
 use Rattle.trace_model.specs.declared.limits.Limits.{Limits}
 use Rattle.jaeger_model.specs.declared.ids.TraceId.{TraceId}
 use Rattle.commands.specs.GetRuns.{status_by as get_status}
@@ -36,11 +36,11 @@ made_by Memory i o taken made c lost works writes = absurd cc
 pub session_limit : {R : Type 0} (source : Source R) (in0 in1 : R) (i o : Bool) (opens : List Exchange) (taken : List ℕ) (made : ℕ)
     (cause : SessionErrorKind) (status : ExitStatus)
     → IsCause cause i o taken made → ReadsInTurnUpTo source in0 in1 i opens taken made → status ≡ cause_status cause
-    → StatusIsReads source.gives in0 in1 i o status
+    → StatusIsReads (reads_of source.gives in0 in1) i o status
 session_limit source in0 in1 i o opens taken made cause status why f is = λ lost works writes.
     last f.last works (made_by cause i o taken made why (sym is ∙ lost) works writes)
   where
-    last : (in1 ≡ f.before) ⊎ FailsToRead source f.before in1 i → i ≡ false → made ≡ MAX_READS → MakesReads source.gives in0 in1 MAX_READS
+    last : (in1 ≡ f.before) ⊎ FailsToRead source f.before in1 i → i ≡ false → made ≡ MAX_READS → MakesReads (reads_of source.gives in0 in1) MAX_READS
     last (inl same) works made_is = (
       f.reads.pieces,
       subst (λ r. GivesEach source.gives in0 r f.reads.pieces) (sym same)

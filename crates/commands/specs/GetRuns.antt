@@ -14,7 +14,7 @@ use Rattle.text_lines.specs.declared.exit_status.ExitStatus.TheVariants.{Success
 use Rattle.text_lines.specs.Lines.{lines_of}
 use Rattle.text_lines.specs.HandledLines.{LineReply, HandlesLine}
 use Rattle.text_lines.specs.LineResults.{LineResult, result_of_lines}
-use Rattle.commands.specs.LineFaults.{fault_text}
+use Rattle.commands.specs.LineFaults.{line_fault_text}
 use Rattle.commands.specs.declared.get.line_fault.LineFault.{LineFault}
 use Rattle.commands.specs.JudgedLines.{JudgedLine, judged_line}
 
@@ -22,7 +22,7 @@ use Rattle.commands.specs.JudgedLines.{JudgedLine, judged_line}
 
 abbrev pub fault_line : ℕ → Option LineFault → List ℕ
 fault_line n None = []
-fault_line n (Some fault) = codes "line " ++ decimal n ++ codes ": " ++ fault_text fault ++ codes "\n"
+fault_line n (Some fault) = codes "line " ++ decimal n ++ codes ": " ++ line_fault_text fault ++ codes "\n"
 
 -- the reply to a line
 abbrev pub said_to : ℕ → JudgedLine → LineReply

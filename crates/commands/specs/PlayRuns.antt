@@ -6,7 +6,7 @@ use Rattle.schedule_core.specs.declared.step.Step.{Step}
 use Rattle.schedule_core.specs.declared.outcome.Outcome.{Outcome}
 use Rattle.schedule_core.specs.Machine.{Machine, new_machine, step}
 use Rattle.step_lines.specs.declared.fault.StepFault.{StepFault}
-use Rattle.step_lines.specs.FaultTexts.{fault_text}
+use Rattle.step_lines.specs.FaultTexts.{step_fault_text}
 use Rattle.step_lines.specs.OutcomeLines.{outcome_line}
 use Rattle.step_lines.specs.Steps.{step_in}
 use Rattle.text_lines.specs.declared.exit_status.ExitStatus.{ExitStatus}
@@ -16,7 +16,7 @@ use Rattle.text_lines.specs.HandledLines.{HandlesLine, nothing_said}
 use Rattle.text_lines.specs.LineResults.{LineResult, result_of_lines}
 
 abbrev pub step_fault_line : ℕ → StepFault → List ℕ
-step_fault_line n fault = codes "line " ++ decimal n ++ codes ": " ++ fault_text fault ++ codes "\n"
+step_fault_line n fault = codes "line " ++ decimal n ++ codes ": " ++ step_fault_text fault ++ codes "\n"
 
 -- the reply to a step, and the machine after it
 abbrev pub made : Machine → Step → LineResult Machine

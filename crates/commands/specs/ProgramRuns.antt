@@ -22,7 +22,7 @@ Does (Get limits id) input output status = RunsAs input output (expected_of (get
 Does (Pipe limits) input output status = Pipes input output limits status
 Does (Play limits) input output status = RunsAs input output (expected_of (play_output limits) (play_status limits)) status
 Does (Serve options) input output status =
-    (input.after ≡ input.before) × (input.failed ≡ false) × ServesOrNot options.host options.limits options.workers output status
+    (input.after ≡ input.before) × (input.failed ≡ false) × ServesOrNot options output status
 
 -- no command was run: nothing was read, and the words were answered
 pub record TurnsWordsAway (words : List Text) (input output : Traffic) (status : ExitStatus) : Type 0 where

@@ -2,11 +2,10 @@
 use Rattle.std.specs.Prelude.{◌≡◌, ℕ, ◌⊎◌, false, List}
 use Rattle.std.specs.Io.KnownBytes.{Appends}
 use Rattle.session_devices.specs.Traffic.{Traffic}
-use Rattle.serve_options.specs.declared.host.Host.{Host}
-use Rattle.trace_model.specs.declared.limits.Limits.{Limits}
+use Rattle.serve_options.specs.declared.options.ServeOptions.{ServeOptions}
 use Rattle.text_lines.specs.declared.exit_status.ExitStatus.{ExitStatus}
 use Rattle.text_lines.specs.declared.exit_status.ExitStatus.TheVariants.{DeviceFailed}
-use Rattle.trace_server.specs.ServerRuns.{RunsServer, StopsIn}
+use Rattle.trace_server.specs.ServerRuns.{RunsServer, StopsIn, serving_of}
 
 -- the address can't be used, and a line says so; or a prefix of the line was written, because the output failed or memory
 -- ran out
@@ -16,5 +15,5 @@ TurnsDown output status =
     × (((status ≡ DeviceFailed) × Appends output.before output.after line × (output.failed ≡ false)) ⊎ StopsIn output line status)
 
 -- the server serves, or the address can't be used
-abbrev pub ServesOrNot : Host → Limits → ℕ → Traffic → ExitStatus → Type 0
-ServesOrNot host limits workers output status = RunsServer host limits workers output status ⊎ TurnsDown output status
+abbrev pub ServesOrNot : ServeOptions → Traffic → ExitStatus → Type 0
+ServesOrNot options output status = RunsServer (serving_of options.host options.limits options.workers) output status ⊎ TurnsDown output status

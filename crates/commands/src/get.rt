@@ -8,7 +8,7 @@
 //! * `trace_lines`: the lines of a trace's spans.
 
 ghost use Rattle.std.specs.Prelude.{◌≡◌, false, IfErr};
-ghost use Rattle.text_lines.specs.ReadCounts.{LimitIsReads, StatusIsReads};
+ghost use Rattle.text_lines.specs.ReadCounts.{LimitIsReads, StatusIsReads, reads_of};
 ghost use Rattle.session_devices.specs.Traffic.{traffic_of};
 ghost use Rattle.text_lines.specs.RunErrors.{RunsAs, RunsOrStops, expected_of};
 ghost use Rattle.commands.specs.GetRuns.{nothing_held, output_of, status_by as status_at, status_of as status_for};
@@ -52,7 +52,7 @@ fn take_all<R: Input, W: Output>(
     ensures runs { RunsOrStops (traffic_of R.remaining R.has_failed input.old input.new)
         (traffic_of W.contents W.has_failed output.old output.new)
         (expected_of (output_of limits trace) (status_for limits trace)) result }
-    ensures limit { IfErr result (LimitIsReads R.gives input.old input.new
+    ensures limit { IfErr result (LimitIsReads (reads_of R.gives input.old input.new)
         (R.has_failed input.new) (W.has_failed output.new)) }
 {
     let faulty = answer_lines(alloc, input, output, batches)?;
@@ -74,7 +74,7 @@ fn finish<R: Input, W: Output>(
     ensures runs { RunsOrStops (traffic_of R.remaining R.has_failed input.old input.new)
         (traffic_of W.contents W.has_failed output.old output.new)
         (expected_of (output_of limits trace) (status_for limits trace)) result }
-    ensures limit { IfErr result (LimitIsReads R.gives input.old input.new
+    ensures limit { IfErr result (LimitIsReads (reads_of R.gives input.old input.new)
         (R.has_failed input.new) (W.has_failed output.new)) }
 {
     let mut batches = Batches::new(alloc, keys, limits)?;
@@ -106,8 +106,8 @@ pub fn run_get<R: Input, W: Output>(
     ensures runs { RunsAs (traffic_of R.remaining R.has_failed input.old input.new)
         (traffic_of W.contents W.has_failed output.old output.new)
         (expected_of (output_of limits trace) (status_for limits trace)) result }
-    ensures limit { StatusIsReads R.gives input.old input.new (R.has_failed input.new)
-        (W.has_failed output.new) result }
+    ensures limit { StatusIsReads (reads_of R.gives input.old input.new)
+        (R.has_failed input.new) (W.has_failed output.new) result }
 {
     match finish(alloc, keys, input, output, limits, trace) {
         Ok(status) => status,

@@ -1,7 +1,7 @@
 //! `pipe`: a session over standard input and output.
 ghost use Rattle.std.specs.Prelude.{◌≡◌};
 ghost use Rattle.session_devices.specs.Traffic.{traffic_of};
-ghost use Rattle.text_lines.specs.ReadCounts.{StatusIsReads};
+ghost use Rattle.text_lines.specs.ReadCounts.{StatusIsReads, reads_of};
 ghost use Rattle.text_lines.specs.RunErrors.{BothWork};
 ghost use Rattle.commands.specs.PipeRuns.{Pipes, cause_status};
 
@@ -36,8 +36,8 @@ pub fn run_pipe<R: Input, W: Output>(
     requires { BothWork (R.has_failed input.old) (W.has_failed output.old) }
     ensures pipes { Pipes (traffic_of R.remaining R.has_failed input.old input.new)
         (traffic_of W.contents W.has_failed output.old output.new) limits result }
-    ensures limit { StatusIsReads R.gives input.old input.new (R.has_failed input.new)
-        (W.has_failed output.new) result }
+    ensures limit { StatusIsReads (reads_of R.gives input.old input.new)
+        (R.has_failed input.new) (W.has_failed output.new) result }
 {
     let Ok(opened) = SpanStore::open(alloc, keys, limits) else {
         return ExitStatus::OutOfMemory;

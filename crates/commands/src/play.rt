@@ -6,7 +6,7 @@
 //! * `script`: a machine that reads a step from each line.
 
 ghost use Rattle.std.specs.Prelude.{◌≡◌, false};
-ghost use Rattle.text_lines.specs.ReadCounts.{StatusIsReads};
+ghost use Rattle.text_lines.specs.ReadCounts.{StatusIsReads, reads_of};
 ghost use Rattle.session_devices.specs.Traffic.{traffic_of};
 ghost use Rattle.text_lines.specs.RunErrors.{RunsAs, expected_of};
 ghost use Rattle.trace_model.specs.declared.limits.Limits.{Limits as LimitsValue};
@@ -45,8 +45,8 @@ fn play_lines<R: Input, W: Output>(
         RunsAs (traffic_of R.remaining R.has_failed input.old input.new)
         (traffic_of W.contents W.has_failed output.old output.new)
         (expected_of (output_of limits) (status_for limits)) result }
-    ensures limit { StatusIsReads R.gives input.old input.new (R.has_failed input.new)
-        (W.has_failed output.new) result }
+    ensures limit { StatusIsReads (reads_of R.gives input.old input.new)
+        (R.has_failed input.new) (W.has_failed output.new) result }
 {
     match answer_lines(alloc, input, output, script) {
         Ok(faulty) => status_of(faulty),
@@ -73,8 +73,8 @@ pub fn run_play<R: Input, W: Output>(
     ensures runs { RunsAs (traffic_of R.remaining R.has_failed input.old input.new)
         (traffic_of W.contents W.has_failed output.old output.new)
         (expected_of (output_of limits) (status_for limits)) result }
-    ensures limit { StatusIsReads R.gives input.old input.new (R.has_failed input.new)
-        (W.has_failed output.new) result }
+    ensures limit { StatusIsReads (reads_of R.gives input.old input.new)
+        (R.has_failed input.new) (W.has_failed output.new) result }
 {
     let Ok(mut script) = Script::new(alloc, keys, limits) else {
         return ExitStatus::OutOfMemory;

@@ -212,6 +212,7 @@ pub(crate) fn matches_of<'a, S: AsStr, W: Write>(
     let Ok(command) = made else {
         return Err(ExitStatus::OutOfMemory);
     };
+    // For the prover: the match takes the cases of the clauses of `try_get_matches_from` apart.
     match command.try_get_matches_from(words) {
         Ok(matches) => Ok(matches),
         Err(error) => Err(explain(writer, &error)),
@@ -398,6 +399,7 @@ pub fn read_words<S: AsStr, W: Output>(
         Appends (W.contents output.old) (W.contents output.new) (codes "bad trace id\n")) }
 {
     let mut said = Vec::new(alloc);
+    // For the prover: the match takes the cases of the clauses of `judge_words` apart.
     match judge_words(alloc, words, &mut said) {
         Ok(command) => Ok(command),
         Err(status) => Err(answer(alloc, output, said.as_slice(), status)),

@@ -90,10 +90,6 @@ numbered_read ts i h =
     ap (enumerate_from 0) (take_more ts i [] h) ∙ numbered_push 0 (take i ts) (trace_at ts i)
     ∙ ap (λ n. enumerate_from 0 (take i ts) ++ (n, trace_at ts i) ∷ []) count
 
-pub made_read : {K : Type 0} (f : ℕ × List Placed → K) (ts : List (List Placed)) (i : ℕ) → i < length ts
-    → map f (enumerate_from 0 (take (i + 1) ts)) ≡ map f (enumerate_from 0 (take i ts)) ++ f (i, trace_at ts i) ∷ []
-made_read f ts i h = ap (map f) (numbered_read ts i h) ∙ map_push f (enumerate_from 0 (take i ts)) (i, trace_at ts i)
-
 hits_read : (q : Find) (ts : List (List Placed)) (i : ℕ) → i < length ts
     → hits q (take (i + 1) ts) ≡ hits q (take i ts) ++ cond (list_any (matches q) (trace_at ts i)) ((i, trace_at ts i) ∷ []) []
 hits_read q ts i h = ap (filter (is_hit q)) (numbered_read ts i h) ∙ filter-append (is_hit q) (enumerate_from 0 (take i ts)) ((i, trace_at ts i) ∷ [])

@@ -25,7 +25,8 @@ module _ {K : Type 0} (cmp : K → K → Ordering) where
   pub take_insert : (n : ℕ) (xs : List K) (k : K) → take n (insert_key cmp (take n xs) k) ≡ take n (insert_key cmp xs k)
   take_insert zero xs k = refl
   take_insert (suc n) [] k = refl
-  take_insert (suc n) (x ∷ xs) k = elim (cmp k x) as (λ r. take (suc n) (match_ordering r (k ∷ x ∷ take n xs) (x ∷ take n xs) (x ∷ insert_key cmp (take n xs) k))
+  take_insert (suc n) (x ∷ xs) k =
+      elim (cmp k x) as (λ r. take (suc n) (match_ordering r (k ∷ x ∷ take n xs) (x ∷ take n xs) (x ∷ insert_key cmp (take n xs) k))
       ≡ take (suc n) (match_ordering r (k ∷ x ∷ xs) (x ∷ xs) (x ∷ insert_key cmp xs k))) [
         | Less ↦ ap (λ l. k ∷ l) (take_fewer n (x ∷ xs))
         | Equal ↦ ap (λ l. x ∷ l) (take_front n xs)

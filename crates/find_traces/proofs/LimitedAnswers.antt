@@ -1,5 +1,6 @@
 -- The answer of a search with a limit: the matches among as many traces as the limit that start last, and then the best of the others.
-use Rattle.std.proofs.Common.{◌≡◌, ℕ, zero, suc, ◌+◌, ◌-◌, ◌<◌, ◌≤◌, Bool, true, false, cond, List, [], ◌∷◌, ◌++◌, map, length, take, drop, get_or, refl, sym, ap, subst, ◌∙◌, arith, Some, slice_get, append_assoc, eqb-true}
+use Rattle.std.proofs.Common.{◌≡◌, ℕ, zero, suc, ◌+◌, ◌-◌, ◌<◌, ◌≤◌, Bool, true, false, cond, List, [], ◌∷◌, ◌++◌, map, length, take, drop}
+use Rattle.std.proofs.Common.{get_or, refl, sym, ap, subst, ◌∙◌, arith, Some, slice_get, append_assoc, eqb-true}
 use Rattle.std.specs.Prelude.{filter, ◌&&◌, if◌then◌else◌, ◌==◌}
 use Rattle.std.specs.List.{All, AllByRecursion, enumerate_from, list_any}
 use Rattle.std.specs.List.Sorted.{IsStrictlySortedBy}

@@ -1,5 +1,6 @@
 -- The keys of the best of some traces, of which one more is offered.
-use Rattle.std.proofs.Common.{◌≡◌, ℕ, suc, ◌+◌, ◌<◌, ◌≤◌, Bool, true, false, cond, List, [], ◌∷◌, map, length, take, drop, refl, sym, ap, subst, ◌∙◌, arith, drop-cons}
+use Rattle.std.proofs.Common.{◌≡◌, ℕ, suc, ◌+◌, ◌<◌, ◌≤◌, Bool, true, false, cond, List, [], ◌∷◌, map, length}
+use Rattle.std.proofs.Common.{take, drop, refl, sym, ap, subst, ◌∙◌, arith, drop-cons}
 use Rattle.std.specs.Prelude.{filter, if◌then◌else◌, int_lt}
 use Rattle.std.specs.List.{AllByRecursion, enumerate_from}
 use Rattle.std.specs.declared.cmp.Reverse.{Reverse}
@@ -95,7 +96,8 @@ module _ (q : Find) (ts : List (List Placed)) (last : Key) (n : ℕ) (keys : Lis
 
   pub none_offered : (is_wanted q ts last here ≡ true → take n (insert_key reverse_key_cmp keys (reverse_key_of here)) ≡ keys)
       → keys ≡ take n (best_of (filter (is_wanted q ts last) (from_place ts i)))
-  none_offered same = elim (is_wanted q ts last here) as (λ b. is_wanted q ts last here ≡ b → keys ≡ take n (best_of (filter (is_wanted q ts last) (from_place ts i)))) [
-    | true ↦ λ e. sym (same e) ∙ match_offered e
-    | false ↦ λ e. kept ∙ ap (λ l. take n (best_of l)) (sym (wanted_here false e))
-  ] refl
+  none_offered same =
+      elim (is_wanted q ts last here) as (λ b. is_wanted q ts last here ≡ b → keys ≡ take n (best_of (filter (is_wanted q ts last) (from_place ts i)))) [
+        | true ↦ λ e. sym (same e) ∙ match_offered e
+        | false ↦ λ e. kept ∙ ap (λ l. take n (best_of l)) (sym (wanted_here false e))
+      ] refl

@@ -22,12 +22,13 @@ use Rattle.jaeger_model.specs.declared.placed.Placed.{Placed}
 use Rattle.jaeger_model.specs.declared.span.Log.{Log}
 use Rattle.jaeger_model.specs.declared.span.Span.{Span}
 use Rattle.jaeger_model.specs.declared.tag.Tag.{Tag}
-use Rattle.jaeger_model.specs.Tags.{tag_text, hex_text, flag_text}
+use Rattle.jaeger_model.specs.Tags.{tag_text, hex_text}
 use Rattle.jaeger_model.specs.Texts.{text_cmp}
 use Rattle.trace_model.specs.declared.query.Find.{Find}
 use Rattle.trace_model.specs.ServiceLinks.{call_cmp as pair_cmp}
 use Rattle.trace_model.specs.Searching.{tag_matches, has_tag, tags_of}
-use Rattle.find_traces.specs.RequestedPairs.{pair_of, same_pair, pairs_lent, with_key, key_bits, asks, requested_count, if_requested, has_pair, is_in, wants, may_be_number}
+use Rattle.find_traces.specs.RequestedPairs.{pair_of, same_pair, pairs_lent, with_key, key_bits, asks, requested_count}
+use Rattle.find_traces.specs.RequestedPairs.{if_requested, has_pair, is_in, wants, may_be_number}
 use Rattle.find_traces.specs.PreparedSearches.{IsJudged}
 use Rattle.find_traces.proofs.CountedKeys.{few, counted, none_left}
 use Rattle.trace_model.proofs.NameLaws.{call_total, call_exact, then_eq, any_map}
@@ -86,10 +87,6 @@ no_key xs k t =
 pub hex_length : (bytes : List ℕ) → 2 * length bytes ≡ length (hex_text bytes)
 hex_length [] = refl
 hex_length (b ∷ bytes) = let rest = hex_length bytes in omega (arith, rest)
-
-pub flag_length : (flag : Bool) → (if flag then 4 else 5) ≡ length (flag_text flag)
-flag_length true = refl
-flag_length false = refl
 
 -- ---- bits for the lengths of keys
 pub bits_put : (xs : List (List ℕ × List ℕ)) (i : ℕ) (x : List ℕ × List ℕ) → i < length xs → x ≡ get_or xs i x

@@ -5,7 +5,7 @@ use Rattle.session_devices.specs.ByteTakers.{Takings, TakesNothing, TakesJoined}
 use Rattle.http_requests.specs.Requests.{HasBody, BodyBreaks, AwaitsBody}
 use Rattle.http_requests.specs.AwaitedReads.{Source}
 use Rattle.http_requests.specs.ReceivedBytes.{ReadBuffer, ReadsOn, ReadsOnWhile, IsRead, ReadFails, StopsWhile, put_back}
-use Rattle.http_requests.specs.Bodies.{TakesBody, BreaksBody}
+use Rattle.http_requests.specs.Bodies.{TakesBody, BreaksBody, body_moment}
 use Rattle.http_requests.specs.PartialRequests.{IsPart, AwaitsMoreBody, Comes, TakesOn, TakesPart}
 use Rattle.http_requests.specs.declared.request.BodyLength.{BodyLength}
 use Rattle.http_requests.specs.declared.request.RequestFault.{RequestFault}
@@ -18,14 +18,14 @@ use Rattle.http_requests.proofs.Parts.{awaits_body, ended_breaks, breaks_anyway}
 
 module _ {S R : Type 0} (takes : Takings S) (source : Source R) where
   pub begins_body : TakesNothing S takes → (s : R) (r : ReadBuffer) (before : S) (size : BodyLength) (reader : BodyReader) → IsPart size [] [] reader
-      → TakesPart takes source s s r r before before size reader
+      → TakesPart takes source (body_moment s r before) (body_moment s r before) size reader
   begins_body nothing s r before size reader part =
       record { text = []; content = []; part = part; reads = nothing_yet source (AwaitsBody size) s r; put = nothing before }
 
   module _ (joined : TakesJoined S takes) (s t : R) (old here new : ReadBuffer) (before now after : S) (size : BodyLength) (was is : BodyReader)
-      (so : TakesPart takes source s t old here before now size was) where
+      (so : TakesPart takes source (body_moment s old before) (body_moment t here now) size was) where
     pub more_body : TakesOn takes here new now after was (λ of text content. Comes of text content new.held is More)
-        → TakesPart takes source s t old new before after size is
+        → TakesPart takes source (body_moment s old before) (body_moment t new after) size is
     more_body on = record {
       text = so.text ++ on.text;
       content = so.content ++ on.content;
@@ -35,7 +35,7 @@ module _ {S R : Type 0} (takes : Takings S) (source : Source R) where
     }
 
     pub whole_body : TakesOn takes here new now after was (λ of text content. Comes of text content new.held is Whole)
-        → TakesBody takes source s t old new before after size
+        → TakesBody takes source (body_moment s old before) (body_moment t new after) size
     whole_body on = record {
       text = so.text ++ on.text;
       body = so.content ++ on.content;
@@ -53,7 +53,7 @@ module _ {S R : Type 0} (takes : Takings S) (source : Source R) where
     }
 
   module _ (s m t : R) (old here new : ReadBuffer) (before after : S) (size : BodyLength) (reader : BodyReader)
-      (so : TakesPart takes source s m old here before after size reader) (awaits : AwaitsMoreBody reader here.held) where
+      (so : TakesPart takes source (body_moment s old before) (body_moment m here after) size reader) (awaits : AwaitsMoreBody reader here.held) where
     pub ended_body : IsAtEnd (source.remaining m) → BreaksBody source s m old here size fault.Body
     ended_body at_end =
         record {
@@ -63,7 +63,7 @@ module _ {S R : Type 0} (takes : Takings S) (source : Source R) where
         }
 
     pub body_read_on : ReadsOn (source.remaining m) (source.remaining t) here new → IsRead source.gives m t here new
-        → TakesPart takes source s t old new before after size reader
+        → TakesPart takes source (body_moment s old before) (body_moment t new after) size reader
     body_read_on on read = record {
       text = so.text;
       content = so.content;

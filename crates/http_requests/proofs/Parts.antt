@@ -18,7 +18,8 @@ use Rattle.http_requests.specs.declared.body_reader.Stage.TheVariants as stage
 use Rattle.http_requests.specs.Requests.{HasBody, BodyBreaks, AwaitsBody}
 use Rattle.http_requests.specs.ReceivedBytes.{ReadBuffer, put_back}
 use Rattle.http_requests.specs.Bodies.{AwaitsLine, IsLineEnd}
-use Rattle.http_requests.specs.PartialRequests.{WithChunks, WithData, WithLastLine, IsPartAt, IsPart, HasLookedAt, HasLooked, AwaitsAt, AwaitsMoreBody, TakesOn, TakesText}
+use Rattle.http_requests.specs.PartialRequests.{WithChunks, WithData, WithLastLine, IsPartAt, IsPart, HasLookedAt, HasLooked, AwaitsAt}
+use Rattle.http_requests.specs.PartialRequests.{AwaitsMoreBody, TakesOn, TakesText}
 use Rattle.http_requests.proofs.ChunkParts.{shorter, none_after, awaited_after, line_awaited, no_size, passes, each_with, sum_with, texts_with, content_awaited}
 use Rattle.http_requests.proofs.ChunkParts.{no_more_content, trailer_awaited, no_trailer_comes, chunks_whole}
 

@@ -14,7 +14,7 @@ use Rattle.http_requests.specs.Requests.{HasBody, BodyBreaks, BreaksAfter, IsMal
 use Rattle.http_requests.specs.AwaitedReads.{Source}
 use Rattle.http_requests.specs.ReceivedBytes.{ReadBuffer, ReadsOnWhile, StopsWhile, put_back, FindsHead, FindsNone, TakesRequest, FindsFault}
 use Rattle.session_devices.specs.ByteTakers.{Takings}
-use Rattle.http_requests.specs.Bodies.{TakesBody, BreaksBody}
+use Rattle.http_requests.specs.Bodies.{TakesBody, BreaksBody, body_moment}
 use Rattle.http_requests.specs.declared.request.BodyLength.{BodyLength}
 use Rattle.http_requests.specs.declared.request.RequestFault.{RequestFault}
 use Rattle.http_requests.specs.declared.read_buffer.ReadError.{ReadError}
@@ -101,7 +101,8 @@ module _ {R : Type 0} (source : Source R) (s m t : R) (old here behind new : Rea
       → StopsWhile source AwaitsRequest s t failed old why
   body_stops failed why stops = stops_after source AwaitsRequest (AwaitsBody size) s m t failed old behind bytes why body_awaited head_read stops
 
-  pub takes_request : {S : Type 0} (takes : Takings S) (before after : S) (body : TakesBody takes source m t behind new before after size)
+  pub takes_request : {S : Type 0} (takes : Takings S) (before after : S)
+      (body : TakesBody takes source (body_moment m behind before) (body_moment t new after) size)
       → TakesRequest source s t old new (found.is).head body.body
   takes_request takes before after body = record {
     text = bytes ++ body.text;

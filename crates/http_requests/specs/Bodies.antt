@@ -46,14 +46,22 @@ pub record AwaitsRest (Is : List ℕ → Type 0) (bytes : List ℕ) : Type 0 whe
 
 -- ---- bodies
 
+-- the states of the input and of the sink at one moment, and the bytes received
+pub record BodyMoment (R S : Type 0) : Type 0 where
+  pub input : R
+  pub received : ReadBuffer
+  pub sink : S
+
+abbrev pub body_moment : {R S : Type 0} → R → ReadBuffer → S → BodyMoment R S
+body_moment input received sink = record { input = input; received = received; sink = sink }
+
 -- the body that the head announces was taken and pushed into the sink; each read for it was made while more was awaited
-pub record TakesBody {S R : Type 0} (takes : Takings S) (source : Source R) (s t : R) (old new : ReadBuffer) (before after : S)
-    (size : BodyLength) : Type 0 where
+pub record TakesBody {S R : Type 0} (takes : Takings S) (source : Source R) (before after : BodyMoment R S) (size : BodyLength) : Type 0 where
   pub text : List ℕ
   pub body : List ℕ
   pub body_is : HasBody size text body
-  pub reads : ReadsOnWhile source (AwaitsBody size) s t old (put_back text new)
-  pub put : takes before body after
+  pub reads : ReadsOnWhile source (AwaitsBody size) before.input after.input before.received (put_back text after.received)
+  pub put : takes before.sink body after.sink
 
 -- a text was taken, and with what is left it isn't the body that the head announces, for this reason; each read was
 -- made while more of a body was awaited
@@ -62,6 +70,6 @@ pub record BreaksBody {R : Type 0} (source : Source R) (s t : R) (old new : Read
   pub reads : ReadsOnWhile source (AwaitsBody size) s t old (put_back text new)
   pub breaks : BodyBreaks (IsAtEnd (source.remaining t)) why size (text ++ new.held)
 
-abbrev pub ReadsBody : {S R : Type 0} → Takings S → Source R → R → R → ReadBuffer → ReadBuffer → S → S → BodyLength → Result (Unit {0}) RequestFault → Type 0
-ReadsBody takes source s t old new before after size (Ok _) = TakesBody takes source s t old new before after size
-ReadsBody takes source s t old new before after size (Err why) = BreaksBody source s t old new size why
+abbrev pub ReadsBody : {S R : Type 0} → Takings S → Source R → BodyMoment R S → BodyMoment R S → BodyLength → Result (Unit {0}) RequestFault → Type 0
+ReadsBody takes source before after size (Ok _) = TakesBody takes source before after size
+ReadsBody takes source before after size (Err why) = BreaksBody source before.input after.input before.received after.received size why

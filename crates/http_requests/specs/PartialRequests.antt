@@ -19,7 +19,7 @@ use Rattle.http_requests.specs.Heads.{AwaitsHead}
 use Rattle.http_requests.specs.Requests.{HasBody, BodyBreaks, IsShorter, AwaitsBody}
 use Rattle.http_requests.specs.AwaitedReads.{Source}
 use Rattle.http_requests.specs.ReceivedBytes.{ReadBuffer, ReadsOnWhile, put_back}
-use Rattle.http_requests.specs.Bodies.{AwaitsLine, AwaitsRest}
+use Rattle.http_requests.specs.Bodies.{AwaitsLine, AwaitsRest, BodyMoment}
 
 -- ---- a head
 
@@ -138,10 +138,10 @@ abbrev pub TakesText : ReadBuffer → ReadBuffer → BodyReader → (BodyLength 
 TakesText old new was Come = TakesOn {S = Unit {0}} (λ s content t. content ≡ []) old new tt tt was Come
 
 -- a part of a body was taken, and its data were pushed into the sink; each read for it was made while more was awaited
-pub record TakesPart {S R : Type 0} (takes : Takings S) (source : Source R) (s t : R) (old new : ReadBuffer) (before after : S) (size : BodyLength)
+pub record TakesPart {S R : Type 0} (takes : Takings S) (source : Source R) (before after : BodyMoment R S) (size : BodyLength)
     (reader : BodyReader) : Type 0 where
   pub text : List ℕ
   pub content : List ℕ
   pub part : IsPart size text content reader
-  pub reads : ReadsOnWhile source (AwaitsBody size) s t old (put_back text new)
-  pub put : takes before content after
+  pub reads : ReadsOnWhile source (AwaitsBody size) before.input after.input before.received (put_back text after.received)
+  pub put : takes before.sink content after.sink

@@ -75,6 +75,14 @@ pub record StopsWhile {R : Type 0} (source : Source R) (Awaits : List ℕ → Ty
   pub awaits : Awaits here.held
   pub last : ReadFails source before t failed here why
 
+-- the state of the input at one moment, and the bytes received
+pub record ReadMoment (R : Type 0) : Type 0 where
+  pub input : R
+  pub received : ReadBuffer
+
+abbrev pub read_moment : {R : Type 0} → R → ReadBuffer → ReadMoment R
+read_moment input received = record { input = input; received = received }
+
 -- The bytes start with the head of a request, of this length, with this report and this announced body length. Each
 -- read for it was made while a head was awaited.
 pub record FindsHead {R : Type 0} (source : Source R) (s t : R) (old new : ReadBuffer) (r : Request) (len : ℕ) (size : BodyLength) : Type 0 where
@@ -96,10 +104,10 @@ pub record FindsNone {R : Type 0} (source : Source R) (s t : R) (old new : ReadB
   pub malformed : IsMalformed (IsAtEnd (source.remaining t)) new.held fault.Head
 
 -- what one search for the head of a request finds
-abbrev pub Finds : {R : Type 0} → Source R → R → R → ReadBuffer → ReadBuffer → Next → Type 0
-Finds source s t old new (One r len size) = FindsHead source s t old new r len size
-Finds source s t old new Clean = FindsEnd source s t old new
-Finds source s t old new NoHead = FindsNone source s t old new
+abbrev pub Finds : {R : Type 0} → Source R → ReadMoment R → ReadMoment R → Next → Type 0
+Finds source before after (One r len size) = FindsHead source before.input after.input before.received after.received r len size
+Finds source before after Clean = FindsEnd source before.input after.input before.received after.received
+Finds source before after NoHead = FindsNone source before.input after.input before.received after.received
 
 -- ---- requests whose head was taken, and then the body
 

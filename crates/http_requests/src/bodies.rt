@@ -2,7 +2,7 @@ ghost use Rattle.std.specs.Prelude.{IfOk, IfErr};
 ghost use Rattle.http_requests.specs.Requests.{AwaitsBody};
 ghost use Rattle.http_requests.specs.AwaitedReads.{source_of};
 ghost use Rattle.http_requests.specs.ReceivedBytes.{KnowsItsEnd, StopsWhile, SameUnlessReading};
-ghost use Rattle.http_requests.specs.Bodies.{ReadsBody};
+ghost use Rattle.http_requests.specs.Bodies.{ReadsBody, body_moment};
 
 use crate::body_reader::{BodyLook, BodyReader};
 use crate::read_buffer::{ReadBuffer, ReadError};
@@ -27,12 +27,14 @@ pub fn read_body<R: Input, S: Sink>(
 ) -> Result<Result<(), RequestFault>, ReadError>
     requires end { KnowsItsEnd received.old.ended (R.remaining input.old) }
     ensures body { IfOk result (ReadsBody S.takes (source_of R.remaining R.gives)
-        input.old input.new received.old received.new sink.old sink.new size) }
+        (body_moment input.old received.old sink.old)
+        (body_moment input.new received.new sink.new) size) }
     ensures err { IfErr result (λ why. StopsWhile (source_of R.remaining R.gives)
         (AwaitsBody size) input.old input.new (R.has_failed input.new) received.old why) }
     ensures same { SameUnlessReading (R.has_failed input.old) (R.has_failed input.new) result }
 {
     let mut reader = BodyReader::new(size);
+    // For the prover: its proof names the loop by the label.
     'reads: loop {
         match reader.take_from(received, sink) {
             BodyLook::Whole => return Ok(Ok(())),

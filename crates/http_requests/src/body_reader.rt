@@ -271,6 +271,7 @@ impl BodyReader {
             (λ size text content. Comes size text content received.new.held self.new result) }
         ensures leaves { Leaves self.new received.new.held result }
     {
+        // For the prover: its proof names the loop by the label.
         'steps: loop {
             if let Some(look) = self.step(received, sink) {
                 return look;

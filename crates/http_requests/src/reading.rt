@@ -4,7 +4,7 @@ ghost use Rattle.http_requests.specs.Heads.{AwaitsHead, NeverHasHead};
 ghost use Rattle.http_requests.specs.HeadSearches.{LooksFor};
 ghost use Rattle.http_requests.specs.PartialRequests.{HasSeen, SeesAll};
 ghost use Rattle.http_requests.specs.AwaitedReads.{source_of};
-ghost use Rattle.http_requests.specs.ReceivedBytes.{KnowsItsEnd, StopsWhile, Finds, SameUnlessReading};
+ghost use Rattle.http_requests.specs.ReceivedBytes.{KnowsItsEnd, StopsWhile, Finds, SameUnlessReading, read_moment};
 
 use crate::chunked::Look;
 use crate::head::HeadSearch;
@@ -73,13 +73,14 @@ impl HeadWait {
 /// The input failed, or memory ran out for the buffer of a read, before the read.
 pub fn next_head<R: Input>(input: &mut R, received: &mut ReadBuffer) -> Result<Next, ReadError>
     requires end { KnowsItsEnd received.old.ended (R.remaining input.old) }
-    ensures found { IfOk result (Finds (source_of R.remaining R.gives) input.old input.new
-        received.old received.new) }
+    ensures found { IfOk result (Finds (source_of R.remaining R.gives)
+        (read_moment input.old received.old) (read_moment input.new received.new)) }
     ensures err { IfErr result (λ why. StopsWhile (source_of R.remaining R.gives)
         AwaitsHead input.old input.new (R.has_failed input.new) received.old why) }
     ensures same { SameUnlessReading (R.has_failed input.old) (R.has_failed input.new) result }
 {
     let mut wait = HeadWait::new();
+    // For the prover: its proof names the loop by the label.
     'reads: loop {
         match wait.look(received.as_slice()) {
             Look::Whole((request, length, size)) => return Ok(Next::One(request, length, size)),

@@ -9,7 +9,8 @@ use Rattle.trace_model.specs.declared.answer.Answer.{Answer}
 use Rattle.trace_model.specs.declared.refusal.Refusal.{Refusal}
 use Rattle.trace_model.specs.Histories.{IsLegal}
 use Rattle.trace_model.specs.Answers.{answer}
-use Rattle.trace_model.specs.StoreKnowledge.{History, IsPrefixOf, HasAt, KnownList, reached, lists_of, ForgetsNothing, Places, AnswersAt, SubmitKnows, ReadKnows}
+use Rattle.trace_model.specs.StoreKnowledge.{History, IsPrefixOf, HasAt, KnownList, reached, lists_of, ForgetsNothing, Places, AnswersAt, SubmitKnows}
+use Rattle.trace_model.specs.StoreKnowledge.{ReadKnows}
 use Rattle.http_session.specs.Sessions.{Exchange, Submits, Reads, Step, Run}
 use Rattle.http_session.specs.HistoryPoints.{Seen, IsPoint, Gets, Related, nothing_seen}
 use Rattle.http_session.specs.declared.verdict.Verdict.{Verdict}
@@ -44,7 +45,8 @@ module _ {S : Type 0} (limits : S → Limits) (knows : S → KnownList → Type 
   last_kept s t keeps None k = tt
   last_kept s t keeps (Some h) k = keeps.knowledge (reached h) k
 
-  kept : (under : Limits) (knew : History → Type 0) (s t : S) (seen : Seen) → Holds under knew s seen → ForgetsNothing limits knows s t → Holds under knew t seen
+  kept : (under : Limits) (knew : History → Type 0) (s t : S) (seen : Seen) → Holds under knew s seen → ForgetsNothing limits knows s t
+      → Holds under knew t seen
   kept under knew s t seen holds keeps = record {
     same = keeps.same_limits ∙ holds.same;
     old = λ h k. keeps.knowledge (reached h) (holds.old h k);
@@ -58,7 +60,8 @@ module _ {S : Type 0} (limits : S → Limits) (knows : S → KnownList → Type 
   behind knew s None h old last all = λ l k. all l (old l k)
   behind knew s (Some before) h old last all = all before last
 
-  accepted : (under : Limits) (knew : History → Type 0) (s t : S) (seen : Seen) (b : Batch) (place : ℕ) → Holds under knew s seen → ForgetsNothing limits knows s t
+  accepted : (under : Limits) (knew : History → Type 0) (s t : S) (seen : Seen) (b : Batch) (place : ℕ) → Holds under knew s seen
+      → ForgetsNothing limits knows s t
       → Places limits knows b place t
       → Holds under knew t (record seen { accepted = (b, place) ∷ seen.accepted })
   accepted under knew s t seen b place holds keeps places =
@@ -70,7 +73,8 @@ module _ {S : Type 0} (limits : S → Limits) (knows : S → KnownList → Type 
         placed = All-cons (Placed t) (b, place) seen.accepted (places.history, places.has, places.known) now.placed;
       }
 
-  pointed : (under : Limits) (knew : History → Type 0) (s t : S) (seen : Seen) (q : Query) (a : Answer) → Holds under knew s seen → ForgetsNothing limits knows s t
+  pointed : (under : Limits) (knew : History → Type 0) (s t : S) (seen : Seen) (q : Query) (a : Answer) → Holds under knew s seen
+      → ForgetsNothing limits knows s t
       → AnswersAt limits knows s q a t
       → (next : Seen) × Gets knew under seen (Ask q) (Answered a) next × Holds under knew t next
   pointed under knew s t seen q a holds keeps at =

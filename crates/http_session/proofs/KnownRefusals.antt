@@ -3,7 +3,8 @@ use Rattle.std.proofs.Common.{List, [], ◌∷◌, All, Some, None, Ok, Err, sym
 use Rattle.std.proofs.lemmas.List.Elements.{All-weaker, All-cons, All-nil}
 use Rattle.jaeger_model.specs.declared.batch.Batch.{Batch}
 use Rattle.trace_model.specs.declared.refusal.Refusal.{Refusal}
-use Rattle.trace_model.specs.declared.refusal.Refusal.TheVariants.{JournalFull, Stale, NoMemory, Deferred, Busy, Closed, Stranger, NoReply, Behind, Conflict, Gone}
+use Rattle.trace_model.specs.declared.refusal.Refusal.TheVariants.{JournalFull, Stale, NoMemory, Deferred, Busy, Closed, Stranger, NoReply, Behind}
+use Rattle.trace_model.specs.declared.refusal.Refusal.TheVariants.{Conflict, Gone}
 use Rattle.trace_model.specs.StoreKnowledge.{refused, ForgetsNothing, KnowsRefusal}
 use Rattle.http_session.specs.Sessions.{Exchange, Step, Run}
 use Rattle.http_session.specs.ResponseOrder.{Line}
@@ -17,7 +18,8 @@ use Rattle.http_session.specs.declared.reply.Reply.TheVariants.{Refused}
 use Rattle.http_session.proofs.SessionPieces.{Promises, shared_promises, keeps_all, keeps_on, step_keeps}
 
 module _ {S : Type 0} (store : Store S) where
-  still_known : (s t : S) (b : Batch) (why : Refusal) → ForgetsNothing store.limits store.knows s t → KnowsRefusal store.knows b why s → KnowsRefusal store.knows b why t
+  still_known : (s t : S) (b : Batch) (why : Refusal) → ForgetsNothing store.limits store.knows s t → KnowsRefusal store.knows b why s
+      → KnowsRefusal store.knows b why t
   still_known s t b (JournalFull batches spans) keeps known = (known.0, keeps.knowledge (refused b (JournalFull batches spans) known.0) known.1)
   still_known s t b (Stale last) keeps known = (known.0, keeps.knowledge (refused b (Stale last) known.0) known.1)
   still_known s t b (Conflict place) keeps known = (known.0, keeps.knowledge (refused b (Conflict place) known.0) known.1)
@@ -35,7 +37,8 @@ module _ {S : Type 0} (store : Store S) where
   kept_of_one s t (Submit b) (Refused why) keeps known = still_known s t b why keeps known
   kept_of_one s t _ _ keeps known = tt
 
-  kept_of_all : (s t : S) (xs : List Exchange) → ForgetsNothing store.limits store.knows s t → RefusalsAreKnown store.knows s xs → RefusalsAreKnown store.knows t xs
+  kept_of_all : (s t : S) (xs : List Exchange) → ForgetsNothing store.limits store.knows s t → RefusalsAreKnown store.knows s xs
+      → RefusalsAreKnown store.knows t xs
   kept_of_all s t xs keeps known =
       All-weaker (λ (x : Exchange). RefusalIsKnown store.knows s x.verdict x.reply)
       (λ (x : Exchange). RefusalIsKnown store.knows t x.verdict x.reply)

@@ -17,12 +17,13 @@ use Rattle.http_requests.specs.LineLaws.{no_bytes_await}
 use Rattle.http_requests.specs.ReceivedBytes.{ReadBuffer, ReadsOn, ReadsOnWhile, IsRead, ReadFails, StopsWhile, SameUnlessReading, put_back}
 use Rattle.http_requests.proofs.Readings.{nothing_yet, read_after, stops_reading}
 use Rattle.http_session.specs.Verdicts.{BeginsWithQuery}
-use Rattle.http_session.specs.IncomingRequests.{before_a_request, HasReceived, WaitsAfter, ReceivesOne, ReceivesEnd, ReceivesFault, ReceivesPart, ReceivesNothing}
+use Rattle.http_session.specs.IncomingRequests.{before_a_request, HasReceived, WaitsAfter, ReceivesOne, ReceivesEnd, ReceivesFault, ReceivesPart}
+use Rattle.http_session.specs.IncomingRequests.{ReceivesNothing}
 use Rattle.http_session.specs.UnderwaySessions.{SoFar}
 use Rattle.http_session.specs.Replies.{closes, takes_no_memory, response_of}
 use Rattle.http_session.specs.Sessions.{Submits, Reads, Step, WritesResponse, cause_by}
 use Rattle.http_session.specs.ResponseOrder.{Line, IsTwoWay, EndsOver, FailsOver}
-use Rattle.http_session.specs.SessionRuns.{Store, store_of, EndsServed, FailsServed}
+use Rattle.http_session.specs.SessionRuns.{Store, store_of, connection_moment, EndsServed, FailsServed}
 use Rattle.http_session.specs.Pieces.{AsksOnce, AnswersSoFar, StaysUnderway, OutlastsWrites, SubmitsSome, ReadsSome, no_requests_yet}
 use Rattle.http_session.specs.Pieces.{CanContinue, AwaitsMore, shared, Underway, ComesTo, UnderwayAmong, GoesOn}
 use Rattle.http_session.specs.declared.pieces.Session.{Session}
@@ -56,7 +57,8 @@ module _ {S : Type 0} (store : Store S) where
   pub keeps_all : (s : S) → ForgetsNothing store.limits store.knows s s
   keeps_all s = record { same_limits = refl; knowledge = λ h k. k }
 
-  pub keeps_on : (s m t : S) → ForgetsNothing store.limits store.knows s m → ForgetsNothing store.limits store.knows m t → ForgetsNothing store.limits store.knows s t
+  pub keeps_on : (s m t : S) → ForgetsNothing store.limits store.knows s m → ForgetsNothing store.limits store.knows m t
+      → ForgetsNothing store.limits store.knows s t
   keeps_on s m t one two = record { same_limits = two.same_limits ∙ one.same_limits; knowledge = λ h k. two.knowledge h (one.knowledge h k) }
 
   -- a step that comes later
@@ -98,12 +100,12 @@ module _ {S : Type 0} (store : Store S) where
 
     -- its answers are those of one growing history
     pub ends_served : {C : Type 0} (line : Line C) (c0 c1 : C) (s t : S) (ended : Ended) → EndsOver store.submits store.reads line c0 c1 s t ended
-        → EndsServed store line c0 c1 s t ended
+        → EndsServed store line (connection_moment c0 s) (connection_moment c1 t) ended
     ends_served line c0 c1 s t ended over =
         (over, related_all store.limits store.knows store.submits store.reads promises.submit_knows promises.read_knows s t _ over.0.run)
 
     pub fails_served : {C : Type 0} (line : Line C) (c0 c1 : C) (s t : S) (error : SessionError) → FailsOver store.submits store.reads line c0 c1 s t error
-        → FailsServed store line c0 c1 s t error
+        → FailsServed store line (connection_moment c0 s) (connection_moment c1 t) error
     fails_served line c0 c1 s t error over =
         (over, related_all store.limits store.knows store.submits store.reads promises.submit_knows promises.read_knows s t _ over.0.run)
 

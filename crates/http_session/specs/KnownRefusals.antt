@@ -23,20 +23,20 @@ abbrev pub RefusalsAreKnown : {S : Type 0} → (S → KnownList → Type 0) → 
 RefusalsAreKnown knows t xs = All (λ (x : Exchange). RefusalIsKnown knows t x.verdict x.reply) xs
 
 -- the exchanges of a session so far, or all if it has ended or failed
-abbrev pub exchanges_of : {S C : Type 0} (store : Store S) (line : Line C) (c0 c1 : C) (s t : S) (session : Session)
+abbrev pub session_exchanges : {S C : Type 0} (store : Store S) (line : Line C) (c0 c1 : C) (s t : S) (session : Session)
     (result : Result (Option Ended) SessionError) → ComesTo store line c0 c1 s t session result → List Exchange
-exchanges_of store line c0 c1 s t session (Ok None) it = it.so_far.opens
-exchanges_of store line c0 c1 s t session (Ok (Some ended)) it = it.0.0.opens ++ last_of it.0.0.ending
-exchanges_of store line c0 c1 s t session (Err error) it = it.0.0.opens ++ exchange_due it.0.0.next
+session_exchanges store line c0 c1 s t session (Ok None) it = it.so_far.opens
+session_exchanges store line c0 c1 s t session (Ok (Some ended)) it = it.0.0.opens ++ last_of it.0.0.ending
+session_exchanges store line c0 c1 s t session (Err error) it = it.0.0.opens ++ exchange_due it.0.0.next
 
 -- the store knows the refusals of a session that it served alone
 abbrev pub RefusalsStayKnown : {S C : Type 0} → Store S → Line C → Type 0
 RefusalsStayKnown {S = S} {C = C} store line =
     (c0 c1 : C) (s t : S) (session : Session) (result : Result (Option Ended) SessionError) (it : ComesTo store line c0 c1 s t session result)
-    → RefusalsAreKnown store.knows t (exchanges_of store line c0 c1 s t session result it)
+    → RefusalsAreKnown store.knows t (session_exchanges store line c0 c1 s t session result it)
 
 -- the store knows the refusals of a session among others, also after what these do later
 abbrev pub RefusalsStayKnownAmong : {S C : Type 0} → Store S → Line C → Type 0
 RefusalsStayKnownAmong {S = S} {C = C} store line =
     (c0 c1 : C) (s t : S) (session : Session) (result : Result (Option Ended) SessionError) (it : ComesToAmong store line c0 c1 s t session result)
-    → RefusalsAreKnown store.knows t (exchanges_of (shared store) line c0 c1 s it.0 session result it.1)
+    → RefusalsAreKnown store.knows t (session_exchanges (shared store) line c0 c1 s it.0 session result it.1)

@@ -14,7 +14,7 @@ use Rattle.http_session.specs.Sessions.{Submits, Reads, Step}
 use Rattle.http_session.specs.ResponseOrder.{Line}
 use Rattle.http_session.specs.UnderwaySessions.{SoFar}
 use Rattle.http_session.specs.HistoryPoints.{Related, nothing_seen}
-use Rattle.http_session.specs.SessionRuns.{Store, EndsServed, FailsServed}
+use Rattle.http_session.specs.SessionRuns.{Store, connection_moment, EndsServed, FailsServed}
 use Rattle.http_session.specs.IncomingRequests.{before_a_request, HasReceived, HasLookedBy, WaitsAfter}
 use Rattle.http_session.specs.declared.pieces.Session.{Session}
 use Rattle.http_session.specs.declared.pieces.Progress.{Progress}
@@ -98,8 +98,8 @@ pub record Underway {S C : Type 0} (store : Store S) (line : Line C) (c0 c1 : C)
 -- what became of a session that began there
 abbrev pub ComesTo : {S C : Type 0} → Store S → Line C → C → C → S → S → Session → Result (Option Ended) SessionError → Type 0
 ComesTo store line c0 c1 s t session (Ok None) = Underway store line c0 c1 s t session
-ComesTo store line c0 c1 s t session (Ok (Some ended)) = EndsServed store line c0 c1 s t ended
-ComesTo store line c0 c1 s t session (Err error) = FailsServed store line c0 c1 s t error
+ComesTo store line c0 c1 s t session (Ok (Some ended)) = EndsServed store line (connection_moment c0 s) (connection_moment c1 t) ended
+ComesTo store line c0 c1 s t session (Err error) = FailsServed store line (connection_moment c0 s) (connection_moment c1 t) error
 
 -- A session over a store that others use too: the store still knows everything that it knew after the session's own
 -- steps.

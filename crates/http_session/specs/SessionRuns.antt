@@ -31,42 +31,63 @@ abbrev pub devices_of : {R W : Type 0} → (R → Option (List ℕ)) → Gives R
 devices_of remaining gives in_failed contents out_failed =
     record { source = source_of remaining gives; in_failed = in_failed; contents = contents; out_failed = out_failed }
 
+-- the states of the input, of the output and of the store at one moment of a session
+pub record Moment (R W S : Type 0) : Type 0 where
+  pub input : R
+  pub output : W
+  pub store : S
+
+abbrev pub moment : {R W S : Type 0} → R → W → S → Moment R W S
+moment input output store = record { input = input; output = output; store = store }
+
+-- the states of the connection and of the store at one moment of a session
+pub record ConnectionMoment (C S : Type 0) : Type 0 where
+  pub connection : C
+  pub store : S
+
+abbrev pub connection_moment : {C S : Type 0} → C → S → ConnectionMoment C S
+connection_moment connection store = record { connection = connection; store = store }
+
 -- A session between an input and an output ended, over a store that does this: what was read and written, what holds
 -- for its exchanges, and that it read only while the next request was awaited.
-abbrev pub EndsWith : {S R W : Type 0} → Submits S → Reads S → (List Exchange → Type 0) → Devices R W → R → R → W → W → S → S → Ended → Type 0
-EndsWith submits reads Holds devices in0 in1 out0 out1 s t ended =
-    (ends : EndsAs submits reads (devices.source.remaining in0) (devices.source.remaining in1) (devices.contents out0) (devices.contents out1)
-    s t ended.answered ended.clean)
+abbrev pub EndsWith : {S R W : Type 0} → Submits S → Reads S → (List Exchange → Type 0) → Devices R W → Moment R W S → Moment R W S → Ended → Type 0
+EndsWith submits reads Holds devices before after ended =
+    (ends : EndsAs submits reads (devices.source.remaining before.input) (devices.source.remaining after.input)
+    (devices.contents before.output) (devices.contents after.output) before.store after.store ended.answered ended.clean)
     × Holds (ends.opens ++ last_of ends.ending)
-    × ReadsInTurn devices.source.gives in0 in1 ends.opens ends.taken
+    × ReadsInTurn devices.source.gives before.input after.input ends.opens ends.taken
 
 -- like EndsWith, for a session that failed
-abbrev pub FailsWith : {S R W : Type 0} → Submits S → Reads S → (List Exchange → Type 0) → Devices R W → R → R → W → W → S → S → SessionError → Type 0
-FailsWith submits reads Holds devices in0 in1 out0 out1 s t error =
-    (fails : FailsAs submits reads (devices.source.remaining in0) (devices.source.remaining in1) (devices.contents out0) (devices.contents out1) s t
-    (devices.in_failed in1) (devices.out_failed out1) error)
+abbrev pub FailsWith : {S R W : Type 0} → Submits S → Reads S → (List Exchange → Type 0) → Devices R W → Moment R W S → Moment R W S → SessionError
+    → Type 0
+FailsWith submits reads Holds devices before after error =
+    (fails : FailsAs submits reads (devices.source.remaining before.input) (devices.source.remaining after.input)
+    (devices.contents before.output) (devices.contents after.output) before.store after.store
+    (devices.in_failed after.input) (devices.out_failed after.output) error)
     × Holds (fails.opens ++ exchange_due fails.next)
-    × ReadsInTurnUpTo devices.source in0 in1 (devices.in_failed in1) fails.opens fails.taken fails.made
+    × ReadsInTurnUpTo devices.source before.input after.input (devices.in_failed after.input) fails.opens fails.taken fails.made
 
 -- a session ended, and its answers belong to one growing history
-abbrev pub EndsBetween : {S R W : Type 0} → Store S → Devices R W → R → R → W → W → S → S → Ended → Type 0
-EndsBetween store devices in0 in1 out0 out1 s t ended =
-    EndsWith store.submits store.reads (λ xs. Related (lists_of store.knows s) (store.limits s) nothing_seen xs) devices in0 in1 out0 out1 s t ended
+abbrev pub EndsBetween : {S R W : Type 0} → Store S → Devices R W → Moment R W S → Moment R W S → Ended → Type 0
+EndsBetween store devices before after ended =
+    EndsWith store.submits store.reads
+    (λ xs. Related (lists_of store.knows before.store) (store.limits before.store) nothing_seen xs) devices before after ended
 
 -- like EndsBetween, for a session that failed
-abbrev pub FailsBetween : {S R W : Type 0} → Store S → Devices R W → R → R → W → W → S → S → SessionError → Type 0
-FailsBetween store devices in0 in1 out0 out1 s t error =
-    FailsWith store.submits store.reads (λ xs. Related (lists_of store.knows s) (store.limits s) nothing_seen xs) devices in0 in1 out0 out1 s t error
+abbrev pub FailsBetween : {S R W : Type 0} → Store S → Devices R W → Moment R W S → Moment R W S → SessionError → Type 0
+FailsBetween store devices before after error =
+    FailsWith store.submits store.reads
+    (λ xs. Related (lists_of store.knows before.store) (store.limits before.store) nothing_seen xs) devices before after error
 
 -- A session over a connection ended: as in EndsBetween, and before each read the responses to all earlier requests were
 -- written.
-abbrev pub EndsServed : {S C : Type 0} → Store S → Line C → C → C → S → S → Ended → Type 0
-EndsServed store line c0 c1 s t ended =
-    (over : EndsOver store.submits store.reads line c0 c1 s t ended)
-    × Related (lists_of store.knows s) (store.limits s) nothing_seen (over.0.opens ++ last_of over.0.ending)
+abbrev pub EndsServed : {S C : Type 0} → Store S → Line C → ConnectionMoment C S → ConnectionMoment C S → Ended → Type 0
+EndsServed store line before after ended =
+    (over : EndsOver store.submits store.reads line before.connection after.connection before.store after.store ended)
+    × Related (lists_of store.knows before.store) (store.limits before.store) nothing_seen (over.0.opens ++ last_of over.0.ending)
 
 -- like EndsServed, for a session that failed
-abbrev pub FailsServed : {S C : Type 0} → Store S → Line C → C → C → S → S → SessionError → Type 0
-FailsServed store line c0 c1 s t error =
-    (over : FailsOver store.submits store.reads line c0 c1 s t error)
-    × Related (lists_of store.knows s) (store.limits s) nothing_seen (over.0.opens ++ exchange_due over.0.next)
+abbrev pub FailsServed : {S C : Type 0} → Store S → Line C → ConnectionMoment C S → ConnectionMoment C S → SessionError → Type 0
+FailsServed store line before after error =
+    (over : FailsOver store.submits store.reads line before.connection after.connection before.store after.store error)
+    × Related (lists_of store.knows before.store) (store.limits before.store) nothing_seen (over.0.opens ++ exchange_due over.0.next)

@@ -5,7 +5,7 @@ ghost use Rattle.http_session.specs.Replies.{response_of, closes, takes_no_memor
 ghost use Rattle.http_session.specs.declared.exchanges.SessionErrorKind.TheVariants.{Writing, Memory};
 ghost use Rattle.http_session.specs.Sessions.{Step, WritesResponse, part_written, cause_by};
 ghost use Rattle.http_session.specs.ResponseOrder.{line_of};
-ghost use Rattle.http_session.specs.SessionRuns.{store_of, devices_of, EndsBetween, FailsBetween, EndsServed, FailsServed};
+ghost use Rattle.http_session.specs.SessionRuns.{store_of, devices_of, moment, connection_moment, EndsBetween, FailsBetween, EndsServed, FailsServed};
 
 use crate::pieces::Session;
 use crate::reply::Reply;
@@ -181,12 +181,12 @@ fn run_session<T, C: Respond, B: Backend<T>>(
     requires output_works { C.Output.has_failed connection.old ≡ false }
     ensures ended { IfOk result (EndsServed (store_of B.submits B.reads B.knows B.limits)
         (line_of C.remaining C.gives C.Input.has_failed C.contents C.takes C.Output.has_failed)
-        connection.old connection.new backend.old backend.new) }
+        (connection_moment connection.old backend.old) (connection_moment connection.new backend.new)) }
     ensures works { OnOk result ((C.Input.has_failed connection.new ≡ false)
         × (C.Output.has_failed connection.new ≡ false)) }
     ensures error { IfErr result (FailsServed (store_of B.submits B.reads B.knows B.limits)
         (line_of C.remaining C.gives C.Input.has_failed C.contents C.takes C.Output.has_failed)
-        connection.old connection.new backend.old backend.new) }
+        (connection_moment connection.old backend.old) (connection_moment connection.new backend.new)) }
 {
     let mut session = Session::new(alloc);
     // For the prover: explicit drops are cheaper than one at the end of the block.
@@ -235,14 +235,14 @@ pub fn serve_connection<T, C: Respond, B: Backend<T>>(
 
     ensures ended { IfOk result (EndsServed (store_of B.submits B.reads B.knows B.limits)
         (line_of C.remaining C.gives C.Input.has_failed C.contents C.takes C.Output.has_failed)
-        connection.old connection.new backend.old backend.new) }
+        (connection_moment connection.old backend.old) (connection_moment connection.new backend.new)) }
 
     ensures works { OnOk result ((C.Input.has_failed connection.new ≡ false)
         × (C.Output.has_failed connection.new ≡ false)) }
 
     ensures error { IfErr result (FailsServed (store_of B.submits B.reads B.knows B.limits)
         (line_of C.remaining C.gives C.Input.has_failed C.contents C.takes C.Output.has_failed)
-        connection.old connection.new backend.old backend.new) }
+        (connection_moment connection.old backend.old) (connection_moment connection.new backend.new)) }
 {
     let Ok(router) = endpoints(alloc) else {
         return Err(SessionError {
@@ -271,14 +271,14 @@ fn serve_joined<T, R: Input, W: Output, B: Backend<T>>(
     ensures same_output { connection.new.output.ghost_name ≡ connection.old.output.ghost_name }
     ensures ended { IfOk result (EndsBetween (store_of B.submits B.reads B.knows B.limits)
         (devices_of R.remaining R.gives R.has_failed W.contents W.has_failed)
-        connection.old.input.now connection.new.input.now
-        connection.old.output.now connection.new.output.now backend.old backend.new) }
+        (moment connection.old.input.now connection.old.output.now backend.old)
+        (moment connection.new.input.now connection.new.output.now backend.new)) }
     ensures works { OnOk result ((R.has_failed connection.new.input.now ≡ false)
         × (W.has_failed connection.new.output.now ≡ false)) }
     ensures error { IfErr result (FailsBetween (store_of B.submits B.reads B.knows B.limits)
         (devices_of R.remaining R.gives R.has_failed W.contents W.has_failed)
-        connection.old.input.now connection.new.input.now
-        connection.old.output.now connection.new.output.now backend.old backend.new) }
+        (moment connection.old.input.now connection.old.output.now backend.old)
+        (moment connection.new.input.now connection.new.output.now backend.new)) }
 {
     // For the prover: the match takes the clauses `ended` and `error` apart.
     match serve_connection(rt, alloc, connection, backend) {
@@ -307,14 +307,14 @@ pub fn session<T, R: Input, W: Output, B: Backend<T>>(
 
     ensures ended { IfOk result (EndsBetween (store_of B.submits B.reads B.knows B.limits)
         (devices_of R.remaining R.gives R.has_failed W.contents W.has_failed)
-        input.old input.new output.old output.new backend.old backend.new) }
+        (moment input.old output.old backend.old) (moment input.new output.new backend.new)) }
 
     ensures works { OnOk result ((R.has_failed input.new ≡ false)
         × (W.has_failed output.new ≡ false)) }
 
     ensures error { IfErr result (FailsBetween (store_of B.submits B.reads B.knows B.limits)
         (devices_of R.remaining R.gives R.has_failed W.contents W.has_failed)
-        input.old input.new output.old output.new backend.old backend.new) }
+        (moment input.old output.old backend.old) (moment input.new output.new backend.new)) }
 {
     let mut connection = Join::new(input, output);
     // For the prover: the match takes the clauses `ended` and `error` apart.

@@ -18,9 +18,11 @@ pub(crate) fn out_of_memory(close: bool) -> &'static [u8]
     ensures { result.now ≡ response 500 (error_body 500 (codes "out of memory")) [] close }
 {
     if close {
-        b"HTTP/1.1 500 Internal Server Error\r\nContent-Type: application/json\r\nContent-Length: 90\r\nConnection: close\r\n\r\n{\"data\":null,\"errors\":[{\"code\":500,\"msg\":\"out of memory\"}],\"limit\":0,\"offset\":0,\"total\":0}"
+        b"HTTP/1.1 500 Internal Server Error\r\nContent-Type: application/json\r\nContent-Length: 90\r\nConnection: close\r\n\r\n\
+            {\"data\":null,\"errors\":[{\"code\":500,\"msg\":\"out of memory\"}],\"limit\":0,\"offset\":0,\"total\":0}"
     } else {
-        b"HTTP/1.1 500 Internal Server Error\r\nContent-Type: application/json\r\nContent-Length: 90\r\n\r\n{\"data\":null,\"errors\":[{\"code\":500,\"msg\":\"out of memory\"}],\"limit\":0,\"offset\":0,\"total\":0}"
+        b"HTTP/1.1 500 Internal Server Error\r\nContent-Type: application/json\r\nContent-Length: 90\r\n\r\n\
+            {\"data\":null,\"errors\":[{\"code\":500,\"msg\":\"out of memory\"}],\"limit\":0,\"offset\":0,\"total\":0}"
     }
 }
 
@@ -28,8 +30,10 @@ pub(crate) fn internal_error(close: bool) -> &'static [u8]
     ensures { result.now ≡ response 500 (error_body 500 (codes "internal error")) [] close }
 {
     if close {
-        b"HTTP/1.1 500 Internal Server Error\r\nContent-Type: application/json\r\nContent-Length: 91\r\nConnection: close\r\n\r\n{\"data\":null,\"errors\":[{\"code\":500,\"msg\":\"internal error\"}],\"limit\":0,\"offset\":0,\"total\":0}"
+        b"HTTP/1.1 500 Internal Server Error\r\nContent-Type: application/json\r\nContent-Length: 91\r\nConnection: close\r\n\r\n\
+            {\"data\":null,\"errors\":[{\"code\":500,\"msg\":\"internal error\"}],\"limit\":0,\"offset\":0,\"total\":0}"
     } else {
-        b"HTTP/1.1 500 Internal Server Error\r\nContent-Type: application/json\r\nContent-Length: 91\r\n\r\n{\"data\":null,\"errors\":[{\"code\":500,\"msg\":\"internal error\"}],\"limit\":0,\"offset\":0,\"total\":0}"
+        b"HTTP/1.1 500 Internal Server Error\r\nContent-Type: application/json\r\nContent-Length: 91\r\n\r\n\
+            {\"data\":null,\"errors\":[{\"code\":500,\"msg\":\"internal error\"}],\"limit\":0,\"offset\":0,\"total\":0}"
     }
 }

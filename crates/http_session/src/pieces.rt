@@ -265,6 +265,7 @@ impl Session {
 
         ensures one_more { IfOpen result (self.new.answered ≡ self.old.answered + 1) }
     {
+        // For the prover: its proof names the loop by the label.
         'pauses: loop {
             match self.advance(rt, alloc, router, connection, backend) {
                 Ok(Progress::Paused) => {}

@@ -9,7 +9,8 @@ ghost use Rattle.http_requests.specs.ReceivedBytes.{put_back};
 ghost use Rattle.http_session.specs.Verdicts.{BeginsWithQuery};
 ghost use Rattle.http_session.specs.Questions.{JudgesRead, Decides};
 ghost use Rattle.http_session.specs.declared.question.Question.{Question as QuestionValue};
-ghost use Rattle.http_session.specs.IncomingRequests.{before_a_request, JudgesBy, Carries, IsPartOf, HasReceived, HasLookedBy, IsBodyStage, PartComes, LeavesPart};
+ghost use Rattle.http_session.specs.IncomingRequests.{before_a_request, JudgesBy, Carries, IsPartOf, HasReceived, HasLookedBy, IsBodyStage};
+ghost use Rattle.http_session.specs.IncomingRequests.{PartComes, LeavesPart};
 ghost use Rattle.http_session.specs.IncomingRequests.{FinishesAs, ReceivesOf, LeavesWaiting};
 
 use crate::question::{Question, question_of};
@@ -174,6 +175,7 @@ impl PartialRequest {
             PartComes (put_back text received.old) received.new self.new result }
         ensures waits { LeavesPart received.new self.new result }
     {
+        // For the prover: the match takes the cases of the clauses of `take_from` apart, which give the clause `part`.
         match self.take_from(received) {
             BodyLook::Whole => BodyLook::Whole,
             BodyLook::Fault(fault) => BodyLook::Fault(fault),
@@ -256,7 +258,7 @@ fn receive_body(stage: &mut SessionStage, received: &mut ReadBuffer) -> Option<I
 fn receive_head(
     alloc: Global,
     router: &Router<Endpoint>,
-    wait: HeadWait,
+    mut wait: HeadWait,
     stage: &mut SessionStage,
     received: &mut ReadBuffer,
 ) -> Result<Option<Incoming>, AllocError>
@@ -266,7 +268,6 @@ fn receive_head(
     ensures waits { IfOk result (LeavesWaiting received.new stage.new) }
     ensures err { OnErr result (BeginsWithQuery received.old.held) }
 {
-    let mut wait = wait;
     match wait.look(received.as_slice()) {
         Look::Whole((request, length, size)) => {
             let head = &received.as_slice()[..length];

@@ -261,6 +261,7 @@ impl Reply {
         ensures { IfOk result (λ r. to_come r ≡ response_of self close) }
     {
         let (status, allow) = (self.status(), self.allow());
+        // `write_reply` writes a reply that `fixed` has without this call. The clause speaks of every reply.
         let body = match self {
             Reply::Accepted => Vec::new(alloc),
             Reply::Answered(answer) => return answered(alloc, status, answer, close),

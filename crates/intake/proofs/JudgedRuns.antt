@@ -14,7 +14,7 @@ use Rattle.intake.specs.declared.account.Account.{Account}
 use Rattle.intake.specs.declared.clerk.Turn.{Turn}
 use Rattle.intake.specs.declared.clerk.Turn.TheVariants.{Idle, Served, Ended}
 use Rattle.intake.specs.declared.queue.EndedSeat.{EndedSeat}
-use Rattle.intake.specs.Turns.{ClerkValue, Accounted, ServesJob, IfServed, IfNotServed, IfNoJob, WasEmpty, account_of}
+use Rattle.intake.specs.Turns.{ClerkValue, Accounted, ServesJob, turn_state, IfServed, IfNotServed, IfNoJob, WasEmpty, account_of}
 use Rattle.intake.specs.Books.{JudgedInTurn, is_accepted, gained_jobs, AllAnswered, Ran}
 use Rattle.intake.proofs.ClerkAccounts.{accounted-snoc}
 use Rattle.intake.proofs.JudgedLists.{judged-accepted, judged-answered}
@@ -81,7 +81,8 @@ ran-start limits before accounts start each =
 
 -- one more job was judged
 pub ran-served : (limits : Limits) (before : List Entry) (accounts : List Account) (start : Lists) (c d : ClerkValue) (m end : Lists) (seat number : ℕ)
-    → Ran limits before accounts start c.taken c.accounts m → ServesJob limits c m seat number d end → Ran limits before accounts start d.taken d.accounts end
+    → Ran limits before accounts start c.taken c.accounts m → ServesJob limits (turn_state c m) (turn_state d end) seat number
+    → Ran limits before accounts start d.taken d.accounts end
 ran-served limits before accounts start c d m end seat number h s =
     let j = s.0 in
     let a = account_of j s.1 in
@@ -106,7 +107,7 @@ ran-unchanged limits before accounts start c d m end h e k =
 
 -- whatever the turn did
 pub ran-on : (limits : Limits) (before : List Entry) (accounts : List Account) (start : Lists) (c d : ClerkValue) (m end : Lists) (r : Result Turn Refusal)
-    → Ran limits before accounts start c.taken c.accounts m → IfServed r (λ seat number. ServesJob limits c m seat number d end)
+    → Ran limits before accounts start c.taken c.accounts m → IfServed r (ServesJob limits (turn_state c m) (turn_state d end))
     → IfNotServed r ((d ≡ c) × (end ≡ m))
     → Ran limits before accounts start d.taken d.accounts end × (d.desk ≡ c.desk) × (d.ended ≡ c.ended)
 ran-on limits before accounts start c d m end (Ok (Served seat number)) h s u =

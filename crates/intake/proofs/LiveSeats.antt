@@ -33,11 +33,13 @@ goes_by_a_job s b t h =
     subst (λ (z : SeatValue). SeatGoesOn s z) (sym h) one
 
 -- whatever a batch is answered
-pub submit_goes_on : (limits : Limits) (s : LiveValue) (b : Batch) (r : Result ℕ Refusal) (t : LiveValue) → LiveSubmits limits s b r t → SeatGoesOn s.seat t.seat
+pub submit_goes_on : (limits : Limits) (s : LiveValue) (b : Batch) (r : Result ℕ Refusal) (t : LiveValue) → LiveSubmits limits s b r t
+    → SeatGoesOn s.seat t.seat
 submit_goes_on limits s b (Ok place) t d = goes_by_a_job s.seat b t.seat d.1
 submit_goes_on limits s b (Err why) t d = ⊎_elim (λ p. stays_same s.seat t.seat p.0) (λ q. goes_by_a_job s.seat b t.seat q.0) d.1
 
 -- whatever a query is answered
-pub read_goes_on : (limits : Limits) (s : LiveValue) (q : Query) (r : Result Answer Refusal) (t : LiveValue) → LiveReads limits s q r t → SeatGoesOn s.seat t.seat
+pub read_goes_on : (limits : Limits) (s : LiveValue) (q : Query) (r : Result Answer Refusal) (t : LiveValue) → LiveReads limits s q r t
+    → SeatGoesOn s.seat t.seat
 read_goes_on limits s q (Ok a) t d = stays_same s.seat t.seat d.1
 read_goes_on limits s q (Err why) t d = stays_same s.seat t.seat d.1

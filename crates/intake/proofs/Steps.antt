@@ -11,7 +11,8 @@ use Rattle.atomic_table.proofs.Lists.{at_set, set_else}
 use Rattle.trace_model.specs.declared.entry.Entry.{Entry}
 use Rattle.intake.specs.declared.queue.QueueView.{QueueView}
 use Rattle.intake.specs.declared.queue.EndedSeat.{EndedSeat}
-use Rattle.intake.specs.Queues.{jobs_of, CountUp, AllCountUp, FitsSeat, FitsClerk, AreEnded, Balanced, PutsJob, TakesJob, IsQueued, Waiting, AreWhole, first_view}
+use Rattle.intake.specs.Queues.{jobs_of, CountUp, AllCountUp, FitsSeat, FitsClerk, AreEnded, Balanced, PutsJob, TakesJob, IsQueued, Waiting, AreWhole}
+use Rattle.intake.specs.Queues.{first_view}
 use Rattle.intake.specs.Queues.{one_more, new_seat, took_in, retired, spent}
 
 pub jobs_of-append : (s : ℕ) (xs ys : List Entry) → jobs_of s (xs ++ ys) ≡ jobs_of s xs ++ jobs_of s ys
@@ -22,7 +23,8 @@ counted-left k [] ys c = tt
 counted-left k (x ∷ xs) ys c = (c.0, counted-left (k + 1) xs ys c.1)
 
 -- the jobs of each seat are numbered from 1 on in the front part, if they are in all of them
-pub counted-front : (submitted : ℕ → List Entry) (front items : List Entry) → ((s : ℕ) → jobs_of s (front ++ items) ≡ submitted s) → ((s : ℕ) → CountUp 1 (submitted s))
+pub counted-front : (submitted : ℕ → List Entry) (front items : List Entry) → ((s : ℕ) → jobs_of s (front ++ items) ≡ submitted s)
+    → ((s : ℕ) → CountUp 1 (submitted s))
     → AllCountUp front
 counted-front submitted front items same counts s =
     counted-left 1 (jobs_of s front) (jobs_of s items) (subst (CountUp 1) (sym (same s) ∙ jobs_of-append s front items) (counts s))
@@ -95,7 +97,8 @@ more-count submitted at j s h e = go (s == at) refl
 
 -- ended seats stay so if only seats change that some view is of
 pub ended-on : (holder holder' : ℕ → Option ℕ) (submitted submitted' : ℕ → List Entry) (m n : ℕ) (ks : List EndedSeat) → m < n + 1
-    → ((s : ℕ) → s < m → holder s ≡ none → (holder' s ≡ none) × (submitted' s ≡ submitted s)) → AreEnded holder submitted m ks → AreEnded holder' submitted' n ks
+    → ((s : ℕ) → s < m → holder s ≡ none → (holder' s ≡ none) × (submitted' s ≡ submitted s)) → AreEnded holder submitted m ks
+    → AreEnded holder' submitted' n ks
 ended-on holder holder' submitted submitted' m n [] le keep h = tt
 ended-on holder holder' submitted submitted' m n (k ∷ ks) le keep h =
     let same = keep k.seat h.0.0 h.0.1 in

@@ -10,14 +10,16 @@ use Rattle.trace_model.specs.declared.limits.Limits.{Limits}
 use Rattle.trace_model.specs.declared.query.Query.{Query}
 use Rattle.trace_model.specs.declared.answer.Answer.{Answer}
 use Rattle.trace_model.specs.declared.refusal.Refusal.{Refusal}
-use Rattle.trace_model.specs.declared.refusal.Refusal.TheVariants.{JournalFull, Stale, NoMemory, Deferred, Busy, Closed, Stranger, NoReply, Behind, Conflict, Gone}
+use Rattle.trace_model.specs.declared.refusal.Refusal.TheVariants.{JournalFull, Stale, NoMemory, Deferred, Busy, Closed, Stranger, NoReply, Behind}
+use Rattle.trace_model.specs.declared.refusal.Refusal.TheVariants.{Conflict, Gone}
 use Rattle.trace_model.specs.Histories.{IsLegal}
 use Rattle.trace_model.specs.ResentBatches.{AnswersFor}
 use Rattle.trace_model.proofs.Prefixes.{prefix_self, prefix_trans}
 use Rattle.intake.specs.Seats.{next_job}
 use Rattle.intake.specs.Denials.{IsLeftOut}
 use Rattle.intake.specs.Places.{stands-split}
-use Rattle.trace_model.specs.StoreKnowledge.{History, IsPrefixOf, HasAt, KnownList, reached, refused, ForgetsNothing, AnswersAt, KnowsRefusal, SubmitKnows, ReadKnows}
+use Rattle.trace_model.specs.StoreKnowledge.{History, IsPrefixOf, HasAt, KnownList, reached, refused, ForgetsNothing, AnswersAt, KnowsRefusal}
+use Rattle.trace_model.specs.StoreKnowledge.{SubmitKnows, ReadKnows}
 use Rattle.intake.specs.LiveStores.{LiveValue, LiveKnows, LiveSubmits, LiveReads}
 
 -- what is known of two lists is known of longer ones
@@ -26,7 +28,8 @@ knows_more : (limits : Limits) (s t : LiveValue) → IsPrefix s.known t.known �
 knows_more limits s t more longer (reached h) k = prefix_trans h s.known t.known k more
 knows_more limits s t more longer (refused b why h) k = (prefix_trans h s.refused_by t.refused_by k.0 longer, k.1, k.2)
 
-pub keeps : (limits : Limits) (s t : LiveValue) → IsPrefix s.known t.known → IsPrefix s.refused_by t.refused_by → ForgetsNothing (λ _. limits) (LiveKnows limits) s t
+pub keeps : (limits : Limits) (s t : LiveValue) → IsPrefix s.known t.known → IsPrefix s.refused_by t.refused_by
+    → ForgetsNothing (λ _. limits) (LiveKnows limits) s t
 keeps limits s t more longer = record { same_limits = refl; knowledge = knows_more limits s t more longer }
 
 same_list : (xs ys : List Entry) → ys ≡ xs → IsPrefix xs ys

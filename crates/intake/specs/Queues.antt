@@ -1,5 +1,5 @@
 -- The rule of the queue: what is queued, what was taken, and what each seat and the clerk know of it.
-use Rattle.std.specs.Prelude.{◌≡◌, ℕ, ◌+◌, ◌==◌, ◌<◌, Bool, true, false, List, [], ◌∷◌, ◌++◌, filter, length, slice_index}
+use Rattle.std.specs.Prelude.{◌≡◌, ℕ, ◌+◌, ◌==◌, ◌<◌, true, false, List, [], ◌∷◌, ◌++◌, filter, length, slice_index}
 use mathlib.Core.Option.{Option, some, none}
 use lib.ListN.{get_elem?}
 use Rattle.trace_model.specs.declared.entry.Entry.{Entry}
@@ -26,16 +26,12 @@ pub record AreLast (made : ℕ) (jobs : List Entry) (numbers : List ℕ) : Type 
   pub counted : AllCountUp jobs
   pub each : (s : ℕ) → slice_index numbers s ≡ length (jobs_of s jobs)
 
-abbrev pub queue_view : Bool → Bool → ℕ → ℕ → List Entry → List Entry → List EndedSeat → QueueView
-queue_view submits takes seat made submitted taken ended =
-    record { submits = submits; takes = takes; seat = seat; made = made; submitted = submitted; taken = taken; ended = ended }
-
 abbrev pub ended_seat : ℕ → List Entry → EndedSeat
 ended_seat seat jobs = record { seat = seat; jobs = jobs }
 
 -- the view of the one pass of a new queue, which takes and has made no seat
 abbrev pub first_view : QueueView
-first_view = queue_view false true 0 0 [] [] []
+first_view = record { submits = false; takes = true; seat = 0; made = 0; submitted = []; taken = []; ended = [] }
 
 -- a view that submits is the only one of its seat, and its list is the seat's
 abbrev pub FitsSeat : (ℕ → Option ℕ) → (ℕ → List Entry) → ℕ → QueueView → Type 0
@@ -84,7 +80,7 @@ abbrev pub one_more : QueueView → QueueView
 one_more v = record v { made = v.made + 1 }
 
 abbrev pub new_seat : QueueView → QueueView
-new_seat v = queue_view true false v.made 0 [] [] []
+new_seat v = record { submits = true; takes = false; seat = v.made; made = 0; submitted = []; taken = []; ended = [] }
 
 -- the right to submit is gone, the list stays
 abbrev pub retired : QueueView → QueueView
@@ -92,7 +88,7 @@ retired v = record v { submits = false }
 
 -- the view of a right to submit that was given up
 abbrev pub spent : QueueView
-spent = queue_view false false 0 0 [] [] []
+spent = record { submits = false; takes = false; seat = 0; made = 0; submitted = []; taken = []; ended = [] }
 
 -- a seat was taken in
 abbrev pub took_in : QueueView → QueueView → QueueView

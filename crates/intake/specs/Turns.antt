@@ -61,11 +61,19 @@ abbrev pub with_account : ClerkValue → Entry → Result ℕ Refusal → ClerkV
 with_account c job answer =
     record c { taken = c.taken ++ job ∷ []; accounts = c.accounts ++ account_of job answer ∷ [] }
 
+-- the clerk and the lists of the keeper, before or after a turn
+pub record TurnState : Type 0 where
+  pub clerk : ClerkValue
+  pub lists : Lists
+
+abbrev pub turn_state : ClerkValue → Lists → TurnState
+turn_state clerk lists = record { clerk = clerk; lists = lists }
+
 -- one job of this seat and number was taken, and judged as one call of admit does
-abbrev pub ServesJob : Limits → ClerkValue → Lists → ℕ → ℕ → ClerkValue → Lists → Type 0
-ServesJob limits old lists seat number new lists' =
+abbrev pub ServesJob : Limits → TurnState → TurnState → ℕ → ℕ → Type 0
+ServesJob limits before after seat number =
     (job : Entry) × (answer : Result ℕ Refusal) × (job.seat ≡ seat) × (job.number ≡ number)
-    × (new ≡ with_account old job answer) × Answers limits lists job answer lists'
+    × (after.clerk ≡ with_account before.clerk job answer) × Answers limits before.lists job answer after.lists
 
 -- a job was served, by its seat and number
 abbrev pub IfServed : Result Turn Refusal → (ℕ → ℕ → Type 0) → Type 0

@@ -6,7 +6,7 @@ ghost use Rattle.trace_model.specs.declared.refusal.Refusal.TheVariants.{NoMemor
 ghost use Rattle.read_side.specs.Keepers.{Answers};
 ghost use Rattle.read_side.specs.Receipts.{AnsweredAt};
 ghost use Rattle.intake.specs.Denials.{IsDenied};
-ghost use Rattle.intake.specs.Turns.{IsNewInbox, IsNewClerk, Accounted, place_or_refusal, ServesJob, IfServed, IfNotServed, IfNoJob, WasEmpty};
+ghost use Rattle.intake.specs.Turns.{IsNewInbox, IsNewClerk, Accounted, place_or_refusal, ServesJob, turn_state, IfServed, IfNotServed, IfNoJob, WasEmpty};
 ghost use Rattle.intake.specs.Books.{Ran, Balances, acknowledged, refused};
 
 use crate::account::Account;
@@ -79,12 +79,11 @@ impl<N: StoreName> Model for Clerk<N> {
 /// Fills the place that was made for the receipt.
 fn fill<N: StoreName, R: Wait>(
     rt: &R,
-    room: Arc<Receipt<N>>,
+    mut room: Arc<Receipt<N>>,
     receipt: Receipt<N>,
 ) -> Arc<Receipt<N>>
     ensures { arc_value result ≡ receipt }
 {
-    let mut room = room;
     // Impossible: a second try. Nobody else has the place yet.
     for _ in rt.forever() {
         if let Some(slot) = Arc::get_mut(&mut room) {
@@ -167,14 +166,14 @@ impl<N: StoreName> Clerk<N> {
     ///
     /// [`Refusal::NoMemory`]: there is no room for another account, and no job was taken.
     pub fn turn<R: Wait>(&mut self, rt: &R, keeper: &mut Keeper<N>) -> Result<Turn, Refusal>
-        ensures served { IfServed result
-            (λ seat number. ServesJob N.limits self.old keeper.old seat number
-            self.new keeper.new) }
+        ensures served { IfServed result (ServesJob N.limits
+            (turn_state self.old keeper.old) (turn_state self.new keeper.new)) }
         ensures unchanged { IfNotServed result ((self.new ≡ self.old) × (keeper.new ≡ keeper.old)) }
         ensures empty { IfNoJob result (WasEmpty self.old.ended self.old.taken) }
         ensures reason { IfErr result (λ why. why ≡ NoMemory) }
         ensures full { OnErr result (2 ^ 62 ≤ length self.old.accounts) }
     {
+        // Impossible: no memory holds 2^62 accounts. But no clause says so.
         if self.accounts.is_full() {
             return Err(Refusal::NoMemory);
         }
@@ -214,7 +213,7 @@ impl<N: StoreName> Clerk<N> {
     /// Serves until the desk is closed and the queue is empty, and returns the books.
     ///
     /// If there is nothing to do, or no room for another account, it sleeps until a job is submitted.
-    pub fn run<R: Wait>(self, rt: &R, keeper: Keeper<N>) -> Books<N>
+    pub fn run<R: Wait>(self, rt: &R, mut keeper: Keeper<N>) -> Books<N>
         ensures judged { Ran N.limits self.taken self.accounts keeper
             result.inbox.taken result.accounts result.keeper }
         ensures acknowledged { result.acknowledged ≡ acknowledged result.accounts }
@@ -226,7 +225,6 @@ impl<N: StoreName> Clerk<N> {
             (map arc_value result.left.items) }
     {
         let mut clerk = self;
-        let mut keeper = keeper;
         // For the prover: the clause `each` of `accounts` is used below.
         let _each = clerk.accounts().count();
         let mut served: u64 = 0;

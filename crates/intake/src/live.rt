@@ -65,6 +65,7 @@ impl<N: StoreName> Live<N> {
         }
     }
 
+    // For the prover: no code calls it. Contracts of refusals name what it returns.
     /// Returns the longest list by which one of its batches was refused, as a prefix of the store's history; what the
     /// pass knew at first, if none was refused by a longer one.
     pub fn refused_by(&self) -> HistoryPrefix<N>
@@ -102,6 +103,7 @@ impl<N: StoreName> Live<N> {
         ensures reason { IfErr result (IsNotTaken self.old.seat) }
     {
         let batch = share_process(&mut self.process, batch);
+        // For the prover: the match takes the clauses `job` and `reason` of `submit` apart.
         match self.seat.submit(rt, alloc, batch) {
             Ok(ticket) => Ok(ticket),
             Err((refusal, _)) => Err(refusal),

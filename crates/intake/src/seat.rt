@@ -132,6 +132,7 @@ impl<N: StoreName> Seat<N> {
         ensures unchanged { OnErr result (self.new ≡ self.old) }
         ensures reason { IfErr result (λ r. IsNotTaken self.old r.0) }
     {
+        // For the prover: the match takes the clauses `work_back` and `reason` of `enqueue` apart.
         match self.enqueue(rt, alloc, Work::Batch(batch)) {
             Ok(ticket) => Ok(ticket),
             Err((refusal, Work::Batch(batch))) => Err((refusal, batch)),
@@ -162,6 +163,7 @@ impl<N: StoreName> Seat<N> {
         ensures unchanged { OnErr result (self.new ≡ self.old) }
         ensures reason { IfErr result (λ why. IsNotTaken self.old why) }
     {
+        // For the prover: the match takes the clauses `job` and `reason` of `enqueue` apart.
         match self.enqueue(rt, alloc, Work::TraceLimit(limit)) {
             Ok(ticket) => Ok(ticket),
             Err((refusal, _)) => Err(refusal),
@@ -183,6 +185,7 @@ impl<N: StoreName> Seat<N> {
         ensures unchanged { OnErr result (self.new ≡ self.old) }
         ensures reason { IfErr result (λ r. IsNotTaken self.old r.0) }
     {
+        // Impossible: that a seat has submitted all but one of 2^64 jobs.
         if self.shared.is_closed() || !self.may_submit || self.submitted == u64::MAX {
             return Err((Refusal::Closed, work));
         }

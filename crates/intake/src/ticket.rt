@@ -91,6 +91,7 @@ impl<N: StoreName> Ticket<N> {
         ensures reason { IfErr result IsUnacknowledged }
         ensures denied { IfErr result (IsDeniedSomehow N.limits self) }
     {
+        // For the prover: the match takes the clauses `answered` and `denied` of `answer` apart.
         match self.answer(rt) {
             Ok(ack) => Ok(ack),
             Err(denial) => Err(denial.refusal),

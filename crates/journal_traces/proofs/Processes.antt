@@ -37,7 +37,8 @@ process_there h s q e = there (entry_at h s.place) e
     there (Some x) e = brought x.work s.index q e
 
 -- one more span
-pub more_at : (h : List Entry) (spans more : List Placed) (places next : List ℕ) (q : Placed) (place : ℕ) → AreReportedAt h spans places → more ≡ spans ++ q ∷ []
+pub more_at : (h : List Entry) (spans more : List Placed) (places next : List ℕ) (q : Placed) (place : ℕ) → AreReportedAt h spans places
+    → more ≡ spans ++ q ∷ []
     → next ≡ places ++ place ∷ [] → Some q.process ≡ process_at h place → AreReportedAt h more next
 more_at h spans more places next q place at put put_place here =
     ap (map (λ (p : Placed). Some p.process)) put ∙ map_push (λ (p : Placed). Some p.process) spans q ∙ (λ i. at i ++ here i ∷ [])

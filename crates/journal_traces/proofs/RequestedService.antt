@@ -35,11 +35,14 @@ by_number h s (Some service) n below some =
     let parts = cond_some (nat_lt (service_number_in h s) (length (reporters h))) (service_number_in h s) service (sym some) in
     let known : service_number_in h s < length (reporters h) = ltb-true (service_number_in h s) (length (reporters h)) parts.0 in
     let within = service_number_within h n below in
-    let asked : s ≡ service_at h (service_number_in h s) = text_is s (service_at h (service_number_in h s)) (passes_at_first (same_text s) (reporters h) [] known) in
+    let asked : s ≡ service_at h (service_number_in h s) =
+    text_is s (service_at h (service_number_in h s)) (passes_at_first (same_text s) (reporters h) [] known) in
     let there : t ≡ service_at h own = text_is t (service_at h own) (passes_at_first (same_text t) (reporters h) [] (omega (arith, within, below, many))) in
-    same_where own service t s (λ one. there ∙ ap (service_at h) (one ∙ sym parts.1) ∙ sym asked) (λ same. ap (service_number_in h) same ∙ parts.1) ∙ text_turned t s
+    same_where own service t s (λ one. there ∙ ap (service_at h) (one ∙ sym parts.1) ∙ sym asked) (λ same. ap (service_number_in h) same ∙ parts.1)
+    ∙ text_turned t s
 
-pub is_requested_service : (q : Find) (h : List Entry) (service_numbers : List ℕ) (service : Option ℕ) (place : ℕ) (p : Process) → AreTold q h service_numbers service
+pub is_requested_service : (q : Find) (h : List Entry) (service_numbers : List ℕ) (service : Option ℕ) (place : ℕ) (p : Process)
+    → AreTold q h service_numbers service
     → Some p ≡ process_at h place → is_number service (get_or service_numbers (place - 1) 0) ≡ same_text q.service p.service
 is_requested_service q h service_numbers service place p correct there =
     let at = at_place h place p there in

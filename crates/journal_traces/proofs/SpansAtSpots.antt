@@ -83,9 +83,6 @@ named_end h done ss e = sym (append-nil done) ∙ ap (λ l. done ++ spans_named 
 pub first_none : (h : List Entry) (s : Spot) (ss : List Spot) → span_at h s ≡ None → slice_get (spans_named h ss) 0 ≡ slice_get (spans_named h (s ∷ ss)) 0
 first_none h s ss e = ap (λ o. slice_get (cons_option o (spans_named h ss)) 0) (sym e)
 
-pub first_some : (h : List Entry) (s : Spot) (ss : List Spot) (p : Placed) → span_at h s ≡ Some p → Some p ≡ slice_get (spans_named h (s ∷ ss)) 0
-first_some h s ss p e = ap (λ o. slice_get (cons_option o (spans_named h ss)) 0) (sym e)
-
 any_next : (h : List Entry) (w : Placed → Bool) (s : Spot) (ss : List Spot)
     → list_any w (spans_named h (s ∷ ss)) ≡ (list_any w (spans_named h (s ∷ [])) || list_any w (spans_named h ss))
 any_next h w s ss =

@@ -36,8 +36,10 @@ use Rattle.journal_traces.specs.TraceParts.{cut_at, next_start}
 use Rattle.journal_traces.specs.Told.{AreTold}
 use Rattle.journal_traces.specs.MatchingSpans.{meets, met, met_or_none}
 use Rattle.journal_traces.specs.SkippedEntries.{may_meet}
-use Rattle.journal_traces.specs.TagCandidates.{entry_shared, entries_shared, process_numbered, spot_of, taken_spotted, trace_spotted, is_entry_met, may_spot_meet}
-use Rattle.journal_traces.specs.TagCandidates.{may_spots_meet, IsMatchFlag, IsMatchFlagOf, IsSpotWithin, AddsSpan, IsTakenFrom, AreNumberedByEntry, AreJudgedEntries, entry_process}
+use Rattle.journal_traces.specs.TagCandidates.{entry_shared, entries_shared, process_numbered, spot_of, taken_spotted}
+use Rattle.journal_traces.specs.TagCandidates.{trace_spotted, is_entry_met, may_spot_meet}
+use Rattle.journal_traces.specs.TagCandidates.{may_spots_meet, IsMatchFlag, IsMatchFlagOf, IsSpotWithin, AddsSpan, IsTakenFrom}
+use Rattle.journal_traces.specs.TagCandidates.{AreNumberedByEntry, AreJudgedEntries, entry_process}
 use Rattle.journal_traces.specs.TakenSearch.{IsFlagged, IsSearching}
 use Rattle.journal_traces.specs.declared.judged_entries.JudgedEntries.{JudgedEntries}
 use Rattle.journal_traces.specs.ReportedSpots.{is_number}
@@ -99,7 +101,8 @@ got_still [] x e n le = absurd (omega arith)
 got_still (y ∷ es) x e zero le = refl
 got_still (y ∷ es) x e (suc n) le = got_still es x e n (omega arith)
 
-pub spotted_still : (es : List Entry) (x : Entry) (ss : List TakenSpot) → All (IsSpotWithin (length es)) ss → trace_spotted (es ++ x ∷ []) ss ≡ trace_spotted es ss
+pub spotted_still : (es : List Entry) (x : Entry) (ss : List TakenSpot) → All (IsSpotWithin (length es)) ss
+    → trace_spotted (es ++ x ∷ []) ss ≡ trace_spotted es ss
 spotted_still es x [] all = refl
 spotted_still es x (s ∷ ss) all =
     let own : s.number < length es = all 0 s (omega arith) in
@@ -111,13 +114,6 @@ pub within_still : (n m : ℕ) (ss : List TakenSpot) → n ≤ m → All (IsSpot
 within_still n m ss le all = λ j d below. let own : (get_or ss j d).number < n = all j d below in omega (arith, own, le)
 
 -- ---- the last trace gets one more span
-pub adds_none : (old : List (List Taken)) (o : Option Placed) → None ≡ o → AddsSpan o old old
-adds_none old o none = λ ts t is. ([], ap (λ p. cons_option p []) none, is ∙ ap (λ l. ts ++ l ∷ []) (sym (append-nil t)))
-
-pub adds_one : (old new : List (List Taken)) (x : Taken) (o : Option Placed) → x.span ≡ o
-    → ((ts : List (List Taken)) (t : List Taken) → old ≡ ts ++ t ∷ [] → new ≡ ts ++ (t ++ x ∷ []) ∷ []) → AddsSpan o old new
-adds_one old new x o at put = λ ts t is. (x ∷ [], ap (λ p. cons_option p []) at, put ts t is)
-
 joined : (o : Option Placed) (done rest : List Placed) → (done ++ cons_option o []) ++ rest ≡ done ++ cons_option o rest
 joined None done rest = ap (λ l. l ++ rest) (append-nil done)
 joined (Some p) done rest = append_assoc done (p ∷ []) rest

@@ -98,11 +98,13 @@ has_number h [] n i a = tt
 has_number h (x ∷ es) zero i a = named_there h x.1 (service_brought x.0.work) (slice_get (placed_brought x.0.work) i) a.0 (own_name x.0 i)
 has_number h (x ∷ es) (suc n) i a = has_number h es n i a.1
 
-cons_numbered : (h : List Entry) (o : Option Taken) (ts : List Taken) → IfSome o (HasServiceNumber h) → All (HasServiceNumber h) ts → All (HasServiceNumber h) (cons_option o ts)
+cons_numbered : (h : List Entry) (o : Option Taken) (ts : List Taken) → IfSome o (HasServiceNumber h) → All (HasServiceNumber h) ts
+    → All (HasServiceNumber h) (cons_option o ts)
 cons_numbered h None ts own rest = rest
 cons_numbered h (Some t) ts own rest = All-cons (HasServiceNumber h) t ts own rest
 
-trace_numbered : (h : List Entry) (es : List ServedEntry) (ss : List TakenSpot) → AllByRecursion (HasService h) es → All (HasServiceNumber h) (trace_reported es ss)
+trace_numbered : (h : List Entry) (es : List ServedEntry) (ss : List TakenSpot) → AllByRecursion (HasService h) es
+    → All (HasServiceNumber h) (trace_reported es ss)
 trace_numbered h es [] a = λ j d le. absurd (omega arith)
 trace_numbered h es (s ∷ ss) a = cons_numbered h (taken_reported es s) (trace_reported es ss) (has_number h es s.number s.index a) (trace_numbered h es ss a)
 

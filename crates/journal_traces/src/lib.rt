@@ -70,5 +70,5 @@ pub use taken_search::TakenSearch;
 pub use taking::take_trace;
 pub use window::search_window;
 pub use window_candidates::spots_within;
-pub use window_taking::{ring_ids, take_within};
+pub use window_taking::take_within;
 pub use window_traces::WindowTraces;

@@ -11,8 +11,9 @@ ghost use Rattle.trace_model.specs.BorrowedSpans.{seen};
 ghost use Rattle.trace_model.specs.TakenSpans.{Taken};
 ghost use Rattle.trace_assembly.specs.LocatedSpans.{span_at};
 ghost use Rattle.journal_traces.specs.ProcessConditions.{IsJudgedAs};
-ghost use Rattle.journal_traces.specs.TagCandidates.{spot_of, taken_spotted, trace_spotted, traces_spotted, is_entry_met, may_spot_meet, may_spots_meet, IsMatchFlag};
-ghost use Rattle.journal_traces.specs.TagCandidates.{HasMatchFlag, entry_process, entry_shared, entries_shared, IsTakenFrom, AreNumberedByEntry, AreJudgedEntries};
+ghost use Rattle.journal_traces.specs.TagCandidates.{spot_of, taken_spotted, trace_spotted, traces_spotted, is_entry_met};
+ghost use Rattle.journal_traces.specs.TagCandidates.{may_spot_meet, may_spots_meet, IsMatchFlag, HasMatchFlag, entry_process};
+ghost use Rattle.journal_traces.specs.TagCandidates.{entry_shared, entries_shared, IsTakenFrom, AreNumberedByEntry, AreJudgedEntries};
 ghost use Rattle.journal_traces.specs.TakenSearch.{AreJudged, IsSearching};
 ghost use Rattle.journal_traces.specs.TakenTraces.{placed_taken};
 

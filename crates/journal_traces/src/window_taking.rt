@@ -20,13 +20,12 @@ use crate::taken_spot::TakenSpot;
 use crate::window::window_of;
 use crate::window_traces::{WindowSpots, WindowTraces};
 use arrival_journal::Journal;
-use jaeger_model::TraceId;
 use service_index::ServicePlaces;
 use std::alloc::{AllocError, Global};
 use std::sync::Arc;
 use trace_assembly::{Assembly, Spot, Spots};
 use trace_model::Entry;
-use trace_ring::{FirstStarts, Ring};
+use trace_ring::FirstStarts;
 
 /// Returns the number of the entry at a place, which is collected unless it was before, with the number of its
 /// service.
@@ -124,21 +123,6 @@ fn take_spots(
         take_spot(taken, numbers, journal, reported, spot)?;
     }
     Ok(())
-}
-
-/// Returns the traces of the ring, the one opened first at the front. Only tests ask for them.
-///
-/// # Errors
-///
-/// Out of memory, and nothing else.
-pub fn ring_ids(alloc: Global, ring: &Ring) -> Result<Vec<TraceId>, AllocError>
-    ensures { IfOk result (λ v. v.items ≡ ring.now.ids) }
-{
-    let mut ids = Vec::new(alloc);
-    for id in ring.iter() {
-        ids.push(id)?;
-    }
-    Ok(ids)
 }
 
 /// Collects the traces of the ring that have a span that starts strictly after `end_ms - lookback_ms` and strictly

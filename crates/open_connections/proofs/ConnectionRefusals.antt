@@ -8,7 +8,7 @@ use Rattle.http_session.specs.KnownRefusals.{RefusalsAreKnown}
 use Rattle.http_session.proofs.SessionPieces.{Promises, keeps_on}
 use Rattle.http_session.proofs.KnownRefusals.{stays_known_among}
 use Rattle.open_connections.specs.OpenConnections.{SessionEnded, HasFailed}
-use Rattle.open_connections.specs.ConnectionRefusals.{RefusalsStayKnown, exchanges_of}
+use Rattle.open_connections.specs.ConnectionRefusals.{ConnectionRefusalsStayKnown, exchanges_of}
 use Rattle.open_connections.specs.declared.open.OpenConnection.{OpenConnection}
 use Rattle.open_connections.specs.declared.buffered.BufferedConnection.{BufferedConnection}
 use Rattle.open_connections.specs.declared.open.ConnectionProgress.TheVariants.{Answered, HoldsMore, Paused, Writing, Ended, Closing, Failed, Undelivered}
@@ -32,7 +32,7 @@ module _ {S C : Type 0} (store : Store S) (promises : Promises store) (line : Li
       (has.last, has.served, keeps_on store has.last now later has.keeps keeps)
 
 module _ {S C : Type 0} (store : Store S) (promises : Promises store) (line : Line (BufferedConnection C)) where
-  pub connections_stay_known : RefusalsStayKnown store line
+  pub connections_stay_known : ConnectionRefusalsStayKnown store line
   connections_stay_known now later it Answered came keeps = of_underway store promises line now later it keeps came.then came.underway
   connections_stay_known now later it HoldsMore came keeps = of_underway store promises line now later it keeps came.then came.underway
   connections_stay_known now later it Paused came keeps = of_underway store promises line now later it keeps came.then came.underway

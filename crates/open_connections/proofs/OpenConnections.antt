@@ -4,7 +4,7 @@ use Rattle.std.proofs.lemmas.Bool.Decides.{eqb_tells}
 use Rattle.slab.specs.Slab.{Slab, get, Updates}
 use Rattle.std.specs.Io.KnownBytes.{append_known}
 use Rattle.http_session.specs.ResponseOrder.{Line, IsTwoWay}
-use Rattle.http_session.specs.SessionRuns.{Store, EndsServed, FailsServed}
+use Rattle.http_session.specs.SessionRuns.{Store, connection_moment, EndsServed, FailsServed}
 use Rattle.trace_model.specs.StoreKnowledge.{ForgetsNothing}
 use Rattle.http_session.specs.Pieces.{AsksOnce, CanContinue, GoesOn, UnderwayAmong, OutlastsWrites, IfOpen, no_requests_yet, piece_of, shared}
 use Rattle.http_session.specs.declared.pieces.Progress.{Progress as Piece}
@@ -37,7 +37,8 @@ module _ {S C : Type 0} (store : Store S) (promises : Promises store) (line : Li
   all_open_still t u set asks all key it e = open_still t u it asks (all key it e)
 
   -- whatever was done with the store, as long as it has forgotten nothing
-  pub all_open_later : (t u : S) (set : Slab (OpenConnection C)) → ForgetsNothing store.limits store.knows t u → AllOpen store line t set → AllOpen store line u set
+  pub all_open_later : (t u : S) (set : Slab (OpenConnection C)) → ForgetsNothing store.limits store.knows t u → AllOpen store line t set
+      → AllOpen store line u set
   all_open_later t u set keeps all key it e =
       let is = all key it e in
       record {
@@ -191,7 +192,9 @@ module _ {S C : Type 0} (store : Store S) (line : Line (BufferedConnection C)) (
         then = is.then;
         last = came.0;
         ended = ended;
-        served = subst (λ (b : BufferedConnection C). EndsServed (shared store) line b new.connection is.then came.0 ended) (sym began) came.1;
+        served = subst
+            (λ (b : BufferedConnection C). EndsServed (shared store) line (connection_moment b is.then) (connection_moment new.connection came.0) ended)
+            (sym began) came.1;
         keeps = came.2;
       }
 
@@ -202,7 +205,9 @@ module _ {S C : Type 0} (store : Store S) (line : Line (BufferedConnection C)) (
         then = is.then;
         last = came.0;
         error = error;
-        served = subst (λ (b : BufferedConnection C). FailsServed (shared store) line b new.connection is.then came.0 error) (sym began) came.1;
+        served = subst
+            (λ (b : BufferedConnection C). FailsServed (shared store) line (connection_moment b is.then) (connection_moment new.connection came.0) error)
+            (sym began) came.1;
         keeps = came.2;
       }
 

@@ -12,8 +12,8 @@ use Rattle.open_connections.specs.declared.open.ConnectionProgress.{ConnectionPr
 use Rattle.open_connections.specs.declared.open.ConnectionProgress.TheVariants.{Answered, HoldsMore, Paused, Writing, Ended, Closing, Failed, Undelivered}
 
 -- the exchanges of a connection since it began
-abbrev pub exchanges_of : {S C : Type 0} (store : Store S) (line : Line (BufferedConnection C)) (now : S) (it : OpenConnection C) (progress : ConnectionProgress)
-    → HasCome store line now it progress → List Exchange
+abbrev pub exchanges_of : {S C : Type 0} (store : Store S) (line : Line (BufferedConnection C)) (now : S) (it : OpenConnection C)
+    (progress : ConnectionProgress) → HasCome store line now it progress → List Exchange
 exchanges_of store line now it Answered came = came.underway.1.so_far.opens
 exchanges_of store line now it HoldsMore came = came.underway.1.so_far.opens
 exchanges_of store line now it Paused came = came.underway.1.so_far.opens
@@ -24,8 +24,8 @@ exchanges_of store line now it Failed came = came.served.0.0.opens ++ exchange_d
 exchanges_of store line now it Undelivered came = came.underway.1.so_far.opens
 
 -- the store knows the refusals of a connection in one more turn, and later
-abbrev pub RefusalsStayKnown : {S C : Type 0} → Store S → Line (BufferedConnection C) → Type 0
-RefusalsStayKnown {S = S} {C = C} store line =
+abbrev pub ConnectionRefusalsStayKnown : {S C : Type 0} → Store S → Line (BufferedConnection C) → Type 0
+ConnectionRefusalsStayKnown {S = S} {C = C} store line =
     (now later : S) (it : OpenConnection C) (progress : ConnectionProgress) (came : HasCome store line now it progress)
     → ForgetsNothing store.limits store.knows now later
     → RefusalsAreKnown store.knows later (exchanges_of store line now it progress came)

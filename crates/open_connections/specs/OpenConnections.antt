@@ -5,7 +5,7 @@ use Rattle.std.specs.Option.{option_map}
 use Rattle.slab.specs.Slab.{Slab, get}
 use Rattle.trace_model.specs.StoreKnowledge.{ForgetsNothing}
 use Rattle.http_session.specs.ResponseOrder.{Line}
-use Rattle.http_session.specs.SessionRuns.{Store, EndsServed, FailsServed}
+use Rattle.http_session.specs.SessionRuns.{Store, connection_moment, EndsServed, FailsServed}
 use Rattle.http_session.specs.Pieces.{CanContinue, UnderwayAmong, shared}
 use Rattle.http_session.specs.declared.exchanges.Ended.{Ended as EndedSession}
 use Rattle.http_session.specs.declared.exchanges.SessionError.{SessionError}
@@ -32,7 +32,7 @@ pub record SessionEnded {S C : Type 0} (store : Store S) (line : Line (BufferedC
   pub then : S
   pub last : S
   pub ended : EndedSession
-  pub served : EndsServed (shared store) line it.began.value it.connection then last ended
+  pub served : EndsServed (shared store) line (connection_moment it.began.value then) (connection_moment it.connection last) ended
   pub keeps : ForgetsNothing store.limits store.knows last now
 
 -- its session has failed, as one that began with the connection
@@ -40,7 +40,7 @@ pub record HasFailed {S C : Type 0} (store : Store S) (line : Line (BufferedConn
   pub then : S
   pub last : S
   pub error : SessionError
-  pub served : FailsServed (shared store) line it.began.value it.connection then last error
+  pub served : FailsServed (shared store) line (connection_moment it.began.value then) (connection_moment it.connection last) error
   pub keeps : ForgetsNothing store.limits store.knows last now
 
 -- its session is underway, and the connection failed before the client took the last response
@@ -76,8 +76,8 @@ AllOpen {C = C} store line now set = (key : ℕ) (it : OpenConnection C) → get
 
 -- The connection left the set with what waits: the session that began with the connection under the key ended or failed,
 -- or the client didn't take its last response.
-pub record HasLeft {S C : Type 0} (store : Store S) (line : Line (BufferedConnection C)) (now : S) (before : Option (OpenConnection C)) (progress : ConnectionProgress)
-    (box : BufferedConnection C) : Type 0 where
+pub record HasLeft {S C : Type 0} (store : Store S) (line : Line (BufferedConnection C)) (now : S) (before : Option (OpenConnection C))
+    (progress : ConnectionProgress) (box : BufferedConnection C) : Type 0 where
   pub it : OpenConnection C
   pub box_is : it.connection ≡ box
   pub began : option_map (λ (o : OpenConnection C). o.began.value) before ≡ Some it.began.value

@@ -2,7 +2,7 @@
 
 ghost use Rattle.http_session.specs.SessionRuns.{store_of};
 ghost use Rattle.open_connections.specs.BufferedConnections.{buffered_line};
-ghost use Rattle.open_connections.specs.ConnectionRefusals.{RefusalsStayKnown};
+ghost use Rattle.open_connections.specs.ConnectionRefusals.{ConnectionRefusalsStayKnown};
 
 use crate::nonblocking::TryConnection;
 use trace_model::Backend;
@@ -11,6 +11,6 @@ use trace_model::Backend;
 /// which one later: while the connection that sent the batch is open, and after it has left the set
 /// ([`ConnectionSet::take_turn`](crate::ConnectionSet::take_turn): `turn`), whatever other connections do.
 pub fn refusals_stay_known<T, C: TryConnection, B: Backend<T>>()
-    ensures { RefusalsStayKnown (store_of B.submits B.reads B.knows B.limits)
+    ensures { ConnectionRefusalsStayKnown (store_of B.submits B.reads B.knows B.limits)
         (buffered_line C.remaining C.gives C.has_failed C.contents) }
 {}

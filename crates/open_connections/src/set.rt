@@ -155,10 +155,9 @@ impl<C: TryConnection + Drop> ConnectionSet<C> {
             (buffered_line C.remaining C.gives C.has_failed C.contents)
             backend.new self.old key result }
     {
-        let Some(open) = self.connections.try_remove(key) else {
+        let Some(mut open) = self.connections.try_remove(key) else {
             return ConnectionTurn::Absent;
         };
-        let mut open = open;
         self.waiting = self.waiting.without(open.connection.waiting_bytes());
         let progress = open.take_turn(rt, alloc, &self.router, backend, &mut self.spare);
         if !progress.is_open() {

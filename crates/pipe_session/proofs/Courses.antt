@@ -31,7 +31,8 @@ same_verdict x y one other m n heads bodies =
     (subst (λ h. Judges (asked_by h) y.body y.verdict) (sym heads) other.verdict_follows) in
     one_verdict (asked_by x.head) x.body x.verdict y.verdict m n one.verdict_follows follows
 
-pub same_exchange : (bytes : List ℕ) (s : LimitedHistory) (x y : Exchange) (rest more : List ℕ) → Asks bytes s x rest → Asks bytes s y more → (x ≡ y) × (rest ≡ more)
+pub same_exchange : (bytes : List ℕ) (s : LimitedHistory) (x y : Exchange) (rest more : List ℕ) → Asks bytes s x rest → Asks bytes s y more
+    → (x ≡ y) × (rest ≡ more)
 same_exchange bytes s x y rest more one other =
     let same = request_once x.text y.text x.head y.head x.body y.body rest more one.exchange.spells other.exchange.spells (sym one.front ∙ other.front) in
     let verdict : x.verdict ≡ y.verdict = same_verdict x y one.exchange other.exchange one.memory other.memory same.1 same.2 in
@@ -61,7 +62,8 @@ not_malformed bytes s x rest b asks breaks = no_request x.text rest x.head x.bod
 not_nothing : (bytes : List ℕ) (b : RequestFault) → bytes ≡ [] → Breaks bytes b → ⊥
 not_nothing bytes b none breaks = nothing_is_no_fault b (subst (λ (l : List ℕ). Breaks l b) none breaks)
 
-pub one_next : (bytes : List ℕ) (s : LimitedHistory) (m n : Ending) (rest more : List ℕ) → ComesNext bytes s m rest → ComesNext bytes s n more → (m ≡ n) × (rest ≡ more)
+pub one_next : (bytes : List ℕ) (s : LimitedHistory) (m n : Ending) (rest more : List ℕ) → ComesNext bytes s m rest → ComesNext bytes s n more
+    → (m ≡ n) × (rest ≡ more)
 one_next bytes s clean clean rest more one other = (refl, one.1 ∙ sym other.1)
 one_next bytes s clean (closing y) rest more one other = absurd (not_empty_at bytes s y more one.0 other)
 one_next bytes s clean (malformed b) rest more one other = absurd (not_nothing bytes b one.0 other.0)
@@ -86,7 +88,8 @@ RunsTo bytes s [] e t = (rest : List ℕ) × ComesNext bytes s e rest × Shuts e
 RunsTo bytes s (x ∷ xs) e t = (rest : List ℕ) × Asks bytes s x rest × (x.close ≡ false) × RunsTo rest (held_after s x.verdict) xs e t
 
 -- where the next exchange leaves the session open, the session doesn't end
-pub goes_on : (bytes : List ℕ) (s : LimitedHistory) (x : Exchange) (e : Ending) (rest more : List ℕ) → Asks bytes s x rest → x.close ≡ false → ComesNext bytes s e more
+pub goes_on : (bytes : List ℕ) (s : LimitedHistory) (x : Exchange) (e : Ending) (rest more : List ℕ) → Asks bytes s x rest → x.close ≡ false
+    → ComesNext bytes s e more
     → Shuts e → ⊥
 goes_on bytes s x e rest more asks is_open next shuts =
     let shut : x.close ≡ true = subst Shuts (sym (one_next bytes s (closing x) e rest more asks next).0) shuts in
@@ -99,7 +102,8 @@ goes_after s x y rest more ys e t same behind runs_to =
     subst (λ (z : Exchange). RunsTo rest (held_after s z.verdict) ys e t) (sym same)
     (subst (λ (l : List ℕ). RunsTo l (held_after s y.verdict) ys e t) (sym behind) runs_to)
 
-pub one_course : (bytes : List ℕ) (s : LimitedHistory) (xs ys : List Exchange) (e f : Ending) (t u : LimitedHistory) → RunsTo bytes s xs e t → RunsTo bytes s ys f u → (xs ≡ ys)
+pub one_course : (bytes : List ℕ) (s : LimitedHistory) (xs ys : List Exchange) (e f : Ending) (t u : LimitedHistory) → RunsTo bytes s xs e t
+    → RunsTo bytes s ys f u → (xs ≡ ys)
     × (e ≡ f) × (t ≡ u)
 one_course bytes s [] [] e f t u one other =
     let same = (one_next bytes s e f one.0 other.0 one.1 other.1).0 in
@@ -120,7 +124,8 @@ pub record Stand (bytes : List ℕ) (s : LimitedHistory) (xs : List Exchange) (b
   pub replies : map (λ (x : Exchange). x.reply) xs ≡ replies_at s (verdicts xs)
   pub held : t ≡ held_at_last s (verdicts xs)
 
-pub first_asks : (bytes : List ℕ) (s : LimitedHistory) (x : Exchange) (xs : List Exchange) (behind : List ℕ) (t : LimitedHistory) → IsExchange x → Stand bytes s (x ∷ xs) behind t
+pub first_asks : (bytes : List ℕ) (s : LimitedHistory) (x : Exchange) (xs : List Exchange) (behind : List ℕ) (t : LimitedHistory) → IsExchange x
+    → Stand bytes s (x ∷ xs) behind t
     → Asks bytes s x (texts xs ++ behind)
 first_asks bytes s x xs behind t is stand = record {
   exchange = is;
@@ -129,7 +134,8 @@ first_asks bytes s x xs behind t is stand = record {
   memory = All-head (λ (y : Exchange). y.verdict ≢ Reject NoMemory) x xs stand.memory;
 }
 
-pub rest_stands : (bytes : List ℕ) (s : LimitedHistory) (x : Exchange) (xs : List Exchange) (behind : List ℕ) (t : LimitedHistory) → Stand bytes s (x ∷ xs) behind t
+pub rest_stands : (bytes : List ℕ) (s : LimitedHistory) (x : Exchange) (xs : List Exchange) (behind : List ℕ) (t : LimitedHistory)
+    → Stand bytes s (x ∷ xs) behind t
     → Stand (texts xs ++ behind) (held_after s x.verdict) xs behind t
 rest_stands bytes s x xs behind t stand = record {
   front = refl;
@@ -149,7 +155,8 @@ ends_at rest left clean ends = (λ i. ends.1 i ++ ends.0 i)
 ends_at rest left (closing x) ends = ends
 ends_at rest left (malformed b) ends = breaks_all rest left b ends
 
-last_goes : (bytes : List ℕ) (s : LimitedHistory) (e : Ending) (behind : List ℕ) (t : LimitedHistory) → Stand bytes s (last_of e) behind t → EndsAt behind e → RunsTo bytes s [] e t
+last_goes : (bytes : List ℕ) (s : LimitedHistory) (e : Ending) (behind : List ℕ) (t : LimitedHistory) → Stand bytes s (last_of e) behind t → EndsAt behind e
+    → RunsTo bytes s [] e t
 last_goes bytes s clean behind t stand ends = ([], (stand.front ∙ ends, refl), tt, stand.held)
 last_goes bytes s (closing x) behind t stand ends = (behind, first_asks bytes s x [] behind t ends.0 stand, ends.1, stand.held)
 last_goes bytes s (malformed b) behind t stand ends = ([], (subst (λ (l : List ℕ). Breaks l b) (sym stand.front) ends, refl), tt, stand.held)

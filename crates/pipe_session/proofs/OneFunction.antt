@@ -36,10 +36,12 @@ course bytes before out (Some left) s t n c ends memory =
     (stand bytes ends.taken ends.rest left s t (ends.opens ++ last_of ends.ending) ends.read ends.split ends.run memory)
     (ends_at ends.rest left ends.ending ends.ends)
 
-said : (bytes : List ℕ) (s : LimitedHistory) (w : List ℕ) (t : LimitedHistory) (n : ℕ) (c : Bool) (f : Finished bytes s w t n c) → w ≡ spoken f.ends.opens f.ends.ending
+said : (bytes : List ℕ) (s : LimitedHistory) (w : List ℕ) (t : LimitedHistory) (n : ℕ) (c : Bool) (f : Finished bytes s w t n c)
+    → w ≡ spoken f.ends.opens f.ends.ending
 said bytes s w t n c f = append_cancel_left f.before w (spoken f.ends.opens f.ends.ending) f.ends.written
 
-pub one_function : (bytes : List ℕ) (s : LimitedHistory) (w v : List ℕ) (t u : LimitedHistory) (n m : ℕ) (c d : Bool) → Finished bytes s w t n c → Finished bytes s v u m d
+pub one_function : (bytes : List ℕ) (s : LimitedHistory) (w v : List ℕ) (t u : LimitedHistory) (n m : ℕ) (c d : Bool) → Finished bytes s w t n c
+    → Finished bytes s v u m d
     → (w ≡ v) × (t ≡ u) × (n ≡ m) × (c ≡ d)
 one_function bytes s w v t u n m c d one other =
     let same = one_course bytes s one.ends.opens other.ends.opens one.ends.ending other.ends.ending t u
@@ -73,7 +75,8 @@ wrote bytes s w f =
     append_cancel_left f.before w (responses f.fails.opens ++ take f.error.written (bytes_due f.fails.next)) f.fails.written in
     subst (λ (l : List ℕ). IsPrefix l all) (sym own) (part_begins (responses f.fails.opens) (bytes_due f.fails.next) all f.error.written (prefix_self all))
 
-pub a_beginning : (bytes : List ℕ) (s : LimitedHistory) (w v : List ℕ) (t : LimitedHistory) (n : ℕ) (c : Bool) → Failed bytes s w → Finished bytes s v t n c → IsPrefix w v
+pub a_beginning : (bytes : List ℕ) (s : LimitedHistory) (w v : List ℕ) (t : LimitedHistory) (n : ℕ) (c : Bool) → Failed bytes s w → Finished bytes s v t n c
+    → IsPrefix w v
 a_beginning bytes s w v t n c failed finished =
     let whole = spoken finished.ends.opens finished.ends.ending in
     let begins = meant_begins bytes s failed.fails.opens failed.fails.next finished.ends.opens finished.ends.ending t (failed_course bytes s w failed)

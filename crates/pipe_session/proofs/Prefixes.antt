@@ -36,7 +36,8 @@ spoken_first (x ∷ xs) e = (
 )
 
 -- what is first said at these bytes begins all that is said
-says_first : (bytes : List ℕ) (s : LimitedHistory) (n : Ending) (rest : List ℕ) (xs : List Exchange) (e : Ending) (t : LimitedHistory) → ComesNext bytes s n rest
+says_first : (bytes : List ℕ) (s : LimitedHistory) (n : Ending) (rest : List ℕ) (xs : List Exchange) (e : Ending) (t : LimitedHistory)
+    → ComesNext bytes s n rest
     → RunsTo bytes s xs e t
     → IsPrefix (spoken [] n) (spoken xs e)
 says_first bytes s n rest xs e t next runs_to =
@@ -66,7 +67,8 @@ longer y x some all more behind same begins = (
       ∙ sym (append_assoc (response_to x) all behind),
 )
 
-pub meant_begins : (bytes : List ℕ) (s : LimitedHistory) (ys : List Exchange) (d : Due) (xs : List Exchange) (e : Ending) (t : LimitedHistory) → Stops bytes s ys d
+pub meant_begins : (bytes : List ℕ) (s : LimitedHistory) (ys : List Exchange) (d : Due) (xs : List Exchange) (e : Ending) (t : LimitedHistory)
+    → Stops bytes s ys d
     → RunsTo bytes s xs e t
     → IsPrefix (meant ys d) (spoken xs e)
 meant_begins bytes s [] none_yet xs e t stops runs_to = (spoken xs e, refl)
@@ -92,7 +94,8 @@ due_at cause rest left none_yet is = tt
 due_at cause rest left (due x) is = is.0
 due_at cause rest left (due_malformed b) is = breaks_all rest left b is.0
 
-last_stops : (bytes : List ℕ) (s : LimitedHistory) (d : Due) (behind : List ℕ) (t : LimitedHistory) → Stand bytes s (exchange_due d) behind t → DueAt behind d → Stops bytes s [] d
+last_stops : (bytes : List ℕ) (s : LimitedHistory) (d : Due) (behind : List ℕ) (t : LimitedHistory) → Stand bytes s (exchange_due d) behind t
+    → DueAt behind d → Stops bytes s [] d
 last_stops bytes s none_yet behind t stand is = tt
 last_stops bytes s (due x) behind t stand is = (behind, first_asks bytes s x [] behind t is stand)
 last_stops bytes s (due_malformed b) behind t stand is = subst (λ (l : List ℕ). Breaks l b) (sym stand.front) is

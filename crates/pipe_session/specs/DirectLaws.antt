@@ -9,7 +9,8 @@ use Rattle.trace_model.specs.declared.answer.Answer.{Answer}
 use Rattle.trace_model.specs.declared.entry.Entry.{Entry}
 use Rattle.trace_model.specs.declared.limits.Limits.{Limits}
 use Rattle.trace_model.specs.declared.refusal.Refusal.{Refusal}
-use Rattle.trace_model.specs.declared.refusal.Refusal.TheVariants.{JournalFull, Stale, NoMemory, Deferred, Busy, Closed, Stranger, NoReply, Behind, Conflict, Gone}
+use Rattle.trace_model.specs.declared.refusal.Refusal.TheVariants.{JournalFull, Stale, NoMemory, Deferred, Busy, Closed, Stranger, NoReply, Behind}
+use Rattle.trace_model.specs.declared.refusal.Refusal.TheVariants.{Conflict, Gone}
 use Rattle.trace_model.specs.LimitedHistories.{LimitedHistory}
 use Rattle.trace_model.specs.Refusals.{with_admitted}
 use Rattle.trace_model.specs.StoreKnowledge.{KnownList, reached, refused, HasAt, ForgetsNothing, RefusesBatch, KnowsRefusal, SubmitKnows, ReadKnows}
@@ -51,7 +52,8 @@ why_known s b NoReply is = tt
 why_known s b Gone is = tt
 why_known s b (Behind front) is = tt
 
-pub submit_knows : (s : LimitedHistory) (b : Batch) (r : Result ℕ Refusal) (t : LimitedHistory) → DirectSubmits s b r t → SubmitKnows (λ (x : LimitedHistory). x.limits) DirectKnows s b r t
+pub submit_knows : (s : LimitedHistory) (b : Batch) (r : Result ℕ Refusal) (t : LimitedHistory) → DirectSubmits s b r t
+    → SubmitKnows (λ (x : LimitedHistory). x.limits) DirectKnows s b r t
 submit_knows s b (Ok place) t d =
     let e = next_entry s b in
     let after : LimitedHistory = with_admitted s e (Ok d.0) in
@@ -67,7 +69,8 @@ submit_knows s b (Err why) t d =
     let reason = ⊎_elim (λ none. inl none) (λ by. by_entries (refusal_by s (next_entry s b)) why by) d.1 in
     (keeps s t d.0, subst (KnowsRefusal DirectKnows b why) (sym d.0) (why_known s b why reason))
 
-pub read_knows : (s : LimitedHistory) (q : Query) (r : Result Answer Refusal) (t : LimitedHistory) → DirectReads s q r t → ReadKnows (λ (x : LimitedHistory). x.limits) DirectKnows s q r t
+pub read_knows : (s : LimitedHistory) (q : Query) (r : Result Answer Refusal) (t : LimitedHistory) → DirectReads s q r t
+    → ReadKnows (λ (x : LimitedHistory). x.limits) DirectKnows s q r t
 read_knows s q (Ok a) t d = (
   keeps s t d.0,
   rw (d.0) (record { history = s.entries; legal = d.2; behind = λ h k. k; answer_is = d.1; known = ([], sym (append-nil s.entries)) }),

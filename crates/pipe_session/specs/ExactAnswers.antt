@@ -8,7 +8,7 @@ use Rattle.trace_model.specs.Answers.{answer}
 use Rattle.arrival_journal.specs.Journals.{admission_by, refusal_by}
 use Rattle.span_store.specs.NextEntry.{next_entry}
 use Rattle.pipe_session.specs.DirectCalls.{DirectSubmits, DirectReads}
-use Rattle.http_session.specs.SessionRuns.{Devices, EndsWith, FailsWith}
+use Rattle.http_session.specs.SessionRuns.{Devices, Moment, EndsWith, FailsWith}
 use Rattle.http_session.specs.Sessions.{Exchange}
 use Rattle.http_session.specs.declared.exchanges.Ended.{Ended}
 use Rattle.http_session.specs.declared.exchanges.SessionError.{SessionError}
@@ -54,9 +54,11 @@ abbrev pub IsExact : LimitedHistory → List Exchange → LimitedHistory → Typ
 IsExact s xs t = HasMemory xs → (map (λ (x : Exchange). x.reply) xs ≡ replies_at s (verdicts xs)) × (t ≡ held_at_last s (verdicts xs))
 
 -- a session between an input and an output ended, and the store answered exactly so
-abbrev pub EndsExactly : {R W : Type 0} → Devices R W → R → R → W → W → LimitedHistory → LimitedHistory → Ended → Type 0
-EndsExactly devices in0 in1 out0 out1 s t ended = EndsWith DirectSubmits DirectReads (λ xs. IsExact s xs t) devices in0 in1 out0 out1 s t ended
+abbrev pub EndsExactly : {R W : Type 0} → Devices R W → Moment R W LimitedHistory → Moment R W LimitedHistory → Ended → Type 0
+EndsExactly devices before after ended =
+    EndsWith DirectSubmits DirectReads (λ xs. IsExact before.store xs after.store) devices before after ended
 
 -- like EndsExactly, for a session that failed
-abbrev pub FailsExactly : {R W : Type 0} → Devices R W → R → R → W → W → LimitedHistory → LimitedHistory → SessionError → Type 0
-FailsExactly devices in0 in1 out0 out1 s t error = FailsWith DirectSubmits DirectReads (λ xs. IsExact s xs t) devices in0 in1 out0 out1 s t error
+abbrev pub FailsExactly : {R W : Type 0} → Devices R W → Moment R W LimitedHistory → Moment R W LimitedHistory → SessionError → Type 0
+FailsExactly devices before after error =
+    FailsWith DirectSubmits DirectReads (λ xs. IsExact before.store xs after.store) devices before after error

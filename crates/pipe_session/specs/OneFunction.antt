@@ -3,20 +3,33 @@ use Rattle.std.specs.Prelude.{◌≡◌, ◌≢◌, ℕ, ◌⊎◌, Bool, List, 
 use mathlib.Core.List.{IsPrefix}
 use Rattle.trace_model.specs.LimitedHistories.{LimitedHistory}
 use Rattle.pipe_session.specs.DirectCalls.{DirectSubmits, DirectReads}
+use Rattle.http_session.specs.SessionRuns.{Moment}
 use Rattle.http_session.specs.Sessions.{Exchange, EndsAs, FailsAs, last_of, exchange_due}
+use Rattle.http_session.specs.declared.exchanges.Ended.{Ended}
 use Rattle.http_session.specs.declared.exchanges.SessionError.{SessionError}
 use Rattle.http_session.specs.declared.verdict.ErrorReply.TheVariants.{NoMemory}
 use Rattle.http_session.specs.declared.verdict.Verdict.TheVariants.{Reject}
 use Rattle.pipe_session.specs.ExactAnswers.{HasMemory}
 
+-- the start of a session: the bytes to come from the input, those of the output, and what the store holds
+abbrev pub KnownStart : Type 0
+KnownStart = Moment (List ℕ) (List ℕ) LimitedHistory
+
+-- the end of a session, after which the bytes of the devices need not be known
+abbrev pub SessionEnd : Type 0
+SessionEnd = Moment (Option (List ℕ)) (Option (List ℕ)) LimitedHistory
+
 -- a session ended whose input had these bytes; its output follows what was written before
-abbrev pub EndsOf : List ℕ → Option (List ℕ) → List ℕ → Option (List ℕ) → LimitedHistory → LimitedHistory → ℕ → Bool → Type 0
-EndsOf bytes left before out s t answered clean = EndsAs DirectSubmits DirectReads (Some bytes) left (Some before) out s t answered clean
+abbrev pub EndsOf : KnownStart → SessionEnd → Ended → Type 0
+EndsOf before after ended =
+    EndsAs DirectSubmits DirectReads (Some before.input) after.input (Some before.output) after.output
+    before.store after.store ended.answered ended.clean
 
 -- like EndsOf, for a session that failed
-abbrev pub FailsOf : List ℕ → Option (List ℕ) → List ℕ → Option (List ℕ) → LimitedHistory → LimitedHistory → Bool → Bool → SessionError → Type 0
-FailsOf bytes left before out s t in_failed out_failed error =
-    FailsAs DirectSubmits DirectReads (Some bytes) left (Some before) out s t in_failed out_failed error
+abbrev pub FailsOf : KnownStart → SessionEnd → Bool → Bool → SessionError → Type 0
+FailsOf before after in_failed out_failed error =
+    FailsAs DirectSubmits DirectReads (Some before.input) after.input (Some before.output) after.output
+    before.store after.store in_failed out_failed error
 
 -- memory ran out neither for a request nor for an answer of the store
 pub record NeverWants (xs : List Exchange) : Type 0 where
@@ -54,12 +67,15 @@ pub record WroteFirst (bytes before : List ℕ) (out : Option (List ℕ)) (s : L
   pub failed : Failed bytes s first
 
 -- what was written is the output of a session that ended
-abbrev pub WroteFinished : List ℕ → List ℕ → Option (List ℕ) → LimitedHistory → LimitedHistory → ℕ → Bool → Type 0
-WroteFinished bytes before out s t n c = (written : List ℕ) × (out ≡ Some (before ++ written)) × Finished bytes s written t n c
+abbrev pub WroteFinished : KnownStart → SessionEnd → Ended → Type 0
+WroteFinished before after ended =
+    (written : List ℕ) × (after.output ≡ Some (before.output ++ written))
+    × Finished before.input before.store written after.store ended.answered ended.clean
 
 -- what was written is the output of a session that failed
-abbrev pub WroteFailed : List ℕ → List ℕ → Option (List ℕ) → LimitedHistory → Type 0
-WroteFailed bytes before out s = (written : List ℕ) × (out ≡ Some (before ++ written)) × Failed bytes s written
+abbrev pub WroteFailed : KnownStart → SessionEnd → Type 0
+WroteFailed before after =
+    (written : List ℕ) × (after.output ≡ Some (before.output ++ written)) × Failed before.input before.store written
 
 -- the first of these exchanges are xs, more follow, and memory ran out for none of xs
 abbrev pub HadMemoryFirst : List Exchange → List Exchange → Type 0

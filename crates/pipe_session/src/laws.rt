@@ -1,17 +1,18 @@
 //! Laws of sessions over a store with one owner. Each function does nothing, and its contract is the law.
 
-ghost use Rattle.std.specs.Prelude.{◌≡◌, ◌≢◌, ℕ, Bool, List, ◌++◌, Option};
+ghost use Rattle.std.specs.Prelude.{◌≡◌, ◌≢◌, ℕ, Bool, List, ◌++◌};
 ghost use mathlib.Core.List.{IsPrefix};
 ghost use Rattle.trace_model.specs.LimitedHistories.{LimitedHistory};
 ghost use Rattle.http_requests.specs.HeadContents.{Asked};
 ghost use Rattle.http_session.specs.Sessions.{Exchange as ExchangeValue, last_of, exchange_due, responses};
+ghost use Rattle.http_session.specs.declared.exchanges.Ended.{Ended as EndedValue};
 ghost use Rattle.http_session.specs.declared.exchanges.SessionError.{SessionError as SessionErrorValue};
 ghost use Rattle.http_session.specs.Verdicts.{Judges};
 ghost use Rattle.http_session.specs.declared.verdict.ErrorReply.TheVariants.{NoMemory};
 ghost use Rattle.http_session.specs.declared.verdict.Verdict.{Verdict as VerdictValue};
 ghost use Rattle.http_session.specs.declared.verdict.Verdict.TheVariants.{Reject};
-ghost use Rattle.pipe_session.specs.OneFunction.{EndsOf, FailsOf, NeverWants, Finished, Failed, HadMemoryFirst, OneTextBegins, WroteFailed, WroteFinished};
-ghost use Rattle.pipe_session.specs.OneFunction.{WroteFirst};
+ghost use Rattle.pipe_session.specs.OneFunction.{KnownStart, SessionEnd, EndsOf, FailsOf, NeverWants, Finished, Failed};
+ghost use Rattle.pipe_session.specs.OneFunction.{HadMemoryFirst, OneTextBegins, WroteFailed, WroteFinished, WroteFirst};
 
 /// A request determines its verdict, unless memory ran out.
 pub fn a_request_has_one_verdict()
@@ -22,20 +23,17 @@ pub fn a_request_has_one_verdict()
 /// If the bytes of the devices are known and memory did not run out, a session that ended as `pipe` promises meets the
 /// premises of the laws below.
 pub fn a_session_that_ended_is_finished()
-    ensures { (bytes before : List ℕ) (left out : Option (List ℕ)) (s t : LimitedHistory)
-        (answered : ℕ) (clean : Bool) (ends : EndsOf bytes left before out s t answered clean) →
-        NeverWants (ends.opens ++ last_of ends.ending) →
-        WroteFinished bytes before out s t answered clean }
+    ensures { (before : KnownStart) (after : SessionEnd) (ended : EndedValue)
+        (ends : EndsOf before after ended) → NeverWants (ends.opens ++ last_of ends.ending) →
+        WroteFinished before after ended }
 {}
 
 /// If the bytes of the devices are known and memory ran out for no exchange, a session that failed as `pipe` promises
 /// meets the premises of the laws below.
 pub fn a_session_that_failed_is_failed()
-    ensures { (bytes before : List ℕ) (left out : Option (List ℕ)) (s t : LimitedHistory)
-        (in_failed out_failed : Bool) (error : SessionErrorValue)
-        (fails : FailsOf bytes left before out s t in_failed out_failed error) →
-        NeverWants (fails.opens ++ exchange_due fails.next) →
-        WroteFailed bytes before out s }
+    ensures { (before : KnownStart) (after : SessionEnd) (in_failed out_failed : Bool)
+        (error : SessionErrorValue) (fails : FailsOf before after in_failed out_failed error) →
+        NeverWants (fails.opens ++ exchange_due fails.next) → WroteFailed before after }
 {}
 
 /// The bytes that a session writes are a function of the bytes of the input, and the entries and limits of the store at
@@ -65,18 +63,17 @@ pub fn of_two_failed_sessions_one_wrote_a_prefix()
 /// The exchanges of a session that ended, before the first one for which memory ran out, were written first, and are
 /// those of a session that failed there. So they are a prefix of what any session writes in which memory never ran out.
 pub fn what_an_ended_session_wrote_before_memory_ran_out()
-    ensures { (bytes before : List ℕ) (left out : Option (List ℕ)) (s t : LimitedHistory)
-        (answered : ℕ) (clean : Bool) (ends : EndsOf bytes left before out s t answered clean)
-        (xs : List ExchangeValue) → HadMemoryFirst xs (ends.opens ++ last_of ends.ending) →
-        WroteFirst bytes before out s (responses xs) }
+    ensures { (before : KnownStart) (after : SessionEnd) (ended : EndedValue)
+        (ends : EndsOf before after ended) (xs : List ExchangeValue) →
+        HadMemoryFirst xs (ends.opens ++ last_of ends.ending) →
+        WroteFirst before.input before.output after.output before.store (responses xs) }
 {}
 
 /// The exchanges of a session that failed, before the first one for which memory ran out, were written first, and are
 /// those of a session that failed there.
 pub fn what_a_failed_session_wrote_before_memory_ran_out()
-    ensures { (bytes before : List ℕ) (left out : Option (List ℕ)) (s t : LimitedHistory)
-        (in_failed out_failed : Bool) (error : SessionErrorValue)
-        (fails : FailsOf bytes left before out s t in_failed out_failed error)
+    ensures { (before : KnownStart) (after : SessionEnd) (in_failed out_failed : Bool)
+        (error : SessionErrorValue) (fails : FailsOf before after in_failed out_failed error)
         (xs : List ExchangeValue) → HadMemoryFirst xs (fails.opens ++ exchange_due fails.next) →
-        WroteFirst bytes before out s (responses xs) }
+        WroteFirst before.input before.output after.output before.store (responses xs) }
 {}

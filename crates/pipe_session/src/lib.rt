@@ -9,7 +9,7 @@
 #![tactic(auto)]
 
 ghost use Rattle.std.specs.Prelude.{◌≡◌, false, IfOk, IfErr, OnOk};
-ghost use Rattle.http_session.specs.SessionRuns.{devices_of};
+ghost use Rattle.http_session.specs.SessionRuns.{devices_of, moment};
 ghost use Rattle.pipe_session.specs.ExactAnswers.{EndsExactly, FailsExactly};
 
 mod direct;
@@ -37,14 +37,14 @@ pub fn pipe<R: Input, W: Output>(
 
     ensures ended { IfOk result (EndsExactly
         (devices_of R.remaining R.gives R.has_failed W.contents W.has_failed)
-        input.old input.new output.old output.new store.old store.new) }
+        (moment input.old output.old store.old) (moment input.new output.new store.new)) }
 
     ensures works { OnOk result ((R.has_failed input.new ≡ false)
         × (W.has_failed output.new ≡ false)) }
 
     ensures error { IfErr result (FailsExactly
         (devices_of R.remaining R.gives R.has_failed W.contents W.has_failed)
-        input.old input.new output.old output.new store.old store.new) }
+        (moment input.old output.old store.old) (moment input.new output.new store.new)) }
 {
     // For the prover: the match takes the clauses `ended` and `error` apart.
     match session(&(), alloc, input, output, store) {

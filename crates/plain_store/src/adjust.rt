@@ -105,14 +105,13 @@ fn next_clock(
 fn clock_down(
     alloc: Global,
     trace: &[Placed],
-    path: Vec<usize>,
+    mut path: Vec<usize>,
     max_skew: u64,
 ) -> Result<Option<Clock>, AllocError>
     requires { AllByRecursion (λ k. k < length trace.now) path.items }
     ensures { IfOk result (λ c. (d : PlacedValue) →
         c ≡ clock_down max_skew trace.now path.items d) }
 {
-    let mut path = path;
     let mut clock = None;
     while let Some(place) = path.pop() {
         clock = next_clock(alloc, &clock, &trace[place], max_skew)?;

@@ -133,10 +133,9 @@ pub(crate) fn all_shown(
 }
 
 /// Keeps the spans of one trace.
-pub(crate) fn keep_trace(spans: Vec<Placed>, id: TraceId) -> Vec<Placed>
+pub(crate) fn keep_trace(mut spans: Vec<Placed>, id: TraceId) -> Vec<Placed>
     ensures { result.items ≡ of_trace id spans.items }
 {
-    let mut spans = spans;
     spans.retain(|p| id == p.span.trace);
     spans
 }

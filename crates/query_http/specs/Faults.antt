@@ -18,12 +18,12 @@ parameter_name Tags = codes "tags"
 parameter_name EndTs = codes "endTs"
 parameter_name Lookback = codes "lookback"
 
-abbrev pub fault_number : QueryFault → ℕ
-fault_number (Bad parameter) = 40
-fault_number NoPath = 41
-fault_number NoMemory = 22
+abbrev pub query_fault_number : QueryFault → ℕ
+query_fault_number (Bad parameter) = 40
+query_fault_number NoPath = 41
+query_fault_number NoMemory = 22
 
-abbrev pub fault_name : QueryFault → List ℕ
-fault_name (Bad parameter) = codes "BadQuery"
-fault_name NoPath = codes "NoPath"
-fault_name NoMemory = codes "NoMemory"
+abbrev pub query_fault_name : QueryFault → List ℕ
+query_fault_name (Bad parameter) = codes "BadQuery"
+query_fault_name NoPath = codes "NoPath"
+query_fault_name NoMemory = codes "NoMemory"

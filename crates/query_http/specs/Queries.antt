@@ -14,7 +14,7 @@ use Rattle.query_http.specs.declared.fault.Parameter.TheVariants as bad
 use Rattle.query_http.specs.declared.paths.Endpoint.{Endpoint}
 use Rattle.query_http.specs.declared.paths.Endpoint.TheVariants as at
 use Rattle.query_http.specs.Faults.{parameter_name}
-use Rattle.query_http.specs.QueryStrings.{parameter, values_of, split_at, question_mark, colon}
+use Rattle.query_http.specs.QueryStrings.{parameter, given_values, split_at, question_mark, colon}
 use Rattle.query_http.specs.Numbers.{read_number, read_duration}
 
 infixl 10 ◌>>=◌
@@ -30,26 +30,26 @@ or_bad p None = Err p
 or_bad p (Some x) = Ok x
 
 -- the parameter's value, absent if it is empty
-abbrev pub value_of : Parameter → Pairs → Option (List ℕ)
-value_of p ps = parameter (parameter_name p) ps
+abbrev pub parameter_value : Parameter → Pairs → Option (List ℕ)
+parameter_value p ps = parameter (parameter_name p) ps
 
 -- a required parameter
-unfoldable pub required : Parameter → Pairs → Result (List ℕ) Parameter
-required p ps = or_bad p (value_of p ps)
+unfoldable pub required_parameter : Parameter → Pairs → Result (List ℕ) Parameter
+required_parameter p ps = or_bad p (parameter_value p ps)
 
 -- an optional parameter
-abbrev pub text_of : List ℕ → Pairs → List ℕ
-text_of name ps = unwrap_or (parameter name ps) []
+abbrev pub text_parameter : List ℕ → Pairs → List ℕ
+text_parameter name ps = unwrap_or (parameter name ps) []
 
 abbrev pub optional_by : {A : Type 0} → Parameter → (List ℕ → Option A) → Option (List ℕ) → Result (Option A) Parameter
 optional_by p read None = Ok None
 optional_by p read (Some t) = or_bad p (read t) >>= λ x. Ok (Some x)
 
-abbrev pub number_at : Parameter → Pairs → Result (Option ℕ) Parameter
-number_at p ps = optional_by p read_number (value_of p ps)
+abbrev pub number_parameter : Parameter → Pairs → Result (Option ℕ) Parameter
+number_parameter p ps = optional_by p read_number (parameter_value p ps)
 
 abbrev pub duration_at : Parameter → Pairs → Result (Option ℕ) Parameter
-duration_at p ps = optional_by p read_duration (value_of p ps)
+duration_at p ps = optional_by p read_duration (parameter_value p ps)
 
 -- an optional parameter as a signed number
 abbrev pub time_of : Option ℕ → Option ℤ
@@ -62,7 +62,7 @@ with_time (Err p) = Err p
 
 -- a bound on starts, in microseconds
 unfoldable pub time_at : Parameter → Pairs → Result (Option ℤ) Parameter
-time_at p ps = with_time (number_at p ps)
+time_at p ps = with_time (number_parameter p ps)
 
 -- a bound on durations, in microseconds; 0 if it is absent
 unfoldable pub length_at : Parameter → Pairs → Result ℤ Parameter
@@ -70,7 +70,7 @@ length_at p ps = with_time (duration_at p ps) >>= λ d. Ok (unwrap_or d (pos 0))
 
 -- the limit on the number of traces; 100 if it is absent
 unfoldable pub limit_at : Pairs → Result ℕ Parameter
-limit_at ps = number_at bad.Limit ps >>= λ n. Ok (unwrap_or n 100)
+limit_at ps = number_parameter bad.Limit ps >>= λ n. Ok (unwrap_or n 100)
 
 -- each `tag`, split at its first colon into a key and a text
 abbrev pub tags_from : List (List ℕ) → Result Pairs Parameter
@@ -108,13 +108,13 @@ tags_object (Some t) = or_bad bad.Tags (object_texts (read t))
 -- the requested pairs of key and text: those of each `tag`, then those of `tags`
 unfoldable pub tags_at : Pairs → Result Pairs Parameter
 tags_at ps = do
-  singles ← tags_from (values_of (codes "tag") ps)
-  members ← tags_object (value_of bad.Tags ps)
+  singles ← tags_from (given_values (codes "tag") ps)
+  members ← tags_object (parameter_value bad.Tags ps)
   Ok (singles ++ members)
 
 unfoldable pub find_at : Pairs → Result Find Parameter
 find_at ps = do
-  service ← required bad.Service ps
+  service ← required_parameter bad.Service ps
   start ← time_at bad.Start ps
   end ← time_at bad.End ps
   limit ← limit_at ps
@@ -123,7 +123,7 @@ find_at ps = do
   tags ← tags_at ps
   Ok (record {
     service = service;
-    operation = text_of (codes "operation") ps;
+    operation = text_parameter (codes "operation") ps;
     tags = tags;
     start_min = start;
     start_max = end;
@@ -138,7 +138,7 @@ is_yes t =
     || same_text t (codes "TRUE")
 
 abbrev pub raw_at : Pairs → Bool
-raw_at ps = is_yes (text_of (codes "raw") ps)
+raw_at ps = is_yes (text_parameter (codes "raw") ps)
 
 -- a part of a path as text
 unfoldable pub text_part : List ℕ → Result (List ℕ) Parameter
@@ -152,8 +152,8 @@ links_at ps = do
 
 unfoldable pub operations_at : Pairs → Result Query Parameter
 operations_at ps = do
-  service ← required bad.Service ps
-  Ok (ask.Operations service (text_of (codes "spanKind") ps))
+  service ← required_parameter bad.Service ps
+  Ok (ask.Operations service (text_parameter (codes "spanKind") ps))
 
 -- the query of an endpoint, from its path's part and its parameters
 abbrev pub query_at : Endpoint → List ℕ → Pairs → Result Query Parameter

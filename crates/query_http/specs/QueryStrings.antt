@@ -18,11 +18,11 @@ abbrev pub split_at : ℕ → List ℕ → Option (List ℕ × List ℕ)
 split_at c s = if nat_lt (position_or_len (λ b. b == c) s) (length s) then Some (before_first (λ b. b == c) s, after_first (λ b. b == c) s) else None
 
 -- the text of a name or of a value
-abbrev pub decoded : List ℕ → List ℕ
-decoded bytes = utf8_lossy (decode bytes)
+abbrev pub decoded_text : List ℕ → List ℕ
+decoded_text bytes = utf8_lossy (decode bytes)
 
 abbrev pub decoded_pair : List ℕ × List ℕ → List ℕ × List ℕ
-decoded_pair p = (decoded p.0, decoded p.1)
+decoded_pair p = (decoded_text p.0, decoded_text p.1)
 
 abbrev pub pairs_of : List ℕ → List (List ℕ × List ℕ)
 pairs_of query = map decoded_pair (raw_pairs query)
@@ -45,5 +45,5 @@ abbrev pub is_given : List ℕ → List ℕ × List ℕ → Bool
 is_given name p = same_text p.0 name && not (length p.1 == 0)
 
 -- all values of that name that aren't empty
-abbrev pub values_of : List ℕ → List (List ℕ × List ℕ) → List (List ℕ)
-values_of name ps = map (λ (p : List ℕ × List ℕ). p.1) (filter (is_given name) ps)
+abbrev pub given_values : List ℕ → List (List ℕ × List ℕ) → List (List ℕ)
+given_values name ps = map (λ (p : List ℕ × List ℕ). p.1) (filter (is_given name) ps)

@@ -1,5 +1,5 @@
 ghost use Rattle.std.specs.Prelude.{◌≡◌};
-ghost use Rattle.query_http.specs.Faults.{fault_name, fault_number, parameter_name};
+ghost use Rattle.query_http.specs.Faults.{parameter_name, query_fault_name, query_fault_number};
 ghost use Rattle.query_http.specs.declared.fault.QueryFault.TheVariants.{Bad, NoMemory};
 
 use std::alloc::{AllocError, AllocFailed};
@@ -54,7 +54,7 @@ pub enum QueryFault {
 impl QueryFault {
     /// Returns the stable number of the fault.
     pub fn number(self) -> u8
-        ensures { result ≡ fault_number self }
+        ensures { result ≡ query_fault_number self }
     {
         match self {
             QueryFault::Bad(_) => 40,
@@ -65,7 +65,7 @@ impl QueryFault {
 
     /// Returns the name, without the parameter.
     pub fn name(self) -> &'static str
-        ensures { result.now ≡ fault_name self }
+        ensures { result.now ≡ query_fault_name self }
     {
         match self {
             QueryFault::Bad(_) => "BadQuery",

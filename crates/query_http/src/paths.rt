@@ -103,6 +103,7 @@ fn endpoint_of(router: &Router<Endpoint>, path: &str) -> Option<Endpoint>
     ensures { MatchOption result (IsNoPath path.now) (λ e.
         (part : List ℕ) × IsPath e part path.now) }
 {
+    // For the prover: the match takes the clauses `found` and `missing` of `at` apart.
     match router.at(path) {
         Ok(found) => Some(*found.value),
         Err(_) => None,
@@ -115,8 +116,6 @@ pub fn find_endpoint<'p>(router: &Router<Endpoint>, path: &'p str) -> Option<(En
     requires { router.now ≡ endpoint_rows }
     ensures { MatchOption result (IsNoPath path.now) (λ r. IsPath r.0 r.1.now path.now) }
 {
-    match endpoint_of(router, path) {
-        Some(endpoint) => Some((endpoint, part_of(endpoint, path))),
-        None => None,
-    }
+    let endpoint = endpoint_of(router, path)?;
+    Some((endpoint, part_of(endpoint, path)))
 }

@@ -2,7 +2,8 @@ ghost use Rattle.std.specs.Prelude.{◌≡◌, IfOk};
 ghost use Rattle.query_http.specs.ReadResults.{IsAsRead, AsksTarget};
 ghost use Rattle.query_http.specs.QueryStrings.{pairs_of};
 ghost use Rattle.query_http.specs.Paths.{endpoint_rows};
-ghost use Rattle.query_http.specs.Queries.{time_at, length_at, limit_at, required, text_of, find_at, text_part, raw_at, operations_at, links_at, query_at};
+ghost use Rattle.query_http.specs.Queries.{time_at, length_at, limit_at, required_parameter, text_parameter, find_at, text_part, raw_at};
+ghost use Rattle.query_http.specs.Queries.{operations_at, links_at, query_at};
 ghost use Rattle.query_http.specs.Queries.{path_of, query_string_of};
 ghost use Rattle.query_http.specs.declared.paths.Endpoint.TheVariants as at;
 
@@ -57,9 +58,9 @@ fn search_limit(pairs: &[Pair]) -> Result<u64, QueryFault>
 }
 
 /// Returns a required parameter.
-#[tactic(auto, unfolding(crate::specs::Queries::required))]
+#[tactic(auto, unfolding(crate::specs::Queries::required_parameter))]
 fn required_text(alloc: Global, pairs: &[Pair], parameter: Parameter) -> Result<Text, QueryFault>
-    ensures { IsAsRead (λ t. t) result (required parameter pairs.now) }
+    ensures { IsAsRead (λ t. t) result (required_parameter parameter pairs.now) }
 {
     let text = find_parameter(pairs, parameter.name()).ok_or(QueryFault::Bad(parameter))?;
     Ok(copy_text(alloc, text)?)
@@ -67,12 +68,12 @@ fn required_text(alloc: Global, pairs: &[Pair], parameter: Parameter) -> Result<
 
 /// Returns a parameter of any text; empty if it is absent.
 fn optional_text(alloc: Global, pairs: &[Pair], name: &str) -> Result<Text, AllocError>
-    ensures { IfOk result (λ t. t ≡ text_of name.now pairs.now) }
+    ensures { IfOk result (λ t. t ≡ text_parameter name.now pairs.now) }
 {
     copy_text(alloc, find_parameter(pairs, name).unwrap_or(""))
 }
 
-/// Parses a search. The error names the first invalid parameter, in the order of the fields.
+/// Parses a search. The error names the first invalid parameter, in the order in which they are read here.
 #[tactic(auto, unfolding(crate::specs::Queries::find_at))]
 fn read_find(alloc: Global, pairs: &[Pair]) -> Result<Find, QueryFault>
     ensures { IsAsRead (λ f. f) result (find_at pairs.now) }

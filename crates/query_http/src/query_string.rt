@@ -1,5 +1,5 @@
 ghost use Rattle.std.specs.Prelude.{◌≡◌, ◌++◌, ℕ, List, IfOk, map, option_copied, option_map, string_bytes};
-ghost use Rattle.query_http.specs.QueryStrings.{pairs_of, is_given, parameter, values_of, split_at, question_mark, colon};
+ghost use Rattle.query_http.specs.QueryStrings.{pairs_of, is_given, parameter, given_values, split_at, question_mark, colon};
 
 use std::alloc::{AllocError, Global};
 use std::marker::Model;

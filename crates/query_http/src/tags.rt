@@ -4,7 +4,7 @@ ghost use Rattle.query_http.specs.Queries.{tags_from, or_bad, texts_in, object_t
 ghost use Rattle.serde_json.specs.View.{view, members_view};
 ghost use Rattle.serde_json.specs.Read.{read};
 ghost use Rattle.query_http.specs.declared.fault.Parameter.TheVariants as bad;
-ghost use Rattle.query_http.specs.QueryStrings.{values_of, split_at};
+ghost use Rattle.query_http.specs.QueryStrings.{given_values, split_at};
 
 use crate::fault::{Parameter, QueryFault};
 use crate::query_string::{Pair, find_parameter, split_tag};
@@ -21,7 +21,7 @@ pub(crate) fn copy_text(alloc: Global, text: &str) -> Result<Text, AllocError>
 
 /// Returns the values of all parameters `tag`.
 fn tag_values<'a>(alloc: Global, pairs: &'a [Pair]) -> Result<Vec<&'a str>, AllocError>
-    ensures { IfOk result (λ v. map (λ s. s.now) v.items ≡ values_of (codes "tag") pairs.now) }
+    ensures { IfOk result (λ v. map (λ s. s.now) v.items ≡ given_values (codes "tag") pairs.now) }
 {
     let mut values = Vec::new(alloc);
     for pair in pairs {

@@ -12,7 +12,7 @@ use Rattle.query_json.specs.declared.writing.trace.TraceItem.TheVariants.{Lent, 
 use Rattle.query_json.specs.LentTraces.{IsWritable}
 use Rattle.query_json.specs.NamedProcesses.{first_named}
 use Rattle.query_json.specs.Pieces.{AreWritable, item_pieces, item_trees, one_piece, runs_of}
-use Rattle.query_json.specs.Runs.{front_text, joined, text_of}
+use Rattle.query_json.specs.Runs.{front_text, joined, runs_text}
 use Rattle.query_json.specs.TracePieces.{item_spans, item_tree, trace_pieces}
 use Rattle.query_json.specs.Trees.{id_tree, items_tree, link_tree, operation_tree, trace_tree}
 use Rattle.query_json.proofs.Runs.{Run, body, body_is, body_whole}
@@ -43,7 +43,7 @@ item_texts (Ids ids) known = one_texts (map id_tree ids)
 item_texts (Links links) known = one_texts (map link_tree links)
 item_texts (Traces traces) known = trace_texts traces.items known
 
-pub whole_text : (items : Items) → AreWritable items → front_text ++ text_of (runs_of items) ≡ compact_text (items_tree (item_trees items))
+pub whole_text : (items : Items) → AreWritable items → front_text ++ runs_text (runs_of items) ≡ compact_text (items_tree (item_trees items))
 whole_text items known =
     ap (λ (l : List ℕ). front_text ++ l) (body_is (item_pieces items))
     ∙ ap (λ (ts : List (List ℕ)). front_text ++ body ts) (item_texts items known)

@@ -1,5 +1,6 @@
 -- The places of processes, which are looked up by their keys.
-use Rattle.std.proofs.Common.{◌≡◌, ◌==◌, ℕ, ◌+◌, ◌∙◌, Bool, true, false, List, [], ◌∷◌, ◌++◌, map, take, get_or, refl, sym, ap, ap₂, arith, eqb-true, length, ◌<◌, ⊎_elim}
+use Rattle.std.proofs.Common.{◌≡◌, ◌==◌, ℕ, ◌+◌, ◌∙◌, Bool, true, false, List, [], ◌∷◌, ◌++◌, map, take, get_or, refl, sym, ap, ap₂, arith, eqb-true}
+use Rattle.std.proofs.Common.{length, ◌<◌, ⊎_elim}
 use Rattle.std.specs.Prelude.{Option, Some, None, option_and_then, slice_get, if◌then◌else◌}
 use Rattle.std.proofs.lemmas.List.{get_or-map, map_push, take_more}
 use Rattle.std.proofs.lemmas.Option.{get_or_from_slice_get, slice_get_cases, slice_get_within}

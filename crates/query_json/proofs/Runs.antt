@@ -8,7 +8,7 @@ use Rattle.serde_json.specs.Written.{compact_text, items_text}
 use Rattle.query_json.specs.declared.writing.page.Page.{Page}
 use Rattle.query_json.specs.AnswerTexts.{head_text, tail_text}
 use Rattle.query_json.specs.Page.{Puts}
-use Rattle.query_json.specs.Runs.{Fills, PutsNext, end_text, front_text, joined, left_at, more_runs, runs, separator, steps, text_of, without}
+use Rattle.query_json.specs.Runs.{Fills, PutsNext, end_text, front_text, joined, left_at, more_runs, runs, runs_text, separator, steps, without}
 use Rattle.query_json.specs.Trees.{items_tree, list}
 use Rattle.query_json.proofs.Answers.{items_around}
 use Rattle.query_json.proofs.Pages.{◌▸◌, Puts-nothing, rest_text}
@@ -21,7 +21,7 @@ Run = List (List ℕ)
 abbrev listed : List (List ℕ) → List ℕ
 listed ts = rest_text (λ (t : List ℕ). t) 93 ts
 
-more_text : (total : ℕ) (rs : List Run) → text_of (more_runs total rs) ≡ listed (map joined rs) ++ tail_text total
+more_text : (total : ℕ) (rs : List Run) → runs_text (more_runs total rs) ≡ listed (map joined rs) ++ tail_text total
 more_text total [] = append-nil (end_text total ++ []) ∙ append-nil (end_text total)
 more_text total (r ∷ rs) =
     ap (λ (l : List ℕ). 44 ∷ (joined r ++ l)) (more_text total rs)
@@ -32,7 +32,7 @@ abbrev pub body : List (List ℕ) → List ℕ
 body [] = end_text 0
 body (t ∷ ts) = t ++ (listed ts ++ tail_text (suc (length ts)))
 
-pub body_is : (rs : List Run) → text_of (runs rs) ≡ body (map joined rs)
+pub body_is : (rs : List Run) → runs_text (runs rs) ≡ body (map joined rs)
 body_is [] = more_text 0 []
 body_is (r ∷ rs) =
     ap (λ (l : List ℕ). joined r ++ l) (more_text (suc (length rs)) rs ∙ ap (λ n. listed (map joined rs) ++ tail_text (suc n)) (sym (length-map rs joined)))
@@ -110,7 +110,7 @@ one_put : {old new : Page} (p : List ℕ) (r : Run) (more : List Run) → Puts o
 one_put p r more put = record {
   piece = p;
   puts = put;
-  text = append_assoc p (joined r) (text_of more);
+  text = append_assoc p (joined r) (runs_text more);
   fits = λ most h. (h.0.0, (h.0.1, h.1));
   bounds = λ most here h. ((here, h.0), h.1);
   fewer = omega arith;
@@ -163,7 +163,7 @@ pub Fills-next : {enough : ℕ} {a b c : Page} {from mid to : List Run} → Fill
 Fills-next {a = a} {b = b} {c = c} {mid = mid} {to = to} f n below had_room = record {
   bytes = f.bytes ++ n.piece;
   puts = f.puts ▸ n.puts;
-  text = f.text ∙ ap (λ (l : List ℕ). f.bytes ++ l) n.text ∙ sym (append_assoc f.bytes n.piece (text_of to));
+  text = f.text ∙ ap (λ (l : List ℕ). f.bytes ++ l) n.text ∙ sym (append_assoc f.bytes n.piece (runs_text to));
   ended = λ none. absurd (omega (arith, n.fewer, ap steps (f.ended none)));
   fits = λ most h. (n.fits most (f.fits most h)).1;
   room = λ most h cap had.

@@ -3,7 +3,7 @@ use Rattle.std.specs.Prelude.{◌≡◌, ◌+◌, ◌≤◌, ◌⊎◌, ℕ, fal
 use Rattle.query_json.specs.declared.paging.PagedAnswer.{PagedAnswer}
 use Rattle.query_json.specs.declared.writing.page.Page.{Page}
 use Rattle.query_json.specs.Pieces.{AreWritable, runs_of}
-use Rattle.query_json.specs.Runs.{AllFit, left_at, text_of}
+use Rattle.query_json.specs.Runs.{AllFit, left_at, runs_text}
 
 -- the current part
 abbrev pub part_of : PagedAnswer → List ℕ
@@ -15,7 +15,7 @@ left_of p = left_at (runs_of p.items) p.next.run p.next.piece
 
 -- the text after it
 abbrev pub rest_of : PagedAnswer → List ℕ
-rest_of p = text_of (left_of p)
+rest_of p = runs_text (left_of p)
 
 -- the page of the parts after it
 abbrev pub next_page : PagedAnswer → Page

@@ -7,7 +7,7 @@ use Rattle.serde_json.specs.Written.{compact_text}
 use Rattle.jaeger_model.specs.declared.batch.Process.{Process}
 use Rattle.trace_model.specs.declared.answer.Shown.{Shown}
 use Rattle.query_json.specs.declared.writing.processes.NamedProcess.{NamedProcess}
-use Rattle.query_json.specs.Trees.{named, process_of, process_tree}
+use Rattle.query_json.specs.Trees.{process_of, process_tree, processes_by_name}
 
 abbrev pub name_of : NamedProcess → List ℕ
 name_of p = 112 ∷ decimal p.number
@@ -40,4 +40,4 @@ HasSpan spans p = p.span < length spans
 -- the processes, each once, in the order of their names
 pub record AreNamed (spans : List Shown) (processes : List Process) (ps : List NamedProcess) : Type 0 where
   pub have_spans : All (HasSpan spans) ps
-  pub members : named_members spans ps ≡ named 0 processes no_members
+  pub members : named_members spans ps ≡ processes_by_name 0 processes no_members

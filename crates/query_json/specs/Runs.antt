@@ -40,8 +40,8 @@ left_at rs run piece = without piece (drop run rs)
 abbrev pub joined : List (List ℕ) → List ℕ
 joined ps = flat_map (λ p. p) ps
 
-abbrev pub text_of : List (List (List ℕ)) → List ℕ
-text_of rs = flat_map joined rs
+abbrev pub runs_text : List (List (List ℕ)) → List ℕ
+runs_text rs = flat_map joined rs
 
 -- no piece of a run is larger
 abbrev pub Fit : ℕ → List (List ℕ) → Type 0
@@ -63,7 +63,7 @@ steps (r ∷ rs) = suc (length r) + steps rs
 pub record PutsNext (old new : Page) (from to : List (List (List ℕ))) : Type 0 where
   pub piece : List ℕ
   pub puts : Puts old new piece
-  pub text : text_of from ≡ piece ++ text_of to
+  pub text : runs_text from ≡ piece ++ runs_text to
   pub fits : (most : ℕ) → AllFit most from → (length piece ≤ most) × AllFit most to
   pub bounds : (most : ℕ) → length piece ≤ most → AllFit most to → AllFit most from
   pub fewer : steps to < steps from
@@ -72,7 +72,7 @@ pub record PutsNext (old new : Page) (from to : List (List (List ℕ))) : Type 0
 pub record Fills (enough : ℕ) (old new : Page) (from to : List (List (List ℕ))) : Type 0 where
   pub bytes : List ℕ
   pub puts : Puts old new bytes
-  pub text : text_of from ≡ bytes ++ text_of to
+  pub text : runs_text from ≡ bytes ++ runs_text to
   pub ended : from ≡ [] → to ≡ []
   pub fits : (most : ℕ) → AllFit most from → AllFit most to
   pub room : (most : ℕ) → AllFit most from → enough + most ≤ old.bytes.room → old.full ≡ false → new.full ≡ false

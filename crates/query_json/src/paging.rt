@@ -3,7 +3,7 @@ ghost use Rattle.std.specs.Prelude.{◌≡◌, ◌+◌, ◌^◌, ◌≤◌, ◌<
 ghost use Rattle.serde_json.specs.Written.{compact_text};
 ghost use Rattle.query_json.specs.Page.{Puts};
 ghost use Rattle.query_json.specs.Pieces.{AreWritable, item_trees, runs_of};
-ghost use Rattle.query_json.specs.Runs.{AllFit, Fills, PutsNext, end_text, front_text, left_at, text_of};
+ghost use Rattle.query_json.specs.Runs.{AllFit, Fills, PutsNext, end_text, front_text, left_at, runs_text};
 ghost use Rattle.query_json.specs.Trees.{answer_tree, items_tree};
 
 use crate::answer::{INITIAL_CAPACITY, not_found_bytes};
@@ -141,7 +141,7 @@ fn larger(size: usize, other: usize) -> usize
 fn measure(alloc: Global, items: &Items, from: Position) -> Result<(u64, usize), AllocError>
     requires { AreWritable items.now }
     ensures left { IfOk result (λ r.
-        r.0 ≡ length (text_of (left_at (runs_of items.now) from.run from.piece))) }
+        r.0 ≡ length (runs_text (left_at (runs_of items.now) from.run from.piece))) }
     ensures fit { IfOk result (λ r.
         AllFit r.1 (left_at (runs_of items.now) from.run from.piece)) }
 {
@@ -205,7 +205,7 @@ impl PagedAnswer {
         ensures ready { IfOk result IsReady }
         ensures part { IfOk result (λ p. part_of p ≡ first.bytes.items) }
         ensures text { IfOk result (λ p. part_of p ++ rest_of p
-            ≡ first.bytes.items ++ text_of (left_at (runs_of items) next.run next.piece)) }
+            ≡ first.bytes.items ++ runs_text (left_at (runs_of items) next.run next.piece)) }
     {
         let (left, largest) = measure(alloc, &items, next)?;
         let later = page_for(alloc, largest)?;

@@ -3,7 +3,7 @@ ghost use Rattle.serde_json.specs.View.{view};
 ghost use Rattle.jaeger_model.specs.declared.batch.Process.{Process as ProcessValue};
 ghost use Rattle.query_json.specs.ProcessNames.{process_name};
 ghost use Rattle.query_json.specs.ProcessNumbers.{first_process};
-ghost use Rattle.query_json.specs.Trees.{list, processes_of, processes_tree, span_tree, trace_id_text, trace_of, trace_tree, warnings_tree};
+ghost use Rattle.query_json.specs.Trees.{list, processes_of, processes_tree, span_tree, trace_id_text, trace_object, trace_tree, warnings_tree};
 ghost use Rattle.query_json.specs.TraceProcesses.{process_names, process_place};
 
 use crate::naming::{FirstSpan, names, places, process_name};
@@ -107,7 +107,7 @@ fn trace_json(
     spans: Value,
     id: String,
 ) -> Result<Value, AllocError>
-    ensures { IfOk result (λ v. view v ≡ trace_of (view processes) (view spans) (string_bytes id)) }
+    ensures { IfOk result (λ v. view v ≡ trace_object (view processes) (view spans) (string_bytes id)) }
 {
     json!(in alloc; {"processes": processes, "spans": spans, "traceID": id, "warnings": null})
 }

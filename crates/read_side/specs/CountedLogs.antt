@@ -16,8 +16,8 @@ pub record IsCounted {A : Type 0} (cells : List Cell) (log : List A) : Type 0 wh
   pub words : cells ≡ (length log, true) ∷ (0, true) ∷ []
 
 -- the first word of a book
-abbrev pub head_of : Book → Named
-head_of b = record { tracked = true; key = 0; book = b }
+abbrev pub first_word : Book → Named
+first_word b = record { tracked = true; key = 0; book = b }
 
 -- the item was added after all that had been seen, or the log was longer than that
 abbrev pub Adds : {A : Type 0} → Step A → View A ℕ → ℕ → View A ℕ → Type 0

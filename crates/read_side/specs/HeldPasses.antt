@@ -10,8 +10,8 @@ abbrev pub pass_of : {N : Type 0} → Held N → MutBor PassValue
 pass_of h = h.pass
 
 -- the list that is held
-abbrev pub list_of : {N : Type 0} → Held N → List Entry
-list_of h = (pass_of h).now.known
+abbrev pub held_list : {N : Type 0} → Held N → List Entry
+held_list h = (pass_of h).now.known
 
 -- it is inside that list
 abbrev pub IsInside : {N : Type 0} → Held N → Type 0

@@ -1,6 +1,6 @@
 //! A list that only grows at its end, and whose length is in one atomic word.
 ghost use Rattle.std.specs.Prelude.{◌≡◌, ◌<◌, ◌^◌, [], length, MatchBool};
-ghost use Rattle.read_side.specs.CountedLogs.{head_of, with_item};
+ghost use Rattle.read_side.specs.CountedLogs.{first_word, with_item};
 
 use logbook::{Gain, Offer, Plain, Play, Rule, Seen, Start, Word};
 use std::marker::Model;
@@ -59,7 +59,7 @@ pub struct EmptyLog<T> {
     pub head: Word<T, u64, CountedRule>,
     pub seen: Seen<T, u64, CountedRule>,
     pub ghost empty: { seen.log ≡ [] },
-    pub ghost head_is: { head ≡ head_of seen.book },
+    pub ghost head_is: { head ≡ first_word seen.book },
 }
 
 impl<T> EmptyLog<T> {
@@ -83,13 +83,13 @@ pub struct CountedLog<T> {
 
 impl<T> Model for CountedLog<T> {
     ghost use Rattle.std.specs.Prelude.{◌≡◌, length};
-    ghost use Rattle.read_side.specs.CountedLogs.{LogValue, head_of};
+    ghost use Rattle.read_side.specs.CountedLogs.{LogValue, first_word};
 
     ghost Value = { LogValue T };
 
     ghost view = { λ l. record { book = l.seen.book; items = l.seen.log } };
 
-    ghost invariant = { λ l. (l.len ≡ length l.seen.log) × (l.head ≡ head_of l.seen.book) };
+    ghost invariant = { λ l. (l.len ≡ length l.seen.log) × (l.head ≡ first_word l.seen.book) };
 }
 
 impl<T> CountedLog<T> {

@@ -17,7 +17,7 @@ pub struct Held<'a, N: StoreName> {
 }
 
 impl<'a, N: StoreName> Held<'a, N> {
-    ghost use Rattle.read_side.specs.HeldPasses.{pass_of, list_of, IsInside};
+    ghost use Rattle.read_side.specs.HeldPasses.{pass_of, held_list, IsInside};
 
     /// Keeps the pass inside.
     pub(crate) fn new(pass: &'a mut Pass<N>) -> Held<'a, N>
@@ -29,7 +29,7 @@ impl<'a, N: StoreName> Held<'a, N> {
 
     /// Returns the number of entries of the held list.
     pub fn front(&self) -> u64
-        ensures { result ≡ length (list_of self.now) }
+        ensures { result ≡ length (held_list self.now) }
     {
         self.pass.front()
     }
@@ -41,9 +41,9 @@ impl<'a, N: StoreName> Held<'a, N> {
     /// [`Refusal::NoMemory`] alone.
     pub fn read(&self, query: &Query) -> Result<Reading, Refusal>
         requires inside { IsInside self.now }
-        ensures front { IfOk result (λ r. r.front ≡ length (list_of self.now)) }
+        ensures front { IfOk result (λ r. r.front ≡ length (held_list self.now)) }
         ensures answer { IfOk result (λ r.
-            r.answer ≡ answer N.limits (list_of self.now) query.now) }
+            r.answer ≡ answer N.limits (held_list self.now) query.now) }
         ensures reason { IfErr result (λ why. why ≡ NoMemory) }
     {
         self.collect(query)?.reading()
@@ -56,9 +56,9 @@ impl<'a, N: StoreName> Held<'a, N> {
     /// [`Refusal::NoMemory`] alone.
     pub(crate) fn collect<'q>(&self, query: &'q Query) -> Result<Collection<'q>, Refusal>
         requires held { IsInside self.now }
-        ensures front { IfOk result (λ c. c.front ≡ length (list_of self.now)) }
+        ensures front { IfOk result (λ c. c.front ≡ length (held_list self.now)) }
         ensures answer { IfOk result (λ c.
-            c.collected ≡ answer N.limits (list_of self.now) query.now) }
+            c.collected ≡ answer N.limits (held_list self.now) query.now) }
         ensures reason { IfErr result (λ why. why ≡ NoMemory) }
     {
         self.pass.collect(query)

@@ -83,7 +83,7 @@ impl<N: StoreName> Drop for Pass<N> {
 }
 
 impl<N: StoreName> Pass<N> {
-    ghost use Rattle.read_side.specs.HeldPasses.{pass_of, list_of, IsInside};
+    ghost use Rattle.read_side.specs.HeldPasses.{pass_of, held_list, IsInside};
 
     /// Makes a pass that knows only the empty list.
     pub(crate) fn new(reader: ReaderState<N>) -> Pass<N>
@@ -133,9 +133,9 @@ impl<N: StoreName> Pass<N> {
     pub fn hold(&mut self) -> Result<Held<'_, N>, Refusal>
         ensures same { IfOk result (λ h. (pass_of h).ghost_name ≡ self.entry.ghost_name) }
         ensures inside { IfOk result (λ h. IsInside h) }
-        ensures later { IfOk result (λ h. IsPrefix self.old.known (list_of h)) }
-        ensures entered { IfOk result (λ h. (pass_of h).now.entered ≡ list_of h) }
-        ensures legal { IfOk result (λ h. IsLegal N.limits (list_of h)) }
+        ensures later { IfOk result (λ h. IsPrefix self.old.known (held_list h)) }
+        ensures entered { IfOk result (λ h. (pass_of h).now.entered ≡ held_list h) }
+        ensures legal { IfOk result (λ h. IsLegal N.limits (held_list h)) }
         ensures reason { IfErr result (λ why. why ≡ Gone) }
         ensures* gone { sem 𝓛 (RestsIfErr (the_row N.row N.StoreName) self.entry
             (λ h. (pass_of h).ghost_name) result (λ after. after ≡ come_out self.old)) }

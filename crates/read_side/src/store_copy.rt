@@ -148,6 +148,7 @@ impl Absorb<Change> for StoreCopy {
             return Err(operation);
         }
         let Change { entry, seen } = operation;
+        // Impossible: `None`, which has returned above.
         if let Some(entry) = entry {
             self.store.append(entry);
             self.seen = seen;

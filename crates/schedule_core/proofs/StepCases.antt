@@ -18,7 +18,8 @@ use Rattle.schedule_core.specs.declared.step.Step.{Step}
 use Rattle.schedule_core.specs.declared.step.Step.TheVariants as ask
 use Rattle.schedule_core.specs.declared.outcome.Outcome.{Outcome}
 use Rattle.schedule_core.specs.declared.outcome.Outcome.TheVariants.{Again, Refused, Idle, Published, Held, Left, Inside, Outside, Unknown}
-use Rattle.schedule_core.specs.Machine.{Machine, Reader, Visit, Stepped, stays, accepted, with_submitted, puts, full, drops, outcome_by, judged_job, takes_by, takes}
+use Rattle.schedule_core.specs.Machine.{Machine, Reader, Visit, Stepped, stays, accepted, with_submitted, puts, full, drops, outcome_by, judged_job}
+use Rattle.schedule_core.specs.Machine.{takes_by, takes}
 use Rattle.schedule_core.specs.Machine.{holds, published, publishes_by, with_reader, enters, reads, longer, learns_list, learns, leaves, front_of, step}
 use Rattle.schedule_core.specs.Runs.{job_of, verdict_of, reported_by, front_in, IsOf}
 

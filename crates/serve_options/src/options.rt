@@ -38,7 +38,15 @@ pub struct ServeOptions {
     pub idle: u32,
     /// The number of seconds between two reports of its counts on standard error, up to 86,400; 0 for none.
     pub report: u32,
-    ghost within: { AreOptionsWithin port workers queue sessions connections idle report },
+    ghost within: { AreOptionsWithin (record {
+      port = port;
+      workers = workers;
+      queue = queue;
+      sessions = sessions;
+      connections = connections;
+      idle = idle;
+      report = report;
+    }) },
 }
 
 impl ServeOptions {
@@ -54,8 +62,15 @@ impl ServeOptions {
         idle: u32,
         report: u32,
     ) -> Option<ServeOptions>
-        ensures within { IsSome result ↔
-            AreOptionsWithin port workers queue sessions connections idle report }
+        ensures within { IsSome result ↔ AreOptionsWithin (record {
+          port = port;
+          workers = workers;
+          queue = queue;
+          sessions = sessions;
+          connections = connections;
+          idle = idle;
+          report = report;
+        }) }
         ensures keeps { IfSome result (λ o. o.limits ≡ limits) }
         ensures listens { IfSome result (λ o. (o.host ≡ host) × (o.port ≡ port)) }
         ensures holds { IfSome result (λ o. (o.workers ≡ workers) × (o.queue ≡ queue)) }

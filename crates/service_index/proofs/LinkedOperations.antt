@@ -20,7 +20,8 @@ use Rattle.trace_model.proofs.NameLaws.{text_total, text_exact, operation_total,
 use Rattle.hash_tables.specs.RowPlaces.{AreOnce}
 use Rattle.hash_tables.proofs.DistinctRows.{one_row}
 use Rattle.service_index.specs.ListedNames.{Listed, listed_cmp, same_listed, services_in, operations_of, names_of}
-use Rattle.service_index.specs.Labels.{Names, IsNumberedByService, IsServiceNumberOf, service_alone, LabelValue, same_label, Labelling, service_number_alone, operation_labels}
+use Rattle.service_index.specs.Labels.{Names, IsNumberedByService, IsServiceNumberOf, service_alone, LabelValue}
+use Rattle.service_index.specs.Labels.{same_label, Labelling, service_number_alone, operation_labels}
 use Rattle.service_index.specs.Labels.{service_number_labels}
 use Rattle.service_index.specs.Probes.{Table, no_label, label_at, AreNumbersBelow, IsLabelTable, row_of, with_number}
 use Rattle.service_index.specs.LinkedRows.{newest_with}
@@ -111,7 +112,8 @@ service_number_asked : (names : Names) (s : List ℕ) (service_number : ℕ) →
 service_number_asked names s service_number is n within = and-true (service_number == names.service_number n) ∙ is n within
 
 operation_asked : (names : Names) (l : Listed) (service_number : ℕ) → IsServiceNumberOf names l.service (Some service_number)
-    → FindsLabel (operation_labels names) (record { service_number = service_number; name = l.operation.name; kind = l.operation.kind }) names.at (same_listed l)
+    → FindsLabel (operation_labels names) (record { service_number = service_number; name = l.operation.name; kind = l.operation.kind }) names.at
+    (same_listed l)
 operation_asked names l service_number is n within = ap (λ b. b && same_operation l.operation (names.at n).operation) (is n within)
 
 -- ---- one more row
@@ -305,7 +307,8 @@ indexed_more names g old operations services newest earlier n s row used room he
     let w = row_within (operation_labels names) numbers ((operation_labels names).at n) in
     let new : row ≡ length (owners names numbers) = omega arith in
     let found : s ≡ position_or_len (same_text (alone names n)) (owners names old.services.numbers) =
-    at ∙ row_by_key (service_number_labels names) (service_number_alone (names.service_number n)) (alone names) (same_text (alone names n)) old.services.numbers []
+    at ∙ row_by_key (service_number_labels names) (service_number_alone (names.service_number n)) (alone names) (same_text (alone names n))
+    old.services.numbers []
     (service_numbers_keyed names g n held) h.services.numbers in
     let rows : owners names operations.numbers ≡ owners names numbers ++ alone names n ∷ [] =
     ap (owners names) (more ∙ number_new (operation_labels names) numbers n (omega arith)) ∙ map_push (alone names) numbers n in
@@ -314,17 +317,21 @@ indexed_more names g old operations services newest earlier n s row used room he
       services = alone_named;
       linked =
           subst (λ (x : List (List ℕ)). IsLinked x (owners names services.numbers) newest earlier) (sym rows)
-          (linked_more (service_number_labels names) (alone names) old.services (owners names numbers) old.newest old.earlier newest earlier services.numbers n s
+          (linked_more (service_number_labels names) (alone names) old.services (owners names numbers) old.newest old.earlier newest earlier
+          services.numbers n s
           (service_numbers_keyed names g) h.services h.linked
           less at found (e ∙ ap (λ k. newest_with old.newest s (k + 1)) new) f);
     }
 
 -- ---- answers
-pub name_known : (names : Names) (index : Index) (l : Listed) (service_number : ℕ) → IsIndexed names index → IsServiceNumberOf names l.service (Some service_number)
-    → nat_lt (row_of (operation_labels names) index.operations.numbers (record { service_number = service_number; name = l.operation.name; kind = l.operation.kind }))
+pub name_known : (names : Names) (index : Index) (l : Listed) (service_number : ℕ) → IsIndexed names index
+    → IsServiceNumberOf names l.service (Some service_number)
+    → nat_lt (row_of (operation_labels names) index.operations.numbers
+    (record { service_number = service_number; name = l.operation.name; kind = l.operation.kind }))
     (length index.operations.numbers) ≡ list_any (same_listed l) (listing_by names index)
 name_known names index l service_number h is =
-    known_by_key (operation_labels names) (record { service_number = service_number; name = l.operation.name; kind = l.operation.kind }) names.at (same_listed l)
+    known_by_key (operation_labels names) (record { service_number = service_number; name = l.operation.name; kind = l.operation.kind }) names.at
+    (same_listed l)
     index.operations.numbers (service_alone []) (operation_asked names l service_number is) h.operations.numbers
     ∙ sym (any_set listed_exact (same_listed l) (map names.at index.operations.numbers))
 
@@ -343,7 +350,8 @@ name_unknown names index l h none =
 pub service_found : (names : Names) (index : Index) (s : List ℕ) (service_number : ℕ) → IsIndexed names index → IsServiceNumberOf names s (Some service_number)
     → row_of (service_number_labels names) index.services.numbers (service_number_alone service_number) ≡ service_row names index s
 service_found names index s service_number h is =
-    row_by_key (service_number_labels names) (service_number_alone service_number) (alone names) (same_text s) index.services.numbers [] (service_number_asked names s service_number is) h.services.numbers
+    row_by_key (service_number_labels names) (service_number_alone service_number) (alone names) (same_text s) index.services.numbers []
+    (service_number_asked names s service_number is) h.services.numbers
 
 pub service_missing : (names : Names) (index : Index) (s : List ℕ) → IsIndexed names index → IsServiceNumberOf names s None
     → length index.services.numbers ≡ service_row names index s

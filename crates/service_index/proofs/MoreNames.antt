@@ -43,7 +43,8 @@ operations_grow names more e = record {
 service_numbers_grow : (names more : Names) → Extends names more → Grows (service_number_labels names) (service_number_labels more)
 service_numbers_grow names more e = record { count = e.count; same = λ n below. ap service_number_alone (e.service_number n below) }
 
-pub owners_extend : (names more : Names) (numbers : List ℕ) → Extends names more → AreNumbersBelow names.count numbers → owners more numbers ≡ owners names numbers
+pub owners_extend : (names more : Names) (numbers : List ℕ) → Extends names more → AreNumbersBelow names.count numbers
+    → owners more numbers ≡ owners names numbers
 owners_extend names more numbers e h =
     numbers_agree names.count (λ n. (more.at n).service) (λ n. (names.at n).service) (λ n below. ap (λ (l : Listed). l.service) (e.same n below)) numbers h.held
 

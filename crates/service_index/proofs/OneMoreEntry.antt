@@ -11,11 +11,14 @@ use Rattle.service_index.specs.Probes.{Table, AreNumbersBelow, IsLabelTable, row
 use Rattle.service_index.specs.LinkedRows.{newest_with}
 use Rattle.service_index.specs.Indexes.{IsNewest, IsLinked}
 use Rattle.service_index.proofs.MoreNames.{Grows, numbers_agree, named_extends}
-use Rattle.service_index.proofs.LinkedOperations.{FindsLabel, AreKeys, linked_more, row_by_key, row_within, number_known, number_new, service_own, service_new, none_of}
+use Rattle.service_index.proofs.LinkedOperations.{FindsLabel, AreKeys, linked_more, row_by_key, row_within, number_known}
+use Rattle.service_index.proofs.LinkedOperations.{number_new, service_own, service_new, none_of}
 use Rattle.trace_model.proofs.Lists.{is_position}
 use Rattle.trace_model.specs.EntryWork.{service_brought}
-use Rattle.service_index.specs.ServicePlaces.{ServicePlacesValue, reporters, service_at, service_label, service_labels, service_number_in, service_number_of, AreServiceNumbers, ArePlacesKept}
-use Rattle.service_index.proofs.ServiceNumbers.{reporters_push, as_many_reporters, service_old, service_last, service_number_old, service_number_new, service_numbers_more}
+use Rattle.service_index.specs.ServicePlaces.{ServicePlacesValue, reporters, service_at, service_label, service_labels}
+use Rattle.service_index.specs.ServicePlaces.{service_number_in, service_number_of, AreServiceNumbers, ArePlacesKept}
+use Rattle.service_index.proofs.ServiceNumbers.{reporters_push, as_many_reporters, service_old, service_last}
+use Rattle.service_index.proofs.ServiceNumbers.{service_number_old, service_number_new, service_numbers_more}
 
 -- the number of entries before the last one
 pub last_number : (h0 h : List Entry) (e : Entry) (count : ℕ) → h0 ++ e ∷ [] ≡ h → length h ≡ count → count - 1 ≡ length h0
@@ -68,7 +71,8 @@ row_added h numbers now n r more row =
     ])
 
 -- One more entry, e: its number n is among the services, in row s, and the number of its service is stored.
-pub record HasOneMore (h0 h : List Entry) (e : Entry) (old : ServicePlacesValue) (services : Table) (service_numbers : List ℕ) (s n service_number : ℕ) : Type 0 where
+pub record HasOneMore (h0 h : List Entry) (e : Entry) (old : ServicePlacesValue) (services : Table) (service_numbers : List ℕ)
+    (s n service_number : ℕ) : Type 0 where
   pub is : h0 ++ e ∷ [] ≡ h
   pub at : n ≡ length h0
   pub kept : ArePlacesKept h0 old
@@ -156,7 +160,9 @@ numbered_new h0 h e old services service_numbers s n service_number m beyond =
     subst (λ (x : List ℕ). IsNumbered h x s new) (sym fresh) (record {
       few = omega (arith, one, b.longer, b.few);
       first = λ r low. elim (cases_eq r (length numbers)) [
-        | inl e ↦ let here = get_or_push numbers n 0 r (sym e) in ap (λ (x : ℕ). service_number_in h (service_at h x)) here ∙ ap (service_number_in h) b.last ∙ number ∙ sym here
+        | inl e ↦
+            let here = get_or_push numbers n 0 r (sym e) in
+            ap (λ (x : ℕ). service_number_in h (service_at h x)) here ∙ ap (service_number_in h) b.last ∙ number ∙ sym here
         | inr other ↦
             let below : r < length numbers = omega arith in
             let here = get_or_append_left numbers (n ∷ []) 0 r below in
@@ -187,7 +193,9 @@ kept_more h0 h e old services newest earlier service_numbers s n service_number 
           (services_keyed h) b.named b.linked
           m.numbers m.row b.found (to ∙ ap (λ (k : ℕ). newest_with old.newest s (k + 1)) (m.at ∙ sym b.reported)) f);
       first = numbered.first;
-      services_numbered = subst (λ (x : List ℕ). AreServiceNumbers h x) (sym m.noted) (service_numbers_more h0 h e old.service_numbers service_number m.is m.kept.services_numbered (m.number ∙ numbered.number));
+      services_numbered =
+          subst (λ (x : List ℕ). AreServiceNumbers h x) (sym m.noted)
+          (service_numbers_more h0 h e old.service_numbers service_number m.is m.kept.services_numbered (m.number ∙ numbered.number));
     }
 
 -- ---- the newest place of a service

@@ -55,15 +55,18 @@ service_last h0 h e n is at =
 -- ---- numbers of services
 -- the number of an entry's service is that of some entry
 pub service_number_within : (h : List Entry) (n : ℕ) → n < length h → service_number_in h (service_at h n) ≤ n
-service_number_within h n below = let m = as_many_reporters h in first_low (same_text (service_at h n)) (reporters h) n [] (omega arith) (text_self (service_at h n))
+service_number_within h n below =
+    let m = as_many_reporters h in first_low (same_text (service_at h n)) (reporters h) n [] (omega arith) (text_self (service_at h n))
 
 -- it doesn't change
-pub service_number_known : (h0 h : List Entry) (e : Entry) (s : List ℕ) → h0 ++ e ∷ [] ≡ h → service_number_in h0 s < length h0 → service_number_in h s ≡ service_number_in h0 s
+pub service_number_known : (h0 h : List Entry) (e : Entry) (s : List ℕ) → h0 ++ e ∷ [] ≡ h → service_number_in h0 s < length h0
+    → service_number_in h s ≡ service_number_in h0 s
 service_number_known h0 h e s is below =
     let m = as_many_reporters h0 in
     ap (position_or_len (same_text s)) (reporters_push h0 h e is) ∙ first_still (same_text s) (reporters h0) (service_brought e.work) [] (omega arith)
 
-pub service_number_old : (h0 h : List Entry) (e : Entry) (n : ℕ) → h0 ++ e ∷ [] ≡ h → n < length h0 → service_number_in h (service_at h n) ≡ service_number_in h0 (service_at h0 n)
+pub service_number_old : (h0 h : List Entry) (e : Entry) (n : ℕ) → h0 ++ e ∷ [] ≡ h → n < length h0
+    → service_number_in h (service_at h n) ≡ service_number_in h0 (service_at h0 n)
 service_number_old h0 h e n is below =
     let w = service_number_within h0 n below in
     ap (service_number_in h) (service_old h0 h e n is below) ∙ service_number_known h0 h e (service_at h0 n) is (omega arith)
@@ -77,7 +80,8 @@ service_number_new h0 h e is none =
     ∙ first_new (same_text (service_brought e.work)) (reporters h0) (service_brought e.work) [] (omega arith) (text_self (service_brought e.work)) ∙ m
 
 -- one more entry
-pub service_numbers_more : (h0 h : List Entry) (e : Entry) (service_numbers : List ℕ) (service_number : ℕ) → h0 ++ e ∷ [] ≡ h → AreServiceNumbers h0 service_numbers
+pub service_numbers_more : (h0 h : List Entry) (e : Entry) (service_numbers : List ℕ) (service_number : ℕ) → h0 ++ e ∷ [] ≡ h
+    → AreServiceNumbers h0 service_numbers
     → service_number ≡ service_number_in h (service_brought e.work) → AreServiceNumbers h (service_numbers ++ service_number ∷ [])
 service_numbers_more h0 h e service_numbers service_number is a g =
     let many = a.as_many in

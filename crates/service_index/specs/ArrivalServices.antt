@@ -72,7 +72,8 @@ arrival_number h n below =
 pub numbers_keyed : (h : List Entry) (s t : List ℕ) → service_number_in h s < length (reporters h) → service_number_in h t < length (reporters h)
     → (service_number_in h s == service_number_in h t) ≡ same_text s t
 numbers_keyed h s t a b =
-    same_where (service_number_in h s) (service_number_in h t) s t (λ one. service_of_number h s a ∙ ap (service_at h) one ∙ sym (service_of_number h t b)) (ap (service_number_in h))
+    same_where (service_number_in h s) (service_number_in h t) s t
+    (λ one. service_of_number h s a ∙ ap (service_at h) one ∙ sym (service_of_number h t b)) (ap (service_number_in h))
 
 pub names_numbered : (h : List Entry) → IsNumberedByService (names_of_arrivals h)
 names_numbered h = record {

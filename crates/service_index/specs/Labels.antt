@@ -12,11 +12,13 @@ pub record Names : Type 0 where
 
 -- numbers have the same service's number exactly if they have the same service
 pub record IsNumberedByService (names : Names) : Type 0 where
-  pub same : (n m : ℕ) → n < names.count → m < names.count → (names.service_number n == names.service_number m) ≡ same_text (names.at n).service (names.at m).service
+  pub same : (n m : ℕ) → n < names.count → m < names.count
+      → (names.service_number n == names.service_number m) ≡ same_text (names.at n).service (names.at m).service
 
 -- this is the service's number of all numbers of the service and of no others, or no number has the service
 abbrev pub IsServiceNumberOf : Names → List ℕ → Option ℕ → Type 0
-IsServiceNumberOf names service (Some service_number) = (n : ℕ) → n < names.count → (service_number == names.service_number n) ≡ same_text service (names.at n).service
+IsServiceNumberOf names service (Some service_number) =
+    (n : ℕ) → n < names.count → (service_number == names.service_number n) ≡ same_text service (names.at n).service
 IsServiceNumberOf names service None = (n : ℕ) → n < names.count → same_text service (names.at n).service ≡ false
 
 -- more names, with the old ones unchanged
@@ -54,7 +56,10 @@ service_number_alone service_number = record { service_number = service_number; 
 -- each number by its operation and the number of its service
 abbrev pub operation_labels : Names → Labelling
 operation_labels names =
-    record { count = names.count; at = λ n. record { service_number = names.service_number n; name = (names.at n).operation.name; kind = (names.at n).operation.kind } }
+    record {
+      count = names.count;
+      at = λ n. record { service_number = names.service_number n; name = (names.at n).operation.name; kind = (names.at n).operation.kind };
+    }
 
 -- each number by the number of its service alone
 abbrev pub service_number_labels : Names → Labelling

@@ -66,5 +66,6 @@ pub record ArePlacesKept (h : List Entry) (kept : ServicePlacesValue) : Type 0 w
   pub few : length kept.services.numbers ≤ length h
   pub named : IsLabelTable (service_labels h) kept.services
   pub linked : IsLinked (reporters h) (map (service_at h) kept.services.numbers) kept.newest kept.earlier
-  pub first : (r : ℕ) → r < length kept.services.numbers → service_number_in h (service_at h (get_or kept.services.numbers r 0)) ≡ get_or kept.services.numbers r 0
+  pub first : (r : ℕ) → r < length kept.services.numbers
+      → service_number_in h (service_at h (get_or kept.services.numbers r 0)) ≡ get_or kept.services.numbers r 0
   pub services_numbered : AreServiceNumbers h kept.service_numbers

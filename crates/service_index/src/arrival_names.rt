@@ -10,9 +10,7 @@
 //!
 //! * `numbers`: which span has which arrival number.
 //! * `names`: the services and operations.
-//! * `laws`: facts about the definitions of `specs/`.
 
-pub mod laws;
 mod names;
 mod numbers;
 

@@ -10,20 +10,18 @@ use std::alloc::{AllocError, Global};
 use trace_model::{Name, Operation};
 
 /// Sorts the names and removes duplicates. Allocates nothing.
-pub fn sorted_names(names: Vec<Name>) -> Vec<Name>
+pub fn sorted_names(mut names: Vec<Name>) -> Vec<Name>
     ensures { result.items ≡ sorted_set text_cmp names.items }
 {
-    let mut names = names;
     names.sort_unstable();
     names.dedup();
     names
 }
 
 /// Sorts the operations and removes duplicates. Allocates nothing.
-pub fn sorted_operations(operations: Vec<Operation>) -> Vec<Operation>
+pub fn sorted_operations(mut operations: Vec<Operation>) -> Vec<Operation>
     ensures { result.items ≡ sorted_set operation_cmp operations.items }
 {
-    let mut operations = operations;
     operations.sort_unstable();
     operations.dedup();
     operations

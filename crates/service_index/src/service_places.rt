@@ -9,10 +9,8 @@
 //! * `reporters`: the services of entries, as labels.
 //! * `along`: the places of one service.
 //! * `places`: the [`ServicePlaces`].
-//! * `laws`: facts about the definitions of `specs/`.
 
 mod along;
-pub mod laws;
 mod places;
 mod reporters;
 

@@ -6,7 +6,8 @@ use Rattle.trace_model.specs.declared.limits.Limits.{Limits}
 use Rattle.trace_model.specs.declared.query.Query.{Query}
 use Rattle.trace_model.specs.declared.answer.Answer.{Answer}
 use Rattle.trace_model.specs.declared.refusal.Refusal.{Refusal}
-use Rattle.trace_model.specs.declared.refusal.Refusal.TheVariants.{JournalFull, Stale, NoMemory, Deferred, Busy, Closed, Stranger, NoReply, Behind, Conflict, Gone}
+use Rattle.trace_model.specs.declared.refusal.Refusal.TheVariants.{JournalFull, Stale, NoMemory, Deferred, Busy, Closed, Stranger, NoReply, Behind}
+use Rattle.trace_model.specs.declared.refusal.Refusal.TheVariants.{Conflict, Gone}
 use Rattle.trace_model.specs.StoreKnowledge.{KnownList, reached, refused, KnowsRefusal, SubmitKnows, ReadKnows}
 
 -- no list is reached, and every list refuses every batch

@@ -2,6 +2,7 @@
 //! `http_session`, `pipe_session`, `open_connections`) that no case can be: devices that fail, requests in pieces,
 //! complete sessions over a store with one owner, and the memory for answers. `cases/` tests the bytes of sessions.
 //!
+//! * `queries`: the query of a target of each endpoint.
 //! * `responses`: the memory for a response.
 //! * `parts`: answers of more than 1 MB, in parts.
 //! * `answers`: the memory for the JSON of an answer and of an error, as text and as a tree.

@@ -7,6 +7,7 @@ mod large;
 mod parts;
 mod pieces;
 mod pipes;
+mod queries;
 mod refusals;
 mod requests;
 mod responses;

@@ -207,13 +207,16 @@ entry_there h s p e = by (entry_at h s.place) e
     by None e = absurd (cc e)
     by (Some x) e = refl
 
-module _ (q : Find) (h : List Entry) (service_numbers : List ℕ) (k : ℕ) (kept : AreServiceNumbers h service_numbers) (known : Some k ≡ service_number_of h q.service) where
+module _ (q : Find) (h : List Entry) (service_numbers : List ℕ) (k : ℕ) (kept : AreServiceNumbers h service_numbers)
+    (known : Some k ≡ service_number_of h q.service) where
   -- a span that matches is at a spot of the service
   own_spot : (s : Spot) (p : Placed) → span_at h s ≡ Some p → matches q p ≡ true → is_reported h service_numbers k s ≡ true
   own_spot s p at m =
       let service : p.process.service ≡ q.service = texts_are p.process.service q.service (sym (match_reported q p m)) in
-      let number : get_or service_numbers (s.place - 1) 0 ≡ k = (number_there h service_numbers s p kept (sym at)).0 ∙ ap (service_number_in h) service ∙ number_is h q.service k known in
-      and_from (is_some (entry_at h s.place)) (get_or service_numbers (s.place - 1) 0 == k) (entry_there h s p at) (eq-eqb (get_or service_numbers (s.place - 1) 0) k number)
+      let number : get_or service_numbers (s.place - 1) 0 ≡ k =
+      (number_there h service_numbers s p kept (sym at)).0 ∙ ap (service_number_in h) service ∙ number_is h q.service k known in
+      and_from (is_some (entry_at h s.place)) (get_or service_numbers (s.place - 1) 0 == k) (entry_there h s p at)
+      (eq-eqb (get_or service_numbers (s.place - 1) 0) k number)
 
   own_spots : (ss : List Spot) → list_any (matches q) (spans_named h ss) ≡ true → are_reported h service_numbers k ss ≡ true
   own_spots [] e = absurd (false≢true e)
@@ -228,7 +231,8 @@ module _ (q : Find) (h : List Entry) (service_numbers : List ℕ) (k : ℕ) (kep
 
   -- a search finds the same among the traces with a spot of the service as among all
   pub found_reported : (n : ℕ) (spots : TraceId → List Spot) (r : List TraceId) → ((t : TraceId) → spans_named h (spots t) ≡ spans_of_trace n (events h) t)
-      → found_in q (map (spans_of_trace n (events h)) (filter (λ t. are_reported h service_numbers k (spots t)) r)) ≡ found_in q (map (spans_of_trace n (events h)) r)
+      → found_in q (map (spans_of_trace n (events h)) (filter (λ t. are_reported h service_numbers k (spots t)) r))
+      ≡ found_in q (map (spans_of_trace n (events h)) r)
   found_reported n spots r is_in_ring =
       ap (λ l. cut q.limit (ranked_by_start first_start l))
       (match_among q (spans_of_trace n (events h)) (λ t. are_reported h service_numbers k (spots t))

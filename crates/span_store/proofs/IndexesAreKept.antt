@@ -33,7 +33,8 @@ pub record Grows (shown shown' : Assembled) (more : ℕ) : Type 0 where
   pub used : shown'.used ≡ shown.used + more
 
 -- one more entry
-pub kept_more : (old held : LimitedHistory) (e : Entry) (shown shown' : Assembled) (starts starts' : Starts) (index index' : KeptNames) (reported reported' : ServicePlacesValue)
+pub kept_more : (old held : LimitedHistory) (e : Entry) (shown shown' : Assembled) (starts starts' : Starts) (index index' : KeptNames)
+    (reported reported' : ServicePlacesValue)
     → IsStoreKept old shown starts index reported → held ≡ followed_by old e → Grows shown shown' (length (spans_brought e.work))
     → FollowsEvents old.limits.traces (located_events (old.entries ++ e ∷ [])) shown'.newest (spots_of shown')
     → AreFirst old.limits.traces (located_events (old.entries ++ e ∷ [])) starts'.starts → IsCounted shown' starts'
@@ -45,7 +46,8 @@ kept_more old held e shown shown' starts starts' index index' reported reported'
     record {
       room = grows.room ∙ k.room ∙ ap (λ (v : LimitedHistory). v.limits.spans) back;
       used =
-          grows.used ∙ ap (λ n. n + length (spans_brought e.work)) k.used ∙ sym (span_count_push old.entries e) ∙ ap (λ (v : LimitedHistory). span_count v.entries) back;
+          grows.used ∙ ap (λ n. n + length (spans_brought e.work)) k.used ∙ sym (span_count_push old.entries e)
+          ∙ ap (λ (v : LimitedHistory). span_count v.entries) back;
       follows = subst (λ (v : LimitedHistory). FollowsEvents v.limits.traces (located_events v.entries) shown'.newest (spots_of shown')) back f;
       first = subst (λ (v : LimitedHistory). AreFirst v.limits.traces (located_events v.entries) starts'.starts) back first;
       counted = counted;
@@ -55,7 +57,8 @@ kept_more old held e shown shown' starts starts' index index' reported reported'
     }
 
 -- the spans of an entry that may follow are within the limit
-spans_within : (held : LimitedHistory) (e : Entry) → admission_by held e ≡ Ok Added → span_count held.entries + length (spans_brought e.work) ≤ held.limits.spans
+spans_within : (held : LimitedHistory) (e : Entry) → admission_by held e ≡ Ok Added
+    → span_count held.entries + length (spans_brought e.work) ≤ held.limits.spans
 spans_within held e may =
     let follows : MayFollow held.limits held.entries e = subst (IsSaid held.limits held.entries e) may (admission_says held.limits held.entries e) in
     follows.spans
@@ -71,27 +74,32 @@ pub kept_room : (held : LimitedHistory) (e : Entry) (shown : Assembled) (starts 
 kept_room held e shown starts index reported k may = omega (arith, k.room, k.used, spans_within held e may)
 
 -- nor are there more arrivals with them than the spans that there may be
-pub arrivals_fit : (held now : LimitedHistory) (e : Entry) (h : List Entry) (room : ℕ) → now ≡ followed_by held e → IsLegal now.limits now.entries → h ≡ now.entries
+pub arrivals_fit : (held now : LimitedHistory) (e : Entry) (h : List Entry) (room : ℕ) → now ≡ followed_by held e → IsLegal now.limits now.entries
+    → h ≡ now.entries
     → room ≡ held.limits.spans → length (arrivals h) ≤ room
 arrivals_fit held now e h room appended legal same is =
     omega (arith, length-arrivals h ∙ ap span_count same, legal.spans, ap (λ (v : LimitedHistory). v.limits.spans) appended, is)
 
 -- the ring is within the current limit
-pub kept_within : (held : LimitedHistory) (shown : Assembled) (starts : Starts) (index : KeptNames) (reported : ServicePlacesValue) → IsStoreKept held shown starts index reported
+pub kept_within : (held : LimitedHistory) (shown : Assembled) (starts : Starts) (index : KeptNames) (reported : ServicePlacesValue)
+    → IsStoreKept held shown starts index reported
     → IsRingWithin shown.newest
 kept_within held shown starts index reported k = follows_within held.limits.traces (located_events held.entries) shown.newest (spots_of shown) k.follows
 
 -- ---- the indexes obey the limits of the entries
-pub kept_spots : (held : LimitedHistory) (shown : Assembled) (starts : Starts) (index : KeptNames) (reported : ServicePlacesValue) → IsStoreKept held shown starts index reported
+pub kept_spots : (held : LimitedHistory) (shown : Assembled) (starts : Starts) (index : KeptNames) (reported : ServicePlacesValue)
+    → IsStoreKept held shown starts index reported
     → (t : TraceId) → spots_of shown t ≡ shown_spots held.limits.traces (located_events held.entries) t
 kept_spots held shown starts index reported k t = k.follows.spots t
 
-pub kept_ring : (held : LimitedHistory) (shown : Assembled) (starts : Starts) (index : KeptNames) (reported : ServicePlacesValue) → IsStoreKept held shown starts index reported
+pub kept_ring : (held : LimitedHistory) (shown : Assembled) (starts : Starts) (index : KeptNames) (reported : ServicePlacesValue)
+    → IsStoreKept held shown starts index reported
     → shown.newest.ids ≡ ring held.limits.traces (events held.entries)
 kept_ring held shown starts index reported k = k.follows.ring ∙ ap (ring held.limits.traces) (events-located held.entries)
 
 -- the traces of the ring are those that are shown
-pub kept_traces : (held : LimitedHistory) (shown : Assembled) (starts : Starts) (index : KeptNames) (reported : ServicePlacesValue) → IsStoreKept held shown starts index reported
+pub kept_traces : (held : LimitedHistory) (shown : Assembled) (starts : Starts) (index : KeptNames) (reported : ServicePlacesValue)
+    → IsStoreKept held shown starts index reported
     → map (spans_of_trace held.limits.traces (events held.entries)) shown.newest.ids ≡ traces held.limits.traces (events held.entries)
 kept_traces held shown starts index reported k =
     ap (map (spans_of_trace held.limits.traces (events held.entries))) (kept_ring held shown starts index reported k)

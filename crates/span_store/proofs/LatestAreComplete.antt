@@ -97,7 +97,8 @@ module _ (q : Find) (time : ℤ) where
 
 -- ---- of a store
 -- the stored starts are those of the traces of the ring
-pub kept_first : (held : LimitedHistory) (shown : Assembled) (starts : Starts) (index : KeptNames) (reported : ServicePlacesValue) → IsStoreKept held shown starts index reported
+pub kept_first : (held : LimitedHistory) (shown : Assembled) (starts : Starts) (index : KeptNames) (reported : ServicePlacesValue)
+    → IsStoreKept held shown starts index reported
     → starts.starts ≡ map (λ t. first_start (spans_of_trace held.limits.traces (events held.entries) t)) shown.newest.ids
 kept_first held shown starts index reported k =
     let n = held.limits.traces in
@@ -105,7 +106,8 @@ kept_first held shown starts index reported k =
     ∙ map-map first_start (spans_of_trace n (events held.entries)) (ring n (events held.entries))
     ∙ ap (map (λ t. first_start (spans_of_trace n (events held.entries) t))) (sym (kept_ring held shown starts index reported k))
 
-pub as_many : (held : LimitedHistory) (shown : Assembled) (starts : Starts) (index : KeptNames) (reported : ServicePlacesValue) → IsStoreKept held shown starts index reported
+pub as_many : (held : LimitedHistory) (shown : Assembled) (starts : Starts) (index : KeptNames) (reported : ServicePlacesValue)
+    → IsStoreKept held shown starts index reported
     → length starts.starts ≡ length shown.newest.ids
 as_many held shown starts index reported k =
     let f : TraceId → ℤ = λ t. first_start (spans_of_trace held.limits.traces (events held.entries) t) in

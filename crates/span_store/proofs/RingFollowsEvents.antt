@@ -18,7 +18,8 @@ use Rattle.trace_model.proofs.ShownOfTrace.{ring_within, arrive_short}
 use Rattle.trace_ring.specs.RingValues.{RingValue, opened_by}
 use Rattle.trace_assembly.specs.declared.spot.Spot.{Spot}
 use Rattle.trace_assembly.specs.AssembledRows.{with_spot}
-use Rattle.trace_assembly.specs.LocatedSpans.{span_at, located_events, located_in, located_by, located_upto, events_in, shown_spots, after_eviction, without_evicted}
+use Rattle.trace_assembly.specs.LocatedSpans.{span_at, located_events, located_in, located_by, located_upto, events_in}
+use Rattle.trace_assembly.specs.LocatedSpans.{shown_spots, after_eviction, without_evicted}
 use Rattle.trace_assembly.proofs.SpotEvents.{events-push, comes_in_law, lowers_law, spans_at_shown_law}
 use Rattle.trace_assembly.proofs.Places.{located_push_law, upto_none, upto_all}
 use Rattle.journal_traces.specs.SpansAtSpots.{spans_named, trace_named}
@@ -73,7 +74,8 @@ follows_batch n h e b is newest spots f = subst (λ es. FollowsEvents n es newes
 
 -- ---- a limit
 pub follows_limit : (n : ℕ) (h : List Entry) (e : Entry) (m : ℕ) → e.work ≡ brings.TraceLimit m → (old new : RingValue) (spots spots' : TraceId → List Spot)
-    → FollowsEvents n (located_events h) old spots → new.limit ≡ m → new.ids ≡ newest m old.ids → ((t : TraceId) → spots' t ≡ without_evicted old.ids new.ids spots t)
+    → FollowsEvents n (located_events h) old spots → new.limit ≡ m → new.ids ≡ newest m old.ids
+    → ((t : TraceId) → spots' t ≡ without_evicted old.ids new.ids spots t)
     → FollowsEvents n (located_events (h ++ e ∷ [])) new spots'
 follows_limit n h e m set old new spots spots' f limit_is is changed =
     let es = located_events h in

@@ -10,6 +10,7 @@ ghost use Rattle.trace_model.specs.ShownSpans.{ring};
 ghost use Rattle.trace_model.specs.declared.admission.Admission.TheVariants.{Added};
 ghost use Rattle.trace_model.specs.Refusals.{followed_by, with_admitted};
 ghost use Rattle.arrival_journal.specs.Journals.{admission_by, place_by};
+ghost use Rattle.trace_assembly.specs.LocatedSpans.{located_events, shown_spots};
 ghost use Rattle.call_links.specs.NumberedCalls.{links_in, AreServicesNumbered};
 ghost use Rattle.journal_traces.specs.TakenTraces.{placed_taken};
 ghost use Rattle.service_index.specs.ServicePlaces.{service_number_of, places_of};
@@ -30,9 +31,7 @@ use crate::window_links::WindowLinks;
 use arrival_journal::{Journal, Record};
 use find_traces::PreparedSearch;
 use jaeger_model::{Batch, Seq, Text, TraceId};
-use journal_traces::{
-    CandidateSearch, WindowTraces, gather, ring_ids, take_candidates, take_within,
-};
+use journal_traces::{CandidateSearch, WindowTraces, gather, take_candidates, take_within};
 use service_index::{ArrivalNames, Places, ServicePlaces};
 use std::alloc::{AllocError, Global};
 use std::hash::RandomState;
@@ -40,7 +39,7 @@ use std::marker::Model;
 use std::sync::Arc;
 use trace_assembly::{Assembly, Spots};
 use trace_model::{Admission, Answer, AnsweredTrace, Entry, Find, Limits, Query, Refusal, Work};
-use trace_ring::FirstStarts;
+use trace_ring::{FirstStarts, Ring};
 
 /// The accepted entries of one store, and fast answers from them.
 ///
@@ -87,6 +86,17 @@ fn room_for_names(
     let names = ArrivalNames::with_room(alloc, keys, limits.batches, limits.spans)?;
     let reported = ServicePlaces::with_room(alloc, keys, limits.batches)?;
     Ok((names, reported))
+}
+
+/// Returns the traces of the ring, the one opened first at the front.
+fn ring_ids(alloc: Global, ring: &Ring) -> Result<Vec<TraceId>, AllocError>
+    ensures { IfOk result (λ v. v.items ≡ ring.now.ids) }
+{
+    let mut ids = Vec::new(alloc);
+    for id in ring.iter() {
+        ids.push(id)?;
+    }
+    Ok(ids)
 }
 
 impl SpanStore {
@@ -205,7 +215,8 @@ impl SpanStore {
         place
     }
 
-    /// Returns the traces that are shown, the one opened first at the front.
+    /// Returns the traces that are shown, the one opened first at the front. Only tests call it: its clause says that
+    /// the ring is that of the history.
     ///
     /// # Errors
     ///
@@ -215,6 +226,14 @@ impl SpanStore {
             ring self.now.limits.traces (events self.now.entries)) }
     {
         ring_ids(self.alloc, self.shown.ring())
+    }
+
+    /// Returns the spots of the shown spans of a trace, in the order of their arrival; none if the trace isn't
+    /// shown. Only tests call it: its clause says that the assembly is that of the history.
+    pub fn spots(&self, id: TraceId) -> Spots<'_>
+        ensures { result ≡ shown_spots self.now.limits.traces (located_events self.now.entries) id }
+    {
+        self.shown.spots(id)
     }
 
     /// Returns the answer, which is that of the plain store for the entries.
@@ -245,6 +264,7 @@ impl SpanStore {
             Query::OperationNames { service } => self.operation_names(service)?,
             Query::Operations { service, kind } => self.operations(service, kind)?,
             Query::Find(find) => self.search(find, false)?,
+            // No endpoint asks for ids alone.
             Query::FindIds(find) => self.search(find, true)?,
             Query::Links {
                 end_ms,

@@ -17,7 +17,7 @@ use Rattle.query_http.specs.Paths.{IsPart, IsPath, IsNoPath}
 use Rattle.query_http.specs.Queries.{path_of}
 use Rattle.query_http.proofs.PathLaws.{one_endpoint}
 use Rattle.step_lines.specs.declared.fault.StepFault.TheVariants.{NoSuchPath}
-use Rattle.step_lines.specs.Targets.{is_part, whole, inner_part, part_if, between, part_at, place_among, place_of, of_parameter, query_in}
+use Rattle.step_lines.specs.Targets.{is_part, whole, inner_part, part_if, between, part_at, endpoint_among, endpoint_of, of_parameter, query_in}
 
 -- ---- parts
 
@@ -111,12 +111,12 @@ abbrev Among : Endpoint → List Endpoint → Type 0
 Among e [] = ⊥
 Among e (f ∷ fs) = (e ≡ f) ⊎ Among e fs
 
-found_among : (es : List Endpoint) (e : Endpoint) (part path : List ℕ) → IsPath e part path → Among e es → place_among es path ≡ Some (e, part)
+found_among : (es : List Endpoint) (e : Endpoint) (part path : List ℕ) → IsPath e part path → Among e es → endpoint_among es path ≡ Some (e, part)
 found_among [] e part path is among = absurd among
 found_among (f ∷ fs) e part path is among = by (part_at f path) refl among (found_among fs e part path is)
   where
-    by : (v : Option (List ℕ)) → part_at f path ≡ v → Among e (f ∷ fs) → (Among e fs → place_among fs path ≡ Some (e, part))
-        → option_map_or (λ (p : List ℕ). Some (f, p)) v (place_among fs path) ≡ Some (e, part)
+    by : (v : Option (List ℕ)) → part_at f path ≡ v → Among e (f ∷ fs) → (Among e fs → endpoint_among fs path ≡ Some (e, part))
+        → option_map_or (λ (p : List ℕ). Some (f, p)) v (endpoint_among fs path) ≡ Some (e, part)
     by (Some p) h m ih =
         let one = one_endpoint f e p part path (part_is f path p h) is in
         rw (one.0, one.1) refl
@@ -126,20 +126,21 @@ found_among (f ∷ fs) e part path is among = by (part_at f path) refl among (fo
         absurd cc
     by None h (inr m) ih = ih m
 
-none_among : (es : List Endpoint) (path : List ℕ) → IsNoPath path → place_among es path ≡ None
+none_among : (es : List Endpoint) (path : List ℕ) → IsNoPath path → endpoint_among es path ≡ None
 none_among [] path none = refl
 none_among (f ∷ fs) path none = by (part_at f path) refl (none_among fs path none)
   where
-    by : (v : Option (List ℕ)) → part_at f path ≡ v → place_among fs path ≡ None → option_map_or (λ (p : List ℕ). Some (f, p)) v (place_among fs path) ≡ None
+    by : (v : Option (List ℕ)) → part_at f path ≡ v → endpoint_among fs path ≡ None
+        → option_map_or (λ (p : List ℕ). Some (f, p)) v (endpoint_among fs path) ≡ None
     by (Some p) h ih = absurd (none f p (part_is f path p h))
     by None h ih = ih
 
-is_among : (es : List Endpoint) (e : Endpoint) (part path : List ℕ) → place_among es path ≡ Some (e, part) → IsPath e part path
+is_among : (es : List Endpoint) (e : Endpoint) (part path : List ℕ) → endpoint_among es path ≡ Some (e, part) → IsPath e part path
 is_among [] e part path h = absurd cc
 is_among (f ∷ fs) e part path h = by (part_at f path) refl h (is_among fs e part path)
   where
-    by : (v : Option (List ℕ)) → part_at f path ≡ v → option_map_or (λ (p : List ℕ). Some (f, p)) v (place_among fs path) ≡ Some (e, part)
-        → (place_among fs path ≡ Some (e, part) → IsPath e part path) → IsPath e part path
+    by : (v : Option (List ℕ)) → part_at f path ≡ v → option_map_or (λ (p : List ℕ). Some (f, p)) v (endpoint_among fs path) ≡ Some (e, part)
+        → (endpoint_among fs path ≡ Some (e, part) → IsPath e part path) → IsPath e part path
     by (Some p) h m ih =
         let same : Path (Endpoint × List ℕ) (f, p) (e, part) = cc in
         subst (λ (x : Endpoint × List ℕ). IsPath x.0 x.1 path) same (part_is f path p h)
@@ -157,19 +158,19 @@ each_among OperationNames = inr (inr (inr (inl refl)))
 each_among Operations = inr (inr (inr (inr (inl refl))))
 each_among Dependencies = inr (inr (inr (inr (inr (inl refl)))))
 
-pub place_found : (e : Endpoint) (part path : List ℕ) → IsPath e part path → place_of path ≡ Some (e, part)
-unfolding place_of all_endpoints
+pub place_found : (e : Endpoint) (part path : List ℕ) → IsPath e part path → endpoint_of path ≡ Some (e, part)
+unfolding endpoint_of all_endpoints
 place_found e part path is = found_among all_endpoints e part path is (each_among e)
 
-pub place_none : (path : List ℕ) → IsNoPath path → place_of path ≡ None
-unfolding place_of all_endpoints
+pub place_none : (path : List ℕ) → IsNoPath path → endpoint_of path ≡ None
+unfolding endpoint_of all_endpoints
 place_none path none = none_among all_endpoints path none
 
-pub place_is : (e : Endpoint) (part path : List ℕ) → place_of path ≡ Some (e, part) → IsPath e part path
-unfolding place_of all_endpoints
+pub place_is : (e : Endpoint) (part path : List ℕ) → endpoint_of path ≡ Some (e, part) → IsPath e part path
+unfolding endpoint_of all_endpoints
 place_is e part path h = is_among all_endpoints e part path h
 
-pub no_place : (path : List ℕ) → place_of path ≡ None → IsNoPath path
+pub no_place : (path : List ℕ) → endpoint_of path ≡ None → IsNoPath path
 no_place path h = λ e part is. let found = place_found e part path is in absurd cc
 
 -- ---- targets

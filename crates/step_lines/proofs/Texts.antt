@@ -11,7 +11,7 @@ use Rattle.std.proofs.lemmas.Slice.Zip.{AllZip-map}
 use Rattle.std.proofs.lemmas.Str.{is_utf8-from_IsUtf8, IsUtf8-from_is_utf8}
 use Rattle.step_lines.specs.declared.fault.StepFault.TheVariants.{BadStep}
 use Rattle.step_lines.specs.Words.{is_space, words_of}
-use Rattle.step_lines.specs.Steps.{if_any, target_in, put_by, step_of, step_in}
+use Rattle.step_lines.specs.Steps.{nonempty, target_in, put_by, step_of, step_in}
 
 concat_map : (ps : List (Bor (List ℕ))) → concat (map (λ w. w.now) ps) ≡ flat_map (λ w. w.now) ps
 concat_map [] = refl
@@ -20,10 +20,10 @@ concat_map (p ∷ ps) = ap (λ (x : List ℕ). p.now ++ x) (concat_map ps)
 pub joined_is : (ps : List (Bor (List ℕ))) (t : List ℕ) → AllZip (λ x y. y ≡ x) (flat_map (λ (w : Bor (List ℕ)). w.now) ps) t → concat (map (λ w. w.now) ps) ≡ t
 joined_is ps t h = concat_map ps ∙ sym (AllZip-map (λ x. x) _ t h ∙ map-id _)
 
-pub some_text : (t : List ℕ) (n : ℕ) → n ≡ length t → (n == 0) ≡ false → if_any t ≡ Ok t
+pub some_text : (t : List ℕ) (n : ℕ) → n ≡ length t → (n == 0) ≡ false → nonempty t ≡ Ok t
 some_text t n e some = let any : (length t == 0) ≡ false = ap (λ (m : ℕ). m == 0) (sym e) ∙ some in rw any refl
 
-pub no_text : (t : List ℕ) (n : ℕ) → n ≡ length t → (n == 0) ≡ true → if_any t ≡ Err BadStep
+pub no_text : (t : List ℕ) (n : ℕ) → n ≡ length t → (n == 0) ≡ true → nonempty t ≡ Err BadStep
 no_text t n e none = let any : (length t == 0) ≡ true = ap (λ (m : ℕ). m == 0) (sym e) ∙ none in rw any refl
 
 not_utf8 : (bytes : List ℕ) → ¬ IsUtf8 bytes → is_utf8 bytes ≡ false

@@ -17,8 +17,8 @@ use Rattle.step_lines.specs.Words.{words_of, number_in}
 use Rattle.step_lines.specs.Targets.{query_in}
 
 -- the text, unless it is empty
-abbrev pub if_any : List ℕ → Result (List ℕ) StepFault
-if_any text = if not (length text == 0) then Ok text else Err BadStep
+abbrev pub nonempty : List ℕ → Result (List ℕ) StepFault
+nonempty text = if not (length text == 0) then Ok text else Err BadStep
 
 -- a target isn't empty, and is UTF-8
 abbrev pub target_in : List ℕ → Result (List ℕ) StepFault
@@ -33,7 +33,7 @@ as_batch (Err fault) = Err (NoBatch fault)
 unfoldable pub put_by : List ℕ → List ℕ → Result Step StepFault
 put_by seat hex = do
   s ← number_in seat
-  text ← if_any hex
+  text ← nonempty hex
   batch ← as_batch (batch_in text)
   Ok (Put s batch)
 

@@ -45,12 +45,12 @@ part_at Operations path = whole (codes "/api/operations") path
 part_at Dependencies path = whole (codes "/api/dependencies") path
 
 -- the endpoint among these that has the path, with the path's part
-abbrev pub place_among : List Endpoint → List ℕ → Option (Endpoint × List ℕ)
-place_among [] path = None
-place_among (e ∷ es) path = option_map_or (λ (part : List ℕ). Some (e, part)) (part_at e path) (place_among es path)
+abbrev pub endpoint_among : List Endpoint → List ℕ → Option (Endpoint × List ℕ)
+endpoint_among [] path = None
+endpoint_among (e ∷ es) path = option_map_or (λ (part : List ℕ). Some (e, part)) (part_at e path) (endpoint_among es path)
 
-unfoldable pub place_of : List ℕ → Option (Endpoint × List ℕ)
-place_of path = place_among (Traces ∷ Trace ∷ Services ∷ OperationNames ∷ Operations ∷ Dependencies ∷ []) path
+unfoldable pub endpoint_of : List ℕ → Option (Endpoint × List ℕ)
+endpoint_of path = endpoint_among (Traces ∷ Trace ∷ Services ∷ OperationNames ∷ Operations ∷ Dependencies ∷ []) path
 
 -- ---- targets
 
@@ -58,10 +58,10 @@ abbrev pub of_parameter : Result Query Parameter → Result Query StepFault
 of_parameter (Ok query) = Ok query
 of_parameter (Err parameter) = Err (BadParameter parameter)
 
-abbrev pub query_of : Option (Endpoint × List ℕ) → Pairs → Result Query StepFault
-query_of None pairs = Err NoSuchPath
-query_of (Some place) pairs = of_parameter (query_at place.0 place.1 pairs)
+abbrev pub query_for : Option (Endpoint × List ℕ) → Pairs → Result Query StepFault
+query_for None pairs = Err NoSuchPath
+query_for (Some place) pairs = of_parameter (query_at place.0 place.1 pairs)
 
 -- the query of the path's endpoint, or the first parameter that can't be read
 unfoldable pub query_in : List ℕ → Result Query StepFault
-query_in target = query_of (place_of (path_of target)) (pairs_of (query_string_of target))
+query_in target = query_for (endpoint_of (path_of target)) (pairs_of (query_string_of target))

@@ -19,9 +19,9 @@ pub enum StepFault {
 }
 
 impl fmt::Display for StepFault {
-    ghost use Rattle.step_lines.specs.FaultTexts.{fault_text};
+    ghost use Rattle.step_lines.specs.FaultTexts.{step_fault_text};
 
-    ghost output = { λ f. Some (fault_text f) };
+    ghost output = { λ f. Some (step_fault_text f) };
 
     fn fmt<W: fmt::Write>(&self, f: &mut fmt::Formatter<W>) -> fmt::Result {
         match self {

@@ -2,7 +2,7 @@
 ghost use Rattle.std.specs.Prelude.{◌≡◌, IfOk, map};
 ghost use Rattle.std.specs.List.{concat};
 ghost use Rattle.query_http.specs.Paths.{endpoint_rows};
-ghost use Rattle.step_lines.specs.Steps.{alone, if_any, put_of, one_number, read_of, step_by, step_of, step_in, two_numbers, two_words};
+ghost use Rattle.step_lines.specs.Steps.{alone, nonempty, put_of, one_number, read_of, step_by, step_of, step_in, two_numbers, two_words};
 ghost use Rattle.step_lines.specs.ReadResults.{ReadsStep};
 ghost use Rattle.step_lines.specs.Words.{words_of as words_in};
 
@@ -19,7 +19,7 @@ use std::alloc::{AllocError, Global};
 
 /// Joins the pieces of a text; an empty text is a bad step.
 fn joined(alloc: Global, pieces: &[&[u8]]) -> Result<Vec<u8>, Stop>
-    ensures { ReadsStep (λ v. v.items) result (if_any (concat (map (λ w. w.now) pieces.now))) }
+    ensures { ReadsStep (λ v. v.items) result (nonempty (concat (map (λ w. w.now) pieces.now))) }
 {
     let text = pieces.concat(alloc)?;
     if text.is_empty() {

@@ -101,7 +101,8 @@ none_after : (xs ys : List ℕ) → xs ++ ys ≡ [] → ys ≡ []
 none_after [] ys e = e
 none_after (x ∷ xs) ys e = absurd cc
 
-pub ends : {S : Type 0} (takes : HandlesLine S) (in0 in1 in2 out0 out1 out2 : Option (List ℕ)) (s t : S) (feed feed2 : Feed) (w1 w2 : List ℕ) (n : ℕ) (faulty : Bool)
+pub ends : {S : Type 0} (takes : HandlesLine S) (in0 in1 in2 out0 out1 out2 : Option (List ℕ)) (s t : S) (feed feed2 : Feed) (w1 w2 : List ℕ) (n : ℕ)
+    (faulty : Bool)
     → SoFar takes in0 in1 out0 out1 s t feed w1 n faulty → TakesNone in1 in2 feed feed2 → Moves out1 out2 w1 w2 → AllTaken takes in0 in2 out0 out2 s t w2 faulty
 ends takes in0 in1 in2 out0 out1 out2 s t feed feed2 w1 w2 n faulty f l last =
     let none : l.taken ≡ [] = none_after feed.waiting l.taken l.nothing in
@@ -152,9 +153,10 @@ why_weaker Device i o A B f (inr (inl e)) = inr (inl e)
 why_weaker Device i o A B f (inr (inr a)) = inr (inr (f a))
 why_weaker Memory i o A B f e = e
 
-pub stops : {S : Type 0} (takes : HandlesLine S) (in0 in1 in2 out0 out1 out2 : Option (List ℕ)) (s t : S) (feed : Feed) (w1 w2 : List ℕ) (n : ℕ) (faulty i o : Bool)
-    (h : RunError)
-    → SoFar takes in0 in1 out0 out1 s t feed w1 n faulty → StopsReading in1 in2 feed i o h → Moves out1 out2 w1 w2 → SomeTaken takes in0 in2 out0 out2 s w2 i o h
+pub stops : {S : Type 0} (takes : HandlesLine S) (in0 in1 in2 out0 out1 out2 : Option (List ℕ)) (s t : S) (feed : Feed) (w1 w2 : List ℕ) (n : ℕ)
+    (faulty i o : Bool) (h : RunError)
+    → SoFar takes in0 in1 out0 out1 s t feed w1 n faulty → StopsReading in1 in2 feed i o h → Moves out1 out2 w1 w2
+    → SomeTaken takes in0 in2 out0 out2 s w2 i o h
 stops takes in0 in1 in2 out0 out1 out2 s t feed w1 w2 n faulty i o h f l last =
     let rest = rest_after in0 in2 in
     let read = Consumes-trans in0 in1 in2 f.taken l.taken f.read l.read in

@@ -94,18 +94,29 @@ pub record SomeTaken {S : Type 0} (takes : HandlesLine S) (in0 in1 out0 out1 : O
 
 -- ---- the same of calls, by the states of the handler and what was read and written
 
-abbrev pub AnswersAll : {S : Type 0} → HandlesLine S → S × S → Traffic → Traffic → Bool → Type 0
-AnswersAll takes states input output faulty = AllAnswered takes input.before input.after output.before output.after states.0 states.1 faulty
+-- what handling a line does, and the states of a handler before and after a call
+pub record Handling (S : Type 0) : Type 1 where
+  pub takes : HandlesLine S
+  pub before : S
+  pub after : S
 
-abbrev pub AnswersSome : {S : Type 0} → HandlesLine S → S → Traffic → Traffic → RunError → Type 0
-AnswersSome takes state input output error =
-    SomeAnswered takes input.before input.after output.before output.after state input.failed output.failed error
+abbrev pub handling_of : {S : Type 0} → HandlesLine S → S → S → Handling S
+handling_of takes before after = record { takes = takes; before = before; after = after }
+
+abbrev pub AnswersAll : {S : Type 0} → Handling S → Traffic → Traffic → Bool → Type 0
+AnswersAll handling input output faulty =
+    AllAnswered handling.takes input.before input.after output.before output.after handling.before handling.after faulty
+
+-- the state after the call may be any
+abbrev pub AnswersSome : {S : Type 0} → Handling S → Traffic → Traffic → RunError → Type 0
+AnswersSome handling input output error =
+    SomeAnswered handling.takes input.before input.after output.before output.after handling.before input.failed output.failed error
 
 -- with the text that still waits
-abbrev pub TookAll : {S : Type 0} → HandlesLine S → S × S → Traffic → Traffic → List ℕ → Bool → Type 0
-TookAll takes states input output waits faulty =
-    AllTaken takes input.before input.after output.before output.after states.0 states.1 waits faulty
+abbrev pub TookAll : {S : Type 0} → Handling S → Traffic → Traffic → List ℕ → Bool → Type 0
+TookAll handling input output waits faulty =
+    AllTaken handling.takes input.before input.after output.before output.after handling.before handling.after waits faulty
 
-abbrev pub TookSome : {S : Type 0} → HandlesLine S → S → Traffic → Traffic → List ℕ → RunError → Type 0
-TookSome takes state input output waits error =
-    SomeTaken takes input.before input.after output.before output.after state waits input.failed output.failed error
+abbrev pub TookSome : {S : Type 0} → Handling S → Traffic → Traffic → List ℕ → RunError → Type 0
+TookSome handling input output waits error =
+    SomeTaken handling.takes input.before input.after output.before output.after handling.before waits input.failed output.failed error

@@ -15,20 +15,29 @@ abbrev pub GivesEach : {R : Type 0} → Gives R → R → R → List (List ℕ) 
 GivesEach gives s t [] = s ≡ t
 GivesEach {R = R} gives s t (p ∷ ps) = (m : R) × gives s p m × GivesEach gives m t ps
 
+-- an input before and after some reads, and what one read of it does
+pub record InputReads (R : Type 0) : Type 1 where
+  pub gives : Gives R
+  pub before : R
+  pub after : R
+
+abbrev pub reads_of : {R : Type 0} → Gives R → R → R → InputReads R
+reads_of gives before after = record { gives = gives; before = before; after = after }
+
 -- Exactly this number of reads was made on the input. A read that fails is one of them, and returns no bytes.
-abbrev pub MakesReads : {R : Type 0} → Gives R → R → R → ℕ → Type 0
-MakesReads gives s t count = (pieces : List (List ℕ)) × GivesEach gives s t pieces × (length pieces ≡ count)
+abbrev pub MakesReads : {R : Type 0} → InputReads R → ℕ → Type 0
+MakesReads reads count = (pieces : List (List ℕ)) × GivesEach reads.gives reads.before reads.after pieces × (length pieces ≡ count)
 
 -- each read that was made took one of those that were left
-abbrev pub CountsReads : {R : Type 0} → Gives R → R → R → ℕ → ℕ → Type 0
-CountsReads gives s t before after = (made : ℕ) × MakesReads gives s t made × (made + after ≡ before)
+abbrev pub CountsReads : {R : Type 0} → InputReads R → ℕ → ℕ → Type 0
+CountsReads reads old_left new_left = (made : ℕ) × MakesReads reads made × (made + new_left ≡ old_left)
 
 -- if no device has failed, a run stops because of a device only after the number of reads that a run may make
-abbrev pub LimitIsReads : {R : Type 0} → Gives R → R → R → Bool → Bool → RunError → Type 0
-LimitIsReads gives s t in_failed out_failed Device = in_failed ≡ false → out_failed ≡ false → MakesReads gives s t MAX_READS
-LimitIsReads gives s t in_failed out_failed Memory = Unit {0}
+abbrev pub LimitIsReads : {R : Type 0} → InputReads R → Bool → Bool → RunError → Type 0
+LimitIsReads reads in_failed out_failed Device = in_failed ≡ false → out_failed ≡ false → MakesReads reads MAX_READS
+LimitIsReads reads in_failed out_failed Memory = Unit {0}
 
 -- like LimitIsReads, of the exit status
-abbrev pub StatusIsReads : {R : Type 0} → Gives R → R → R → Bool → Bool → ExitStatus → Type 0
-StatusIsReads gives s t in_failed out_failed status =
-    status ≡ DeviceFailed → in_failed ≡ false → out_failed ≡ false → MakesReads gives s t MAX_READS
+abbrev pub StatusIsReads : {R : Type 0} → InputReads R → Bool → Bool → ExitStatus → Type 0
+StatusIsReads reads in_failed out_failed status =
+    status ≡ DeviceFailed → in_failed ≡ false → out_failed ≡ false → MakesReads reads MAX_READS

@@ -1,8 +1,8 @@
 ghost use Rattle.std.specs.Prelude.{◌≡◌, [], false, IfErr, IfOk, OnOk};
 ghost use Rattle.session_devices.specs.Traffic.{traffic_of};
-ghost use Rattle.text_lines.specs.ReadCounts.{LimitIsReads};
+ghost use Rattle.text_lines.specs.ReadCounts.{LimitIsReads, reads_of};
 ghost use Rattle.text_lines.specs.RunErrors.{BothWork};
-ghost use Rattle.text_lines.specs.HandledLines.{AnswersAll, AnswersSome, TookAll, TookSome};
+ghost use Rattle.text_lines.specs.HandledLines.{AnswersAll, AnswersSome, TookAll, TookSome, handling_of};
 
 use crate::handler::LineHandler;
 use crate::line_buffer::LineBuffer;
@@ -22,14 +22,14 @@ fn take_lines<R: Input, W: Output, T: LineHandler>(
     requires input_works { R.has_failed input.old ≡ false }
     requires output_works { W.has_failed output.old ≡ false }
     requires empty { buffer.old ≡ [] }
-    ensures all { IfOk result (TookAll T.takes (handler.old, handler.new)
+    ensures all { IfOk result (TookAll (handling_of T.takes handler.old handler.new)
         (traffic_of R.remaining R.has_failed input.old input.new)
         (traffic_of W.contents W.has_failed output.old output.new) buffer.new) }
     ensures works { OnOk result (BothWork (R.has_failed input.new) (W.has_failed output.new)) }
-    ensures some { IfErr result (TookSome T.takes handler.old
+    ensures some { IfErr result (TookSome (handling_of T.takes handler.old handler.new)
         (traffic_of R.remaining R.has_failed input.old input.new)
         (traffic_of W.contents W.has_failed output.old output.new) buffer.new) }
-    ensures limit { IfErr result (LimitIsReads R.gives input.old input.new
+    ensures limit { IfErr result (LimitIsReads (reads_of R.gives input.old input.new)
         (R.has_failed input.new) (W.has_failed output.new)) }
 {
     let mut lines = LineBuffer::new(alloc)?;
@@ -37,6 +37,7 @@ fn take_lines<R: Input, W: Output, T: LineHandler>(
     let mut reply = Vec::new(alloc);
     let mut number = 0u64;
     let mut faulty = false;
+    // For the prover: its proof names the loop by the label.
     'lines: while lines.next(input, output, buffer, &mut line)? {
         number += 1;
         reply.clear();
@@ -61,14 +62,14 @@ pub fn answer_lines<R: Input, W: Output, T: LineHandler>(
 ) -> Result<bool, RunError>
     requires input_works { R.has_failed input.old ≡ false }
     requires output_works { W.has_failed output.old ≡ false }
-    ensures all { IfOk result (AnswersAll T.takes (handler.old, handler.new)
+    ensures all { IfOk result (AnswersAll (handling_of T.takes handler.old handler.new)
         (traffic_of R.remaining R.has_failed input.old input.new)
         (traffic_of W.contents W.has_failed output.old output.new)) }
     ensures works { OnOk result (BothWork (R.has_failed input.new) (W.has_failed output.new)) }
-    ensures some { IfErr result (AnswersSome T.takes handler.old
+    ensures some { IfErr result (AnswersSome (handling_of T.takes handler.old handler.new)
         (traffic_of R.remaining R.has_failed input.old input.new)
         (traffic_of W.contents W.has_failed output.old output.new)) }
-    ensures limit { IfErr result (LimitIsReads R.gives input.old input.new
+    ensures limit { IfErr result (LimitIsReads (reads_of R.gives input.old input.new)
         (R.has_failed input.new) (W.has_failed output.new)) }
 {
     let mut buffer = OutputBuffer::new(alloc);

@@ -4,7 +4,7 @@ ghost use Rattle.std.specs.Prelude.{length};
 ghost use Rattle.std.specs.Io.KnownBytes.{Keeps};
 ghost use Rattle.text_lines.specs.Lines.{without_return};
 ghost use Rattle.text_lines.specs.LineReads.{Feed, Fills, StopsReading, TakesLine, TakesNone};
-ghost use Rattle.text_lines.specs.ReadCounts.{CountsReads};
+ghost use Rattle.text_lines.specs.ReadCounts.{CountsReads, reads_of};
 ghost use Rattle.text_lines.specs.RunErrors.{BothWork, Moves};
 
 use crate::output_buffer::OutputBuffer;
@@ -86,7 +86,8 @@ impl LineBuffer {
         requires works { R.has_failed input.old ≡ false }
         ensures read { OnOk result (Fills (R.remaining input.old) (R.remaining input.new)
             self.old self.new) }
-        ensures made { CountsReads R.gives input.old input.new self.old.left self.new.left }
+        ensures made { CountsReads (reads_of R.gives input.old input.new)
+            self.old.left self.new.left }
         ensures works { OnOk result (R.has_failed input.new ≡ false) }
         ensures err { IfErr result (λ h. (h ≡ RunError.Device)
             × Keeps (R.remaining input.old) (R.remaining input.new)
@@ -127,7 +128,8 @@ impl LineBuffer {
             self.old self.new line.new.items)
             (TakesNone (R.remaining input.old) (R.remaining input.new)
             self.old self.new)) }
-        ensures made { CountsReads R.gives input.old input.new self.old.left self.new.left }
+        ensures made { CountsReads (reads_of R.gives input.old input.new)
+            self.old.left self.new.left }
         ensures buffer { Moves (W.contents output.old) (W.contents output.new)
             buffer.old buffer.new }
         ensures works { OnOk result (BothWork (R.has_failed input.new) (W.has_failed output.new)) }
@@ -137,6 +139,7 @@ impl LineBuffer {
             → W.has_failed output.new ≡ false → self.new.left ≡ 0) }
     {
         line.clear();
+        // For the prover: its proof names the loop by the label.
         'pieces: loop {
             if let Some(count) = memchr(b'\n', self.waiting()) {
                 line.extend_from_slice(&self.waiting()[..count])?;

@@ -62,6 +62,7 @@ impl OutputBuffer {
         ensures works { OnOk result (W.has_failed output.new ≡ false) }
         ensures err { IfErr result (λ h. (h ≡ RunError.Device) × (W.has_failed output.new ≡ true)) }
     {
+        // For the prover: its proof names the loop by the label.
         'writes: while self.at < self.text.len() {
             let count = output.write(&self.text.as_slice()[self.at..])?;
             self.at += count;

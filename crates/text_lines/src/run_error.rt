@@ -10,7 +10,7 @@ use std::alloc::AllocError;
 pub enum RunError {
     /// A read or a write failed, or the limit of reads was reached.
     Device,
-    /// Out of memory.
+    /// Memory, threads or another resource of the system ran out.
     Memory,
 }
 

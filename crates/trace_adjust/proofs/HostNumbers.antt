@@ -19,7 +19,8 @@ use Rattle.trace_model.specs.Adjusting.{host_of, new_delta, clock_at, clock_belo
 use Rattle.trace_adjust.specs.declared.clock.HostClock.{HostClock}
 use Rattle.trace_adjust.specs.KnownClocks.{clock_near, is_unset, written, clock_delta, delta_at, delta_or_none}
 use Rattle.trace_model.specs.SharedProcesses.{ShareProcesses}
-use Rattle.trace_adjust.specs.Hosts.{hosts_of, number_in, kept_under, IsHostKept, AreKept, hosted, all_hosted, AreHostNumbers, IsNumber, IsNumbered, AreHostsNumbered}
+use Rattle.trace_adjust.specs.Hosts.{hosts_of, number_in, kept_under, IsHostKept, AreKept, hosted, all_hosted}
+use Rattle.trace_adjust.specs.Hosts.{AreHostNumbers, IsNumber, IsNumbered, AreHostsNumbered}
 use Rattle.trace_adjust.specs.Hosts.{clock_at_by, below_by, near_by, host_delta, delta_by}
 use Rattle.trace_adjust.proofs.Places.{place_push, place_found}
 use Rattle.trace_model.proofs.NameLaws.{same_where, text_is, text_self, text_turned}
@@ -166,7 +167,8 @@ pub number_read : (hosts : List (List ℕ)) (trace : List Placed) (ns : List ℕ
 number_read hosts [] ns i d e l are = absurd (omega arith)
 number_read hosts (p ∷ trace) [] i d e l are = absurd (cc are)
 number_read hosts (p ∷ trace) (n ∷ ns) zero d e l are = let first : Some n ≡ number_in hosts (host_of p) = cc are in sym first
-number_read hosts (p ∷ trace) (n ∷ ns) (suc i) d e l are = let rest : AreHostNumbers hosts trace ns = cc are in number_read hosts trace ns i d e (omega arith) rest
+number_read hosts (p ∷ trace) (n ∷ ns) (suc i) d e l are =
+    let rest : AreHostNumbers hosts trace ns = cc are in number_read hosts trace ns i d e (omega arith) rest
 
 -- ---- one more span's host
 module _ (ps : List Placed) (i : ℕ) (p : Placed) (l : i < length ps) (e : p ≡ get_or ps i p) where
@@ -195,7 +197,8 @@ module _ (ps : List Placed) (i : ℕ) (p : Placed) (l : i < length ps) (e : p �
       → g t ≡ number_in (hosts_of (take (i + 1) ps)) t
   table_more g is t = is t ∙ ap (λ hs. number_in hs t) (sym before_more)
 
-  pub numbers_more : (ns new : List ℕ) (n : ℕ) → AreHostNumbers all (take i ps) ns → new ≡ ns ++ n ∷ [] → number_in (before ++ host_of p ∷ []) (host_of p) ≡ Some n
+  pub numbers_more : (ns new : List ℕ) (n : ℕ) → AreHostNumbers all (take i ps) ns → new ≡ ns ++ n ∷ []
+      → number_in (before ++ host_of p ∷ []) (host_of p) ≡ Some n
       → AreHostNumbers all (take (i + 1) ps) new
   numbers_more ns new n are put is =
       let known : number_in all (host_of p) ≡ Some n =

@@ -169,7 +169,8 @@ module _ (m : ℕ) (trace : List Placed) (old new : List (Option HostClock)) (i 
             (sym (hosted_at (hosted (hosts_of trace)) old i) ∙ ap (λ c. get_or (known c) i None) (sym same) ∙ z) in
             let none : clock_near m (known old) p o ≡ None =
             sym (near_hosted m trace old n p o is_set.1 number) ∙ ap (option_map (hosted (hosts_of trace))) (s.1 unset) in
-            ap (λ c. clock_near m (known c) (get_or trace i d) (place_in trace (get_or trace i d))) same ∙ ap (λ x. clock_near m (known old) x (place_in trace x)) (sym q)
+            ap (λ c. clock_near m (known c) (get_or trace i d) (place_in trace (get_or trace i d))) same
+            ∙ ap (λ x. clock_near m (known old) x (place_in trace x)) (sym q)
             ∙ ap (clock_near m (known old) p) (sym own_parent) ∙ none,
       )
 

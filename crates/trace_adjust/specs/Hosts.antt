@@ -65,7 +65,8 @@ clock_at_by max_skew n delta s = record { host = n; delta = delta; start = start
 
 abbrev pub below_by : ℕ → HostClock → ℕ → Span → HostClock
 below_by max_skew c n s =
-    if (n == 0) || not (n == c.host) then clock_at_by max_skew n (delta_between c.start c.duration s.start s.duration) s else clock_at_by max_skew c.host c.delta s
+    if (n == 0) || not (n == c.host) then clock_at_by max_skew n (delta_between c.start c.duration s.start s.duration) s
+    else clock_at_by max_skew c.host c.delta s
 
 abbrev pub near_by : ℕ → List (Option HostClock) → ℕ → Span → Option ℕ → Option HostClock
 near_by max_skew cs n s o = clock_near_in (clock_at_by max_skew n (pos 0) s) (λ (above : HostClock). below_by max_skew above n s) cs o

@@ -275,7 +275,8 @@ at_other ends row r e apart = get_or-set_other ends row r e no_ends apart
 chained : (room : ℕ) (ends : List Ends) (marks : List Mark) (next more : List ℕ) (x : Mark) (e : Ends) → IsChained room ends marks next → x.row < length ends
     → length marks < room → length more ≡ length marks + 1
     → ((r k : ℕ) → (r ≡ x.row → ⊥) → r < length ends → k < length marks → (mark_at marks k).row ≡ r → get_or more k 0 ≡ get_or next k 0)
-    → IsLinked (marks ++ x ∷ []) more x.row e.first → IsLastMark (marks ++ x ∷ []) x.row e.first e.last → IsChained room (set ends x.row e) (marks ++ x ∷ []) more
+    → IsLinked (marks ++ x ∷ []) more x.row e.first → IsLastMark (marks ++ x ∷ []) x.row e.first e.last
+    → IsChained room (set ends x.row e) (marks ++ x ∷ []) more
 chained room ends marks next more x e h below within len same own own_last =
     let l : length (marks ++ x ∷ []) ≡ length marks + 1 = length-append marks (x ∷ []) in
     let n = length-set ends x.row e in

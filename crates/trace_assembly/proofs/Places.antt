@@ -20,7 +20,8 @@ use Rattle.trace_model.specs.Histories.{arrivals, events}
 use Rattle.trace_model.specs.EntryWork.{events_brought, placed_brought}
 use Rattle.trace_model.specs.ShownSpans.{is_in_ring}
 use Rattle.trace_assembly.specs.declared.spot.Spot.{Spot}
-use Rattle.trace_assembly.specs.LocatedSpans.{located_in, located_by, located_from, located_events, span_at, spans_in, spots_in, events_in, located_trace, shown_in}
+use Rattle.trace_assembly.specs.LocatedSpans.{located_in, located_by, located_from, located_events, span_at, spans_in}
+use Rattle.trace_assembly.specs.LocatedSpans.{spots_in, events_in, located_trace, shown_in}
 use Rattle.trace_assembly.specs.LocatedSpans.{own_of, located_upto}
 use Rattle.trace_assembly.proofs.Lists.{OfCame, each_came, each_filter, each_lasting, each_without_limits, slice_get_middle}
 

@@ -18,7 +18,8 @@ use Rattle.trace_model.proofs.ShownOfTrace.{same_is, filter_within, spans_gone, 
 use Rattle.trace_ring.specs.RingValues.{opened_by}
 use Rattle.trace_assembly.specs.declared.spot.Spot.{Spot}
 use Rattle.trace_assembly.specs.AssembledRows.{with_spot}
-use Rattle.trace_assembly.specs.LocatedSpans.{spans_in, spots_in, located_trace, events_in, shown_in, own_of, shown_spots, with_event, without_evicted, located_events}
+use Rattle.trace_assembly.specs.LocatedSpans.{spans_in, spots_in, located_trace, events_in, shown_in, own_of}
+use Rattle.trace_assembly.specs.LocatedSpans.{shown_spots, with_event, without_evicted, located_events}
 use Rattle.trace_assembly.specs.LocatedSpans.{span_at, after_eviction, after_arrival, AreShown, ComesIn, Lowers}
 use Rattle.trace_assembly.proofs.Lists.{map_filter, map_nil}
 use Rattle.trace_assembly.proofs.Places.{at_spots, shown-lies, events-located}

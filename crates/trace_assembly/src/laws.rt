@@ -10,7 +10,8 @@ ghost use Rattle.trace_model.specs.ShownSpans.{ring, spans_of_trace};
 ghost use Rattle.trace_model.specs.Events.{Event, came, limited, without_limits};
 ghost use Rattle.trace_model.specs.Histories.{events};
 ghost use Rattle.trace_assembly.specs.declared.spot.Spot.{Spot as SpotValue};
-ghost use Rattle.trace_assembly.specs.LocatedSpans.{located_by, located_events, events_in, span_at, spots_in, shown_spots, with_event, without_evicted, after_arrival};
+ghost use Rattle.trace_assembly.specs.LocatedSpans.{located_by, located_events, events_in, span_at, spots_in};
+ghost use Rattle.trace_assembly.specs.LocatedSpans.{shown_spots, with_event, without_evicted, after_arrival};
 ghost use Rattle.trace_assembly.specs.LocatedSpans.{AreShown, ComesIn, Lowers};
 
 /// The spans at the spots of a history, in order, are its arrivals.

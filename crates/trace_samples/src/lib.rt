@@ -5,7 +5,7 @@
 //! as `span.start = 900`. Only tests use this crate.
 //!
 //! * `parts`: tags, processes, spans, batches and entries of them, and searches.
-//! * `seeing`: spans that are borrowed, and those of a trace that is copied.
+//! * `seeing`: spans that are borrowed.
 //! * `exchanges`: requests that submit a batch and query it, and their responses, as bytes.
 //! * `spellings`: batches as hexadecimal digits, as Apache Thrift spells them among them.
 #![tactic(auto)]
@@ -19,4 +19,4 @@ pub use parts::{
     batch, beside, first_mismatch, host_process, kept, list_of, placed, process, retry,
     service_find, span, submitted, text_tag,
 };
-pub use seeing::{made_spans, seen_trace, seen_traces};
+pub use seeing::seen_trace;

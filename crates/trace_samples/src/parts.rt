@@ -141,6 +141,7 @@ pub fn submitted(
 pub fn kept<T: Drop, E>(value: T, done: Result<(), E>) -> Result<T, E>
     ensures { result ≡ result_map_both (λ _. value) (λ why. why) done }
 {
+    // For the prover: the call is generic in the value, so that it is dropped without its type being opened.
     match done {
         Ok(()) => Ok(value),
         Err(why) => Err(why),
@@ -151,6 +152,7 @@ pub fn kept<T: Drop, E>(value: T, done: Result<(), E>) -> Result<T, E>
 pub fn beside<T: Drop, U, E>(value: T, made: Result<U, E>) -> Result<(T, U), E>
     ensures { result ≡ result_map_both (λ it. (value, it)) (λ why. why) made }
 {
+    // For the prover: as in `kept`.
     match made {
         Ok(it) => Ok((value, it)),
         Err(why) => Err(why),

@@ -5,7 +5,6 @@ use mathlib.Core.List.{IsPrefix}
 use Rattle.std.specs.Io.KnownBytes.{Appends}
 use Rattle.std.proofs.KnownBytes.{Appends-trans}
 use Rattle.atomic_table.specs.Seated.{TableId}
-use Rattle.trace_model.specs.declared.limits.Limits.{Limits}
 use Rattle.intake.specs.Seats.{SeatValue}
 use Rattle.serve_options.specs.declared.host.Host.{Host}
 use Rattle.session_devices.specs.Traffic.{Traffic}
@@ -17,7 +16,7 @@ use Rattle.text_lines.specs.declared.run_error.RunError.TheVariants.{Device, Mem
 use Rattle.text_lines.proofs.Buffers.{moves_nothing, some_written}
 use Rattle.text_lines.proofs.CompleteRuns.{some_after, some_more}
 use Rattle.trace_server.specs.WorkerSeats.{AreNew}
-use Rattle.trace_server.specs.ServerRuns.{StopsIn, Ends, StopsEarly, Completes, Reports, RunsServer, listening_line, served_line, last_lines}
+use Rattle.trace_server.specs.ServerRuns.{StopsIn, Ends, StopsEarly, Completes, Serving, Reports, RunsServer, listening_line, served_line, last_lines}
 
 none_written : (a : Option (List ℕ)) (text : List ℕ) → WritesSome a a text
 none_written a text = some_written a a text text (moves_nothing a text)
@@ -63,7 +62,8 @@ unheard a b failed host port h status is w = record {
   stops = (h, is, some_more a b (listening_line host port) (served_line 0) (listening_line host port ++ served_line 0) refl w.0, w.1);
 }
 
-stopped_after : (a b c : Option (List ℕ)) (failed : Bool) (first text : List ℕ) (status : ExitStatus) → Appends a b first → StopsIn (passing b c failed) text status
+stopped_after : (a b c : Option (List ℕ)) (failed : Bool) (first text : List ℕ) (status : ExitStatus) → Appends a b first
+    → StopsIn (passing b c failed) text status
     → StopsIn (passing a c failed) (first ++ text) status
 stopped_after a b c failed first text status said s = (s.0, s.1, some_after a b c first text said s.2, s.3)
 
@@ -73,16 +73,16 @@ ended_after a b c failed first text lost status said (inl all) = inl (all.0, App
 ended_after a b c failed first text lost status said (inr some) = inr (stopped_after a b c failed first text status said some)
 
 -- it listened, and then reported
-pub reported : (host : Host) (limits : Limits) (workers : ℕ) (desk : TableId) (opened : List SeatValue) (a b c : Option (List ℕ)) (failed : Bool)
-    (port : ℕ) (status : ExitStatus) → AreNew desk opened → Appends a b (listening_line host port)
-    → Reports limits workers opened (passing b c failed) status
-    → RunsServer host limits workers (passing a c failed) status
-reported host limits workers desk opened a b c failed port status new said (inl early) = inr (inl (record {
+pub reported : (serving : Serving) (desk : TableId) (opened : List SeatValue) (a b c : Option (List ℕ)) (failed : Bool) (port : ℕ) (status : ExitStatus)
+    → AreNew desk opened → Appends a b (listening_line serving.host port)
+    → Reports serving opened (passing b c failed) status
+    → RunsServer serving (passing a c failed) status
+reported serving desk opened a b c failed port status new said (inl early) = inr (inl (record {
   port = port;
   served = early.0;
-  stops = stopped_after a b c failed (listening_line host port) (served_line early.0) status said early.1;
+  stops = stopped_after a b c failed (listening_line serving.host port) (served_line early.0) status said early.1;
 }))
-reported host limits workers desk opened a b c failed port status new said (inr closes) = inr (inr (record {
+reported serving desk opened a b c failed port status new said (inr closes) = inr (inr (record {
   port = port;
   desk = desk;
   opened = opened;
@@ -99,7 +99,7 @@ reported host limits workers desk opened a b c failed port status new said (inr 
     one_for_each = closes.one_for_each;
     books = closes.books;
     ends =
-        ended_after a b c failed (listening_line host port) (last_lines closes.served closes.acknowledged closes.refused closes.left)
+        ended_after a b c failed (listening_line serving.host port) (last_lines closes.served closes.acknowledged closes.refused closes.left)
         closes.failed status said closes.ends;
   };
 }))

@@ -110,7 +110,8 @@ new_open desk seats each = λ k d lt. let n = each k d lt in (n.0, n.1)
 
 pub books_closed : (limits : Limits) (lists : Lists) (seats : List SeatValue) (judged : List Entry) (accounts : List Account) (before taken left : List Entry)
     (a0 r0 a r l : ℕ)
-    → HasJudged limits judged accounts lists a0 r0 → a ≡ a0 → r ≡ r0 → before ≡ [] → MovesJobs judged before taken left → AreSeatsTaken taken seats → l ≡ length left
+    → HasJudged limits judged accounts lists a0 r0 → a ≡ a0 → r ≡ r0 → before ≡ [] → MovesJobs judged before taken left
+    → AreSeatsTaken taken seats → l ≡ length left
     → ClosesBooks limits lists seats a r l
 books_closed limits lists seats judged accounts before taken left a0 r0 a r l h aa rr none moves whole ls = record {
   judged_jobs = judged;

@@ -21,6 +21,17 @@ use Rattle.text_lines.specs.RunErrors.{WritesSome, IsWhyOf, status_by}
 use Rattle.trace_server.specs.WorkerSeats.{AreNew}
 use Rattle.intake.specs.LiveStores.{SeatGoesOn}
 
+-- what the output of a server depends on: its host, the limits of its store, and the number of its workers
+pub record Serving : Type 0 where
+  pub host : Host
+  pub limits : Limits
+  pub workers : ℕ
+
+abbrev pub serving_of : Host → Limits → ℕ → Serving
+serving_of host limits workers = record { host = host; limits = limits; workers = workers }
+
+-- ---- the lines of its output
+
 abbrev pub listening_line : Host → ℕ → List ℕ
 listening_line host port = codes "listening " ++ url_host host ++ codes ":" ++ decimal port ++ codes "\n"
 
@@ -83,7 +94,7 @@ pub record StopsEarly (host : Host) (output : Traffic) (status : ExitStatus) : T
 
 -- it closed the books of the seats that these have become, and wrote the number of connections and the totals of the
 -- batches after this text
-pub record Closes (limits : Limits) (workers : ℕ) (opened : List SeatValue) (front : List ℕ) (output : Traffic) (status : ExitStatus) : Type 0 where
+pub record Closes (serving : Serving) (opened : List SeatValue) (front : List ℕ) (output : Traffic) (status : ExitStatus) : Type 0 where
   pub served : ℕ
   pub failed : Bool
   pub acknowledged : ℕ
@@ -92,24 +103,23 @@ pub record Closes (limits : Limits) (workers : ℕ) (opened : List SeatValue) (f
   pub lists : Lists
   pub seats : List SeatValue
   pub gone_on : AllZip SeatGoesOn opened seats
-  pub one_for_each : OneForEach workers seats
-  pub books : ClosesBooks limits lists seats acknowledged refused left
+  pub one_for_each : OneForEach serving.workers seats
+  pub books : ClosesBooks serving.limits lists seats acknowledged refused left
   pub ends : Ends output (front ++ last_lines served acknowledged refused left) failed status
 
 -- after the first line: it stopped before its books were closed, or it closed those of the seats that these have become
-abbrev pub Reports : Limits → ℕ → List SeatValue → Traffic → ExitStatus → Type 0
-Reports limits workers opened output status =
-    ((served : ℕ) × StopsIn output (served_line served) status) ⊎ Closes limits workers opened [] output status
+abbrev pub Reports : Serving → List SeatValue → Traffic → ExitStatus → Type 0
+Reports serving opened output status =
+    ((served : ℕ) × StopsIn output (served_line served) status) ⊎ Closes serving opened [] output status
 
 -- it closed its books: its output is the listening line, and at the end the number of connections and the totals of the
 -- batches that were submitted by the seats of one desk, which were new at the start
-pub record Completes (host : Host) (limits : Limits) (workers : ℕ) (output : Traffic) (status : ExitStatus) : Type 0 where
+pub record Completes (serving : Serving) (output : Traffic) (status : ExitStatus) : Type 0 where
   pub port : ℕ
   pub desk : TableId
   pub opened : List SeatValue
   pub new : AreNew desk opened
-  pub closes : Closes limits workers opened (listening_line host port) output status
+  pub closes : Closes serving opened (listening_line serving.host port) output status
 
-abbrev pub RunsServer : Host → Limits → ℕ → Traffic → ExitStatus → Type 0
-RunsServer host limits workers output status =
-    IsSilent output status ⊎ StopsEarly host output status ⊎ Completes host limits workers output status
+abbrev pub RunsServer : Serving → Traffic → ExitStatus → Type 0
+RunsServer serving output status = IsSilent output status ⊎ StopsEarly serving.host output status ⊎ Completes serving output status

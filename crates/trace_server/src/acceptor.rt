@@ -2,11 +2,11 @@
 
 use crate::call_observer::CallObserver;
 use crate::connection_quota::ConnectionQuota;
-use crate::notices::print_accepts_no_more;
 use crate::worker::{WorkerContext, WorkerOutcome};
 use libc::net::listen;
 use libc::{EMFILE, ENOMEM, EPERM};
 use read_side::StoreName;
+use server_notices::print_accepts_no_more;
 use std::io;
 use std::io::ErrorKind;
 use std::net::{TcpListener, TcpStream};
@@ -33,11 +33,17 @@ const LISTEN_BACKLOG: i32 = 4_096;
 // Error numbers of Linux that `libc` here has no names for.
 const ENFILE: i32 = 23;
 
+const ENOSR: i32 = 63;
+
 const ENONET: i32 = 64;
 
 const EPROTO: i32 = 71;
 
 const ENOPROTOOPT: i32 = 92;
+
+const EPROTONOSUPPORT: i32 = 93;
+
+const ESOCKTNOSUPPORT: i32 = 94;
 
 const EOPNOTSUPP: i32 = 95;
 
@@ -46,6 +52,8 @@ const ENETDOWN: i32 = 100;
 const ENETUNREACH: i32 = 101;
 
 const ENOBUFS: i32 = 105;
+
+const ETIMEDOUT: i32 = 110;
 
 const EHOSTDOWN: i32 = 112;
 
@@ -101,6 +109,9 @@ fn is_loss(error: &io::Error) -> bool {
                 | EHOSTUNREACH
                 | EOPNOTSUPP
                 | ENETUNREACH
+                | EPROTONOSUPPORT
+                | ESOCKTNOSUPPORT
+                | ETIMEDOUT
                 | EPERM
         )
     )
@@ -110,7 +121,7 @@ fn is_loss(error: &io::Error) -> bool {
 fn is_shortage(error: &io::Error) -> bool {
     matches!(
         error.raw_os_error(),
-        Some(ENOMEM | ENFILE | EMFILE | ENOBUFS)
+        Some(ENOMEM | ENFILE | EMFILE | ENOBUFS | ENOSR)
     )
 }
 

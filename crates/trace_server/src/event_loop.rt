@@ -357,6 +357,7 @@ impl EventLoop {
         ensures goes_on { SeatGoesOn store.old.seat store.new.seat }
     {
         self.permits = self.permits.saturating_add(1);
+        // Out of memory: the connection is closed, and its client may connect again.
         let Ok(receipt) = server.desk.vouch(rt) else {
             return;
         };

@@ -4,39 +4,33 @@
 //! desk and a pass, which the sessions of all its connections use ([`http_session::Session`]). It waits until some
 //! connections are readable, and answers one request of each. So each session's answers are the plain store's at points
 //! of one growing history, never before the receipt that was vouched for when the session began. An error of a
-//! connection ends only that connection.
+//! connection ends only that connection. What an operator is told is in `server_notices`.
 //!
 //! * `config`: the configuration of a server.
 //! * `call_observer`: an observer of the calls to the store. `worker_store`: a worker's store.
 //! * `worker`: a worker. `threads`: work in threads.
 //! * `event_loop`: the loop that waits for a worker's connections and serves them. `source`: what it waits for, by tokens.
 //!   `patient_clock`: its clock.
-//! * `acceptor`: accepts connections. `loads`: the number of connections of each worker.
-//!   `connection_quota`: the number in all.
+//! * `acceptor`: accepts connections. `loads`: the number of open connections, of each worker and in all.
+//!   `connection_quota`: how many may still be accepted, of those that the server is asked to serve.
 //! * `connection`: sockets before and after their sessions. `lingering`: connections after their last response.
 //! * `shared`: a store with its desk and its clerk, which all workers share.
 //! * `ending`: takes in every seat at the end. `reporting`: the lines of the output.
-//! * `notices`: lines for the operator on standard error. `counts`, `acknowledged`: what workers count for them.
-//!   `periodic`: the periodic line.
 //! * `serving`: [`serve_with`].
 //! * `laws`: laws of a worker's connections.
 #![tactic(auto)]
 
 mod acceptor;
-mod acknowledged;
 mod call_observer;
 mod config;
 mod connection;
 mod connection_quota;
-mod counts;
 mod ending;
 mod event_loop;
 pub mod laws;
 mod lingering;
 mod loads;
-mod notices;
 mod patient_clock;
-mod periodic;
 mod reporting;
 mod serving;
 mod shared;

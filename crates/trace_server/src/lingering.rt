@@ -91,10 +91,8 @@ impl Lingering {
 
     /// Returns the socket under a key.
     pub(crate) fn get(&self, key: usize) -> Option<&Socket> {
-        match self.connections.get(key) {
-            Some(lingering) => Some(lingering.buffered.get_ref()),
-            None => None,
-        }
+        let lingering = self.connections.get(key)?;
+        Some(lingering.buffered.get_ref())
     }
 
     /// Removes a connection.

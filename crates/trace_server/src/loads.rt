@@ -6,8 +6,8 @@ use std::sync::atomic::{AtomicU32, Ordering};
 /// The load of a worker that can't accept connections.
 const ACCEPTS_NONE: u32 = u32::MAX;
 
-/// Returns the load of a worker with this number of connections, which is below [`ACCEPTS_NONE`]; `None` if it can't
-/// accept more.
+/// Returns the load of a worker with this number of connections, below [`ACCEPTS_NONE`]; [`ACCEPTS_NONE`] for `None`, a
+/// worker that can't accept more.
 fn load_of(connections: Option<usize>) -> u32 {
     match connections {
         Some(connections) => u32::try_from(connections)

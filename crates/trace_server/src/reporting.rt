@@ -7,10 +7,10 @@ ghost use Rattle.text_lines.specs.RunErrors.{WritesText};
 ghost use Rattle.trace_server.specs.ServerRuns.{listening_line, served_line, books_line, last_lines, Ends, StopsIn};
 
 use crate::ending::Totals;
-use crate::notices::{end_unwritten, end_with};
 use crate::worker::{EndedWorker, WorkerOutcome};
 use read_side::StoreName;
 use serve_options::Host;
+use server_notices::{end_unwritten, end_with};
 use session_devices::Output;
 use std::alloc::{AllocError, Global};
 use text_lines::{ExitStatus, RunError, write_text};

@@ -6,7 +6,7 @@ ghost use Rattle.std.specs.Prelude.{◌≡◌, [], Some, false, map, IfOk};
 ghost use Rattle.read_side.specs.Keepers.{no_entries};
 ghost use Rattle.intake.specs.Turns.{IsNewClerk};
 ghost use Rattle.session_devices.specs.Traffic.{traffic_of};
-ghost use Rattle.trace_server.specs.ServerRuns.{OneForEach, Reports, RunsServer};
+ghost use Rattle.trace_server.specs.ServerRuns.{OneForEach, Reports, RunsServer, serving_of};
 ghost use Rattle.trace_server.specs.WorkerSeats.{AreNew, HasJudged};
 
 use crate::acceptor::lengthen_queue;
@@ -15,16 +15,16 @@ use crate::config::ServerConfig;
 use crate::connection_quota::ConnectionQuota;
 use crate::ending::close_books;
 use crate::loads::Loads;
-use crate::notices::{
-    Notices, end_unwritten, end_with, print_few_files, print_limits, print_reachable,
-};
-use crate::periodic::PeriodicCounts;
 use crate::reporting::{report, report_unclosed, total_outcome, write_listening};
 use crate::shared::SharedStore;
 use crate::threads::{OwnWork, beside, run_each};
 use crate::worker::{EndedWorker, WorkerContext, WorkerSeat};
 use intake::{Books, Clerk, Desk};
 use read_side::{EmptyHistory, Keeper, StoreName};
+use server_notices::{
+    Notices, PeriodicCounts, end_unwritten, end_with, print_few_files, print_limits,
+    print_reachable,
+};
 use session_devices::Output;
 use std::alloc::{AllocError, Global};
 use std::marker::Brand;
@@ -212,6 +212,7 @@ fn serve_sessions<
     if let Some(untaken) = slot {
         untaken.close(rt);
     }
+    // For the prover: the match takes the cases of `beside`'s clause `theirs` apart.
     match outcomes {
         Some(outcomes) => ServedSessions {
             books,
@@ -243,7 +244,8 @@ fn serve_store<
     requires numbers { OneForEach setup.now.config.now.options.workers
         (map (λ p. p.live.seat) shared.lives.items) }
     requires output_works { W.has_failed output.old ≡ false }
-    ensures { Reports N.limits setup.now.config.now.options.workers
+    ensures { Reports (serving_of setup.now.config.now.options.host N.limits
+        setup.now.config.now.options.workers)
         (map (λ p. p.live.seat) shared.lives.items)
         (traffic_of W.contents W.has_failed output.old output.new) result }
 {
@@ -291,8 +293,8 @@ fn serve_named<
     requires book { history.seen.book ≡ N.book }
     requires limits { limits ≡ N.limits }
     requires output_works { W.has_failed output.old ≡ false }
-    ensures { RunsServer setup.now.config.now.options.host limits
-        setup.now.config.now.options.workers
+    ensures { RunsServer (serving_of setup.now.config.now.options.host limits
+        setup.now.config.now.options.workers)
         (traffic_of W.contents W.has_failed output.old output.new) result }
 {
     let Ok(address) = setup.listener.local_addr() else {
@@ -346,8 +348,8 @@ pub fn serve_with<
     output: &mut W,
 ) -> ExitStatus
     requires output_works { W.has_failed output.old ≡ false }
-    ensures { RunsServer config.now.options.host config.now.options.limits
-        config.now.options.workers
+    ensures { RunsServer (serving_of config.now.options.host config.now.options.limits
+        config.now.options.workers)
         (traffic_of W.contents W.has_failed output.old output.new) result }
 {
     if !can_start(rt) {

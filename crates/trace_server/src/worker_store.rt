@@ -4,10 +4,10 @@ ghost use Rattle.std.specs.Prelude.{◌≡◌};
 ghost use mathlib.Core.List.{IsPrefix};
 
 use crate::call_observer::CallObserver;
-use crate::notices::Notices;
 use intake::Live;
 use jaeger_model::Batch;
 use read_side::{Receipt, StoreName};
+use server_notices::Notices;
 use std::alloc::Global;
 use std::marker::Model;
 use std::sync::Wait;

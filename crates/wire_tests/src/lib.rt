@@ -12,6 +12,8 @@
 //! * `piece_faults`: the places of faults in pieces, prefixes, sizes that claim too much, levels of skipped
 //!   containers, and running out of memory. Each is compared with decoding.
 //! * `piece_samples`: the bytes.
+//!
+//! Explicit drops are for the prover: they are cheaper than those at the end of a block.
 #![tactic(auto)]
 
 #[cfg(test)]

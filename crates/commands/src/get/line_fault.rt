@@ -15,9 +15,9 @@ pub enum LineFault {
 }
 
 impl fmt::Display for LineFault {
-    ghost use Rattle.commands.specs.LineFaults.{fault_text};
+    ghost use Rattle.commands.specs.LineFaults.{line_fault_text};
 
-    ghost output = { λ f. Some (fault_text f) };
+    ghost output = { λ f. Some (line_fault_text f) };
 
     fn fmt<W: fmt::Write>(&self, f: &mut fmt::Formatter<W>) -> fmt::Result {
         match self {

@@ -176,7 +176,8 @@ const ROWS: [Row; 43] = [
     (
         &["get", "--help"],
         &[
-            "Reads batches from standard input, a line of hexadecimal text each, and prints the spans of a trace\n\nUsage: jaeger_one get [OPTIONS] <TRACE>\n\nArguments:\n  <TRACE>  The trace's id, 1 to 32 hexadecimal digits\n",
+            "Reads batches from standard input, a line of hexadecimal text each, and prints the spans of a trace\n\n\
+             Usage: jaeger_one get [OPTIONS] <TRACE>\n\nArguments:\n  <TRACE>  The trace's id, 1 to 32 hexadecimal digits\n",
             OPTIONS,
             "\nExample:\n  jaeger_one get 1 < samples/first.hex\n",
         ],

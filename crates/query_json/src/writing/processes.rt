@@ -100,6 +100,7 @@ pub(super) fn in_order(
 {
     let names = names(alloc, processes.len())?;
     let named = by_name(alloc, &names, processes)?;
+    // For the prover: the binding lets the clause of `in_its_order` be used for the result.
     let order = in_its_order(alloc, &named)?;
     Ok(order)
 }

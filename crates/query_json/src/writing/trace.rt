@@ -224,7 +224,8 @@ fn write_piece_of_one(out: &mut Page, spans: &LentSpans, piece: usize)
     numbered.write_piece(out, piece);
 }
 
-/// A trace with spans of its own, as the text of its tree. Only contracts read the spans.
+/// A trace with spans of its own, as the text of its tree. Only contracts read the spans. Only the plain store and tests
+/// make such a trace.
 #[derive(Drop)]
 pub(crate) struct MadeTrace {
     spans: Snapshot<ShownTrace>,

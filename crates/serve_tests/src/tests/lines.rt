@@ -1,6 +1,6 @@
 //! The lines about a store that no client of the other tests brings about.
 
-use serve_options::{FailureLine, TooLargeLine};
+use server_notices::{FailureLine, TooLargeLine};
 use std::test::*;
 use trace_model::Refusal;
 

@@ -34,7 +34,13 @@ impl Model for ServicePlaces {
 
     ghost Value = { ServicePlacesValue };
 
-    ghost view = { λ p. record { services = p.services; newest = p.links.newest; earlier = p.links.earlier; service_numbers = p.service_numbers.items; batches = p.batches } };
+    ghost view = { λ p. record {
+      services = p.services;
+      newest = p.links.newest;
+      earlier = p.links.earlier;
+      service_numbers = p.service_numbers.items;
+      batches = p.batches;
+    } };
 
     ghost invariant = { λ p. (p.links.room ≡ p.batches)
         × (p.batches ≤ vec_capacity p.service_numbers) };

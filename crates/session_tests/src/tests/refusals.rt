@@ -44,22 +44,28 @@ impl<T> Backend<T> for Refusing {
 }
 
 const FULL: &[u8] =
-    b"HTTP/1.1 503 Service Unavailable\r\nContent-Type: application/json\r\nContent-Length: 89\r\n\r\n{\"data\":null,\"errors\":[{\"code\":503,\"msg\":\"journal full\"}],\"limit\":0,\"offset\":0,\"total\":0}";
+    b"HTTP/1.1 503 Service Unavailable\r\nContent-Type: application/json\r\nContent-Length: 89\r\n\r\n\
+        {\"data\":null,\"errors\":[{\"code\":503,\"msg\":\"journal full\"}],\"limit\":0,\"offset\":0,\"total\":0}";
 
 const DEFERRED: &[u8] =
-    b"HTTP/1.1 503 Service Unavailable\r\nContent-Type: application/json\r\nContent-Length: 85\r\n\r\n{\"data\":null,\"errors\":[{\"code\":503,\"msg\":\"deferred\"}],\"limit\":0,\"offset\":0,\"total\":0}";
+    b"HTTP/1.1 503 Service Unavailable\r\nContent-Type: application/json\r\nContent-Length: 85\r\n\r\n\
+        {\"data\":null,\"errors\":[{\"code\":503,\"msg\":\"deferred\"}],\"limit\":0,\"offset\":0,\"total\":0}";
 
 const BUSY: &[u8] =
-    b"HTTP/1.1 503 Service Unavailable\r\nContent-Type: application/json\r\nContent-Length: 81\r\n\r\n{\"data\":null,\"errors\":[{\"code\":503,\"msg\":\"busy\"}],\"limit\":0,\"offset\":0,\"total\":0}";
+    b"HTTP/1.1 503 Service Unavailable\r\nContent-Type: application/json\r\nContent-Length: 81\r\n\r\n\
+        {\"data\":null,\"errors\":[{\"code\":503,\"msg\":\"busy\"}],\"limit\":0,\"offset\":0,\"total\":0}";
 
 const CLOSED: &[u8] =
-    b"HTTP/1.1 503 Service Unavailable\r\nContent-Type: application/json\r\nContent-Length: 83\r\n\r\n{\"data\":null,\"errors\":[{\"code\":503,\"msg\":\"closed\"}],\"limit\":0,\"offset\":0,\"total\":0}";
+    b"HTTP/1.1 503 Service Unavailable\r\nContent-Type: application/json\r\nContent-Length: 83\r\n\r\n\
+        {\"data\":null,\"errors\":[{\"code\":503,\"msg\":\"closed\"}],\"limit\":0,\"offset\":0,\"total\":0}";
 
 const NO_MEMORY: &[u8] =
-    b"HTTP/1.1 500 Internal Server Error\r\nContent-Type: application/json\r\nContent-Length: 90\r\n\r\n{\"data\":null,\"errors\":[{\"code\":500,\"msg\":\"out of memory\"}],\"limit\":0,\"offset\":0,\"total\":0}";
+    b"HTTP/1.1 500 Internal Server Error\r\nContent-Type: application/json\r\nContent-Length: 90\r\n\r\n\
+        {\"data\":null,\"errors\":[{\"code\":500,\"msg\":\"out of memory\"}],\"limit\":0,\"offset\":0,\"total\":0}";
 
 const INTERNAL: &[u8] =
-    b"HTTP/1.1 500 Internal Server Error\r\nContent-Type: application/json\r\nContent-Length: 91\r\n\r\n{\"data\":null,\"errors\":[{\"code\":500,\"msg\":\"internal error\"}],\"limit\":0,\"offset\":0,\"total\":0}";
+    b"HTTP/1.1 500 Internal Server Error\r\nContent-Type: application/json\r\nContent-Length: 91\r\n\r\n\
+        {\"data\":null,\"errors\":[{\"code\":500,\"msg\":\"internal error\"}],\"limit\":0,\"offset\":0,\"total\":0}";
 
 /// A refusal, and the response to what was refused.
 type Row = (Refusal, &'static [u8]);

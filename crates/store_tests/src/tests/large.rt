@@ -126,7 +126,7 @@ fn counts(alloc: Global, keys: RandomState) -> Result<Counts, Fail> {
     counts
 }
 
-/// No answer is cut off at some size. Of so many traces, a search with a limit tries those first that start last.
+/// No answer is cut off at some size. A search with a limit over this many traces tries the latest traces first.
 #[test]
 fn store_of_many_entries(rt: HostRuntime) -> Result<(), Fail> {
     let counts = counts(rt.alloc(), RandomState::new(&rt)?)?;

@@ -64,9 +64,8 @@ fn add_spans(
     alloc: Global,
     spans: &mut Vec<Span>,
     traces: &[u64],
-    seed: u64,
+    mut seed: u64,
 ) -> Result<u64, AllocError> {
-    let mut seed = seed;
     for trace in traces {
         seed = after(seed);
         spans.push(span_by(alloc, *trace, seed)?)?;
@@ -144,10 +143,22 @@ fn same_four_traces(alloc: Global, store: &SpanStore) -> Result<bool, AllocError
     Ok(same)
 }
 
+/// Whether each trace of the ring has the spot of a span.
+fn each_has_a_spot(store: &SpanStore) -> Result<bool, AllocError> {
+    let ids = store.trace_ids()?;
+    for id in &ids {
+        if store.spots(*id).is_empty() {
+            return Ok(false);
+        }
+    }
+    Ok(true)
+}
+
 /// Whether the store answers every query as the plain store of its entries.
 fn same_answers(alloc: Global, store: &SpanStore, seed: u64) -> Result<bool, AllocError> {
     Ok(
-        same_four_traces(alloc, store)?
+        each_has_a_spot(store)?
+            && same_four_traces(alloc, store)?
             && same_names(alloc, store, seed)?
             && same_searches(alloc, store, seed)?
             && same_searches(alloc, store, after(after(seed)))?,
@@ -233,9 +244,8 @@ fn grown(
     alloc: Global,
     store: &mut SpanStore,
     history: History,
-    seed: u64,
+    mut seed: u64,
 ) -> Result<(bool, u64), AllocError> {
-    let mut seed = seed;
     let mut same = true;
     for before in 0..history.len() {
         let (entry, next) = history.next(alloc, before.saturating_add(1), seed)?;
@@ -269,9 +279,8 @@ fn same_histories(
     keys: RandomState,
     limits: [u32; 4],
     history: History,
-    seed: u64,
+    mut seed: u64,
 ) -> Result<bool, Fail> {
-    let mut seed = seed;
     let mut all = true;
     for traces in limits {
         let (same, next) = same_history(alloc, keys, traces, history, seed)?;

@@ -182,7 +182,7 @@ fn begin(bytes: &mut Vec<u8>, code: u8, within: u8) -> Result<(), AllocError> {
 /// Returns an empty container of the type.
 fn hold_none(bytes: &mut Vec<u8>, code: u8) -> Result<(), AllocError> {
     match code {
-        types::STRUCT => bytes.extend_from_slice(&[0]),
+        types::STRUCT => bytes.extend_from_slice(&[types::STOP]),
         types::MAP => bytes.extend_from_slice(&[types::BOOL, types::BOOL, 0, 0, 0, 0]),
         _ => bytes.extend_from_slice(&[types::BOOL, 0, 0, 0, 0]),
     }

@@ -61,7 +61,7 @@ pub returns-in-Ok-Serve : goal.returns-in-Ok-Serve
 returns-in-Ok-Serve g c =
     let options = c.in-Ok-Serve.options in
     let does : Option (List ℕ) → Type 0 =
-    λ w. ServesOrNot options.host options.limits options.workers
+    λ w. ServesOrNot options
     (record { before = w; after = g.W.Output.contents c.run_serve.new.output; failed = g.W.Output.has_failed c.run_serve.new.output }) c.run_serve.result in
     inl (
       Serve options,

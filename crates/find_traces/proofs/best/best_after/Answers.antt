@@ -21,7 +21,9 @@ loop-index-preserved-in-Continue-branch-2 g c =
     let old = c.loop-index.best.keys.keys in
     let kept = was.keys ∙ ap (λ p. take n (best_of (filter (is_wanted q ts c.args.last) (from_place ts p)))) (sym back) in
     let key = c.key_at-key.ensures ∙ ap (λ l. key_of (i, trace_at l i)) was.same_traces in
-    let chosen = subst (λ b. OnTrue b (is_match_after (g.T.Searched.query c.loop-index.traces) (g.T.Searched.traces c.loop-index.traces) c.args.last (reversed c.key_at-key.result) ≡ true)) c.if-branch.true c.in_ok-is_chosen.ensures.chosen in
+    let is_later =
+    is_match_after (g.T.Searched.query c.loop-index.traces) (g.T.Searched.traces c.loop-index.traces) c.args.last (reversed c.key_at-key.result) in
+    let chosen = subst (λ b. OnTrue b (is_later ≡ true)) c.if-branch.true c.in_ok-is_chosen.ensures.chosen in
     let wanted : is_wanted q ts c.args.last (i, trace_at ts i) ≡ true =
     sym (λ j. is_match_after (was.same_query j) (was.same_traces j) c.args.last (reversed (key j))) ∙ chosen in
     record {
@@ -46,9 +48,13 @@ loop-index-preserved g c =
     let old = c.loop-index.best.keys.keys in
     let kept = was.keys ∙ ap (λ p. take n (best_of (filter (is_wanted q ts c.args.last) (from_place ts p)))) (sym back) in
     let key = c.key_at-key.ensures ∙ ap (λ l. key_of (i, trace_at l i)) was.same_traces in
-    let left = subst (λ b. OnFalse b (is_match_after (g.T.Searched.query c.loop-index.traces) (g.T.Searched.traces c.loop-index.traces) c.args.last (reversed c.key_at-key.result) ≡ true → take c.loop-index.best.most (insert_key reverse_key_cmp old (reversed c.key_at-key.result)) ≡ old))
+    let is_later =
+    is_match_after (g.T.Searched.query c.loop-index.traces) (g.T.Searched.traces c.loop-index.traces) c.args.last (reversed c.key_at-key.result) in
+    let left =
+    subst (λ b. OnFalse b (is_later ≡ true → take c.loop-index.best.most (insert_key reverse_key_cmp old (reversed c.key_at-key.result)) ≡ old))
     c.if-branch.false c.in_ok-is_chosen.ensures.left in
-    let same : is_wanted q ts c.args.last (i, trace_at ts i) ≡ true → take n (insert_key reverse_key_cmp old (reverse_key_of (i, trace_at ts i))) ≡ old = λ wanted.
+    let same : is_wanted q ts c.args.last (i, trace_at ts i) ≡ true
+    → take n (insert_key reverse_key_cmp old (reverse_key_of (i, trace_at ts i))) ≡ old = λ wanted.
     sym (λ j. take (was.most j) (insert_key reverse_key_cmp old (reversed (key j))))
     ∙ left ((λ j. is_match_after (was.same_query j) (was.same_traces j) c.args.last (reversed (key j))) ∙ wanted) in
     record {

@@ -47,7 +47,8 @@ returns-clause-indices g c =
           let none = w.if-room-ne0.false in
           ap (λ v. v.items) w.indices-is ∙ placed ∙ enough_latest q ts n limited some (omega (arith, count, within, len, none))
       | in_default w ↦
-          let few = subst (λ (o : Option Key). IfNone o (length c.in_ok-latest.latest.keys.keys < c.in_ok-latest.latest.most)) w.in_default.is c.last_if_full-last.ensures.all in
+          let few = subst (λ (o : Option Key). IfNone o (length c.in_ok-latest.latest.keys.keys < c.in_ok-latest.latest.most)) w.in_default.is
+          c.last_if_full-last.ensures.all in
           let short = ap length keys in
           let most = c.in_ok-latest.ensures.most in
           ap (λ v. v.items) w.indices-is ∙ placed ∙ all_latest q ts n limited some (omega (arith, few, short, most))

@@ -17,7 +17,8 @@ loop-tag-preserved c = λ a.
     elim c.if-may_request_key.branch [
       | then-may_request_key+in_ok-add_pair w ↦
           rw w.pairs-is
-          (tag_more q others (pairs_lent w.add_pair.new.pairs.keys) old first c.args.tags.now i t le c.tag-item.is a (w.in_ok-add_pair.ensures a) (c.loop-tag.invariant a))
+          (tag_more q others (pairs_lent w.add_pair.new.pairs.keys) old first c.args.tags.now i t le c.tag-item.is a (w.in_ok-add_pair.ensures a)
+          (c.loop-tag.invariant a))
       | else-may_request_key w ↦
           let absent = wants_none q others (pair_of t) (w.if-may_request_key.ensures (tag_text t.value)) in
           rw w.pairs-is

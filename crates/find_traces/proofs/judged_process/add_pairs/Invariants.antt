@@ -4,4 +4,5 @@ use Rattle.find_traces.proofs.judged_process.add_pairs.Given as goal
 
 abbrev pub invariant-loop-tag : goal.invariant-loop-tag
 invariant-loop-tag l =
-    (a : List ℕ × List ℕ) → is_in (pairs_lent l.pairs.keys) a ≡ (is_in (pairs_lent l.fn.pairs.keys) a || (wants l.prepared (pairs_lent l.others.keys) a && has_pair (take l.tag-index l.tags) a))
+    (a : List ℕ × List ℕ) → is_in (pairs_lent l.pairs.keys) a
+    ≡ (is_in (pairs_lent l.fn.pairs.keys) a || (wants l.prepared (pairs_lent l.others.keys) a && has_pair (take l.tag-index l.tags) a))

@@ -21,4 +21,5 @@ returns-clause-indices g c =
     c.deref.ensures.value ∙ sorted_hits q ts c.sort_unstable.new.self.items moved c.sort_unstable.ensures.sorted in
     let whole : map reverse_key_of (ranked_by_start start_of (hits q ts)) ≡ cut q.limit (map reverse_key_of (ranked_by_start start_of (hits q ts))) =
     ap (λ n. cut n (map reverse_key_of (ranked_by_start start_of (hits q ts)))) (sym c.requires) in
-    subst (λ (l : List ℕ). IfOk c.indices_of.result (λ v. v.items ≡ l)) (ap (map reverse_key_index) (sorted ∙ whole) ∙ indices_of_hits q ts) c.indices_of.ensures
+    subst (λ (l : List ℕ). IfOk c.indices_of.result (λ v. v.items ≡ l)) (ap (map reverse_key_index) (sorted ∙ whole) ∙ indices_of_hits q ts)
+    c.indices_of.ensures

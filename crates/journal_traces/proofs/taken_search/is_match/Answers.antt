@@ -10,7 +10,8 @@ use Rattle.journal_traces.specs.TakenTraces.{placed_taken}
 use Rattle.journal_traces.proofs.SpanConditions.{fails_span, passes_span}
 use Rattle.journal_traces.proofs.TakenSpans.{process_seen, match_seen}
 use Rattle.journal_traces.proofs.taken_search.is_match.Goals as goal
-use Rattle.journal_traces.proofs.taken_search.is_match.Goals.{then-not-may_meet-via-then-not-may_meet, then-not-may_meet-via-else-not-may_meet+then-not-meets_span_conditions}
+use Rattle.journal_traces.proofs.taken_search.is_match.Goals.{then-not-may_meet-via-then-not-may_meet}
+use Rattle.journal_traces.proofs.taken_search.is_match.Goals.{then-not-may_meet-via-else-not-may_meet+then-not-meets_span_conditions}
 
 pub returns-then-not-may_meet-clause-found : goal.returns-then-not-may_meet-clause-found
 returns-then-not-may_meet-clause-found c = λ process_of judged leads has flagged.

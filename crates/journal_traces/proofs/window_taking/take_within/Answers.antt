@@ -1,4 +1,5 @@
-use Rattle.std.proofs.Common.{◌≡◌, ℕ, Bool, w64, ◌∙◌, ◌+◌, ◌++◌, ◌∷◌, ◌<◌, ◌≤◌, [], List, None, Option, get_or, length, map, replicate, take, sym, ap, subst, arith}
+use Rattle.std.proofs.Common.{◌≡◌, ℕ, Bool, w64, ◌∙◌, ◌+◌, ◌++◌, ◌∷◌, ◌<◌, ◌≤◌, [], List, None, Option, get_or}
+use Rattle.std.proofs.Common.{length, map, replicate, take, sym, ap, subst, arith}
 use Rattle.std.specs.Prelude.{filter}
 use Rattle.std.specs.Arc.{arc_value}
 use Rattle.std.specs.List.{list_any}
@@ -79,7 +80,8 @@ loop-index-preserved c =
       ]);
       taken = elim c.if-reaches_window.branch [
         | then-reaches_window+in_ok-take_spots v ↦
-            subst (λ (x : WindowSpots × List (Option ℕ)). AreWindowSpots h x.0 x.1) (λ i. (sym v.taken-is i, sym v.numbers-is i)) v.in_ok-take_spots.ensures.taken
+            subst (λ (x : WindowSpots × List (Option ℕ)). AreWindowSpots h x.0 x.1) (λ i. (sym v.taken-is i, sym v.numbers-is i))
+            v.in_ok-take_spots.ensures.taken
         | else-reaches_window v ↦
             subst (λ (x : WindowSpots × List (Option ℕ)). AreWindowSpots h x.0 x.1) (λ i. (sym v.taken-is i, sym v.numbers-is i)) c.loop-index.invariant.taken
       ];

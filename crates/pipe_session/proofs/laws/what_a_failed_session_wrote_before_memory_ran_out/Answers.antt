@@ -2,5 +2,6 @@ use Rattle.pipe_session.proofs.OutOfMemory.{failed_before}
 use Rattle.pipe_session.proofs.laws.what_a_failed_session_wrote_before_memory_ran_out.Goals as goal
 
 pub returns : goal.returns
-returns c = λ bytes before left out s t in_failed out_failed error fails xs had.
-    failed_before bytes before left out s t in_failed out_failed error fails xs had.1 had.0 had.2 had.3
+returns c = λ before after in_failed out_failed error fails xs had.
+    failed_before before.input before.output after.input after.output before.store after.store in_failed out_failed error
+    fails xs had.1 had.0 had.2 had.3

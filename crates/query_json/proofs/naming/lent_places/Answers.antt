@@ -34,7 +34,8 @@ loop-index-preserved c =
       | else-not-branch w ↦
           subst (HasPlaces spans keys (i + 1)) (sym w.placing-is)
           (come_next spans keys i key (HasPlaces spans keys (i + 1) c.add_known.new.self) within c.key_at-key.ensures c.requires
-          (λ s next. subst (λ b. OnTrue b (HasPlaces spans keys (i + 1) c.add_known.new.self)) w.if-not-branch.false (c.in_ok-add_known.ensures.added spans keys i s next c.loop-index.invariant)))
+          (λ s next. subst (λ b. OnTrue b (HasPlaces spans keys (i + 1) c.add_known.new.self)) w.if-not-branch.false
+          (c.in_ok-add_known.ensures.added spans keys i s next c.loop-index.invariant)))
     ]
 
 pub returns-clause-places : goal.returns-clause-places

@@ -31,7 +31,8 @@ loop-index-preserved c =
           subst (HasPlaces spans keys (i + 1)) (sym w.placing-is) (w.in_ok-add_new.ensures spans keys i s w.get.ensures next before)
       | else-not-branch w ↦
           subst (HasPlaces spans keys (i + 1)) (sym w.placing-is)
-          (subst (λ b. OnTrue b (HasPlaces spans keys (i + 1) c.add_known.new.self)) w.if-not-branch.false (c.in_ok-add_known.ensures.added spans keys i s next c.loop-index.invariant))
+          (subst (λ b. OnTrue b (HasPlaces spans keys (i + 1) c.add_known.new.self)) w.if-not-branch.false
+          (c.in_ok-add_known.ensures.added spans keys i s next c.loop-index.invariant))
     ]
 
 pub returns-clause-places : goal.returns-clause-places

@@ -1,6 +1,6 @@
 use Rattle.std.proofs.Common.{◌≡◌, [], length, length-append, ap, sym, subst, arith}
 use Rattle.query_json.specs.Pieces.{item_pieces, runs_of}
-use Rattle.query_json.specs.Runs.{AllFit, left_at, text_of}
+use Rattle.query_json.specs.Runs.{AllFit, left_at, runs_text}
 use Rattle.query_json.proofs.Runs.{left_none, length_runs}
 use Rattle.query_json.proofs.paging.measure.Goals as goal
 
@@ -17,7 +17,7 @@ loop-at-preserved c =
     let size = c.in_ok-size.ensures in
     let long : c.in_ok-size.size ≡ length next.piece =
     omega (arith, size.lost, none.lost, next.puts.adds.counts none.full (omega (arith, size.lost, size.bound))) in
-    let both = length-append next.piece (text_of (left_at rs at.run at.piece)) in
+    let both = length-append next.piece (runs_text (left_at rs at.run at.piece)) in
     let larger = c.larger-largest.ensures in
     record {
       left = omega (arith, l.invariant.left, ap length next.text, both, long, c.in-Some.ensures);
@@ -30,7 +30,7 @@ returns-clause-left c =
     let rs = runs_of c.args.items.now in
     let none : left_at rs l.at.run l.at.piece ≡ [] =
     left_none rs l.at.run l.at.piece (omega (arith, length_runs (item_pieces c.args.items.now), c.count.ensures.count, c.loop-at-test.false)) in
-    omega (arith, l.invariant.left, ap (λ ls. length (text_of ls)) none)
+    omega (arith, l.invariant.left, ap (λ ls. length (runs_text ls)) none)
 
 pub returns-clause-fit : goal.returns-clause-fit
 returns-clause-fit c =

@@ -1,6 +1,6 @@
 use Rattle.std.proofs.Common.{◌≡◌, ◌≤◌, ◌+◌, ℕ, length}
 use Rattle.query_json.specs.Pieces.{runs_of}
-use Rattle.query_json.specs.Runs.{AllFit, left_at, steps, text_of}
+use Rattle.query_json.specs.Runs.{AllFit, left_at, runs_text, steps}
 use Rattle.query_json.proofs.paging.measure.Given as goal
 
 abbrev pub invariant-loop-at : goal.invariant-loop-at
@@ -8,7 +8,7 @@ invariant-loop-at l =
     let rs = left_at (runs_of l.items) l.fn.from.run l.fn.from.piece in
     let now = left_at (runs_of l.items) l.at.run l.at.piece in
     record {
-      left : l.left + length (text_of now) ≡ length (text_of rs);
+      left : l.left + length (runs_text now) ≡ length (runs_text rs);
       bounds : (most : ℕ) → l.largest ≤ most → AllFit most now → AllFit most rs;
     }
 

@@ -26,7 +26,8 @@ returns-clause-starts c = λ first are.
     c.widen.ensures.starts
     ∙ arrived_starts c.args.shown.now.newest.ids c.arrive_with_guess-arrived.new.self.newest.ids c.args.span.now.trace c.args.span.now.start arrived.opened
     arrived.evicted
-    c.args.starts.now.starts c.add_opened.new.starts.starts c.drop_evicted.new.starts.starts came.opened came.evicted pushed c.drop_evicted.ensures.starts first are
+    c.args.starts.now.starts c.add_opened.new.starts.starts c.drop_evicted.new.starts.starts came.opened came.evicted pushed
+    c.drop_evicted.ensures.starts first are
 
 pub widen-requires : goal.widen-requires
 widen-requires c =
@@ -76,7 +77,8 @@ returns-clause-ranged c = λ n es p f ranged same start_is.
       wider = pushed.none_narrows;
       moved = dropped.ranges;
       still = counted_came before.newest.ids after.newest.ids c.args.span.now.trace arrived.opened arrived.evicted _
-          c.args.starts.now.starts c.add_opened.new.starts.starts c.drop_evicted.new.starts.starts c.requires.counted.as_many came.opened came.evicted pushed.starts
+          c.args.starts.now.starts c.add_opened.new.starts.starts c.drop_evicted.new.starts.starts c.requires.counted.as_many came.opened came.evicted
+          pushed.starts
           dropped.starts;
       wider_still = c.widen.ensures.none_narrows;
       own = λ k at.

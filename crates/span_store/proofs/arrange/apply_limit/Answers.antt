@@ -17,7 +17,8 @@ loop-evicted-preserved c =
       used = c.drop_oldest-in-Some.ensures.used ∙ before.invariant.used;
       room = c.drop_oldest-in-Some.ensures.room ∙ before.invariant.room;
       as_many =
-          one_fewer before.shown.newest.ids c.drop_oldest.new.self.newest.ids c.in-Some._evicted.trace before.starts.starts c.drop_oldest-in-Some.new.self.starts
+          one_fewer before.shown.newest.ids c.drop_oldest.new.self.newest.ids c.in-Some._evicted.trace before.starts.starts
+          c.drop_oldest-in-Some.new.self.starts
           before.invariant.as_many out.ids c.drop_oldest-in-Some.ensures.starts;
       ranged = λ spans ranged.
           ranged_dropped before.starts c.drop_oldest-in-Some.new.self before.shown.newest.ids c.drop_oldest.new.self.newest.ids c.in-Some._evicted.trace

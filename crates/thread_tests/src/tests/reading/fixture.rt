@@ -3,7 +3,7 @@
 ghost use Rattle.std.specs.Prelude.{◌≡◌, ◌≤◌};
 
 use crate::tests::reading::along::asked_along;
-use crate::tests::reading::holding::held_beside;
+use crate::tests::reading::holding::{held_beside, learnt_late};
 use crate::tests::reading::machine::followed;
 use crate::tests::reading::prefixes::prefixes_compared;
 use crate::tests::reading::rows::{all_or_nothing, moved_on, settled};
@@ -28,6 +28,7 @@ pub enum Row {
     AllOrNothing,
     Followed,
     HeldBeside,
+    LearntLate,
     SentTwice,
     ReadBeside,
     AskedAlong,
@@ -62,6 +63,7 @@ impl Row {
             Row::AllOrNothing => all_or_nothing(rt, alloc, keeper),
             Row::Followed => followed(rt, alloc, keeper, passes, (keys, limits)),
             Row::HeldBeside => held_beside(rt, alloc, keeper, passes),
+            Row::LearntLate => learnt_late(rt, alloc, keeper, passes),
             Row::SentTwice => sent_twice(rt, alloc, keeper),
             Row::ReadBeside => read_beside(rt, alloc, keeper, passes),
             Row::AskedAlong => asked_along(rt, alloc, keeper, passes, limits),

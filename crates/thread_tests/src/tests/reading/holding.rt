@@ -1,7 +1,7 @@
-use crate::tests::reading::entries::entries_to;
+use crate::tests::reading::entries::{entries_to, entry_of};
 use crate::tests::reading::fixture::{Row, plays};
 use crate::tests::reading::rows::answer_to;
-use read_side::{Keeper, Pass, Reading, StoreName};
+use read_side::{Keeper, Pass, Reading, Receipt, StoreName};
 use std::alloc::Global;
 use std::mem::drop;
 use std::sync::{Arc, Wait};
@@ -87,4 +87,51 @@ fn beside<N: StoreName + Send + Sync, R: Threads + Wait + Sync>(
         || -> u64 { count_admitted(rt, keeper, entries) },
         || -> Result<Fronts, Refusal> { held_fronts(pass) },
     )
+}
+
+#[test]
+fn an_old_receipt_is_learnt(rt: HostRuntime) -> Result<(), Fail> {
+    assert!(rt; plays(&rt, rt.alloc(), 10, 1, Row::LearntLate)?.as_wanted);
+    Ok(())
+}
+
+/// A pass at front 3 that learns a receipt of front 1 stays there, and reads there.
+pub fn learnt_late<N: StoreName, R: Wait>(
+    rt: &R,
+    alloc: Global,
+    keeper: &mut Keeper<N>,
+    passes: &mut Vec<Pass<N>>,
+) -> Result<bool, Fail> {
+    let old = keeper.admit(rt, entry_of(alloc, 1)?)?;
+    let both = two_more(rt, alloc, keeper);
+    let seen = match passes.first_mut() {
+        Some(pass) => learn_late(pass, &old),
+        None => Err(Refusal::Gone),
+    };
+    drop(old);
+    Ok(both? && seen == Ok((3, 1, 3, 3)))
+}
+
+/// Whether a second and a third entry are taken.
+fn two_more<N: StoreName, R: Wait>(
+    rt: &R,
+    alloc: Global,
+    keeper: &mut Keeper<N>,
+) -> Result<bool, Fail> {
+    let second = answer_to(rt, keeper, entry_of(alloc, 2)?);
+    let third = answer_to(rt, keeper, entry_of(alloc, 3)?);
+    Ok(second.is_ok() && third.is_ok())
+}
+
+/// Returns the front of a reading, that of the old receipt, that of the pass after it has learnt it, and that of
+/// the next reading.
+fn learn_late<N: StoreName>(
+    pass: &mut Pass<N>,
+    old: &Receipt<N>,
+) -> Result<(u64, u64, u64, u64), Refusal> {
+    let before = front_read(pass.read(&Query::Services))?;
+    pass.learn(old);
+    let learnt = pass.front();
+    let after = front_read(pass.read(&Query::Services))?;
+    Ok((before, old.front(), learnt, after))
 }

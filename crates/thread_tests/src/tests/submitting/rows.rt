@@ -287,8 +287,15 @@ pub(crate) fn kept<N: StoreName>(books: &mut Books<N>) -> u64 {
     front
 }
 
-/// One seat and the clerk, each in its thread. At the end the desk vouches for all that the keeper has, and each
-/// pass settles on that.
+/// Whether a job was submitted. Its ticket is dropped.
+fn is_queued<N: StoreName>(answer: Answer<N>) -> bool {
+    let queued = matches!(answer, Some(Ok(_)));
+    drop(answer);
+    queued
+}
+
+/// One seat and the clerk, each in its thread. At the end a job waits when the desk is closed, and the clerk judges it
+/// before it ends. Then the desk vouches for all that the keeper has, and each pass settles on that.
 fn seat_and_clerk<N: StoreName + Send + Sync, R: Threads + Wait + Sync>(
     rt: &R,
     alloc: Global,
@@ -302,7 +309,10 @@ fn seat_and_clerk<N: StoreName + Send + Sync, R: Threads + Wait + Sync>(
         mut clerk,
     } = fixture;
     let served = match seats.last_mut() {
-        Some(seat) => four_between(rt, alloc, seat, &mut clerk, &mut keeper),
+        Some(seat) => {
+            four_between(rt, alloc, seat, &mut clerk, &mut keeper)
+                && is_queued(submit_span(rt, alloc, seat, 5))
+        }
         None => false,
     };
     drop(seats);
@@ -319,7 +329,7 @@ fn seat_and_clerk<N: StoreName + Send + Sync, R: Threads + Wait + Sync>(
         books.left.len(),
     );
     books.close(rt);
-    served && counts == (4, 3, 1, 0) && (kept, settled) == (3, Ok(2))
+    served && counts == (5, 3, 2, 0) && (kept, settled) == (3, Ok(2))
 }
 
 /// The queue has a job: a second one comes back, from the same seat and from another, and uses no number. The first

@@ -16,4 +16,5 @@ returns-in-Some-outcomes-clause-seats g c =
     let same = ap (λ l. map (λ p. p.live.seat) l.items) c.of.ensures in
     let kept : IfOk c.in-Some-outcomes.outcomes (λ v. AllZip SeatGoesOn (map (λ p. p.live.seat) c.of.result.value.items) (map (λ w. w.live.seat) v.items)) =
     search rules in
-    IfOk-weaker c.in-Some-outcomes.outcomes _ _ (λ v each. subst (λ (ss : List SeatValue). AllZip SeatGoesOn ss (map (λ w. w.live.seat) v.items)) same each) kept
+    IfOk-weaker c.in-Some-outcomes.outcomes _ _ (λ v each.
+    subst (λ (ss : List SeatValue). AllZip SeatGoesOn ss (map (λ w. w.live.seat) v.items)) same each) kept

@@ -5,14 +5,16 @@ use Rattle.find_traces.proofs.judged_process.JudgedProcess.new.Goals as goal
 
 pub overflow_sub-left : goal.overflow_sub-left
 overflow_sub-left c =
-    let few = met_few c.args.prepared.now c.args.process.now (pairs_lent c.in_ok-met.met.keys) (lent_sorted c.in_ok-met.met.keys c.len.ensures.ordered) c.in_ok-met.ensures in
+    let few = met_few c.args.prepared.now c.args.process.now (pairs_lent c.in_ok-met.met.keys)
+    (lent_sorted c.in_ok-met.met.keys c.len.ensures.ordered) c.in_ok-met.ensures in
     let length = c.len.ensures.len ∙ sym (lent_length c.in_ok-met.met.keys) in
     let count = c.count.ensures in
     omega arith
 
 pub returns : goal.returns
 returns c =
-    let few = met_few c.args.prepared.now c.args.process.now (pairs_lent c.in_ok-met.met.keys) (lent_sorted c.in_ok-met.met.keys c.len.ensures.ordered) c.in_ok-met.ensures in
+    let few = met_few c.args.prepared.now c.args.process.now (pairs_lent c.in_ok-met.met.keys)
+    (lent_sorted c.in_ok-met.met.keys c.len.ensures.ordered) c.in_ok-met.ensures in
     let length = c.len.ensures.len ∙ sym (lent_length c.in_ok-met.met.keys) in
     let count = c.count.ensures in
     record {

@@ -20,7 +20,8 @@ invariant_of-self-2 c =
       ordered = subst (λ n. AreStarts n was.starts.items) (sym more) (starts_push (length was.spots.items) was.starts.items c.self.invariant.ordered);
       correct = c.self.invariant.correct;
       within =
-          subst (All (IsSpotWithin count)) (sym c.in_ok-push.ensures.items) (All-push (IsSpotWithin count) was.spots.items c.args.spot c.self.invariant.within own);
+          subst (All (IsSpotWithin count)) (sym c.in_ok-push.ensures.items)
+          (All-push (IsSpotWithin count) was.spots.items c.args.spot c.self.invariant.within own);
     }
 
 pub returns-clause-traces : goal.returns-clause-traces

@@ -6,7 +6,8 @@ use Rattle.jaeger_model.specs.declared.placed.Placed.{Placed}
 use Rattle.trace_model.specs.declared.entry.Entry.{Entry}
 use Rattle.trace_model.specs.Searching.{matches, matching}
 use Rattle.trace_model.specs.TakenSpans.{Taken}
-use Rattle.journal_traces.specs.TagCandidates.{TagCandidatesValue, AreNumberedByEntry, IsMatchFlag, entries_shared, trace_spotted, traces_spotted, may_spots_meet}
+use Rattle.journal_traces.specs.TagCandidates.{TagCandidatesValue, AreNumberedByEntry, IsMatchFlag, entries_shared}
+use Rattle.journal_traces.specs.TagCandidates.{trace_spotted, traces_spotted, may_spots_meet}
 use Rattle.journal_traces.specs.TakenTraces.{placed_taken}
 use Rattle.journal_traces.proofs.TraceParts.{cuts}
 use Rattle.journal_traces.proofs.TakenSpans.{placed_got}
@@ -25,7 +26,8 @@ loop-index-preserved c =
     let t : List Placed = placed_taken (trace_spotted v.entries ss) in
     let old : List (List Taken) = c.loop-index.traces in
     let many : length v.traces ≡ length was.starts.items =
-    ap (λ (s : TagCandidatesValue). length s.traces) (sym c.self.view_is) ∙ cuts (trace_spotted (entries_shared was.entries.items) was.spots.items) was.starts.items in
+    ap (λ (s : TagCandidatesValue). length s.traces) (sym c.self.view_is)
+    ∙ cuts (trace_spotted (entries_shared was.entries.items) was.spots.items) was.starts.items in
     let le : k < length xs = omega (arith, many, length-map v.traces placed_taken, c.loop-index-test.true, c.len-count.ensures) in
     let is : t ≡ slice_index_or xs k [] = ap placed_taken c.spots-spots.ensures ∙ placed_got v.traces k in
     let own : entries_shared was.entries.items ≡ v.entries = ap (λ (s : TagCandidatesValue). s.entries) c.self.view_is in
@@ -64,7 +66,8 @@ returns-clause-found c =
     let was = c.self.inside in
     let xs : List (List Placed) = traces_spotted v in
     let many : length v.traces ≡ length was.starts.items =
-    ap (λ (s : TagCandidatesValue). length s.traces) (sym c.self.view_is) ∙ cuts (trace_spotted (entries_shared was.entries.items) was.spots.items) was.starts.items in
+    ap (λ (s : TagCandidatesValue). length s.traces) (sym c.self.view_is)
+    ∙ cuts (trace_spotted (entries_shared was.entries.items) was.spots.items) was.starts.items in
     let end : length xs ≤ c.loop-index.index = omega (arith, many, length-map v.traces placed_taken, c.loop-index-test.false, c.len-count.ensures) in
     matching_found q (map placed_taken c.loop-index.traces) xs (c.loop-index.invariant.matching ∙ ap (matching q) (take_all c.loop-index.index xs end))
 

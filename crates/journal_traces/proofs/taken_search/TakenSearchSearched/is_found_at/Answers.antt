@@ -17,7 +17,8 @@ returns-clause-found c =
     let own = matches was.prepared.now in
     let k = c.args.index in
     let processes = subst (HaveProcesses kept.process_of) (sym c.trace.ensures) (processes_got kept.process_of was.traces.now k kept.each) in
-    let flagged = subst (All (IsFlagged was.prepared.now was.judged.flags.items)) (sym c.trace.ensures) (all_got (IsFlagged was.prepared.now was.judged.flags.items) was.traces.now k kept.flagged) in
+    let flagged = subst (All (IsFlagged was.prepared.now was.judged.flags.items)) (sym c.trace.ensures)
+    (all_got (IsFlagged was.prepared.now was.judged.flags.items) was.traces.now k kept.flagged) in
     IfOk-weaker c.is_found.result (λ b. b ≡ list_any own (placed_taken c.trace.result.now))
     (λ b. b ≡ list_any (matches (query_taken c.args.self.now)) (slice_index_or (traces_taken c.args.self.now) k []))
     (λ b e. e ∙ ap (list_any own) (ap placed_taken c.trace.ensures ∙ placed_got was.traces.now k)

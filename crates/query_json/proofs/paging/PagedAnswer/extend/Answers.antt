@@ -4,7 +4,7 @@ use Rattle.query_json.specs.declared.paging.PagedAnswer.{PagedAnswer}
 use Rattle.query_json.specs.declared.writing.page.Page.{Page}
 use Rattle.query_json.specs.AnswerPages.{HasRoom, IsReady, left_of}
 use Rattle.query_json.specs.Pieces.{runs_of}
-use Rattle.query_json.specs.Runs.{Fills, left_at, text_of}
+use Rattle.query_json.specs.Runs.{Fills, left_at, runs_text}
 use Rattle.query_json.proofs.Runs.{left_none, open_still}
 use Rattle.query_json.proofs.paging.PagedAnswer.extend.Goals as goal
 
@@ -23,7 +23,7 @@ module _ (p : PagedAnswer) (new : Page) (to : List (List (List ℕ))) (ready : I
   stays_open : new.full ≡ false
   stays_open = elim ready.fits [
     | inl none ↦
-        let empty : length f.bytes ≡ 0 = omega (arith, ap (λ rs. length (text_of rs)) none, ap length f.text, length-append f.bytes (text_of to)) in
+        let empty : length f.bytes ≡ 0 = omega (arith, ap (λ rs. length (runs_text rs)) none, ap length f.text, length-append f.bytes (runs_text to)) in
         open_still f.puts was_open empty
     | inr h ↦ f.room h.most h.fit (has_room h) was_open
   ]
@@ -32,8 +32,8 @@ module _ (p : PagedAnswer) (new : Page) (to : List (List (List ℕ))) (ready : I
   put_count : length new.bytes.items ≡ length p.page.bytes.items + length f.bytes
   put_count = omega (arith, ap length (f.puts.adds.behind stays_open), length-append p.page.bytes.items f.bytes)
 
-  left_count : p.left ≡ length f.bytes + length (text_of to)
-  left_count = omega (arith, ready.left, ap length f.text, length-append f.bytes (text_of to))
+  left_count : p.left ≡ length f.bytes + length (runs_text to)
+  left_count = omega (arith, ready.left, ap length f.text, length-append f.bytes (runs_text to))
 
 pub overflow_sub-self : goal.overflow_sub-self
 overflow_sub-self c =
@@ -74,7 +74,7 @@ pub returns-clause-gives : goal.returns-clause-gives
 returns-clause-gives c =
     let p = c.args.self.now in
     let f = c.fill-self.ensures.fills in
-    let rest = text_of (left_at (runs_of p.items) c.fill-self.result.run c.fill-self.result.piece) in
+    let rest = runs_text (left_at (runs_of p.items) c.fill-self.result.run c.fill-self.result.piece) in
     ap (λ l. l ++ rest) (f.puts.adds.behind (stays_open p c.fill-self.new.page _ c.requires.ready c.requires.later f))
     ∙ append_assoc p.page.bytes.items f.bytes rest
     ∙ ap (λ l. p.page.bytes.items ++ l) (sym f.text)
@@ -84,5 +84,5 @@ returns-clause-some c = λ empty.
     let p = c.args.self.now in
     elim (c.fill-self.ensures.enough (stays_open p c.fill-self.new.page _ c.requires.ready c.requires.later c.fill-self.ensures.fills)) [
       | inl long ↦ absurd (omega (arith, long, ap length empty))
-      | inr over ↦ ap text_of (left_none (runs_of p.items) c.fill-self.result.run c.fill-self.result.piece over)
+      | inr over ↦ ap runs_text (left_none (runs_of p.items) c.fill-self.result.run c.fill-self.result.piece over)
     ]

@@ -10,7 +10,7 @@ use Rattle.query_json.specs.declared.writing.processes.NamedProcess.{NamedProces
 use Rattle.query_json.specs.ProcessNames.{process_name}
 use Rattle.query_json.specs.NamedProcesses.{named_members}
 use Rattle.query_json.specs.ProcessNumbers.{IsFirst, first_process}
-use Rattle.query_json.specs.Trees.{named, process_tree}
+use Rattle.query_json.specs.Trees.{process_tree, processes_by_name}
 use Rattle.query_json.proofs.NamedProcesses.{AreKeyed, Entry, HaveSpans, first_tree, first_within, have_all, have_insert, keyed_insert, named_insert}
 use Rattle.query_json.proofs.ProcessNames.{name_at}
 use Rattle.query_json.proofs.writing.processes.by_name.Goals as goal
@@ -40,8 +40,8 @@ loop-place-preserved c =
           ap (λ (m : List Entry). named_members ss (map (λ e. e.1) m)) c.in_ok-insert.ensures.entries
           ∙ named_insert ss es c.as_str.result p name l.invariant.keyed
           ∙ ap (λ d. put (process_name l.place) d ms) (first_tree ss x (first ss all)) in
-          ap₂ (λ n (m : Members). named n (map first_process (drop (l.place + 1) xs)) m) (add-one l.place) grown
-          ∙ ap (λ (ys : List FirstSpan). named l.place (map first_process ys) ms) (sym here) ∙ l.invariant.named ss all;
+          ap₂ (λ n (m : Members). processes_by_name n (map first_process (drop (l.place + 1) xs)) m) (add-one l.place) grown
+          ∙ ap (λ (ys : List FirstSpan). processes_by_name l.place (map first_process ys) ms) (sym here) ∙ l.invariant.named ss all;
     }
 
 pub returns : goal.returns
@@ -52,6 +52,6 @@ returns c = λ ss all.
     record {
       have_spans = have_all ss l.named.entries (l.invariant.have ss all);
       members =
-          ap (λ (ys : List FirstSpan). named l.place (map first_process ys) (named_members ss (map (λ e. e.1) l.named.entries))) (sym none)
+          ap (λ (ys : List FirstSpan). processes_by_name l.place (map first_process ys) (named_members ss (map (λ e. e.1) l.named.entries))) (sym none)
           ∙ l.invariant.named ss all;
     }

@@ -4,7 +4,7 @@ use Rattle.serde_json.specs.Data.{no_members}
 use Rattle.trace_model.specs.declared.answer.Shown.{Shown}
 use Rattle.query_json.specs.NamedProcesses.{named_members}
 use Rattle.query_json.specs.ProcessNumbers.{IsFirst, first_process}
-use Rattle.query_json.specs.Trees.{named}
+use Rattle.query_json.specs.Trees.{processes_by_name}
 use Rattle.query_json.proofs.NamedProcesses.{AreKeyed, HaveSpans}
 use Rattle.query_json.proofs.writing.processes.by_name.Given as goal
 
@@ -14,6 +14,6 @@ invariant-loop-place l = record {
   have : (ss : List Shown) → All (IsFirst ss) l.processes → HaveSpans ss l.named.entries;
   named :
       (ss : List Shown) → All (IsFirst ss) l.processes
-      → named l.place (map first_process (drop l.place l.processes)) (named_members ss (map (λ e. e.1) l.named.entries))
-      ≡ named 0 (map first_process l.processes) no_members;
+      → processes_by_name l.place (map first_process (drop l.place l.processes)) (named_members ss (map (λ e. e.1) l.named.entries))
+      ≡ processes_by_name 0 (map first_process l.processes) no_members;
 }

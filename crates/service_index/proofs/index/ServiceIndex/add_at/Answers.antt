@@ -27,7 +27,8 @@ returns-then-row-rows-clause-listed g c =
     let row = c.add-row.ensures.row in
     let below : row_of (operation_labels names) numbers ((operation_labels names).at c.args.n) < length numbers = omega (arith, c.if-row-rows.true) in
     ap (λ xs. sorted_set listed_cmp (map names.at xs)) (c.add-row.ensures.numbers ∙ number_known (operation_labels names) numbers c.args.n below)
-    ∙ listed_again names numbers c.args.n (g.met.T.Texts.services_numbered c.args.texts.now) (record { held = indexed.operations.numbers.held }) c.requires.held below
+    ∙ listed_again names numbers c.args.n (g.met.T.Texts.services_numbered c.args.texts.now) (record { held = indexed.operations.numbers.held })
+    c.requires.held below
     ∙ ap (λ (i : Index). insert_once listed_cmp (listing_by names i) (names.at c.args.n)) c.self.view_is
 
 pub returns-clause-indexed : goal.returns-clause-indexed
@@ -51,7 +52,8 @@ returns-clause-indexed g c =
     let within = row_within (operation_labels names) inside.operations.numbers ((operation_labels names).at c.args.n) in
     let past : length old.operations.numbers ≤ c.add-row.result = omega (arith, c.if-row-rows.false, c.rows.ensures) in
     let at : length old.earlier + 1 ≡ c.add-row.result + 1 = omega (arith, c.add-row.ensures.row) in
-    indexed_more names services_numbered old c.add-row.new.self c.add-service.new.self c.add_row.new.self.newest c.add_row.new.self.earlier c.args.n s c.add-row.result _
+    indexed_more names services_numbered old c.add-row.new.self c.add-service.new.self c.add_row.new.self.newest c.add_row.new.self.earlier c.args.n s
+    c.add-row.result _
     _ c.requires.held indexed c.add-row.ensures.leads c.add-service.ensures.leads
     c.add-row.ensures.numbers c.add-row.ensures.row past c.add-service.ensures.numbers c.add-service.ensures.row
     (c.add_row.ensures.newest ∙ ap (newest_with old.newest s) at) c.add_row.ensures.earlier

@@ -7,7 +7,8 @@ use Rattle.span_store.proofs.store.SpanStore.open.Goals as goal
 pub invariant_of-result : goal.invariant_of-result
 invariant_of-result c =
     let shown = c.in_ok-shown.ensures in
-    subst (λ (h : LimitedHistory). IsStoreKept h c.in_ok-shown.shown c.in_ok-starts.starts c.in_ok-named.named.0 c.in_ok-named.named.1) (sym c.in_ok-journal.ensures) (record {
+    subst (λ (h : LimitedHistory). IsStoreKept h c.in_ok-shown.shown c.in_ok-starts.starts c.in_ok-named.named.0 c.in_ok-named.named.1)
+    (sym c.in_ok-journal.ensures) (record {
       room = shown.room;
       used = shown.used;
       follows = record { limit = shown.limit; ring = shown.ids; spots = shown.spots };

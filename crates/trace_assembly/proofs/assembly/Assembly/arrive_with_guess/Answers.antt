@@ -35,9 +35,11 @@ returns-clause-spots c = λ t.
       | else-rows-used w ↦ ap (λ (s : Inside). s.chains.chains) w.self-inside-is
     ] in
     let rows = rows_opened old.ring.seen seen old.chains.chains now.chains.chains c.args.trace c.self.invariant.as_many arrived.ensures.seen opened same in
-    (λ i. spots_in_row ((c.add.ensures.chains ∙ ap (λ (cs : List (List Spot)). set cs row (get_or cs row [] ++ c.args.spot ∷ [])) c.hide_evicted.ensures.chains) i)
+    (λ i. spots_in_row
+    ((c.add.ensures.chains ∙ ap (λ (cs : List (List Spot)). set cs row (get_or cs row [] ++ c.args.spot ∷ [])) c.hide_evicted.ensures.chains) i)
     (position (same_trace t) (ring i).seen))
-    ∙ spots_arrived seen now.chains.chains left c.args.trace t row c.args.spot (spots_of c.args.self.now) rows.0 arrived.ensures.evicted_row arrived.ensures.first
+    ∙ spots_arrived seen now.chains.chains left c.args.trace t row c.args.spot (spots_of c.args.self.now) rows.0 arrived.ensures.evicted_row
+    arrived.ensures.first
     (λ u. rows.1 u ∙ ap (λ (w : Assembled). spots_of w u) c.self.view_is)
 
 pub invariant_of-self : goal.invariant_of-self

@@ -10,5 +10,6 @@ use Rattle.service_index.proofs.arrival_names.numbers.ArrivalsTexts.service_numb
 pub returns : goal.returns
 returns c =
     let s = c.args.service.now in
-    subst (λ (r : Option ℕ). IsServiceNumberOf (names_of_arrivals c.args.self.now) s r) (sym (c.service_number_of.ensures ∙ ap (λ (x : List Entry). service_number_of x s) c.self.view_is))
+    subst (λ (r : Option ℕ). IsServiceNumberOf (names_of_arrivals c.args.self.now) s r)
+    (sym (c.service_number_of.ensures ∙ ap (λ (x : List Entry). service_number_of x s) c.self.view_is))
     (service_numbers_asked c.args.self.now s)

@@ -14,7 +14,8 @@ use Rattle.service_index.proofs.OneMoreEntry.{HasOneMore, last_number, extends_o
 use Rattle.service_index.proofs.service_places.places.ServicePlaces.add.Goals as goal
 
 abbrev seen : Table → List ℕ → List ℕ → List ℕ → ℕ → ServicePlacesValue
-seen services newest earlier service_numbers batches = record { services = services; newest = newest; earlier = earlier; service_numbers = service_numbers; batches = batches }
+seen services newest earlier service_numbers batches =
+    record { services = services; newest = newest; earlier = earlier; service_numbers = service_numbers; batches = batches }
 
 pub add-service-requires-clause-leads : goal.add-service-requires-clause-leads
 add-service-requires-clause-leads c =

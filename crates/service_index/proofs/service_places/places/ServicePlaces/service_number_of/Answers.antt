@@ -10,7 +10,8 @@ pub returns-then-row-numbers : goal.returns-then-row-numbers
 returns-then-row-numbers c =
     let h : List Entry = map (arc_value {X = Entry} {Z = Global}) c.args.entries.now in
     let kept : ServicePlacesValue = c.args.self.now in
-    let numbers : c.numbers-numbers.result.now ≡ kept.services.numbers = c.numbers-numbers.ensures ∙ ap (λ (v : ServicePlacesValue). v.services.numbers) c.self.view_is in
+    let numbers : c.numbers-numbers.result.now ≡ kept.services.numbers =
+    c.numbers-numbers.ensures ∙ ap (λ (v : ServicePlacesValue). v.services.numbers) c.self.view_is in
     let r = c.row_of-row.result in
     let below : r < length kept.services.numbers = subst (λ (x : List ℕ). r < length x) numbers c.if-row-numbers.true in
     ap (λ (x : List ℕ). Some (get_or x r 0)) numbers ∙ service_number_own h kept c.args.service.now r c.requires c.row_of-row.ensures below
@@ -19,7 +20,8 @@ pub returns-else-row-numbers : goal.returns-else-row-numbers
 returns-else-row-numbers c =
     let h : List Entry = map (arc_value {X = Entry} {Z = Global}) c.args.entries.now in
     let kept : ServicePlacesValue = c.args.self.now in
-    let numbers : c.numbers-numbers.result.now ≡ kept.services.numbers = c.numbers-numbers.ensures ∙ ap (λ (v : ServicePlacesValue). v.services.numbers) c.self.view_is in
+    let numbers : c.numbers-numbers.result.now ≡ kept.services.numbers =
+    c.numbers-numbers.ensures ∙ ap (λ (v : ServicePlacesValue). v.services.numbers) c.self.view_is in
     let r = c.row_of-row.result in
     let past : length kept.services.numbers ≤ r = subst (λ (x : List ℕ). length x ≤ r) numbers c.if-row-numbers.false in
     service_number_none h kept c.args.service.now r c.requires c.row_of-row.ensures past

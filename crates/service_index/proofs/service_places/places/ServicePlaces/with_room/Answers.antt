@@ -18,5 +18,6 @@ returns-clause-kept c =
           (subst (λ (x : List ℕ). IsLinked [] [] x c.in_ok-links.links.earlier) (sym c.in_ok-links.ensures.newest)
           (subst (λ (x : List ℕ). IsLinked [] [] [] x) (sym c.in_ok-links.ensures.earlier) linked_empty));
       first = λ r below. absurd (omega arith);
-      services_numbered = subst (AreServiceNumbers []) (sym c.in_ok-service_numbers.ensures.items) (record { as_many = refl; each = λ n below. absurd (omega arith) });
+      services_numbered =
+          subst (AreServiceNumbers []) (sym c.in_ok-service_numbers.ensures.items) (record { as_many = refl; each = λ n below. absurd (omega arith) });
     }

@@ -12,7 +12,7 @@ const MAX_PAUSE: u64 = 100;
 /// Prints the counts periodically until the workers have ended. It runs in a thread of its own, so a line that a standard
 /// error doesn't take blocks no worker. Workers print the other lines, which may block them.
 #[derive(Drop)]
-pub(crate) struct PeriodicCounts {
+pub struct PeriodicCounts {
     /// The number of seconds between two lines; 0 for no lines.
     seconds: u32,
     over: AtomicBool,
@@ -20,7 +20,7 @@ pub(crate) struct PeriodicCounts {
 
 impl PeriodicCounts {
     /// Creates it with workers that have not ended.
-    pub(crate) fn new(seconds: u32) -> PeriodicCounts {
+    pub fn new(seconds: u32) -> PeriodicCounts {
         PeriodicCounts {
             seconds,
             over: AtomicBool::new(false),
@@ -28,12 +28,12 @@ impl PeriodicCounts {
     }
 
     /// Returns whether it prints nothing.
-    pub(crate) fn is_off(&self) -> bool {
+    pub fn is_off(&self) -> bool {
         self.seconds == 0
     }
 
     /// Records that the workers have ended.
-    pub(crate) fn end(&self) {
+    pub fn end(&self) {
         self.over.store(true, Ordering::SeqCst);
     }
 
@@ -44,7 +44,7 @@ impl PeriodicCounts {
     }
 
     /// Prints the counts whenever a line is due, until the workers have ended.
-    pub(crate) fn run<R: Wait + Clock + Eprint>(&self, rt: &R, notices: &Notices) {
+    pub fn run<R: Wait + Clock + Eprint>(&self, rt: &R, notices: &Notices) {
         let period = Duration::from_secs(u64::from(self.seconds));
         let mut now = rt.monotonic().unwrap_or(Duration::ZERO);
         let mut due = now.saturating_add(period);

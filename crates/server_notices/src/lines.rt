@@ -1,7 +1,7 @@
 //! The lines about a store that are printed for the operator, as functions of numbers.
 
 ghost use Rattle.std.specs.Prelude.{◌≡◌};
-ghost use Rattle.serve_options.specs.Lines.{advice, counted_name, level_of};
+ghost use Rattle.server_notices.specs.Lines.{advice, counted_name, level_of};
 
 use std::fmt;
 use trace_model::Refusal;
@@ -63,7 +63,7 @@ pub struct FullnessLine {
 
 impl fmt::Display for FullnessLine {
     ghost use Rattle.std.specs.Prelude.{Some};
-    ghost use Rattle.serve_options.specs.Lines.{fullness_line};
+    ghost use Rattle.server_notices.specs.Lines.{fullness_line};
 
     ghost output = { λ l. Some (fullness_line l.counted l.level l.held l.most) };
 
@@ -92,7 +92,7 @@ pub struct HeldText {
 
 impl fmt::Display for HeldText {
     ghost use Rattle.std.specs.Prelude.{Some};
-    ghost use Rattle.serve_options.specs.Lines.{held_text};
+    ghost use Rattle.server_notices.specs.Lines.{held_text};
 
     ghost output = { λ t. Some (held_text t.held t.most t.counted) };
 
@@ -116,7 +116,7 @@ pub struct TooLargeLine {
 
 impl fmt::Display for TooLargeLine {
     ghost use Rattle.std.specs.Prelude.{Some};
-    ghost use Rattle.serve_options.specs.Lines.{too_large_line};
+    ghost use Rattle.server_notices.specs.Lines.{too_large_line};
 
     ghost output = { λ l. Some (too_large_line l.spans l.most) };
 
@@ -135,7 +135,7 @@ pub struct FailureLine {
 
 impl fmt::Display for FailureLine {
     ghost use Rattle.std.specs.Prelude.{Some};
-    ghost use Rattle.serve_options.specs.Lines.{failure_line};
+    ghost use Rattle.server_notices.specs.Lines.{failure_line};
 
     ghost output = { λ l. Some (failure_line l.refusal l.failures) };
 

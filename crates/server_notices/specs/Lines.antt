@@ -3,8 +3,8 @@ use Rattle.std.specs.Prelude.{ℕ, ◌++◌, ◌*◌, List, codes, nat_le, if◌
 use Rattle.std.specs.Fmt.{decimal}
 use Rattle.trace_model.specs.declared.refusal.Refusal.{Refusal}
 use Rattle.trace_model.specs.RefusalTexts.{refusal_text}
-use Rattle.serve_options.specs.declared.lines.Counted.{Counted}
-use Rattle.serve_options.specs.declared.lines.Counted.TheVariants.{Batches, Spans}
+use Rattle.server_notices.specs.declared.lines.Counted.{Counted}
+use Rattle.server_notices.specs.declared.lines.Counted.TheVariants.{Batches, Spans}
 
 -- what a limit counts, which is the name of its option
 abbrev pub counted_name : Counted → List ℕ

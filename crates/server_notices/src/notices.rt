@@ -1,24 +1,12 @@
-//! Lines for the operator, on standard error. A line that can't be written is lost.
-
-ghost use Rattle.std.specs.Prelude.{◌≡◌, ◌≤◌};
-ghost use Rattle.text_lines.specs.RunErrors.{status_by};
+//! The counts of a server, and the lines that are printed once or at some counts.
 
 use crate::acknowledged::AcknowledgedCounts;
 use crate::counts::Counts;
-use libc::types::rlimit;
-use libc::{RLIMIT_NOFILE, getrlimit};
-use serve_options::{Counted, FailureLine, FullnessLine, HeldText, Host, TooLargeLine, level_of};
+use crate::lines::{Counted, FailureLine, FullnessLine, HeldText, TooLargeLine, level_of};
 use std::alloc::{AllocError, Global};
 use std::io;
 use std::sync::atomic::{AtomicBool, AtomicU32, AtomicU64, Ordering};
-use text_lines::{ExitStatus, RunError};
 use trace_model::{Answer, Limits, Refusal};
-
-/// The measured size of a span with one tag, in bytes, in batches of ten whose processes have four tags.
-const BYTES_WITH_ONE_TAG: u64 = 420;
-
-/// The measured size of a span with five tags, in bytes, in the same batches.
-const BYTES_WITH_FIVE_TAGS: u64 = 710;
 
 /// The numbers of requests answered 500 at which a line is printed.
 const PRINTED_FAILURES: [u64; 7] = [1, 10, 100, 1_000, 10_000, 100_000, 1_000_000];
@@ -75,7 +63,7 @@ impl LimitNotices {
 
 /// The workers' counts, and the lines that the first worker to notice something prints once.
 #[derive(Drop)]
-pub(crate) struct Notices {
+pub struct Notices {
     limits: Limits,
     acknowledged: AcknowledgedCounts,
     counts: Counts,
@@ -96,7 +84,7 @@ impl Notices {
     /// # Errors
     ///
     /// Out of memory.
-    pub(crate) fn new(alloc: Global, limits: Limits, workers: u16) -> Result<Notices, AllocError> {
+    pub fn new(alloc: Global, limits: Limits, workers: u16) -> Result<Notices, AllocError> {
         Ok(Notices {
             limits,
             acknowledged: AcknowledgedCounts::new(alloc, &limits)?,
@@ -112,7 +100,7 @@ impl Notices {
     }
 
     /// Counts the outcome of a batch with this number of spans, and prints what the operator must know.
-    pub(crate) fn count_batch<R: Eprint>(
+    pub fn count_batch<R: Eprint>(
         &self,
         rt: &R,
         worker: u32,
@@ -134,12 +122,7 @@ impl Notices {
     }
 
     /// Counts a query, and prints a line if it was answered 500.
-    pub(crate) fn count_query<R: Eprint>(
-        &self,
-        rt: &R,
-        worker: u32,
-        answer: &Result<Answer, Refusal>,
-    ) {
+    pub fn count_query<R: Eprint>(&self, rt: &R, worker: u32, answer: &Result<Answer, Refusal>) {
         self.counts.query(worker);
         if let Err(refusal) = answer {
             self.print_failure(rt, *refusal);
@@ -217,7 +200,7 @@ impl Notices {
     }
 
     /// Prints what the store holds, and the counts.
-    pub(crate) fn print_counts<R: Eprint>(&self, rt: &R) {
+    pub fn print_counts<R: Eprint>(&self, rt: &R) {
         let (batches, spans) = held_texts(
             self.acknowledged.batches(),
             self.acknowledged.spans(),
@@ -228,7 +211,7 @@ impl Notices {
     }
 
     /// Prints that all connections are in use, once.
-    pub(crate) fn print_all_taken<R: Eprint>(&self, rt: &R) {
+    pub fn print_all_taken<R: Eprint>(&self, rt: &R) {
         if !self.printed_all_taken.swap(true, Ordering::SeqCst) {
             let _lost = eprintln!(rt;
                 "as many connections are open as --connections allows: the next ones wait until one closes; a larger --connections or a shorter --idle helps"
@@ -237,7 +220,7 @@ impl Notices {
     }
 
     /// Prints that a connection was dropped whose client didn't read its response, once.
-    pub(crate) fn print_given_up<R: Eprint>(&self, rt: &R) {
+    pub fn print_given_up<R: Eprint>(&self, rt: &R) {
         if !self.printed_given_up.swap(true, Ordering::SeqCst) {
             let _lost = eprintln!(rt;
                 "too much waits for clients that don't read: further connections of such clients are closed; queries with a limit help"
@@ -246,7 +229,7 @@ impl Notices {
     }
 
     /// Prints why no connection is accepted for now, once until one is accepted.
-    pub(crate) fn print_shortage<R: Eprint>(&self, rt: &R, error: &io::Error) {
+    pub fn print_shortage<R: Eprint>(&self, rt: &R, error: &io::Error) {
         if !self.printed_shortage.swap(true, Ordering::SeqCst) {
             let _lost = eprintln!(rt;
                 "no connection can be accepted for now: {error}; more memory or open files (ulimit -n) help"
@@ -255,95 +238,9 @@ impl Notices {
     }
 
     /// Records that a connection was accepted: the next shortage is reported again.
-    pub(crate) fn end_shortage(&self) {
+    pub fn end_shortage(&self) {
         if self.printed_shortage.load(Ordering::SeqCst) {
             self.printed_shortage.store(false, Ordering::SeqCst);
         }
     }
-}
-
-/// Prints a warning if other machines can reach the host.
-pub(crate) fn print_reachable<R: Eprint>(rt: &R, host: Host) {
-    if !host.is_loopback() {
-        let address = host.in_url();
-        let _lost = eprintln!(rt;
-            "{address} takes connections from other machines: anyone who reaches it may read all traces and send spans, with no password and no TLS"
-        );
-    }
-}
-
-/// Returns the megabytes that this number of spans takes.
-fn megabytes(spans: u32, bytes: u64) -> u64
-    requires { bytes ≤ 1000 }
-{
-    (u64::from(spans) * bytes).div_ceil(1_000_000)
-}
-
-/// Prints the limits of the store, and the memory that they may take.
-pub(crate) fn print_limits<R: Eprint>(rt: &R, limits: &Limits) {
-    let Limits {
-        batches,
-        spans,
-        traces,
-        max_skew: _,
-    } = *limits;
-    let few = megabytes(spans, BYTES_WITH_ONE_TAG);
-    let many = megabytes(spans, BYTES_WITH_FIVE_TAGS);
-    let _lost = match traces {
-        0 => eprintln!(rt;
-            "holds at most {batches} batches and {spans} spans, and shows every trace"
-        ),
-        newest => eprintln!(rt;
-            "holds at most {batches} batches and {spans} spans, and shows the newest {newest} traces"
-        ),
-    };
-    let _lost = eprintln!(rt;
-        "that may take {few} MB with one tag a span, {many} MB with five; more if tags are long, up to 8 times with one span a batch and twenty process tags"
-    );
-}
-
-/// The files that are open beside one for each connection and one for each worker.
-const OTHER_FILES: u64 = 4;
-
-/// Prints a warning if the system allows fewer open files than the server may need.
-pub(crate) fn print_few_files<R: Eprint>(rt: &R, connections: u32, workers: u16) {
-    let mut limit = rlimit {
-        rlim_cur: 0,
-        rlim_max: 0,
-    };
-    let needed = u64::from(connections) + u64::from(workers) + OTHER_FILES;
-    if getrlimit(RLIMIT_NOFILE, &mut limit) == 0 && limit.rlim_cur < needed {
-        let files = limit.rlim_cur;
-        let _lost = eprintln!(rt;
-            "the system lets {files} files be open (ulimit -n), and --connections {connections} needs {needed}: raise it, or give fewer"
-        );
-    }
-}
-
-/// Prints why a worker accepts no more connections.
-pub(crate) fn print_accepts_no_more<R: Eprint>(rt: &R, worker: u32, error: &io::Error) {
-    let _lost = eprintln!(rt;
-        "worker {worker} accepts no more connections: {error}; a restart brings it back"
-    );
-}
-
-/// Prints why the server ends, and returns the exit status.
-pub(crate) fn end_with<R: Eprint>(rt: &R, error: RunError, why: &str) -> ExitStatus
-    ensures { result ≡ status_by error }
-{
-    let status = error.status();
-    let code = status.code();
-    let _lost = eprintln!(rt; "ends with status {code}: {why}");
-    status
-}
-
-/// Prints that the server ends because a line of its output couldn't be written, and returns the exit status.
-pub(crate) fn end_unwritten<R: Eprint>(rt: &R, error: RunError) -> ExitStatus
-    ensures { result ≡ status_by error }
-{
-    let why = match error {
-        RunError::Device => "the output failed",
-        RunError::Memory => "out of memory",
-    };
-    end_with(rt, error, why)
 }

@@ -1,0 +1,25 @@
+//! What the operator of a server is told on standard error, and what its workers count for that.
+//!
+//! A line that can't be written is lost. No answer of the server and no line of its output depends on these counts.
+//!
+//! * `lines`: the texts of the lines about a store and its refusals, and the level of a store.
+//! * `notices`: the counts of a server, and the lines that are printed once or at some counts. `counts`: the counts of
+//!   each worker. `acknowledged`: the batches and spans that were acknowledged.
+//! * `periodic`: the periodic line.
+//! * `starting`: the lines at the start of a server. `ending`: those at the end of a worker and of a server, with the exit
+//!   status.
+#![tactic(auto)]
+
+mod acknowledged;
+mod counts;
+mod ending;
+mod lines;
+mod notices;
+mod periodic;
+mod starting;
+
+pub use ending::{end_unwritten, end_with, print_accepts_no_more};
+pub use lines::{Counted, FailureLine, FullnessLine, HeldText, TooLargeLine, level_of};
+pub use notices::Notices;
+pub use periodic::PeriodicCounts;
+pub use starting::{print_few_files, print_limits, print_reachable};
