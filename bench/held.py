@@ -172,6 +172,15 @@ PLAIN = {
 }
 
 
+# A trace of all the spans of a store of its own. Its text is some 300 MB for each million of them, so that larger ones aren't asked for.
+ONE_TRACE, MOST_IN_ONE_TRACE = "one trace of all spans", 1_000_000
+
+
+def one_trace(spans):
+    for first in range(0, spans, IN_BATCH):
+        yield wire.batch("a", [wire.span(7, 1 + k, start=1_600_000_000_000_000 + k) for k in range(first, min(first + IN_BATCH, spans))])
+
+
 class Times(NamedTuple):
     """The longest and the middle of some times, in milliseconds."""
     longest: float
@@ -347,6 +356,14 @@ def rows_of_plain_stores(options, chosen):
                 yield measured(name, spans, "spans", server, PLAIN[name], options.asks)
 
 
+def rows_of_one_trace(options, chosen):
+    """A trace of all spans: collecting it takes each of them by itself."""
+    for spans in options.spans if chosen(ONE_TRACE) else []:
+        if spans <= MOST_IN_ONE_TRACE:
+            with filled(options.bin, [], one_trace(spans)) as (server, _):
+                yield measured(ONE_TRACE, spans, "spans", server, get("/api/traces/7"), options.asks)
+
+
 def asked_at_once(server, asked):
     """What a server holds after connections asked at once. A client that reads has its whole answer then, a slow one its first byte."""
     with contextlib.ExitStack() as all_open:
@@ -406,7 +423,7 @@ def beside_posts(options, chosen):
     """The rows of queries beside POSTs; a line for each over its bound."""
     record, rows = Record(options, "held", COLUMNS), []
     print("shape\tsent or held\tPOST alone, ms: longest (middle)\tbeside the query\tthe query, ms: longest (middle)")
-    for made in (rows_of_senders, rows_of_plain_stores):
+    for made in (rows_of_senders, rows_of_plain_stores, rows_of_one_trace):
         for row in made(options, chosen):
             record.row(*row.columns())
             rows.append(row)
