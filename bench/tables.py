@@ -463,11 +463,6 @@ def glance_rest(found):
     yield "a batch with a `seqNo`, beside one without, in `play`, microseconds", f"{span(more, cell)} more", "`resent.py`"
 
 
-def longest_of(found, size):
-    """The longest POST beside a query of a store of so many spans."""
-    return cell(max(row[5] for row in found.rows("held") if row[1:3] == [size, "spans"]))
-
-
 def speed(found):
     """The README's table."""
     def of_both(what, writers):
@@ -480,15 +475,14 @@ def speed(found):
     mine_full, plain_full = found.of("growth", "the longest POST, ms", 10_000_000)
     rows = [
         ["decoding, instructions a byte", mine, plain, decoders(found)[0]],
-        *([f"spans taken in a second from {writers} writer{'s' * (writers > 1)}", *of_both(ALONE, writers)] for writers in WRITERS),
+        *([f"spans taken in a second from {writers} writer{'s' * (writers > 1)}", *of_both(ALONE, writers)] for writers in (1, 4)),
         ["a POST of one of four writers, beside two readers at full speed, p99, ms", *of_both(POST, 4)],
         ["20 traces with their JSON among 100,000 spans, ms", f"{store_ms:.2f}", f"{scan_ms:.0f}", two(scan_ms / store_ms)],
         ["the longest POST while a store fills to 10,000,000 spans, ms", cell(mine_full), cell(plain_full), two(plain_full / mine_full)],
-        ["the longest POST at another worker than a heavy query's, 10,000,000 spans held, ms", longest_of(found, 10_000_000), "not compared", ""],
         ["memory at 100,000 spans, bytes a span, by its tags", per_span, "not compared", ""],
     ]
     heads = ["What", "Kiwibismuth", "Plain Rust", "Times as good"]
-    return table(heads, rows) + found.days("compare --count", "serve", "searches", "growth", "held", "memory")
+    return table(heads, rows) + found.days("compare --count", "serve", "searches", "growth", "memory")
 
 
 memory_processes = printed("memory --process-tags", [
