@@ -2,8 +2,9 @@
 //!
 //! The list of entries is always legal: each entry's number is above every earlier number of its seat, and the
 //! counts of entries and of spans are within the limits. An entry that would break this is refused, and changes
-//! nothing. The cost of judging and adding an entry doesn't depend on the length of the list. All memory is
-//! allocated when a journal is made, so adding an entry never fails because memory ran out.
+//! nothing. All memory is allocated when a journal is made, so adding an entry never fails because memory ran
+//! out. To judge and add an entry, no more of the list is read than the entries with its number, its seat's last
+//! number and the counts. No contract speaks of that cost.
 //!
 //! * `journal`: the [`Journal`].
 //! * `outline`: what is known of an entry without reading its spans, its [`Outline`]. `kind`, `span_kinds`: the

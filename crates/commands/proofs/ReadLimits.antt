@@ -3,8 +3,8 @@ use Rattle.std.proofs.Common.{◌≡◌, ℕ, ◌⊎◌, inl, inr, Bool, true, f
 use Rattle.http_requests.specs.AwaitedReads.{Gives, GivesWhile, FailsToRead, Source}
 use Rattle.http_session.specs.Sessions.{Exchange, IsCause}
 use Rattle.http_session.specs.ReadTurns.{ReadsInTurnUpTo}
-use Rattle.http_session.specs.declared.exchanges.SessionErrorKind.{SessionErrorKind}
-use Rattle.http_session.specs.declared.exchanges.SessionErrorKind.TheVariants.{Reading, Writing, Memory}
+use Rattle.http_session.specs.declared.whole_session.SessionErrorKind.{SessionErrorKind}
+use Rattle.http_session.specs.declared.whole_session.SessionErrorKind.TheVariants.{Reading, Writing, Memory}
 use Rattle.text_lines.specs.declared.exit_status.ExitStatus.{ExitStatus}
 use Rattle.text_lines.specs.declared.exit_status.ExitStatus.TheVariants.{DeviceFailed}
 use Rattle.session_devices.specs.declared.limits.TheConstants.{MAX_READS}

@@ -4,9 +4,9 @@ use Rattle.trace_model.specs.declared.limits.Limits.{Limits}
 use Rattle.trace_model.specs.LimitedHistories.{LimitedHistory}
 use Rattle.pipe_session.specs.DirectCalls.{DirectSubmits, DirectReads}
 use Rattle.http_session.specs.Sessions.{EndsAs, FailsAs, last_of, exchange_due}
-use Rattle.http_session.specs.declared.exchanges.SessionErrorKind.{SessionErrorKind}
-use Rattle.http_session.specs.declared.exchanges.SessionErrorKind.TheVariants.{Reading, Writing, Memory}
-use Rattle.http_session.specs.declared.exchanges.SessionError.{SessionError}
+use Rattle.http_session.specs.declared.whole_session.SessionErrorKind.{SessionErrorKind}
+use Rattle.http_session.specs.declared.whole_session.SessionErrorKind.TheVariants.{Reading, Writing, Memory}
+use Rattle.http_session.specs.declared.whole_session.SessionError.{SessionError}
 use Rattle.pipe_session.specs.ExactAnswers.{IsExact}
 use Rattle.session_devices.specs.Traffic.{Traffic}
 use Rattle.text_lines.specs.declared.exit_status.ExitStatus.{ExitStatus}

@@ -48,7 +48,8 @@ where
     H: Threads + Wait + Clock + Eprint + Net<Stream = TcpStream, Listener = TcpListener> + Sync,
     W: Output,
     requires output_works { W.has_failed output.old ≡ false }
-    ensures { ServesOrNot options (traffic_of W.contents W.has_failed output.old output.new) result }
+    ensures { ServesOrNot options
+        (traffic_of W.contents W.has_failed output.old output.new) result }
 {
     let address = SocketAddr::new(options.host.address(), options.port);
     let listener = match TcpListener::bind(rt, address) {

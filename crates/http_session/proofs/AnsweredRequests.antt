@@ -7,13 +7,13 @@ use Rattle.http_requests.proofs.OneRequest.{request_is_some}
 use Rattle.http_session.specs.IncomingRequests.{ReceivesOne}
 use Rattle.http_session.specs.Replies.{closes, takes_no_memory, response_of}
 use Rattle.http_session.specs.Sessions.{Exchange, IsExchange, Submits, Reads, Step, WritesResponse}
-use Rattle.http_session.specs.ResponseOrder.{Line, IsTwoWay, EndsOver, FailsOver}
-use Rattle.http_session.specs.UnderwaySessions.{SoFar}
+use Rattle.http_session.specs.ResponseOrder.{ConnectionModel, connection_moment, IsTwoWay, EndsOver, FailsOver}
+use Rattle.http_session.specs.ResumableSessions.{SoFar}
 use Rattle.http_session.specs.declared.verdict.Verdict.{Verdict}
 use Rattle.http_session.specs.declared.reply.Reply.{Reply}
-use Rattle.http_session.specs.declared.exchanges.SessionErrorKind.TheVariants.{Memory}
-use Rattle.http_session.specs.declared.exchanges.PartialWrite.{PartialWrite}
-use Rattle.http_session.proofs.SessionTurns.{reads_on, goes_on, ends_closing, fails_due}
+use Rattle.http_session.specs.declared.whole_session.SessionErrorKind.TheVariants.{Memory}
+use Rattle.http_session.specs.declared.whole_session.PartialWrite.{PartialWrite}
+use Rattle.http_session.proofs.SessionTurns.{goes_on, ends_closing, fails_due}
 
 -- a request has a byte
 some_text : (old here : ReadBuffer) (v : Verdict) (asked : Bool) (found : ReceivesOne old here v asked) → 0 < length found.text
@@ -27,15 +27,16 @@ fewer_left old here v asked found =
     let left : old.left ≡ here.left = ap (λ (b : ReadBuffer). b.left) found.cut in
     rw left (omega (arith, some_text old here v asked found, held, length-append found.text here.held))
 
-module _ {S C : Type 0} (submits : Submits S) (reads : Reads S) (line : Line C) (two : IsTwoWay line) (c0 c2 : C) (s t : S) (old here : ReadBuffer)
+module _ {S C : Type 0} (submits : Submits S) (reads : Reads S) (model : ConnectionModel C) (two : IsTwoWay model) (c0 c2 : C) (s t : S) (old here : ReadBuffer)
     (answered : ℕ)
-    (v : Verdict) (asked : Bool) (so : SoFar submits reads line c0 c2 s t old answered) (found : ReceivesOne old here v asked) where
+    (v : Verdict) (asked : Bool) (so : SoFar submits reads model (connection_moment c0 s) (connection_moment c2 t) old answered)
+    (found : ReceivesOne old here v asked) where
   -- with the request's text put back
   abbrev pub whole : ReadBuffer
   whole = put_back found.text here
 
-  so_whole : SoFar submits reads line c0 c2 s t whole answered
-  so_whole = subst (λ (b : ReadBuffer). SoFar submits reads line c0 c2 s t b answered) found.cut so
+  so_whole : SoFar submits reads model (connection_moment c0 s) (connection_moment c2 t) whole answered
+  so_whole = subst (λ (b : ReadBuffer). SoFar submits reads model (connection_moment c0 s) (connection_moment c2 t) b answered) found.cut so
 
   module _ (c3 : C) (u : S) (reply : Reply) (close : Bool) (step : Step submits reads t v reply u) (close_is : close ≡ (asked || closes reply)) where
     abbrev pub turn : Exchange
@@ -44,28 +45,29 @@ module _ {S C : Type 0} (submits : Submits S) (reads : Reads S) (line : Line C) 
     is_turn : IsExchange turn
     is_turn = record { spells = found.spells; verdict_follows = found.verdict_follows; close_is = ap (λ (b : Bool). b || closes reply) found.closes_is }
 
-    pub answered_open : Appends (line.contents c2) (line.contents c3) (response_of reply close) → line.takes c2 (response_of reply close) c3 → close ≡ false
-        → SoFar submits reads line c0 c3 s u here (answered + 1)
+    pub answered_open : Appends (model.contents c2) (model.contents c3) (response_of reply close) → model.takes c2 (response_of reply close) c3 → close ≡ false
+        → SoFar submits reads model (connection_moment c0 s) (connection_moment c3 u) here (answered + 1)
     answered_open wrote took stays =
-        goes_on submits reads line two c0 c2 c3 s t u whole here.held answered turn so_whole is_turn (sym close_is ∙ stays) refl
+        goes_on submits reads model two c0 c2 c3 s t u whole here.held answered turn so_whole is_turn (sym close_is ∙ stays) refl
         (some_text old here v asked found) step
-        (subst (λ (b : Bool). Appends (line.contents c2) (line.contents c3) (response_of reply b)) close_is wrote)
-        (subst (λ (b : Bool). line.takes c2 (response_of reply b) c3) close_is took)
+        (subst (λ (b : Bool). Appends (model.contents c2) (model.contents c3) (response_of reply b)) close_is wrote)
+        (subst (λ (b : Bool). model.takes c2 (response_of reply b) c3) close_is took)
 
-    pub answered_last : Appends (line.contents c2) (line.contents c3) (response_of reply close) → line.takes c2 (response_of reply close) c3 → close ≡ true
-        → EndsOver submits reads line c0 c3 s u (record { answered = answered + 1; clean = false })
+    pub answered_last : Appends (model.contents c2) (model.contents c3) (response_of reply close) → model.takes c2 (response_of reply close) c3 → close ≡ true
+        → EndsOver submits reads model (connection_moment c0 s) (connection_moment c3 u) (record { answered = answered + 1; clean = false })
     answered_last wrote took leaves =
-        ends_closing submits reads line two c0 c2 c3 s t u whole here.held answered turn so_whole is_turn (sym close_is ∙ leaves) refl step
-        (subst (λ (b : Bool). Appends (line.contents c2) (line.contents c3) (response_of reply b)) close_is wrote)
-        (subst (λ (b : Bool). line.takes c2 (response_of reply b) c3) close_is took)
+        ends_closing submits reads model two c0 c2 c3 s t u whole here.held answered turn so_whole is_turn (sym close_is ∙ leaves) refl step
+        (subst (λ (b : Bool). Appends (model.contents c2) (model.contents c3) (response_of reply b)) close_is wrote)
+        (subst (λ (b : Bool). model.takes c2 (response_of reply b) c3) close_is took)
 
     pub answered_not : (partial_write : PartialWrite)
-        → WritesResponse (line.contents c2) (line.contents c3) false (line.out_failed c3) (response_of reply close) (Err partial_write)
-        → line.takes c2 (take partial_write.written (response_of reply close)) c3 → line.in_failed c2 ≡ false
+        → WritesResponse (model.contents c2) (model.contents c3) false (model.out_failed c3) (response_of reply close) (Err partial_write)
+        → model.takes c2 (take partial_write.written (response_of reply close)) c3 → model.in_failed c2 ≡ false
         → (takes_no_memory reply ≡ true → partial_write.cause ≢ Memory)
-        → FailsOver submits reads line c0 c3 s u (record { answered = answered; written = partial_write.written; cause = partial_write.cause })
+        → FailsOver submits reads model (connection_moment c0 s) (connection_moment c3 u)
+        (record { answered = answered; written = partial_write.written; cause = partial_write.cause })
     answered_not partial_write said took in_works spared =
-        fails_due submits reads line two c0 c2 c3 s t u whole here.held answered turn partial_write so_whole is_turn refl step
-        (subst (λ (b : Bool). WritesResponse (line.contents c2) (line.contents c3) false (line.out_failed c3) (response_of reply b) (Err partial_write))
+        fails_due submits reads model two c0 c2 c3 s t u whole here.held answered turn partial_write so_whole is_turn refl step
+        (subst (λ (b : Bool). WritesResponse (model.contents c2) (model.contents c3) false (model.out_failed c3) (response_of reply b) (Err partial_write))
         close_is said)
-        (subst (λ (b : Bool). line.takes c2 (take partial_write.written (response_of reply b)) c3) close_is took) in_works spared
+        (subst (λ (b : Bool). model.takes c2 (take partial_write.written (response_of reply b)) c3) close_is took) in_works spared

@@ -6,7 +6,7 @@ use Rattle.http_requests.specs.Requests.{AwaitsRequest}
 use Rattle.http_requests.specs.AwaitedReads.{Gives, GivesWhile, ReadsWhile}
 use Rattle.http_session.specs.Sessions.{Exchange, texts, responses}
 use Rattle.http_session.specs.ReadTurns.{AwaitsNext, ReadsInTurn}
-use Rattle.http_session.specs.ResponseOrder.{Act, got, put, pieces, Moment, ActsWhile, AwaitsAnswered, AnswersInTurn}
+use Rattle.http_session.specs.ResponseOrder.{Act, got, put, reads_of, Transcript, ActsWhile, AwaitsAnswered, AnswersInTurn}
 
 -- after all of them, when all are answered
 after_all : (opens : List Exchange) (held : List ℕ) → AwaitsRequest held → AwaitsAnswered opens (texts opens ++ held) (responses opens)
@@ -29,24 +29,24 @@ answered_with_more : (opens more : List Exchange) (bytes written : List ℕ) →
 unfolding with_more
 answered_with_more opens more bytes written a = record { next = with_more opens more bytes a.next; answered = a.answered }
 
-pieces_join : (xs ys : List Act) → pieces (xs ++ ys) ≡ pieces xs ++ pieces ys
-pieces_join [] ys = refl
-pieces_join (got p ∷ xs) ys = ap (λ (l : List (List ℕ)). p ∷ l) (pieces_join xs ys)
-pieces_join (put w ∷ xs) ys = pieces_join xs ys
+reads_of_join : (xs ys : List Act) → reads_of (xs ++ ys) ≡ reads_of xs ++ reads_of ys
+reads_of_join [] ys = refl
+reads_of_join (got p ∷ xs) ys = ap (λ (l : List (List ℕ)). p ∷ l) (reads_of_join xs ys)
+reads_of_join (put w ∷ xs) ys = reads_of_join xs ys
 
-pieces_got : (ps : List (List ℕ)) → pieces (map got ps) ≡ ps
-pieces_got [] = refl
-pieces_got (p ∷ ps) = ap (λ (l : List (List ℕ)). p ∷ l) (pieces_got ps)
+reads_of_got : (ps : List (List ℕ)) → reads_of (map got ps) ≡ ps
+reads_of_got [] = refl
+reads_of_got (p ∷ ps) = ap (λ (l : List (List ℕ)). p ∷ l) (reads_of_got ps)
 
 module _ {C : Type 0} (gives : Gives C) (takes : Takings C) where
-  acts_join : (Awaits : List ℕ → List ℕ → Type 0) (xs ys : List Act) (s m t : Moment C) → ActsWhile gives takes Awaits s m xs
+  acts_join : (Awaits : List ℕ → List ℕ → Type 0) (xs ys : List Act) (s m t : Transcript C) → ActsWhile gives takes Awaits s m xs
       → ActsWhile gives takes Awaits m t ys
       → ActsWhile gives takes Awaits s t (xs ++ ys)
-  acts_join Awaits [] ys s m t first second = subst (λ (x : Moment C). ActsWhile gives takes Awaits x t ys) (sym first) second
+  acts_join Awaits [] ys s m t first second = subst (λ (x : Transcript C). ActsWhile gives takes Awaits x t ys) (sym first) second
   acts_join Awaits (got p ∷ xs) ys s m t first second = (first.0, first.1, first.2, acts_join Awaits xs ys _ m t first.3 second)
   acts_join Awaits (put w ∷ xs) ys s m t first second = (first.0, first.1, acts_join Awaits xs ys _ m t first.2 second)
 
-  acts_weaker : (A B : List ℕ → List ℕ → Type 0) → ((h w : List ℕ) → A h w → B h w) → (xs : List Act) (s t : Moment C) → ActsWhile gives takes A s t xs
+  acts_weaker : (A B : List ℕ → List ℕ → Type 0) → ((h w : List ℕ) → A h w → B h w) → (xs : List Act) (s t : Transcript C) → ActsWhile gives takes A s t xs
       → ActsWhile gives takes B s t xs
   acts_weaker A B weaker [] s t acts = acts
   acts_weaker A B weaker (got p ∷ xs) s t acts = (weaker s.received s.written acts.0, acts.1, acts.2, acts_weaker A B weaker xs _ t acts.3)
@@ -73,7 +73,7 @@ module _ {C : Type 0} (gives : Gives C) (takes : Takings C) where
   pub read_more : (s m t : C) (opens : List Exchange) (taken held here after : List ℕ) (first : AnswersInTurn gives takes s m opens taken (responses opens))
       → taken ≡ texts opens ++ held
       → (second : ReadsWhile gives AwaitsRequest m t held here) → after ≡ texts opens ++ here
-      → (all : AnswersInTurn gives takes s t opens after (responses opens)) × (length (pieces all.acts) ≡ length (pieces first.acts) + length second.pieces)
+      → (all : AnswersInTurn gives takes s t opens after (responses opens)) × (length (reads_of all.acts) ≡ length (reads_of first.acts) + length second.pieces)
   read_more s m t opens taken held here after first split second after_is =
       let said = responses opens in
       let acts = map got second.pieces in
@@ -85,9 +85,9 @@ module _ {C : Type 0} (gives : Gives C) (takes : Takings C) where
       subst₂ (λ (l r : List ℕ). ActsWhile gives takes (AwaitsAnswered opens) (record { state = m; received = l; written = said })
       (record { state = t; received = r; written = said }) acts)
       (sym split) (sym after_is) more in
-      let long : length (pieces (first.acts ++ acts)) ≡ length (pieces first.acts) + length second.pieces =
-      ap length (pieces_join first.acts acts) ∙ length-append (pieces first.acts) (pieces acts)
-      ∙ ap (λ (l : List (List ℕ)). length (pieces first.acts) + length l) (pieces_got second.pieces) in
+      let long : length (reads_of (first.acts ++ acts)) ≡ length (reads_of first.acts) + length second.pieces =
+      ap length (reads_of_join first.acts acts) ∙ length-append (reads_of first.acts) (reads_of acts)
+      ∙ ap (λ (l : List (List ℕ)). length (reads_of first.acts) + length l) (reads_of_got second.pieces) in
       (record { acts = first.acts ++ acts; each = acts_join (AwaitsAnswered opens) first.acts acts _ _ _ first.each moved }, long)
 
   -- some more requests are answered later
@@ -105,13 +105,13 @@ module _ {C : Type 0} (gives : Gives C) (takes : Takings C) where
   -- a response was written, or a part of one
   pub said_on : (s m t : C) (opens : List Exchange) (taken written bytes after : List ℕ) (first : AnswersInTurn gives takes s m opens taken written)
       → takes m bytes t → after ≡ written ++ bytes
-      → (all : AnswersInTurn gives takes s t opens taken after) × (length (pieces all.acts) ≡ length (pieces first.acts))
+      → (all : AnswersInTurn gives takes s t opens taken after) × (length (reads_of all.acts) ≡ length (reads_of first.acts))
   said_on s m t opens taken written bytes after first wrote after_is =
       let last : ActsWhile gives takes (AwaitsAnswered opens) (record { state = m; received = taken; written = written })
       (record { state = t; received = taken; written = after }) (put bytes ∷ []) =
       (t, wrote, ap (λ (l : List ℕ). record { state = t; received = taken; written = l }) (sym after_is)) in
-      let long : length (pieces (first.acts ++ put bytes ∷ [])) ≡ length (pieces first.acts) =
-      ap length (pieces_join first.acts (put bytes ∷ []) ∙ append-nil (pieces first.acts)) in
+      let long : length (reads_of (first.acts ++ put bytes ∷ [])) ≡ length (reads_of first.acts) =
+      ap length (reads_of_join first.acts (put bytes ∷ []) ∙ append-nil (reads_of first.acts)) in
       (record { acts = first.acts ++ put bytes ∷ []; each = acts_join (AwaitsAnswered opens) first.acts (put bytes ∷ []) _ _ _ first.each last }, long)
 
   -- the bytes written, xs another term
@@ -138,8 +138,8 @@ reads_left gives contents failed leave A (p ∷ ps) s t old new each =
 
 module _ {C N : Type 0} (gives : Gives C) (takes : Takings C) (name : C → N) (reads : (s t : C) (p : List ℕ) → gives s p t → name t ≡ name s)
     (writes : (s t : C) (w : List ℕ) → takes s w t → name t ≡ name s) where
-  left_each : (A : List ℕ → List ℕ → Type 0) (xs : List Act) (s t : Moment C) → ActsWhile gives takes A s t xs → name t.state ≡ name s.state
-  left_each A [] s t acts = ap (λ (x : Moment C). name x.state) (sym acts)
+  left_each : (A : List ℕ → List ℕ → Type 0) (xs : List Act) (s t : Transcript C) → ActsWhile gives takes A s t xs → name t.state ≡ name s.state
+  left_each A [] s t acts = ap (λ (x : Transcript C). name x.state) (sym acts)
   left_each A (got p ∷ xs) s t acts = left_each A xs _ t acts.3 ∙ reads s.state acts.1 p acts.2
   left_each A (put w ∷ xs) s t acts = left_each A xs _ t acts.2 ∙ writes s.state acts.0 w acts.1
 
@@ -151,15 +151,15 @@ module _ {C N : Type 0} (gives : Gives C) (takes : Takings C) (name : C → N) (
 module _ {C R : Type 0} (gives : Gives C) (takes : Takings C) (given : Gives R) (input : C → R)
     (reads : (s t : C) (p : List ℕ) → gives s p t → given (input s) p (input t))
     (writes : (s t : C) (w : List ℕ) → takes s w t → input t ≡ input s) where
-  read_each : (opens : List Exchange) (xs : List Act) (s t : Moment C) → ActsWhile gives takes (AwaitsAnswered opens) s t xs
-      → GivesWhile given (AwaitsNext opens) (input s.state) (input t.state) s.received t.received (pieces xs)
-  read_each opens [] s t acts = (ap (λ (x : Moment C). input x.state) acts, ap (λ (x : Moment C). x.received) acts)
+  read_each : (opens : List Exchange) (xs : List Act) (s t : Transcript C) → ActsWhile gives takes (AwaitsAnswered opens) s t xs
+      → GivesWhile given (AwaitsNext opens) (input s.state) (input t.state) s.received t.received (reads_of xs)
+  read_each opens [] s t acts = (ap (λ (x : Transcript C). input x.state) acts, ap (λ (x : Transcript C). x.received) acts)
   read_each opens (got p ∷ xs) s t acts = (acts.0.next, input acts.1, reads s.state acts.1 p acts.2, read_each opens xs _ t acts.3)
   read_each opens (put w ∷ xs) s t acts =
-      subst (λ (x : R). GivesWhile given (AwaitsNext opens) x (input t.state) s.received t.received (pieces xs)) (writes s.state acts.0 w acts.1)
+      subst (λ (x : R). GivesWhile given (AwaitsNext opens) x (input t.state) s.received t.received (reads_of xs)) (writes s.state acts.0 w acts.1)
       (read_each opens xs _ t acts.2)
 
   -- the reads alone
   pub reads_alone : (s t : C) (opens : List Exchange) (taken written : List ℕ) (answers : AnswersInTurn gives takes s t opens taken written)
-      → (turn : ReadsInTurn given (input s) (input t) opens taken) × (length turn.pieces ≡ length (pieces answers.acts))
-  reads_alone s t opens taken written answers = (record { pieces = pieces answers.acts; each = read_each opens answers.acts _ _ answers.each }, refl)
+      → (turn : ReadsInTurn given (input s) (input t) opens taken) × (length turn.pieces ≡ length (reads_of answers.acts))
+  reads_alone s t opens taken written answers = (record { pieces = reads_of answers.acts; each = read_each opens answers.acts _ _ answers.each }, refl)

@@ -12,7 +12,7 @@ use Rattle.trace_model.specs.Answers.{answer}
 use Rattle.trace_model.specs.StoreKnowledge.{History, IsPrefixOf, HasAt, KnownList, reached, lists_of, ForgetsNothing, Places, AnswersAt, SubmitKnows}
 use Rattle.trace_model.specs.StoreKnowledge.{ReadKnows}
 use Rattle.http_session.specs.Sessions.{Exchange, Submits, Reads, Step, Run}
-use Rattle.http_session.specs.HistoryPoints.{Seen, IsPoint, Gets, Related, nothing_seen}
+use Rattle.http_session.specs.HistoryPoints.{PointsSoFar, IsPoint, Gets, Related, no_points}
 use Rattle.http_session.specs.declared.verdict.Verdict.{Verdict}
 use Rattle.http_session.specs.declared.verdict.Verdict.TheVariants.{Submit, Ask, Reject}
 use Rattle.http_session.specs.declared.reply.Reply.{Reply}
@@ -35,23 +35,23 @@ module _ {S : Type 0} (limits : S → Limits) (knows : S → KnownList → Type 
   abbrev pub Placed : S → Batch × ℕ → Type 0
   Placed s pair = (h : History) × HasAt h pair.1 pair.0 × knows s (reached h)
 
-  pub record Holds (under : Limits) (knew : History → Type 0) (s : S) (seen : Seen) : Type 0 where
+  pub record Holds (under : Limits) (knew : History → Type 0) (s : S) (points : PointsSoFar) : Type 0 where
     pub same : limits s ≡ under
     pub old : (h : History) → knew h → knows s (reached h)
-    pub last : IfSome seen.point (lists_of knows s)
-    pub placed : All (Placed s) seen.accepted
+    pub last : IfSome points.point (lists_of knows s)
+    pub placed : All (Placed s) points.accepted
 
   last_kept : (s t : S) → ForgetsNothing limits knows s t → (o : Option History) → IfSome o (lists_of knows s) → IfSome o (lists_of knows t)
   last_kept s t keeps None k = tt
   last_kept s t keeps (Some h) k = keeps.knowledge (reached h) k
 
-  kept : (under : Limits) (knew : History → Type 0) (s t : S) (seen : Seen) → Holds under knew s seen → ForgetsNothing limits knows s t
-      → Holds under knew t seen
-  kept under knew s t seen holds keeps = record {
+  kept : (under : Limits) (knew : History → Type 0) (s t : S) (points : PointsSoFar) → Holds under knew s points → ForgetsNothing limits knows s t
+      → Holds under knew t points
+  kept under knew s t points holds keeps = record {
     same = keeps.same_limits ∙ holds.same;
     old = λ h k. keeps.knowledge (reached h) (holds.old h k);
-    last = last_kept s t keeps seen.point holds.last;
-    placed = All-weaker (Placed s) (Placed t) (λ pair p. (p.0, p.1, keeps.knowledge (reached p.0) p.2)) seen.accepted holds.placed;
+    last = last_kept s t keeps points.point holds.last;
+    placed = All-weaker (Placed s) (Placed t) (λ pair p. (p.0, p.1, keeps.knowledge (reached p.0) p.2)) points.accepted holds.placed;
   }
 
   behind : (knew : History → Type 0) (s : S) (o : Option History) (h : History) → ((l : History) → knew l → knows s (reached l)) → IfSome o (lists_of knows s)
@@ -60,61 +60,61 @@ module _ {S : Type 0} (limits : S → Limits) (knows : S → KnownList → Type 
   behind knew s None h old last all = λ l k. all l (old l k)
   behind knew s (Some before) h old last all = all before last
 
-  accepted : (under : Limits) (knew : History → Type 0) (s t : S) (seen : Seen) (b : Batch) (place : ℕ) → Holds under knew s seen
+  accepted : (under : Limits) (knew : History → Type 0) (s t : S) (points : PointsSoFar) (b : Batch) (place : ℕ) → Holds under knew s points
       → ForgetsNothing limits knows s t
       → Places limits knows b place t
-      → Holds under knew t (record seen { accepted = (b, place) ∷ seen.accepted })
-  accepted under knew s t seen b place holds keeps places =
-      let now = kept under knew s t seen holds keeps in
+      → Holds under knew t (record points { accepted = (b, place) ∷ points.accepted })
+  accepted under knew s t points b place holds keeps places =
+      let now = kept under knew s t points holds keeps in
       record {
         same = now.same;
         old = now.old;
         last = now.last;
-        placed = All-cons (Placed t) (b, place) seen.accepted (places.history, places.has, places.known) now.placed;
+        placed = All-cons (Placed t) (b, place) points.accepted (places.history, places.has, places.known) now.placed;
       }
 
-  pointed : (under : Limits) (knew : History → Type 0) (s t : S) (seen : Seen) (q : Query) (a : Answer) → Holds under knew s seen
+  pointed : (under : Limits) (knew : History → Type 0) (s t : S) (points : PointsSoFar) (q : Query) (a : Answer) → Holds under knew s points
       → ForgetsNothing limits knows s t
       → AnswersAt limits knows s q a t
-      → (next : Seen) × Gets knew under seen (Ask q) (Answered a) next × Holds under knew t next
-  pointed under knew s t seen q a holds keeps at =
-      let now = kept under knew s t seen holds keeps in
+      → (next : PointsSoFar) × Gets knew under points (Ask q) (Answered a) next × Holds under knew t next
+  pointed under knew s t points q a holds keeps at =
+      let now = kept under knew s t points holds keeps in
       let h = at.history in
-      let next : Seen = record seen { point = Some h } in
-      let point : IsPoint knew under seen h = record {
+      let next : PointsSoFar = record points { point = Some h } in
+      let point : IsPoint knew under points h = record {
         legal = subst (λ (l : Limits). IsLegal l h) now.same at.legal;
-        behind = behind knew s seen.point h holds.old holds.last at.behind;
+        behind = behind knew s points.point h holds.old holds.last at.behind;
         has =
             All-weaker (Placed s) (λ (pair : Batch × ℕ). HasAt h pair.1 pair.0)
-            (λ pair p. still_has p.0 h pair.1 pair.0 p.1 (at.behind p.0 p.2)) seen.accepted holds.placed;
+            (λ pair p. still_has p.0 h pair.1 pair.0 p.1 (at.behind p.0 p.2)) points.accepted holds.placed;
       } in
       let determined : a ≡ answer under h q = at.answer_is ∙ ap (λ (l : Limits). answer l h q) now.same in
       (next, (h, point, determined, refl), record { same = now.same; old = now.old; last = at.known; placed = now.placed })
 
-  goes : (under : Limits) (knew : History → Type 0) (s t : S) (seen : Seen) (verdict : Verdict) (reply : Reply) → Holds under knew s seen
+  goes : (under : Limits) (knew : History → Type 0) (s t : S) (points : PointsSoFar) (verdict : Verdict) (reply : Reply) → Holds under knew s points
       → Step submits reads s verdict reply t
-      → (next : Seen) × Gets knew under seen verdict reply next × Holds under knew t next
-  goes under knew s t seen (Submit b) Accepted holds step =
+      → (next : PointsSoFar) × Gets knew under points verdict reply next × Holds under knew t next
+  goes under knew s t points (Submit b) Accepted holds step =
       let (keeps, places) = submit_knows s b (Ok step.0) t step.1 in
-      (record seen { accepted = (b, step.0) ∷ seen.accepted }, (step.0, refl), accepted under knew s t seen b step.0 holds keeps places)
-  goes under knew s t seen (Submit b) (Refused r) holds step = (seen, refl, kept under knew s t seen holds (submit_knows s b (Err r) t step).0)
-  goes under knew s t seen (Ask q) (Answered a) holds step =
+      (record points { accepted = (b, step.0) ∷ points.accepted }, (step.0, refl), accepted under knew s t points b step.0 holds keeps places)
+  goes under knew s t points (Submit b) (Refused r) holds step = (points, refl, kept under knew s t points holds (submit_knows s b (Err r) t step).0)
+  goes under knew s t points (Ask q) (Answered a) holds step =
       let (keeps, at) = read_knows s q (Ok a) t step in
-      pointed under knew s t seen q a holds keeps at
-  goes under knew s t seen (Ask q) (Refused r) holds step = (seen, refl, kept under knew s t seen holds (read_knows s q (Err r) t step))
-  goes under knew s t seen (Reject error) (Error said) holds step = (seen, (step.0, refl), subst (λ (x : S). Holds under knew x seen) (sym step.1) holds)
-  goes under knew s t seen _ _ holds step = absurd step
+      pointed under knew s t points q a holds keeps at
+  goes under knew s t points (Ask q) (Refused r) holds step = (points, refl, kept under knew s t points holds (read_knows s q (Err r) t step))
+  goes under knew s t points (Reject error) (Error said) holds step = (points, (step.0, refl), subst (λ (x : S). Holds under knew x points) (sym step.1) holds)
+  goes under knew s t points _ _ holds step = absurd step
 
-  related : (under : Limits) (knew : History → Type 0) (s t : S) (seen : Seen) (xs : List Exchange) → Holds under knew s seen → Run submits reads s xs t
-      → Related knew under seen xs
-  related under knew s t seen [] holds run = tt
-  related under knew s t seen (x ∷ xs) holds run =
-      let on = goes under knew s run.0 seen x.verdict x.reply holds run.1 in
+  related : (under : Limits) (knew : History → Type 0) (s t : S) (points : PointsSoFar) (xs : List Exchange) → Holds under knew s points → Run submits reads s xs t
+      → Related knew under points xs
+  related under knew s t points [] holds run = tt
+  related under knew s t points (x ∷ xs) holds run =
+      let on = goes under knew s run.0 points x.verdict x.reply holds run.1 in
       (on.0, on.1, related under knew run.0 t on.0 xs on.2 run.2)
 
-  begin : (s : S) → Holds (limits s) (lists_of knows s) s nothing_seen
+  begin : (s : S) → Holds (limits s) (lists_of knows s) s no_points
   begin s = record { same = refl; old = λ h k. k; last = tt; placed = All-nil (Placed s) }
 
-  -- from the start, when nothing was seen
-  pub related_all : (s t : S) (xs : List Exchange) → Run submits reads s xs t → Related (lists_of knows s) (limits s) nothing_seen xs
-  related_all s t xs run = related (limits s) (lists_of knows s) s t nothing_seen xs (begin s) run
+  -- from the start, when there were no points
+  pub related_all : (s t : S) (xs : List Exchange) → Run submits reads s xs t → Related (lists_of knows s) (limits s) no_points xs
+  related_all s t xs run = related (limits s) (lists_of knows s) s t no_points xs (begin s) run

@@ -1,9 +1,9 @@
 -- A request that was heard: its head, and then its body.
-use Rattle.std.proofs.Common.{◌≡◌, ℕ, ◌≤◌, ◌<◌, Bool, true, List, [], ◌++◌, length, take, drop, Option, Some, None, refl, sym, ap, ◌∙◌, subst, arith, inl, inr}
+use Rattle.std.proofs.Common.{◌≡◌, ℕ, ◌<◌, true, List, [], ◌++◌, length, take, drop, Some, refl, sym, ap, ◌∙◌, subst, arith, inl, inr}
 use Rattle.std.proofs.Common.{append_assoc, append-nil, length-append}
-use Rattle.std.proofs.lemmas.List.{take-append-drop, take_all}
+use Rattle.std.proofs.lemmas.List.{take-append-drop}
 use Rattle.std.proofs.Math.Seq.{take-append_seam}
-use Rattle.httparse.specs.Grammar.{RequestHead, print_request}
+use Rattle.httparse.specs.Grammar.{print_request}
 use Rattle.batch_codec.specs.BatchReading.{decoded}
 use Rattle.batch_feeder.specs.FeederAnswers.{answers}
 use Rattle.session_devices.specs.ByteTakers.{Takings}
@@ -23,11 +23,11 @@ use Rattle.http_requests.specs.declared.body_reader.BodyLook.TheVariants as look
 use Rattle.http_requests.proofs.OneRequest.{head_stays}
 use Rattle.http_requests.proofs.WholeRequests.{head_cut}
 use Rattle.http_requests.proofs.Parts.{awaits_body, has_looked, ended_breaks, breaks_anyway}
-use Rattle.http_session.specs.Verdicts.{Judges, JudgesBatch, asked_of}
+use Rattle.http_session.specs.Verdicts.{JudgesBatch, asked_of}
 use Rattle.http_session.specs.Questions.{Decides, AsksQuestion, JudgesRead}
 use Rattle.http_session.specs.BodySinks.{Follows}
 use Rattle.http_session.specs.BodySinkLaws.{follows_joined}
-use Rattle.http_session.specs.IncomingRequests.{JudgesBy, Carries, IsPartOf, HasReceived, HasLookedBy, WaitsAfter, ReceivesOne, ReceivesFault, ReceivesPart}
+use Rattle.http_session.specs.IncomingRequests.{JudgesBy, Carries, IsPartOf, HasReceived, HasLookedBy, WaitsAfter, ReceivesFault, ReceivesPart}
 use Rattle.http_session.specs.IncomingRequests.{ReceivesWhole, ReceivesOf, FinishesAs, before_a_request}
 use Rattle.http_session.specs.declared.question.Question.{Question}
 use Rattle.http_session.specs.declared.question.Question.TheVariants as question
@@ -35,7 +35,6 @@ use Rattle.http_session.specs.declared.verdict.Verdict.{Verdict}
 use Rattle.http_session.specs.declared.receiving.Incoming.{Incoming}
 use Rattle.http_session.specs.declared.receiving.Incoming.TheVariants.{Request as OneRequest, Clean, NoRequest}
 use Rattle.http_session.specs.declared.receiving.BatchBody.{BatchBody}
-use Rattle.http_session.specs.declared.receiving.BodySink.{BodySink}
 use Rattle.http_session.specs.declared.receiving.BodySink.TheVariants.{Settled, Batch}
 use Rattle.http_session.specs.declared.receiving.PartialRequest.{PartialRequest}
 use Rattle.http_session.specs.declared.receiving.SessionStage.{SessionStage}

@@ -1,5 +1,5 @@
 -- What a store knows of its refusals stays known.
-use Rattle.std.proofs.Common.{List, [], ◌∷◌, All, Some, None, Ok, Err, sym, subst}
+use Rattle.std.proofs.Common.{List, [], ◌∷◌, Some, None, Ok, Err, sym, subst}
 use Rattle.std.proofs.lemmas.List.Elements.{All-weaker, All-cons, All-nil}
 use Rattle.jaeger_model.specs.declared.batch.Batch.{Batch}
 use Rattle.trace_model.specs.declared.refusal.Refusal.{Refusal}
@@ -7,9 +7,9 @@ use Rattle.trace_model.specs.declared.refusal.Refusal.TheVariants.{JournalFull, 
 use Rattle.trace_model.specs.declared.refusal.Refusal.TheVariants.{Conflict, Gone}
 use Rattle.trace_model.specs.StoreKnowledge.{refused, ForgetsNothing, KnowsRefusal}
 use Rattle.http_session.specs.Sessions.{Exchange, Step, Run}
-use Rattle.http_session.specs.ResponseOrder.{Line}
+use Rattle.http_session.specs.ResponseOrder.{ConnectionModel}
 use Rattle.http_session.specs.SessionRuns.{Store}
-use Rattle.http_session.specs.Pieces.{shared}
+use Rattle.http_session.specs.ResumableSessions.{shared}
 use Rattle.http_session.specs.KnownRefusals.{RefusalIsKnown, RefusalsAreKnown, RefusalsStayKnown, RefusalsStayKnownAmong}
 use Rattle.http_session.specs.declared.verdict.Verdict.{Verdict}
 use Rattle.http_session.specs.declared.verdict.Verdict.TheVariants.{Submit}
@@ -61,12 +61,12 @@ module _ {S : Type 0} (store : Store S) where
         (kept_of_one run.0 t x.verdict x.reply (run_keeps run.0 t xs run.2) (known_of_step s run.0 x.verdict x.reply run.1))
         (known_of_run run.0 t xs run.2)
 
-    pub stays_known : {C : Type 0} (line : Line C) → RefusalsStayKnown store line
-    stays_known line c0 c1 s t session (Ok None) it = known_of_run s t _ it.so_far.run
-    stays_known line c0 c1 s t session (Ok (Some ended)) it = known_of_run s t _ it.0.0.run
-    stays_known line c0 c1 s t session (Err error) it = known_of_run s t _ it.0.0.run
+    pub stays_known : {C : Type 0} (model : ConnectionModel C) → RefusalsStayKnown store model
+    stays_known model c0 c1 s t session (Ok None) it = known_of_run s t _ it.so_far.run
+    stays_known model c0 c1 s t session (Ok (Some ended)) it = known_of_run s t _ it.0.0.run
+    stays_known model c0 c1 s t session (Err error) it = known_of_run s t _ it.0.0.run
 
-module _ {S C : Type 0} (store : Store S) (promises : Promises store) (line : Line C) where
-  pub stays_known_among : RefusalsStayKnownAmong store line
+module _ {S C : Type 0} (store : Store S) (promises : Promises store) (model : ConnectionModel C) where
+  pub stays_known_among : RefusalsStayKnownAmong store model
   stays_known_among c0 c1 s t session result it =
-      kept_of_all store it.0 t _ it.2 (stays_known (shared store) (shared_promises store promises) line c0 c1 s it.0 session result it.1)
+      kept_of_all store it.0 t _ it.2 (stays_known (shared store) (shared_promises store promises) model c0 c1 s it.0 session result it.1)

@@ -19,23 +19,22 @@ use Rattle.http_requests.proofs.Readings.{nothing_yet, read_after, stops_reading
 use Rattle.http_session.specs.Verdicts.{BeginsWithQuery}
 use Rattle.http_session.specs.IncomingRequests.{before_a_request, HasReceived, WaitsAfter, ReceivesOne, ReceivesEnd, ReceivesFault, ReceivesPart}
 use Rattle.http_session.specs.IncomingRequests.{ReceivesNothing}
-use Rattle.http_session.specs.UnderwaySessions.{SoFar}
 use Rattle.http_session.specs.Replies.{closes, takes_no_memory, response_of}
 use Rattle.http_session.specs.Sessions.{Submits, Reads, Step, WritesResponse, cause_by}
-use Rattle.http_session.specs.ResponseOrder.{Line, IsTwoWay, EndsOver, FailsOver}
-use Rattle.http_session.specs.SessionRuns.{Store, store_of, connection_moment, EndsServed, FailsServed}
-use Rattle.http_session.specs.Pieces.{AsksOnce, AnswersSoFar, StaysUnderway, OutlastsWrites, SubmitsSome, ReadsSome, no_requests_yet}
-use Rattle.http_session.specs.Pieces.{CanContinue, AwaitsMore, shared, Underway, ComesTo, UnderwayAmong, GoesOn}
-use Rattle.http_session.specs.declared.pieces.Session.{Session}
+use Rattle.http_session.specs.ResponseOrder.{ConnectionModel, connection_moment, IsTwoWay, EndsOver, FailsOver}
+use Rattle.http_session.specs.SessionRuns.{Store, store_of, EndsServed, FailsServed}
+use Rattle.http_session.specs.ResumableSessions.{AsksOnce, AnswersSoFar, StaysUnderway, OutlastsWrites, SubmitsSome, ReadsSome, no_requests_yet}
+use Rattle.http_session.specs.ResumableSessions.{SoFar, CanContinue, AwaitsMore, shared, Underway, ComesTo, UnderwayAmong, GoesOn}
+use Rattle.http_session.specs.declared.resumable.Session.{Session}
 use Rattle.http_session.specs.declared.receiving.SessionStage.{SessionStage}
 use Rattle.http_session.specs.declared.verdict.Verdict.{Verdict}
 use Rattle.http_session.specs.declared.verdict.Verdict.TheVariants.{Submit, Ask, Reject}
 use Rattle.http_session.specs.declared.reply.Reply.{Reply}
 use Rattle.http_session.specs.declared.reply.Reply.TheVariants.{Accepted, Answered, Refused, Error, NoRequest}
-use Rattle.http_session.specs.declared.exchanges.Ended.{Ended}
-use Rattle.http_session.specs.declared.exchanges.SessionError.{SessionError}
-use Rattle.http_session.specs.declared.exchanges.SessionErrorKind.TheVariants.{Memory}
-use Rattle.http_session.specs.declared.exchanges.PartialWrite.{PartialWrite}
+use Rattle.http_session.specs.declared.whole_session.Ended.{Ended}
+use Rattle.http_session.specs.declared.whole_session.SessionError.{SessionError}
+use Rattle.http_session.specs.declared.whole_session.SessionErrorKind.TheVariants.{Memory}
+use Rattle.http_session.specs.declared.whole_session.PartialWrite.{PartialWrite}
 use Rattle.http_session.proofs.HistoryPoints.{related_all}
 use Rattle.http_session.proofs.IncomingParts.{malformed_if, waits_for_request, looked_by, looked_still}
 use Rattle.http_session.proofs.SessionTurns.{begins, reads_on, stays, ends_clean, ends_malformed, fails_reading, fails_stopped, fails_malformed, works_received}
@@ -99,23 +98,27 @@ module _ {S : Type 0} (store : Store S) where
     shared_promises = record { submit_knows = later_submit_knows; read_knows = later_read_knows }
 
     -- its answers are those of one growing history
-    pub ends_served : {C : Type 0} (line : Line C) (c0 c1 : C) (s t : S) (ended : Ended) → EndsOver store.submits store.reads line c0 c1 s t ended
-        → EndsServed store line (connection_moment c0 s) (connection_moment c1 t) ended
-    ends_served line c0 c1 s t ended over =
+    pub ends_served : {C : Type 0} (model : ConnectionModel C) (c0 c1 : C) (s t : S) (ended : Ended)
+        → EndsOver store.submits store.reads model (connection_moment c0 s) (connection_moment c1 t) ended
+        → EndsServed store model (connection_moment c0 s) (connection_moment c1 t) ended
+    ends_served model c0 c1 s t ended over =
         (over, related_all store.limits store.knows store.submits store.reads promises.submit_knows promises.read_knows s t _ over.0.run)
 
-    pub fails_served : {C : Type 0} (line : Line C) (c0 c1 : C) (s t : S) (error : SessionError) → FailsOver store.submits store.reads line c0 c1 s t error
-        → FailsServed store line (connection_moment c0 s) (connection_moment c1 t) error
-    fails_served line c0 c1 s t error over =
+    pub fails_served : {C : Type 0} (model : ConnectionModel C) (c0 c1 : C) (s t : S) (error : SessionError)
+        → FailsOver store.submits store.reads model (connection_moment c0 s) (connection_moment c1 t) error
+        → FailsServed store model (connection_moment c0 s) (connection_moment c1 t) error
+    fails_served model c0 c1 s t error over =
         (over, related_all store.limits store.knows store.submits store.reads promises.submit_knows promises.read_knows s t _ over.0.run)
 
 -- ---- what one piece does
 
-module _ {S C : Type 0} (store : Store S) (promises : Promises store) (line : Line C) (two : IsTwoWay line) (c1 : C) (t : S) (old new : Session) where
+module _ {S C : Type 0} (store : Store S) (promises : Promises store) (model : ConnectionModel C) (two : IsTwoWay model) (c1 : C) (t : S) (old new : Session) where
   -- the store isn't asked
   unasked : (c2 : C) (result : Result (Option Ended) SessionError)
-      → ((other : Store S) → Promises other → (c0 : C) (s m : S) → Underway other line c0 c1 s m old → ComesTo other line c0 c2 s m new result)
-      → GoesOn store line c1 c2 t t old new result
+      → ((other : Store S) → Promises other → (c0 : C) (s m : S)
+      → Underway other model (connection_moment c0 s) (connection_moment c1 m) old
+      → ComesTo other model (connection_moment c0 s) (connection_moment c2 m) new result)
+      → GoesOn store model c1 c2 t t old new result
   unasked c2 result each = record {
     alone = λ c0 s so. each store promises c0 s t so;
     among = λ c0 s under. (under.0, each (shared store) (shared_promises store promises) c0 s under.0 under.1, under.2);
@@ -123,9 +126,10 @@ module _ {S C : Type 0} (store : Store S) (promises : Promises store) (line : Li
 
   -- the store makes a step
   asked : (c2 : C) (u : S) (v : Verdict) (reply : Reply) (result : Result (Option Ended) SessionError) → Step store.submits store.reads t v reply u
-      → ((other : Store S) → Promises other → (c0 : C) (s m n : S) → Step other.submits other.reads m v reply n → Underway other line c0 c1 s m old
-      → ComesTo other line c0 c2 s n new result)
-      → GoesOn store line c1 c2 t u old new result
+      → ((other : Store S) → Promises other → (c0 : C) (s m n : S) → Step other.submits other.reads m v reply n
+      → Underway other model (connection_moment c0 s) (connection_moment c1 m) old
+      → ComesTo other model (connection_moment c0 s) (connection_moment c2 n) new result)
+      → GoesOn store model c1 c2 t u old new result
   asked c2 u v reply result step each = record {
     alone = λ c0 s so. each store promises c0 s t u step so;
     among = λ c0 s under.
@@ -134,112 +138,115 @@ module _ {S C : Type 0} (store : Store S) (promises : Promises store) (line : Li
   }
 
   -- memory ran out for a query
-  pub receives_no_query : line.in_failed c1 ≡ false → line.out_failed c1 ≡ false
+  pub receives_no_query : model.in_failed c1 ≡ false → model.out_failed c1 ≡ false
       → ((text : List ℕ) → HasReceived old.stage text → BeginsWithQuery (text ++ old.received.held))
-      → GoesOn store line c1 c1 t t old new (Err (record { answered = old.answered; written = 0; cause = Memory }))
+      → GoesOn store model c1 c1 t t old new (Err (record { answered = old.answered; written = 0; cause = Memory }))
   receives_no_query in_works out_works none =
       unasked c1 (Err (record { answered = old.answered; written = 0; cause = Memory }))
       (λ other kept c0 s m so.
       let here = put_back so.text old.received in
-      let nothing : ReceivesNothing line.source c1 c1 (line.in_failed c1) here why.Memory =
-      inr (record { here = here; reads = nothing_yet line.source AwaitsRequest c1 here; query = none so.text so.incoming }) in
-      fails_served other kept line c0 c1 s m _
-      (fails_reading other.submits other.reads line two (Unit {0})
+      let nothing : ReceivesNothing model.source c1 c1 (model.in_failed c1) here why.Memory =
+      inr (record { here = here; reads = nothing_yet model.source AwaitsRequest c1 here; query = none so.text so.incoming }) in
+      fails_served other kept model c0 c1 s m _
+      (fails_reading other.submits other.reads model two (Unit {0})
       c0 c1 c1 s m here old.answered false why.Memory so.so_far nothing in_works refl out_works))
 
   -- no more could be read
   pub receives_nothing : (A : Type 0) (c2 : C) (before : Bool) (stop : ReadError)
-      → ((text : List ℕ) → HasReceived old.stage text → StopsWhile line.source AwaitsRequest c1 c2 (line.in_failed c2) (put_back text old.received) stop)
-      → SameUnlessReading {A = A} before (line.in_failed c2) (Err stop) → before ≡ false → line.out_failed c1 ≡ false
-      → GoesOn store line c1 c2 t t old new (Err (record { answered = old.answered; written = 0; cause = cause_by stop }))
+      → ((text : List ℕ) → HasReceived old.stage text → StopsWhile model.source AwaitsRequest c1 c2 (model.in_failed c2) (put_back text old.received) stop)
+      → SameUnlessReading {A = A} before (model.in_failed c2) (Err stop) → before ≡ false → model.out_failed c1 ≡ false
+      → GoesOn store model c1 c2 t t old new (Err (record { answered = old.answered; written = 0; cause = cause_by stop }))
   receives_nothing A c2 before stop stops same was out =
       unasked c2 (Err (record { answered = old.answered; written = 0; cause = cause_by stop }))
       (λ other kept c0 s m so.
-      fails_served other kept line c0 c2 s m _
-      (fails_stopped other.submits other.reads line two A c0 c1 c2 s m (put_back so.text old.received) old.answered before stop so.so_far
+      fails_served other kept model c0 c2 s m _
+      (fails_stopped other.submits other.reads model two A c0 c1 c2 s m (put_back so.text old.received) old.answered before stop so.so_far
       (stops so.text so.incoming) same was out))
 
   pub receives_end : (here : ReadBuffer) → ((text : List ℕ) → HasReceived old.stage text → ReceivesEnd (put_back text old.received) here)
-      → GoesOn store line c1 c1 t t old new (Ok (Some (record { answered = old.answered; clean = true })))
+      → GoesOn store model c1 c1 t t old new (Ok (Some (record { answered = old.answered; clean = true })))
   receives_end here found =
       unasked c1 (Ok (Some (record { answered = old.answered; clean = true })))
       (λ other kept c0 s m so.
       let end = found so.text so.incoming in
-      let here_so = subst (λ (b : ReadBuffer). SoFar other.submits other.reads line c0 c1 s m b old.answered) end.same so.so_far in
-      ends_served other kept line c0 c1 s m _
-      (ends_clean other.submits other.reads line two c0 c1 s m here old.answered here_so (here_so.end end.ended, end.nothing)))
+      let here_so = subst (λ (b : ReadBuffer). SoFar other.submits other.reads model (connection_moment c0 s) (connection_moment c1 m) b old.answered)
+      end.same so.so_far in
+      ends_served other kept model c0 c1 s m _
+      (ends_clean other.submits other.reads model two c0 c1 s m here old.answered here_so (here_so.end end.ended, end.nothing)))
 
   pub parts : (c2 : C) (here : ReadBuffer) (b : RequestFault)
       → ((text : List ℕ) → HasReceived old.stage text → ReceivesFault (put_back text old.received) here b)
-      → Appends (line.contents c1) (line.contents c2) (response_of (NoRequest b) true) → line.takes c1 (response_of (NoRequest b) true) c2
-      → GoesOn store line c1 c2 t t old new (Ok (Some (record { answered = old.answered + 1; clean = false })))
+      → Appends (model.contents c1) (model.contents c2) (response_of (NoRequest b) true) → model.takes c1 (response_of (NoRequest b) true) c2
+      → GoesOn store model c1 c2 t t old new (Ok (Some (record { answered = old.answered + 1; clean = false })))
   parts c2 here b found wrote took =
       unasked c2 (Ok (Some (record { answered = old.answered + 1; clean = false })))
       (λ other kept c0 s m so.
       let fault = found so.text so.incoming in
-      let here_so = subst (λ (r : ReadBuffer). SoFar other.submits other.reads line c0 c1 s m r old.answered) fault.cut so.so_far in
-      ends_served other kept line c0 c2 s m _
-      (ends_malformed other.submits other.reads line two c0 c1 c2 s m _ old.answered b here_so (malformed_if _ _ b _ here_so.end fault.malformed)
+      let here_so = subst (λ (r : ReadBuffer). SoFar other.submits other.reads model (connection_moment c0 s) (connection_moment c1 m) r old.answered)
+      fault.cut so.so_far in
+      ends_served other kept model c0 c2 s m _
+      (ends_malformed other.submits other.reads model two c0 c1 c2 s m _ old.answered b here_so (malformed_if _ _ b _ here_so.end fault.malformed)
       wrote took))
 
   pub parts_not : (c2 : C) (here : ReadBuffer) (b : RequestFault) (partial_write : PartialWrite)
       → ((text : List ℕ) → HasReceived old.stage text → ReceivesFault (put_back text old.received) here b)
-      → WritesResponse (line.contents c1) (line.contents c2) false (line.out_failed c2) (response_of (NoRequest b) true) (Err partial_write)
-      → line.takes c1 (take partial_write.written (response_of (NoRequest b) true)) c2 → line.in_failed c1 ≡ false
-      → GoesOn store line c1 c2 t t old new (Err (record { answered = old.answered; written = partial_write.written; cause = partial_write.cause }))
+      → WritesResponse (model.contents c1) (model.contents c2) false (model.out_failed c2) (response_of (NoRequest b) true) (Err partial_write)
+      → model.takes c1 (take partial_write.written (response_of (NoRequest b) true)) c2 → model.in_failed c1 ≡ false
+      → GoesOn store model c1 c2 t t old new (Err (record { answered = old.answered; written = partial_write.written; cause = partial_write.cause }))
   parts_not c2 here b partial_write found said took works =
       unasked c2 (Err (record { answered = old.answered; written = partial_write.written; cause = partial_write.cause }))
       (λ other kept c0 s m so.
       let fault = found so.text so.incoming in
-      let here_so = subst (λ (r : ReadBuffer). SoFar other.submits other.reads line c0 c1 s m r old.answered) fault.cut so.so_far in
-      fails_served other kept line c0 c2 s m _
-      (fails_malformed other.submits other.reads line two c0 c1 c2 s m _ old.answered b partial_write here_so
+      let here_so = subst (λ (r : ReadBuffer). SoFar other.submits other.reads model (connection_moment c0 s) (connection_moment c1 m) r old.answered)
+      fault.cut so.so_far in
+      fails_served other kept model c0 c2 s m _
+      (fails_malformed other.submits other.reads model two c0 c1 c2 s m _ old.answered b partial_write here_so
       (malformed_if _ _ b _ here_so.end fault.malformed) said took works))
 
   module _ (c2 : C) (u : S) (here : ReadBuffer) (v : Verdict) (ask : Bool) (reply : Reply) (close : Bool)
       (found : (text : List ℕ) → HasReceived old.stage text → ReceivesOne (put_back text old.received) here v ask)
       (step : Step store.submits store.reads t v reply u) (close_is : close ≡ (ask || closes reply)) where
-    pub answers_last : Appends (line.contents c1) (line.contents c2) (response_of reply close) → line.takes c1 (response_of reply close) c2 → close ≡ true
-        → GoesOn store line c1 c2 t u old new (Ok (Some (record { answered = old.answered + 1; clean = false })))
+    pub answers_last : Appends (model.contents c1) (model.contents c2) (response_of reply close) → model.takes c1 (response_of reply close) c2 → close ≡ true
+        → GoesOn store model c1 c2 t u old new (Ok (Some (record { answered = old.answered + 1; clean = false })))
     answers_last wrote took leaves =
         asked c2 u v reply (Ok (Some (record { answered = old.answered + 1; clean = false }))) step
         (λ other kept c0 s m n one so.
-        ends_served other kept line c0 c2 s n _
-        (answered_last other.submits other.reads line two c0 c1 s m (put_back so.text old.received) here old.answered v ask so.so_far
+        ends_served other kept model c0 c2 s n _
+        (answered_last other.submits other.reads model two c0 c1 s m (put_back so.text old.received) here old.answered v ask so.so_far
         (found so.text so.incoming) c2 n reply close one close_is wrote took leaves))
 
     pub answers_not : (partial_write : PartialWrite)
-        → WritesResponse (line.contents c1) (line.contents c2) false (line.out_failed c2) (response_of reply close) (Err partial_write)
-        → line.takes c1 (take partial_write.written (response_of reply close)) c2 → line.in_failed c1 ≡ false
+        → WritesResponse (model.contents c1) (model.contents c2) false (model.out_failed c2) (response_of reply close) (Err partial_write)
+        → model.takes c1 (take partial_write.written (response_of reply close)) c2 → model.in_failed c1 ≡ false
         → (takes_no_memory reply ≡ true → partial_write.cause ≢ Memory)
-        → GoesOn store line c1 c2 t u old new (Err (record { answered = old.answered; written = partial_write.written; cause = partial_write.cause }))
+        → GoesOn store model c1 c2 t u old new (Err (record { answered = old.answered; written = partial_write.written; cause = partial_write.cause }))
     answers_not partial_write said took works spared =
         asked c2 u v reply (Err (record { answered = old.answered; written = partial_write.written; cause = partial_write.cause })) step
         (λ other kept c0 s m n one so.
-        fails_served other kept line c0 c2 s n _
-        (answered_not other.submits other.reads line two c0 c1 s m (put_back so.text old.received) here old.answered v ask so.so_far (found so.text so.incoming)
+        fails_served other kept model c0 c2 s n _
+        (answered_not other.submits other.reads model two c0 c1 s m (put_back so.text old.received) here old.answered v ask so.so_far (found so.text so.incoming)
         c2 n reply close one close_is partial_write said took works spared))
 
 -- a response was written, and the session stays open
-module _ {S C : Type 0} (store : Store S) (promises : Promises store) (line : Line C) (two : IsTwoWay line) (c1 c2 : C) (t u : S) (old : Session)
+module _ {S C : Type 0} (store : Store S) (promises : Promises store) (model : ConnectionModel C) (two : IsTwoWay model) (c1 c2 : C) (t u : S) (old : Session)
     (here : ReadBuffer) (v : Verdict) (ask : Bool) (reply : Reply)
     (close : Bool) (found : (text : List ℕ) → HasReceived old.stage text → ReceivesOne (put_back text old.received) here v ask) where
   pub answers_open : Step store.submits store.reads t v reply u → close ≡ (ask || closes reply)
-      → Appends (line.contents c1) (line.contents c2) (response_of reply close) → line.takes c1 (response_of reply close) c2 → close ≡ false
-      → GoesOn store line c1 c2 t u old (record { received = here; stage = before_a_request; answered = old.answered + 1 }) (Ok None)
+      → Appends (model.contents c1) (model.contents c2) (response_of reply close) → model.takes c1 (response_of reply close) c2 → close ≡ false
+      → GoesOn store model c1 c2 t u old (record { received = here; stage = before_a_request; answered = old.answered + 1 }) (Ok None)
   answers_open step close_is wrote took stays =
-      asked store promises line two c1 t old (record { received = here; stage = before_a_request; answered = old.answered + 1 }) c2 u v reply (Ok None) step
+      asked store promises model two c1 t old (record { received = here; stage = before_a_request; answered = old.answered + 1 }) c2 u v reply (Ok None) step
       (λ other kept c0 s m n one so. record {
         text = [];
         incoming = refl;
         so_far =
-            answered_open other.submits other.reads line two c0 c1 s m (put_back so.text old.received) here old.answered v ask so.so_far
+            answered_open other.submits other.reads model two c0 c1 s m (put_back so.text old.received) here old.answered v ask so.so_far
             (found so.text so.incoming) c2 n reply close one close_is wrote took stays;
       })
 
   -- and it can be gone on with
-  pub still_continues : (bytes : List ℕ) → line.takes c1 bytes c2 → CanContinue (line.source.remaining c1) old
-      → CanContinue (line.source.remaining c2) (record { received = here; stage = before_a_request; answered = old.answered + 1 })
+  pub still_continues : (bytes : List ℕ) → model.takes c1 bytes c2 → CanContinue (model.source.remaining c1) old
+      → CanContinue (model.source.remaining c2) (record { received = here; stage = before_a_request; answered = old.answered + 1 })
   still_continues bytes took can =
       let one = found can.text can.incoming in
       record {
@@ -252,23 +259,25 @@ module _ {S C : Type 0} (store : Store S) (promises : Promises store) (line : Li
 
 -- ---- a pause inside a request
 
-module _ {S C : Type 0} (store : Store S) (promises : Promises store) (line : Line C) (two : IsTwoWay line) (c1 : C) (t : S) (old : Session) (here : ReadBuffer)
+module _ {S C : Type 0} (store : Store S) (promises : Promises store) (model : ConnectionModel C) (two : IsTwoWay model) (c1 : C) (t : S) (old : Session) (here : ReadBuffer)
     (stage : SessionStage)
     (found : (text : List ℕ) → HasReceived old.stage text → ReceivesPart (put_back text old.received) here stage) where
   abbrev paused : Session
   paused = record { received = here; stage = stage; answered = old.answered }
 
-  pub pauses : GoesOn store line c1 c1 t t old paused (Ok None)
-  pauses = unasked store promises line two c1 t old paused c1 (Ok None)
+  pub pauses : GoesOn store model c1 c1 t t old paused (Ok None)
+  pauses = unasked store promises model two c1 t old paused c1 (Ok None)
       (λ other kept c0 s m so.
       let part = found so.text so.incoming in
       record {
         text = part.text;
         incoming = part.incoming;
-        so_far = subst (λ (b : ReadBuffer). SoFar other.submits other.reads line c0 c1 s m b old.answered) part.cut so.so_far;
+        so_far =
+            subst (λ (b : ReadBuffer). SoFar other.submits other.reads model (connection_moment c0 s) (connection_moment c1 m) b old.answered)
+            part.cut so.so_far;
       })
 
-  pub paused_continues : WaitsAfter stage here.held → CanContinue (line.source.remaining c1) old → CanContinue (line.source.remaining c1) paused
+  pub paused_continues : WaitsAfter stage here.held → CanContinue (model.source.remaining c1) old → CanContinue (model.source.remaining c1) paused
   paused_continues waits can =
       let part = found can.text can.incoming in
       let held : length (can.text ++ old.received.held) ≡ length (part.text ++ here.held) = ap (λ (b : ReadBuffer). length b.held) part.cut in
@@ -287,28 +296,28 @@ awaits_more session waits open_still =
 
 -- ---- one read
 
-module _ {S C : Type 0} (store : Store S) (promises : Promises store) (line : Line C) (two : IsTwoWay line) (c1 c2 : C) (t : S) (old : Session)
+module _ {S C : Type 0} (store : Store S) (promises : Promises store) (model : ConnectionModel C) (two : IsTwoWay model) (c1 c2 : C) (t : S) (old : Session)
     (new : ReadBuffer) (awaits : AwaitsMore old)
-    (on : ReadsOn (line.source.remaining c1) (line.source.remaining c2) old.received new) (read : IsRead line.source.gives c1 c2 old.received new) where
+    (on : ReadsOn (model.source.remaining c1) (model.source.remaining c2) old.received new) (read : IsRead model.source.gives c1 c2 old.received new) where
   abbrev with_more : Session
   with_more = record old { received = new }
 
-  read_with : (text : List ℕ) → HasReceived old.stage text → ReadsOnWhile line.source AwaitsRequest c1 c2 (put_back text old.received) (put_back text new)
+  read_with : (text : List ℕ) → HasReceived old.stage text → ReadsOnWhile model.source AwaitsRequest c1 c2 (put_back text old.received) (put_back text new)
   read_with text incoming =
-      read_after line.source AwaitsRequest c1 c1 c2 (put_back text old.received) old.received new text
-      (nothing_yet line.source AwaitsRequest c1 (put_back text old.received)) (awaits.awaits text incoming) on read
+      read_after model.source AwaitsRequest c1 c1 c2 (put_back text old.received) old.received new text
+      (nothing_yet model.source AwaitsRequest c1 (put_back text old.received)) (awaits.awaits text incoming) on read
 
-  pub goes_on_reading : GoesOn store line c1 c2 t t old with_more (Ok None)
-  goes_on_reading = unasked store promises line two c1 t old with_more c2 (Ok None)
+  pub goes_on_reading : GoesOn store model c1 c2 t t old with_more (Ok None)
+  goes_on_reading = unasked store promises model two c1 t old with_more c2 (Ok None)
       (λ other kept c0 s m so. record {
         text = so.text;
         incoming = so.incoming;
         so_far =
-            reads_on other.submits other.reads line two c0 c1 c2 s m (put_back so.text old.received) (put_back so.text new) old.answered so.so_far
+            reads_on other.submits other.reads model two c0 c1 c2 s m (put_back so.text old.received) (put_back so.text new) old.answered so.so_far
             (read_with so.text so.incoming);
       })
 
-  pub read_continues : CanContinue (line.source.remaining c1) old → CanContinue (line.source.remaining c2) with_more
+  pub read_continues : CanContinue (model.source.remaining c1) old → CanContinue (model.source.remaining c2) with_more
   read_continues can =
       let held : length new.held ≡ length old.received.held + length on.more = ap length on.held ∙ length-append old.received.held on.more in
       record {
@@ -320,24 +329,24 @@ module _ {S C : Type 0} (store : Store S) (promises : Promises store) (line : Li
       }
 
   -- the devices that worked work still
-  pub works_read : line.in_failed c2 ≡ line.in_failed c1 → (line.in_failed c1 ≡ false) × (line.out_failed c1 ≡ false) → (text : List ℕ)
+  pub works_read : model.in_failed c2 ≡ model.in_failed c1 → (model.in_failed c1 ≡ false) × (model.out_failed c1 ≡ false) → (text : List ℕ)
       → HasReceived old.stage text
-      → (line.in_failed c2 ≡ false) × (line.out_failed c2 ≡ false)
-  works_read same works text incoming = works_received line two c1 c2 (put_back text old.received) (put_back text new) (read_with text incoming) same works
+      → (model.in_failed c2 ≡ false) × (model.out_failed c2 ≡ false)
+  works_read same works text incoming = works_received model two c1 c2 (put_back text old.received) (put_back text new) (read_with text incoming) same works
 
 -- a read that gave nothing
-pub stops_with : {C : Type 0} (line : Line C) (c1 c2 : C) (old : Session) (stop : ReadError) → AwaitsMore old
-    → ReadFails line.source c1 c2 (line.in_failed c2) old.received stop
-    → (text : List ℕ) → HasReceived old.stage text → StopsWhile line.source AwaitsRequest c1 c2 (line.in_failed c2) (put_back text old.received) stop
-stops_with line c1 c2 old stop awaits last text incoming =
-    stops_reading line.source AwaitsRequest c1 c1 c2 (line.in_failed c2) (put_back text old.received) old.received text stop
-    (nothing_yet line.source AwaitsRequest c1 (put_back text old.received)) (awaits.awaits text incoming) last
+pub stops_with : {C : Type 0} (model : ConnectionModel C) (c1 c2 : C) (old : Session) (stop : ReadError) → AwaitsMore old
+    → ReadFails model.source c1 c2 (model.in_failed c2) old.received stop
+    → (text : List ℕ) → HasReceived old.stage text → StopsWhile model.source AwaitsRequest c1 c2 (model.in_failed c2) (put_back text old.received) stop
+stops_with model c1 c2 old stop awaits last text incoming =
+    stops_reading model.source AwaitsRequest c1 c1 c2 (model.in_failed c2) (put_back text old.received) old.received text stop
+    (nothing_yet model.source AwaitsRequest c1 (put_back text old.received)) (awaits.awaits text incoming) last
 
 -- one piece and then another
-pub goes_on_then : {S C : Type 0} (store : Store S) (line : Line C) (c1 c2 c3 : C) (t u w : S) (old mid new : Session)
+pub goes_on_then : {S C : Type 0} (store : Store S) (model : ConnectionModel C) (c1 c2 c3 : C) (t u w : S) (old mid new : Session)
     (result : Result (Option Ended) SessionError)
-    → GoesOn store line c1 c2 t u old mid (Ok None) → GoesOn store line c2 c3 u w mid new result → GoesOn store line c1 c3 t w old new result
-goes_on_then store line c1 c2 c3 t u w old mid new result first second =
+    → GoesOn store model c1 c2 t u old mid (Ok None) → GoesOn store model c2 c3 u w mid new result → GoesOn store model c1 c3 t w old new result
+goes_on_then store model c1 c2 c3 t u w old mid new result first second =
     record { alone = λ c0 s so. second.alone c0 s (first.alone c0 s so); among = λ c0 s under. second.among c0 s (first.among c0 s under) }
 
 -- ---- before the first piece
@@ -345,12 +354,12 @@ goes_on_then store line c1 c2 c3 t u w old mid new result first second =
 pub can_begin : (input : Option (List ℕ)) → CanContinue input no_requests_yet
 can_begin input = record { text = []; incoming = refl; looked = (omega arith, no_bytes_await); end = λ e. absurd (cc e); most = omega arith }
 
-module _ {S C : Type 0} (store : Store S) (line : Line C) (two : IsTwoWay line) (c : C) (s : S) where
-  pub begins_alone : Underway store line c c s s no_requests_yet
-  begins_alone = record { text = []; incoming = refl; so_far = begins store.submits store.reads line two c s }
+module _ {S C : Type 0} (store : Store S) (model : ConnectionModel C) (two : IsTwoWay model) (c : C) (s : S) where
+  pub begins_alone : Underway store model (connection_moment c s) (connection_moment c s) no_requests_yet
+  begins_alone = record { text = []; incoming = refl; so_far = begins store.submits store.reads model two c s }
 
-  pub begins_among : UnderwayAmong store line c c s s no_requests_yet
-  begins_among = (s, record { text = []; incoming = refl; so_far = begins (shared store).submits (shared store).reads line two c s }, keeps_all store s)
+  pub begins_among : UnderwayAmong store model c c s s no_requests_yet
+  begins_among = (s, record { text = []; incoming = refl; so_far = begins (shared store).submits (shared store).reads model two c s }, keeps_all store s)
 
 -- ---- what a step keeps
 
@@ -373,43 +382,43 @@ module _ {S : Type 0} (store : Store S) (promises : Promises store) where
 
 -- ---- in a pause
 
-module _ {S C : Type 0} (store : Store S) (promises : Promises store) (line : Line C) where
-  pub others_forget_nothing : StaysUnderway store line (ForgetsNothing store.limits store.knows)
+module _ {S C : Type 0} (store : Store S) (promises : Promises store) (model : ConnectionModel C) where
+  pub others_forget_nothing : StaysUnderway store model (ForgetsNothing store.limits store.knows)
   others_forget_nothing c0 c1 s t u session under keeps = (under.0, under.1, keeps_on store under.0 t u under.2 keeps)
 
-  pub others_submit : StaysUnderway store line (SubmitsSome store)
+  pub others_submit : StaysUnderway store model (SubmitsSome store)
   others_submit c0 c1 s t u session under does = others_forget_nothing c0 c1 s t u session under (submit_keeps store promises t u does.0 does.1 does.2)
 
-  pub others_read : StaysUnderway store line (ReadsSome store)
+  pub others_read : StaysUnderway store model (ReadsSome store)
   others_read c0 c1 s t u session under does = others_forget_nothing c0 c1 s t u session under (read_keeps store promises t u does.0 does.1 does.2)
 
-  pub others_go_on : StaysUnderway store line (AsksOnce store)
-  others_go_on c0 c1 s t u session under (inl same) = subst (λ (x : S). UnderwayAmong store line c0 c1 s x session) (sym same) under
+  pub others_go_on : StaysUnderway store model (AsksOnce store)
+  others_go_on c0 c1 s t u session under (inl same) = subst (λ (x : S). UnderwayAmong store model c0 c1 s x session) (sym same) under
   others_go_on c0 c1 s t u session under (inr does) = others_forget_nothing c0 c1 s t u session under (step_keeps store promises t u does.0 does.1 does.2)
 
   -- and when the connection has taken nothing
-  pub outlasts_writes : IsTwoWay line → OutlastsWrites store line
+  pub outlasts_writes : IsTwoWay model → OutlastsWrites store model
   outlasts_writes two c0 c1 c2 s t session under took kept = (
     under.0,
     record {
       text = under.1.text;
       incoming = under.1.incoming;
       so_far =
-          stays (shared store).submits (shared store).reads line two c0 c1 c2 s under.0 (put_back under.1.text session.received)
+          stays (shared store).submits (shared store).reads model two c0 c1 c2 s under.0 (put_back under.1.text session.received)
           session.answered under.1.so_far took kept;
     },
     under.2,
   )
 
-  pub answers_of_one_history : AnswersSoFar store line
+  pub answers_of_one_history : AnswersSoFar store model
   answers_of_one_history c0 c1 s t session under =
       let kept = shared_promises store promises in
       related_all store.limits store.knows (shared store).submits
       (shared store).reads kept.submit_knows kept.read_knows s under.0 under.1.so_far.opens under.1.so_far.run
 
 -- nothing was done yet
-pub goes_nowhere : {S C : Type 0} (store : Store S) (line : Line C) (c : C) (t : S) (session : Session) → GoesOn store line c c t t session session (Ok None)
-goes_nowhere store line c t session = record { alone = λ c0 s so. so; among = λ c0 s under. under }
+pub goes_nowhere : {S C : Type 0} (store : Store S) (model : ConnectionModel C) (c : C) (t : S) (session : Session) → GoesOn store model c c t t session session (Ok None)
+goes_nowhere store model c t session = record { alone = λ c0 s so. so; among = λ c0 s under. under }
 
 pub asks_from : {S : Type 0} (store : Store S) (s m t : S) → m ≡ s → AsksOnce store m t → AsksOnce store s t
 asks_from {S = S} store s m t same asks = subst (λ (x : S). AsksOnce store x t) same asks

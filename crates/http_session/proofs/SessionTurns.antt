@@ -20,12 +20,12 @@ use Rattle.http_session.specs.Replies.{response_of, takes_no_memory}
 use Rattle.http_session.specs.Sessions.{Exchange, IsExchange, LeavesOpen, texts, response_to, responses, Submits, Reads, Step, Run, Ending, clean, closing}
 use Rattle.http_session.specs.Sessions.{malformed, last_of, IsEnding, malformed_response, malformed_responses, is_clean, Due, none_yet, due, due_malformed}
 use Rattle.http_session.specs.Sessions.{exchange_due, NothingWasDue, IsDue, bytes_due, is_spared, IsCause, WritesResponse, cause_by}
-use Rattle.http_session.specs.ResponseOrder.{Line, line_of, IsTwoWay, pieces, EndsOver, FailsOver}
-use Rattle.http_session.specs.UnderwaySessions.{SoFar}
+use Rattle.http_session.specs.ResponseOrder.{ConnectionModel, connection_moment, model_of, IsTwoWay, reads_of, EndsOver, FailsOver}
+use Rattle.http_session.specs.ResumableSessions.{SoFar}
 use Rattle.http_session.specs.declared.reply.Reply.TheVariants.{NoRequest}
-use Rattle.http_session.specs.declared.exchanges.SessionErrorKind.{SessionErrorKind}
-use Rattle.http_session.specs.declared.exchanges.SessionErrorKind.TheVariants.{Reading, Writing, Memory}
-use Rattle.http_session.specs.declared.exchanges.PartialWrite.{PartialWrite}
+use Rattle.http_session.specs.declared.whole_session.SessionErrorKind.{SessionErrorKind}
+use Rattle.http_session.specs.declared.whole_session.SessionErrorKind.TheVariants.{Reading, Writing, Memory}
+use Rattle.http_session.specs.declared.whole_session.PartialWrite.{PartialWrite}
 use Rattle.http_session.proofs.ConnectionSteps.{read_more, said_before, said_on, said_as, reads_left}
 
 responses_more : (xs : List Exchange) (x : Exchange) → responses (xs ++ x ∷ []) ≡ responses xs ++ response_to x
@@ -61,45 +61,46 @@ still_consumed source s m t failed bytes read (inr fails) = Consumes-kept (sourc
 
 -- a connection of which reads leave what was written, and writes what is still to be read
 pub two_way : {C : Type 0} {remaining contents : C → Option (List ℕ)} {gives : Gives C} {takes : Takings C} {in_failed out_failed : C → Bool}
-    → LeavesOther C gives contents out_failed → LeavesOther C takes remaining in_failed → IsTwoWay (line_of remaining gives in_failed contents takes out_failed)
+    → LeavesOther C gives contents out_failed → LeavesOther C takes remaining in_failed → IsTwoWay (model_of remaining gives in_failed contents takes out_failed)
 two_way reads_leave writes_leave = record { reads_leave = reads_leave; writes_leave = writes_leave }
 
-module _ {C : Type 0} (line : Line C) (two : IsTwoWay line) where
+module _ {C : Type 0} (model : ConnectionModel C) (two : IsTwoWay model) where
   -- reads change nothing of the output
-  output_kept : (c1 c2 : C) (old new : ReadBuffer) → ReadsOnWhile line.source AwaitsRequest c1 c2 old new → (line.contents c2 ≡ line.contents c1)
-      × (line.out_failed c2 ≡ line.out_failed c1)
+  output_kept : (c1 c2 : C) (old new : ReadBuffer) → ReadsOnWhile model.source AwaitsRequest c1 c2 old new → (model.contents c2 ≡ model.contents c1)
+      × (model.out_failed c2 ≡ model.out_failed c1)
   output_kept c1 c2 old new more =
-      let alone = uncounted line.source.gives AwaitsRequest c1 c2 old.left new.left old.held new.held more.waits in
-      reads_left line.source.gives line.contents line.out_failed two.reads_leave AwaitsRequest alone.0.pieces c1 c2 old.held new.held alone.0.each
+      let alone = uncounted model.source.gives AwaitsRequest c1 c2 old.left new.left old.held new.held more.waits in
+      reads_left model.source.gives model.contents model.out_failed two.reads_leave AwaitsRequest alone.0.pieces c1 c2 old.held new.held alone.0.each
 
   -- nor does one that failed
-  output_still : (c1 c2 : C) (failed : Bool) → (c2 ≡ c1) ⊎ FailsToRead line.source c1 c2 failed → (line.contents c2 ≡ line.contents c1)
-      × (line.out_failed c2 ≡ line.out_failed c1)
-  output_still c1 c2 failed (inl same) = (ap line.contents same, ap line.out_failed same)
+  output_still : (c1 c2 : C) (failed : Bool) → (c2 ≡ c1) ⊎ FailsToRead model.source c1 c2 failed → (model.contents c2 ≡ model.contents c1)
+      × (model.out_failed c2 ≡ model.out_failed c1)
+  output_still c1 c2 failed (inl same) = (ap model.contents same, ap model.out_failed same)
   output_still c1 c2 failed (inr fails) = two.reads_leave c1 c2 [] fails.2
 
   -- a connection that worked works still: where a request was awaited and this went on
-  pub works_received : (c1 c2 : C) (old new : ReadBuffer) → ReadsOnWhile line.source AwaitsRequest c1 c2 old new → line.in_failed c2 ≡ line.in_failed c1
-      → (line.in_failed c1 ≡ false) × (line.out_failed c1 ≡ false) → (line.in_failed c2 ≡ false) × (line.out_failed c2 ≡ false)
+  pub works_received : (c1 c2 : C) (old new : ReadBuffer) → ReadsOnWhile model.source AwaitsRequest c1 c2 old new → model.in_failed c2 ≡ model.in_failed c1
+      → (model.in_failed c1 ≡ false) × (model.out_failed c1 ≡ false) → (model.in_failed c2 ≡ false) × (model.out_failed c2 ≡ false)
   works_received c1 c2 old new more same works = (same ∙ works.0, (output_kept c1 c2 old new more).1 ∙ works.1)
 
   -- and where bytes were written and the output works as before
-  pub works_said : (c1 c2 : C) (bytes : List ℕ) → line.takes c1 bytes c2 → line.out_failed c2 ≡ line.out_failed c1
-      → (line.in_failed c1 ≡ false) × (line.out_failed c1 ≡ false) → (line.in_failed c2 ≡ false) × (line.out_failed c2 ≡ false)
+  pub works_said : (c1 c2 : C) (bytes : List ℕ) → model.takes c1 bytes c2 → model.out_failed c2 ≡ model.out_failed c1
+      → (model.in_failed c1 ≡ false) × (model.out_failed c1 ≡ false) → (model.in_failed c2 ≡ false) × (model.out_failed c2 ≡ false)
   works_said c1 c2 bytes took same works = ((two.writes_leave c1 c2 bytes took).1 ∙ works.0, same ∙ works.1)
 
-module _ {S C : Type 0} (submits : Submits S) (reads : Reads S) (line : Line C) (two : IsTwoWay line) where
-  pub begins : (c : C) (s : S) → SoFar submits reads line c c s s (record { held = []; left = MAX_READS; ended = false }) 0
+module _ {S C : Type 0} (submits : Submits S) (reads : Reads S) (model : ConnectionModel C) (two : IsTwoWay model) where
+  pub begins : (c : C) (s : S)
+      → SoFar submits reads model (connection_moment c s) (connection_moment c s) (record { held = []; left = MAX_READS; ended = false }) 0
   begins c s = record {
     taken = [];
     opens = [];
-    read = Consumes-nil (line.source.remaining c);
+    read = Consumes-nil (model.source.remaining c);
     answers = record { acts = []; each = refl };
     made = omega arith;
     split = refl;
     each = search rules;
     run = refl;
-    written = Appends-nil (line.contents c);
+    written = Appends-nil (model.contents c);
     count = refl;
     least = omega arith;
     most = omega arith;
@@ -108,27 +109,28 @@ module _ {S C : Type 0} (submits : Submits S) (reads : Reads S) (line : Line C) 
 
   -- more was read
   pub reads_on : (c0 c1 c2 : C) (s t : S) (old new : ReadBuffer) (answered : ℕ)
-      → SoFar submits reads line c0 c1 s t old answered → ReadsOnWhile line.source AwaitsRequest c1 c2 old new → SoFar submits reads line c0 c2 s t new answered
+      → SoFar submits reads model (connection_moment c0 s) (connection_moment c1 t) old answered → ReadsOnWhile model.source AwaitsRequest c1 c2 old new
+      → SoFar submits reads model (connection_moment c0 s) (connection_moment c2 t) new answered
   reads_on c0 c1 c2 s t old new answered so more =
       let on = more.on in
-      let alone = uncounted line.source.gives AwaitsRequest c1 c2 old.left new.left old.held new.held more.waits in
+      let alone = uncounted model.source.gives AwaitsRequest c1 c2 old.left new.left old.held new.held more.waits in
       let long : length (so.taken ++ on.more) ≡ length so.taken + length on.more = length-append so.taken on.more in
       let held : length new.held ≡ length old.held + length on.more = ap length on.held ∙ length-append old.held on.more in
       let split : so.taken ++ on.more ≡ texts so.opens ++ new.held =
       ap (λ l. l ++ on.more) so.split ∙ append_assoc (texts so.opens) old.held on.more ∙ ap (λ l. texts so.opens ++ l) (sym on.held) in
-      let answers = read_more line.source.gives line.takes c0 c1 c2 so.opens so.taken old.held new.held (so.taken ++ on.more)
+      let answers = read_more model.source.gives model.takes c0 c1 c2 so.opens so.taken old.held new.held (so.taken ++ on.more)
       so.answers so.split alone.0 split in
       record {
         taken = so.taken ++ on.more;
         opens = so.opens;
-        read = Consumes-trans (line.source.remaining c0) (line.source.remaining c1) (line.source.remaining c2) so.taken on.more so.read on.read;
+        read = Consumes-trans (model.source.remaining c0) (model.source.remaining c1) (model.source.remaining c2) so.taken on.more so.read on.read;
         answers = answers.0;
         made = omega (arith, so.made, alone.1, answers.1);
         split = split;
         each = so.each;
         run = so.run;
         written =
-            subst (λ (o : Option (List ℕ)). Appends (line.contents c0) o (responses so.opens)) (sym (output_kept line two c1 c2 old new more).0) so.written;
+            subst (λ (o : Option (List ℕ)). Appends (model.contents c0) o (responses so.opens)) (sym (output_kept model two c1 c2 old new more).0) so.written;
         count = so.count;
         least = omega (arith, so.least, on.least, long);
         most = omega (arith, so.most, on.most, held);
@@ -137,26 +139,27 @@ module _ {S C : Type 0} (submits : Submits S) (reads : Reads S) (line : Line C) 
 
   -- a request was answered, and the session goes on
   pub goes_on : (c0 c1 c2 : C) (s t u : S) (old : ReadBuffer) (rest : List ℕ) (answered : ℕ) (x : Exchange)
-      → SoFar submits reads line c0 c1 s t old answered → IsExchange x → x.close ≡ false → old.held ≡ x.text ++ rest → 0 < length x.text
-      → Step submits reads t x.verdict x.reply u → Appends (line.contents c1) (line.contents c2) (response_to x) → line.takes c1 (response_to x) c2
-      → SoFar submits reads line c0 c2 s u (record old { held = rest }) (answered + 1)
+      → SoFar submits reads model (connection_moment c0 s) (connection_moment c1 t) old answered → IsExchange x → x.close ≡ false → old.held ≡ x.text ++ rest
+      → 0 < length x.text
+      → Step submits reads t x.verdict x.reply u → Appends (model.contents c1) (model.contents c2) (response_to x) → model.takes c1 (response_to x) c2
+      → SoFar submits reads model (connection_moment c0 s) (connection_moment c2 u) (record old { held = rest }) (answered + 1)
   goes_on c0 c1 c2 s t u old rest answered x so is open_is cut some step wrote took =
       let sizes : length old.held ≡ length x.text + length rest = ap length cut ∙ length-append x.text rest in
       let same = (two.writes_leave c1 c2 (response_to x) took).0 in
-      let before = said_before line.source.gives line.takes c0 c1 so.opens (x ∷ []) so.taken (responses so.opens) so.answers in
-      let said = said_on line.source.gives line.takes c0 c1 c2 (so.opens ++ x ∷ []) so.taken (responses so.opens) (response_to x)
+      let before = said_before model.source.gives model.takes c0 c1 so.opens (x ∷ []) so.taken (responses so.opens) so.answers in
+      let said = said_on model.source.gives model.takes c0 c1 c2 (so.opens ++ x ∷ []) so.taken (responses so.opens) (response_to x)
       (responses (so.opens ++ x ∷ [])) before.0 took (responses_more so.opens x) in
       record {
         taken = so.taken;
         opens = so.opens ++ x ∷ [];
-        read = subst (λ (r : Option (List ℕ)). Consumes (line.source.remaining c0) r so.taken) (sym same) so.read;
+        read = subst (λ (r : Option (List ℕ)). Consumes (model.source.remaining c0) r so.taken) (sym same) so.read;
         answers = said.0;
-        made = omega (arith, so.made, said.1, ap (λ a. length (pieces a)) before.1);
+        made = omega (arith, so.made, said.1, ap (λ a. length (reads_of a)) before.1);
         split = split_more so.taken old.held rest so.opens x so.split cut;
         each = All-append LeavesOpen so.opens (x ∷ []) so.each (All-cons LeavesOpen x [] (record { exchange = is; open_is = open_is }) (All-nil LeavesOpen));
         run = run_more submits reads s t u so.opens x so.run step;
-        written = subst (Appends (line.contents c0) (line.contents c2)) (sym (responses_more so.opens x))
-            (Appends-trans (line.contents c0) (line.contents c1) (line.contents c2) (responses so.opens) (response_to x) so.written wrote);
+        written = subst (Appends (model.contents c0) (model.contents c2)) (sym (responses_more so.opens x))
+            (Appends-trans (model.contents c0) (model.contents c1) (model.contents c2) (responses so.opens) (response_to x) so.written wrote);
         count = ap (λ n. n + 1) so.count ∙ sym (length-append so.opens (x ∷ []));
         least = so.least;
         most = omega (arith, so.most, sizes, some);
@@ -165,22 +168,23 @@ module _ {S C : Type 0} (submits : Submits S) (reads : Reads S) (line : Line C) 
 
   -- the connection went on without taking anything, and what was written stays
   pub stays : (c0 c1 c2 : C) (s t : S) (received : ReadBuffer) (answered : ℕ)
-      → SoFar submits reads line c0 c1 s t received answered → line.takes c1 [] c2 → KeepsBytes (line.contents c1) (line.contents c2)
-      → SoFar submits reads line c0 c2 s t received answered
+      → SoFar submits reads model (connection_moment c0 s) (connection_moment c1 t) received answered → model.takes c1 [] c2
+      → KeepsBytes (model.contents c1) (model.contents c2)
+      → SoFar submits reads model (connection_moment c0 s) (connection_moment c2 t) received answered
   stays c0 c1 c2 s t received answered so took kept =
       let same = (two.writes_leave c1 c2 [] took).0 in
-      let said = said_on line.source.gives line.takes c0 c1 c2 so.opens so.taken (responses so.opens) [] (responses so.opens) so.answers took
+      let said = said_on model.source.gives model.takes c0 c1 c2 so.opens so.taken (responses so.opens) [] (responses so.opens) so.answers took
       (sym (append-nil (responses so.opens))) in
       record {
         taken = so.taken;
         opens = so.opens;
-        read = subst (λ (r : Option (List ℕ)). Consumes (line.source.remaining c0) r so.taken) (sym same) so.read;
+        read = subst (λ (r : Option (List ℕ)). Consumes (model.source.remaining c0) r so.taken) (sym same) so.read;
         answers = said.0;
         made = omega (arith, so.made, said.1);
         split = so.split;
         each = so.each;
         run = so.run;
-        written = Appends-kept (line.contents c0) (line.contents c1) (line.contents c2) (responses so.opens) so.written kept;
+        written = Appends-kept (model.contents c0) (model.contents c1) (model.contents c2) (responses so.opens) so.written kept;
         count = so.count;
         least = so.least;
         most = so.most;
@@ -190,8 +194,8 @@ module _ {S C : Type 0} (submits : Submits S) (reads : Reads S) (line : Line C) 
   -- ---- a session that ends
 
   pub ends_clean : (c0 c1 : C) (s t : S) (old : ReadBuffer) (answered : ℕ)
-      → SoFar submits reads line c0 c1 s t old answered → IsAtEnd (line.source.remaining c1) × (old.held ≡ [])
-      → EndsOver submits reads line c0 c1 s t (record { answered = answered; clean = true })
+      → SoFar submits reads model (connection_moment c0 s) (connection_moment c1 t) old answered → IsAtEnd (model.source.remaining c1) × (old.held ≡ [])
+      → EndsOver submits reads model (connection_moment c0 s) (connection_moment c1 t) (record { answered = answered; clean = true })
   ends_clean c0 c1 s t old answered so found =
       let same : responses (so.opens ++ []) ++ [] ≡ responses so.opens = append-nil (responses (so.opens ++ [])) ∙ ap responses (append-nil so.opens) in (
         record {
@@ -204,21 +208,21 @@ module _ {S C : Type 0} (submits : Submits S) (reads : Reads S) (line : Line C) 
           each = so.each;
           ends = found;
           run = run_all submits reads s t so.opens so.run;
-          written = subst (Appends (line.contents c0) (line.contents c1)) (sym same) so.written;
+          written = subst (Appends (model.contents c0) (model.contents c1)) (sym same) so.written;
           count = so.count ∙ omega (arith, length-append {A = Exchange} so.opens []);
           clean_is = refl;
         },
-        said_as line.source.gives line.takes c0 c1 so.opens so.taken (responses so.opens) (responses (so.opens ++ []) ++ []) so.answers same,
+        said_as model.source.gives model.takes c0 c1 so.opens so.taken (responses so.opens) (responses (so.opens ++ []) ++ []) so.answers same,
       )
 
   -- a response was written, and the session ends after it
   ends_saying : (c0 c1 c2 : C) (s t u : S) (old : ReadBuffer) (answered : ℕ) (ending : Ending) (rest said : List ℕ)
-      → (so : SoFar submits reads line c0 c1 s t old answered) → so.taken ≡ texts (so.opens ++ last_of ending) ++ rest
-      → IsEnding (IsAtEnd (line.source.remaining c1)) rest ending → Run submits reads s (so.opens ++ last_of ending) u
+      → (so : SoFar submits reads model (connection_moment c0 s) (connection_moment c1 t) old answered) → so.taken ≡ texts (so.opens ++ last_of ending) ++ rest
+      → IsEnding (IsAtEnd (model.source.remaining c1)) rest ending → Run submits reads s (so.opens ++ last_of ending) u
       → responses (so.opens ++ last_of ending) ++ malformed_response ending ≡ responses so.opens ++ said
       → length (last_of ending) + malformed_responses ending ≡ 1 → false ≡ is_clean ending
-      → Appends (line.contents c1) (line.contents c2) said → line.takes c1 said c2
-      → EndsOver submits reads line c0 c2 s u (record { answered = answered + 1; clean = false })
+      → Appends (model.contents c1) (model.contents c2) said → model.takes c1 said c2
+      → EndsOver submits reads model (connection_moment c0 s) (connection_moment c2 u) (record { answered = answered + 1; clean = false })
   ends_saying c0 c1 c2 s t u old answered ending rest said so split is run all one unclean wrote took =
       let same = (two.writes_leave c1 c2 said took).0 in (
         record {
@@ -226,33 +230,33 @@ module _ {S C : Type 0} (submits : Submits S) (reads : Reads S) (line : Line C) 
           opens = so.opens;
           ending = ending;
           rest = rest;
-          read = subst (λ (r : Option (List ℕ)). Consumes (line.source.remaining c0) r so.taken) (sym same) so.read;
+          read = subst (λ (r : Option (List ℕ)). Consumes (model.source.remaining c0) r so.taken) (sym same) so.read;
           split = split;
           each = so.each;
           ends = subst (λ (r : Option (List ℕ)). IsEnding (IsAtEnd r) rest ending) (sym same) is;
           run = run;
-          written = subst (Appends (line.contents c0) (line.contents c2)) (sym all)
-              (Appends-trans (line.contents c0) (line.contents c1) (line.contents c2) (responses so.opens) said so.written wrote);
+          written = subst (Appends (model.contents c0) (model.contents c2)) (sym all)
+              (Appends-trans (model.contents c0) (model.contents c1) (model.contents c2) (responses so.opens) said so.written wrote);
           count = omega (arith, so.count, one, length-append so.opens (last_of ending));
           clean_is = unclean;
         },
-        (said_on line.source.gives line.takes c0 c1 c2 so.opens so.taken (responses so.opens) said
+        (said_on model.source.gives model.takes c0 c1 c2 so.opens so.taken (responses so.opens) said
             (responses (so.opens ++ last_of ending) ++ malformed_response ending) so.answers took all).0,
       )
 
   pub ends_malformed : (c0 c1 c2 : C) (s t : S) (old : ReadBuffer) (answered : ℕ) (b : RequestFault)
-      → SoFar submits reads line c0 c1 s t old answered → IsMalformed (IsAtEnd (line.source.remaining c1)) old.held b
-      → Appends (line.contents c1) (line.contents c2) (response_of (NoRequest b) true) → line.takes c1 (response_of (NoRequest b) true) c2
-      → EndsOver submits reads line c0 c2 s t (record { answered = answered + 1; clean = false })
+      → SoFar submits reads model (connection_moment c0 s) (connection_moment c1 t) old answered → IsMalformed (IsAtEnd (model.source.remaining c1)) old.held b
+      → Appends (model.contents c1) (model.contents c2) (response_of (NoRequest b) true) → model.takes c1 (response_of (NoRequest b) true) c2
+      → EndsOver submits reads model (connection_moment c0 s) (connection_moment c2 t) (record { answered = answered + 1; clean = false })
   ends_malformed c0 c1 c2 s t old answered b so is wrote took =
       ends_saying c0 c1 c2 s t t old answered (malformed b) old.held (response_of (NoRequest b) true) so (split_all so.taken old.held so.opens so.split) is
       (run_all submits reads s t so.opens so.run)
       (ap (λ (l : List Exchange). responses l ++ response_of (NoRequest b) true) (append-nil so.opens)) refl refl wrote took
 
   pub ends_closing : (c0 c1 c2 : C) (s t u : S) (old : ReadBuffer) (rest : List ℕ) (answered : ℕ) (x : Exchange)
-      → SoFar submits reads line c0 c1 s t old answered → IsExchange x → x.close ≡ true → old.held ≡ x.text ++ rest
-      → Step submits reads t x.verdict x.reply u → Appends (line.contents c1) (line.contents c2) (response_to x) → line.takes c1 (response_to x) c2
-      → EndsOver submits reads line c0 c2 s u (record { answered = answered + 1; clean = false })
+      → SoFar submits reads model (connection_moment c0 s) (connection_moment c1 t) old answered → IsExchange x → x.close ≡ true → old.held ≡ x.text ++ rest
+      → Step submits reads t x.verdict x.reply u → Appends (model.contents c1) (model.contents c2) (response_to x) → model.takes c1 (response_to x) c2
+      → EndsOver submits reads model (connection_moment c0 s) (connection_moment c2 u) (record { answered = answered + 1; clean = false })
   ends_closing c0 c1 c2 s t u old rest answered x so is closes_is cut step wrote took =
       ends_saying c0 c1 c2 s t u old answered (closing x) rest (response_to x) so (split_more so.taken old.held rest so.opens x so.split cut) (is, closes_is)
       (run_more submits reads s t u so.opens x so.run step)
@@ -267,34 +271,35 @@ module _ {S C : Type 0} (submits : Submits S) (reads : Reads S) (line : Line C) 
 
   -- where nothing was due
   fails_none : (c0 c1 c2 : C) (s t : S) (here : ReadBuffer) (answered : ℕ) (cause : SessionErrorKind)
-      → (so : SoFar submits reads line c0 c1 s t here answered) → NothingWasDue cause here.held → (c2 ≡ c1) ⊎ FailsToRead line.source c1 c2 (line.in_failed c2)
-      → ((made : ℕ) → here.left + made ≡ MAX_READS → IsCause cause (line.in_failed c2) (line.out_failed c2) so.taken made)
-      → FailsOver submits reads line c0 c2 s t (record { answered = answered; written = 0; cause = cause })
+      → (so : SoFar submits reads model (connection_moment c0 s) (connection_moment c1 t) here answered) → NothingWasDue cause here.held
+      → (c2 ≡ c1) ⊎ FailsToRead model.source c1 c2 (model.in_failed c2)
+      → ((made : ℕ) → here.left + made ≡ MAX_READS → IsCause cause (model.in_failed c2) (model.out_failed c2) so.taken made)
+      → FailsOver submits reads model (connection_moment c0 s) (connection_moment c2 t) (record { answered = answered; written = 0; cause = cause })
   fails_none c0 c1 c2 s t here answered cause so nothing last is_cause =
-      let same = (output_still line two c1 c2 (line.in_failed c2) last).0 in (
+      let same = (output_still model two c1 c2 (model.in_failed c2) last).0 in (
         record {
           taken = so.taken;
           opens = so.opens;
           next = none_yet;
           rest = here.held;
-          read = still_consumed line.source c0 c1 c2 (line.in_failed c2) so.taken so.read last;
+          read = still_consumed model.source c0 c1 c2 (model.in_failed c2) so.taken so.read last;
           split = split_all so.taken here.held so.opens so.split;
           each = so.each;
           next_is = nothing;
           run = run_all submits reads s t so.opens so.run;
           within = never_writing cause here.held nothing;
-          written = subst (Appends (line.contents c0) (line.contents c2)) (sym (append-nil (responses so.opens)))
-              (subst (λ (o : Option (List ℕ)). Appends (line.contents c0) o (responses so.opens)) (sym same) so.written);
+          written = subst (Appends (model.contents c0) (model.contents c2)) (sym (append-nil (responses so.opens)))
+              (subst (λ (o : Option (List ℕ)). Appends (model.contents c0) o (responses so.opens)) (sym same) so.written);
           count = so.count;
-          made = length (pieces so.answers.acts);
-          cause = is_cause (length (pieces so.answers.acts)) so.made;
+          made = length (reads_of so.answers.acts);
+          cause = is_cause (length (reads_of so.answers.acts)) so.made;
           unwritten = λ e. refl;
           spared = λ e. absurd (cc e);
         },
         record {
           before = c1;
           answers =
-              said_as line.source.gives line.takes c0 c1 so.opens so.taken (responses so.opens) (responses so.opens ++ []) so.answers
+              said_as model.source.gives model.takes c0 c1 so.opens so.taken (responses so.opens) (responses so.opens ++ []) so.answers
               (append-nil (responses so.opens));
           count = refl;
           last = last;
@@ -303,15 +308,16 @@ module _ {S C : Type 0} (submits : Submits S) (reads : Reads S) (line : Line C) 
 
   -- no more could be read for the request that was awaited
   pub fails_stopped : (A : Type 0) (c0 c1 c2 : C) (s t : S) (old : ReadBuffer) (answered : ℕ) (before : Bool) (stop : ReadError)
-      → SoFar submits reads line c0 c1 s t old answered → StopsWhile line.source AwaitsRequest c1 c2 (line.in_failed c2) old stop
-      → SameUnlessReading {A = A} before (line.in_failed c2) (Err stop) → before ≡ false → line.out_failed c1 ≡ false
-      → FailsOver submits reads line c0 c2 s t (record { answered = answered; written = 0; cause = cause_by stop })
+      → SoFar submits reads model (connection_moment c0 s) (connection_moment c1 t) old answered
+      → StopsWhile model.source AwaitsRequest c1 c2 (model.in_failed c2) old stop
+      → SameUnlessReading {A = A} before (model.in_failed c2) (Err stop) → before ≡ false → model.out_failed c1 ≡ false
+      → FailsOver submits reads model (connection_moment c0 s) (connection_moment c2 t) (record { answered = answered; written = 0; cause = cause_by stop })
   fails_stopped A c0 c1 c2 s t old answered before why.Reading so stops same was out =
       let all = reads_on c0 c1 stops.before s t old stops.here answered so stops.reads in
-      let last : (c2 ≡ stops.before) ⊎ FailsToRead line.source stops.before c2 (line.in_failed c2) =
+      let last : (c2 ≡ stops.before) ⊎ FailsToRead model.source stops.before c2 (model.in_failed c2) =
       elim stops.last [ inl over ↦ inl over.0 | inr failed ↦ inr failed ] in
-      let works : line.out_failed c2 ≡ false =
-      (output_still line two stops.before c2 (line.in_failed c2) last).1 ∙ (output_kept line two c1 stops.before old stops.here stops.reads).1 ∙ out in
+      let works : model.out_failed c2 ≡ false =
+      (output_still model two stops.before c2 (model.in_failed c2) last).1 ∙ (output_kept model two c1 stops.before old stops.here stops.reads).1 ∙ out in
       fails_none c0 stops.before c2 s t stops.here answered Reading all stops.awaits last
       (λ made sum. (
         elim stops.last [
@@ -322,13 +328,14 @@ module _ {S C : Type 0} (submits : Submits S) (reads : Reads S) (line : Line C) 
       ))
   fails_stopped A c0 c1 c2 s t old answered before why.Memory so stops same was out =
       let all = reads_on c0 c1 stops.before s t old stops.here answered so stops.reads in
-      let works : line.out_failed c2 ≡ false = ap line.out_failed stops.last ∙ (output_kept line two c1 stops.before old stops.here stops.reads).1 ∙ out in
+      let works : model.out_failed c2 ≡ false = ap model.out_failed stops.last ∙ (output_kept model two c1 stops.before old stops.here stops.reads).1 ∙ out in
       fails_none c0 stops.before c2 s t stops.here answered Memory all (inl stops.awaits) (inl stops.last) (λ made sum. (same ∙ was, works))
 
   pub fails_reading : (A : Type 0) (c0 c1 c2 : C) (s t : S) (old : ReadBuffer) (answered : ℕ) (before : Bool) (stop : ReadError)
-      → SoFar submits reads line c0 c1 s t old answered → ReceivesNothing line.source c1 c2 (line.in_failed c2) old stop
-      → SameUnlessReading {A = A} before (line.in_failed c2) (Err stop) → before ≡ false → line.out_failed c1 ≡ false
-      → FailsOver submits reads line c0 c2 s t (record { answered = answered; written = 0; cause = cause_by stop })
+      → SoFar submits reads model (connection_moment c0 s) (connection_moment c1 t) old answered
+      → ReceivesNothing model.source c1 c2 (model.in_failed c2) old stop
+      → SameUnlessReading {A = A} before (model.in_failed c2) (Err stop) → before ≡ false → model.out_failed c1 ≡ false
+      → FailsOver submits reads model (connection_moment c0 s) (connection_moment c2 t) (record { answered = answered; written = 0; cause = cause_by stop })
   fails_reading A c0 c1 c2 s t old answered before why.Reading so stops same was out =
       fails_stopped A c0 c1 c2 s t old answered before why.Reading so stops same was out
   fails_reading A c0 c1 c2 s t old answered before why.Memory so (inl stops) same was out =
@@ -336,11 +343,11 @@ module _ {S C : Type 0} (submits : Submits S) (reads : Reads S) (line : Line C) 
   fails_reading A c0 c1 c2 s t old answered before why.Memory so (inr none) same was out =
       let all = reads_on c0 c1 c2 s t old none.here answered so none.reads in
       fails_none c0 c2 c2 s t none.here answered Memory all (inr none.query) (inl refl)
-      (λ made sum. (same ∙ was, (output_kept line two c1 c2 old none.here none.reads).1 ∙ out))
+      (λ made sum. (same ∙ was, (output_kept model two c1 c2 old none.here none.reads).1 ∙ out))
 
   -- there was no memory before the first request
-  pub fails_to_begin : (c : C) (s : S) → line.in_failed c ≡ false → line.out_failed c ≡ false
-      → FailsOver submits reads line c c s s (record { answered = 0; written = 0; cause = Memory })
+  pub fails_to_begin : (c : C) (s : S) → model.in_failed c ≡ false → model.out_failed c ≡ false
+      → FailsOver submits reads model (connection_moment c s) (connection_moment c s) (record { answered = 0; written = 0; cause = Memory })
   fails_to_begin c s in_works out_works =
       fails_none c c c s s (record { held = []; left = MAX_READS; ended = false }) 0 Memory (begins c s) nothing_was_due (inl refl)
       (λ made sum. (in_works, out_works))
@@ -361,57 +368,61 @@ module _ {S C : Type 0} (submits : Submits S) (reads : Reads S) (line : Line C) 
 
   -- where a response was due, of which a part was written
   fails_saying : (c0 c1 c2 : C) (s t u : S) (old : ReadBuffer) (answered : ℕ) (next : Due) (rest : List ℕ) (partial_write : PartialWrite)
-      → (so : SoFar submits reads line c0 c1 s t old answered) → so.taken ≡ texts (so.opens ++ exchange_due next) ++ rest
-      → IsDue (IsAtEnd (line.source.remaining c1)) partial_write.cause rest next → Run submits reads s (so.opens ++ exchange_due next) u
-      → WritesResponse (line.contents c1) (line.contents c2) false (line.out_failed c2) (bytes_due next) (Err partial_write)
-      → line.takes c1 (take partial_write.written (bytes_due next)) c2 → line.in_failed c1 ≡ false
+      → (so : SoFar submits reads model (connection_moment c0 s) (connection_moment c1 t) old answered)
+      → so.taken ≡ texts (so.opens ++ exchange_due next) ++ rest
+      → IsDue (IsAtEnd (model.source.remaining c1)) partial_write.cause rest next → Run submits reads s (so.opens ++ exchange_due next) u
+      → WritesResponse (model.contents c1) (model.contents c2) false (model.out_failed c2) (bytes_due next) (Err partial_write)
+      → model.takes c1 (take partial_write.written (bytes_due next)) c2 → model.in_failed c1 ≡ false
       → (is_spared next ≡ true → partial_write.cause ≢ Memory)
-      → FailsOver submits reads line c0 c2 s u (record { answered = answered; written = partial_write.written; cause = partial_write.cause })
+      → FailsOver submits reads model (connection_moment c0 s) (connection_moment c2 u)
+      (record { answered = answered; written = partial_write.written; cause = partial_write.cause })
   fails_saying c0 c1 c2 s t u old answered next rest partial_write so split is run said took in_works spared =
       let part = take partial_write.written (bytes_due next) in
       let same = two.writes_leave c1 c2 part took in
-      let made = length (pieces so.answers.acts) in
-      let answers = said_on line.source.gives line.takes c0 c1 c2 so.opens so.taken (responses so.opens) part (responses so.opens ++ part)
+      let made = length (reads_of so.answers.acts) in
+      let answers = said_on model.source.gives model.takes c0 c1 c2 so.opens so.taken (responses so.opens) part (responses so.opens ++ part)
       so.answers took refl in (
         record {
           taken = so.taken;
           opens = so.opens;
           next = next;
           rest = rest;
-          read = subst (λ (r : Option (List ℕ)). Consumes (line.source.remaining c0) r so.taken) (sym same.0) so.read;
+          read = subst (λ (r : Option (List ℕ)). Consumes (model.source.remaining c0) r so.taken) (sym same.0) so.read;
           split = split;
           each = so.each;
           next_is = subst (λ (r : Option (List ℕ)). IsDue (IsAtEnd r) partial_write.cause rest next) (sym same.0) is;
           run = run;
           within = said.0;
-          written = Appends-trans (line.contents c0) (line.contents c1) (line.contents c2) (responses so.opens) part so.written said.1;
+          written = Appends-trans (model.contents c0) (model.contents c1) (model.contents c2) (responses so.opens) part so.written said.1;
           count = so.count;
           made = made;
           cause =
-              cause_of_partial_write partial_write.cause partial_write.written (line.in_failed c2) (line.out_failed c2) so.taken made (same.1 ∙ in_works)
+              cause_of_partial_write partial_write.cause partial_write.written (model.in_failed c2) (model.out_failed c2) so.taken made (same.1 ∙ in_works)
               said.2 said.3 said.4;
-          unwritten = unwritten_of_partial_write partial_write.cause partial_write.written (line.out_failed c2) said.2 said.4;
+          unwritten = unwritten_of_partial_write partial_write.cause partial_write.written (model.out_failed c2) said.2 said.4;
           spared = spared;
         },
         record { before = c2; answers = answers.0; count = answers.1; last = inl refl },
       )
 
   pub fails_due : (c0 c1 c2 : C) (s t u : S) (old : ReadBuffer) (rest : List ℕ) (answered : ℕ) (x : Exchange) (partial_write : PartialWrite)
-      → SoFar submits reads line c0 c1 s t old answered → IsExchange x → old.held ≡ x.text ++ rest
+      → SoFar submits reads model (connection_moment c0 s) (connection_moment c1 t) old answered → IsExchange x → old.held ≡ x.text ++ rest
       → Step submits reads t x.verdict x.reply u
-      → WritesResponse (line.contents c1) (line.contents c2) false (line.out_failed c2) (response_to x) (Err partial_write)
-      → line.takes c1 (take partial_write.written (response_to x)) c2 → line.in_failed c1 ≡ false
+      → WritesResponse (model.contents c1) (model.contents c2) false (model.out_failed c2) (response_to x) (Err partial_write)
+      → model.takes c1 (take partial_write.written (response_to x)) c2 → model.in_failed c1 ≡ false
       → (takes_no_memory x.reply ≡ true → partial_write.cause ≢ Memory)
-      → FailsOver submits reads line c0 c2 s u (record { answered = answered; written = partial_write.written; cause = partial_write.cause })
+      → FailsOver submits reads model (connection_moment c0 s) (connection_moment c2 u)
+      (record { answered = answered; written = partial_write.written; cause = partial_write.cause })
   fails_due c0 c1 c2 s t u old rest answered x partial_write so is cut step said took in_works spared =
       fails_saying c0 c1 c2 s t u old answered (due x) rest partial_write so (split_more so.taken old.held rest so.opens x so.split cut) (is, said.2)
       (run_more submits reads s t u so.opens x so.run step) said took in_works spared
 
   pub fails_malformed : (c0 c1 c2 : C) (s t : S) (old : ReadBuffer) (answered : ℕ) (b : RequestFault) (partial_write : PartialWrite)
-      → SoFar submits reads line c0 c1 s t old answered → IsMalformed (IsAtEnd (line.source.remaining c1)) old.held b
-      → WritesResponse (line.contents c1) (line.contents c2) false (line.out_failed c2) (response_of (NoRequest b) true) (Err partial_write)
-      → line.takes c1 (take partial_write.written (response_of (NoRequest b) true)) c2 → line.in_failed c1 ≡ false
-      → FailsOver submits reads line c0 c2 s t (record { answered = answered; written = partial_write.written; cause = partial_write.cause })
+      → SoFar submits reads model (connection_moment c0 s) (connection_moment c1 t) old answered → IsMalformed (IsAtEnd (model.source.remaining c1)) old.held b
+      → WritesResponse (model.contents c1) (model.contents c2) false (model.out_failed c2) (response_of (NoRequest b) true) (Err partial_write)
+      → model.takes c1 (take partial_write.written (response_of (NoRequest b) true)) c2 → model.in_failed c1 ≡ false
+      → FailsOver submits reads model (connection_moment c0 s) (connection_moment c2 t)
+      (record { answered = answered; written = partial_write.written; cause = partial_write.cause })
   fails_malformed c0 c1 c2 s t old answered b partial_write so is said took in_works =
       fails_saying c0 c1 c2 s t t old answered (due_malformed b) old.held partial_write so (split_all so.taken old.held so.opens so.split) (is, said.2)
       (run_all submits reads s t so.opens so.run) said took in_works

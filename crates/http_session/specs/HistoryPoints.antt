@@ -12,30 +12,30 @@ use Rattle.http_session.specs.declared.reply.Reply.{Reply}
 use Rattle.http_session.specs.declared.reply.Reply.TheVariants.{Accepted, Answered, Refused, Error}
 
 -- the last point, and the batches accepted so far with their places
-pub record Seen : Type 0 where
+pub record PointsSoFar : Type 0 where
   pub point : Option History
   pub accepted : List (Batch × ℕ)
 
-abbrev pub nothing_seen : Seen
-nothing_seen = record { point = None; accepted = [] }
+abbrev pub no_points : PointsSoFar
+no_points = record { point = None; accepted = [] }
 
 -- A list from which a query may be answered: it is legal, it starts with the previous point (the first one with every
 -- list that the store knew), and it has each accepted batch at its place.
-pub record IsPoint (knew : History → Type 0) (limits : Limits) (seen : Seen) (h : History) : Type 0 where
+pub record IsPoint (knew : History → Type 0) (limits : Limits) (points : PointsSoFar) (h : History) : Type 0 where
   pub legal : IsLegal limits h
-  pub behind : MatchOption seen.point ((l : History) → knew l → IsPrefixOf l h) (λ before. IsPrefixOf before h)
-  pub has : All (λ (pair : Batch × ℕ). HasAt h pair.1 pair.0) seen.accepted
+  pub behind : MatchOption points.point ((l : History) → knew l → IsPrefixOf l h) (λ before. IsPrefixOf before h)
+  pub has : All (λ (pair : Batch × ℕ). HasAt h pair.1 pair.0) points.accepted
 
 -- the reply that a verdict may get, and the point and batches after it
-abbrev pub Gets : (History → Type 0) → Limits → Seen → Verdict → Reply → Seen → Type 0
-Gets knew limits seen (Submit b) Accepted next = (place : ℕ) × (next ≡ record seen { accepted = (b, place) ∷ seen.accepted })
-Gets knew limits seen (Submit b) (Refused r) next = next ≡ seen
-Gets knew limits seen (Ask q) (Answered a) next = (h : History) × IsPoint knew limits seen h × (a ≡ answer limits h q) × (next ≡ record seen { point = Some h })
-Gets knew limits seen (Ask q) (Refused r) next = next ≡ seen
-Gets knew limits seen (Reject error) (Error said) next = (said ≡ error) × (next ≡ seen)
-Gets knew limits seen _ _ next = ⊥
+abbrev pub Gets : (History → Type 0) → Limits → PointsSoFar → Verdict → Reply → PointsSoFar → Type 0
+Gets knew limits points (Submit b) Accepted next = (place : ℕ) × (next ≡ record points { accepted = (b, place) ∷ points.accepted })
+Gets knew limits points (Submit b) (Refused r) next = next ≡ points
+Gets knew limits points (Ask q) (Answered a) next = (h : History) × IsPoint knew limits points h × (a ≡ answer limits h q) × (next ≡ record points { point = Some h })
+Gets knew limits points (Ask q) (Refused r) next = next ≡ points
+Gets knew limits points (Reject error) (Error said) next = (said ≡ error) × (next ≡ points)
+Gets knew limits points _ _ next = ⊥
 
 -- each exchange in turn
-abbrev pub Related : (History → Type 0) → Limits → Seen → List Exchange → Type 0
-Related knew limits seen [] = Unit {0}
-Related knew limits seen (x ∷ xs) = (next : Seen) × Gets knew limits seen x.verdict x.reply next × Related knew limits next xs
+abbrev pub Related : (History → Type 0) → Limits → PointsSoFar → List Exchange → Type 0
+Related knew limits points [] = Unit {0}
+Related knew limits points (x ∷ xs) = (next : PointsSoFar) × Gets knew limits points x.verdict x.reply next × Related knew limits next xs

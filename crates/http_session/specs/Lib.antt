@@ -8,8 +8,7 @@ pub mod Responses
 pub mod Sessions
 pub mod ReadTurns
 pub mod ResponseOrder
-pub mod UnderwaySessions
 pub mod HistoryPoints
 pub mod SessionRuns
-pub mod Pieces
+pub mod ResumableSessions
 pub mod KnownRefusals

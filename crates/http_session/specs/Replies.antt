@@ -1,5 +1,5 @@
 -- Replies, and the bytes of their responses.
-use Rattle.std.specs.Prelude.{ℕ, ◌==◌, ◌||◌, List, [], ◌++◌, Bool, true, false, Some, None, codes}
+use Rattle.std.specs.Prelude.{ℕ, ◌==◌, ◌||◌, List, [], ◌++◌, Bool, true, false, if◌then◌else◌, Some, None, codes}
 use Rattle.serde_json.specs.Written.{compact_text}
 use Rattle.batch_codec.specs.Faults.{fault_text}
 use Rattle.trace_model.specs.declared.answer.Answer.{Answer}
@@ -9,10 +9,10 @@ use Rattle.trace_model.specs.declared.refusal.Refusal.TheVariants as why
 use Rattle.http_requests.specs.declared.request.RequestFault.{RequestFault}
 use Rattle.http_requests.specs.declared.request.RequestFault.TheVariants as fault
 use Rattle.query_http.specs.declared.paths.Endpoint.{Endpoint}
-use Rattle.query_http.specs.declared.paths.Endpoint.TheVariants as at
 use Rattle.query_http.specs.Faults.{parameter_name}
 use Rattle.query_http.specs.Responses.{response}
 use Rattle.query_json.specs.Trees.{answer_tree, error_tree}
+use Rattle.http_session.specs.Verdicts.{takes_post}
 use Rattle.http_session.specs.declared.verdict.ErrorReply.{ErrorReply}
 use Rattle.http_session.specs.declared.verdict.ErrorReply.TheVariants.{NoSuchPath, NotAllowed, UnsupportedType, BadBatch, BadParameter, NoMemory}
 use Rattle.http_session.specs.declared.reply.Reply.{Reply}
@@ -96,14 +96,9 @@ body_of (Refused r) = error_body (refusal_status r) (refusal_message r)
 body_of (Error error) = error_body (error_status error) (error_message error)
 body_of (NoRequest b) = error_body (fault_status b) (fault_message b)
 
--- the methods of the endpoint, if the request's is none of them
+-- the methods that the endpoint takes
 abbrev pub methods_of : Endpoint → List ℕ
-methods_of at.Traces = codes "GET, POST"
-methods_of at.Trace = codes "GET"
-methods_of at.Services = codes "GET"
-methods_of at.OperationNames = codes "GET"
-methods_of at.Operations = codes "GET"
-methods_of at.Dependencies = codes "GET"
+methods_of e = if takes_post e then codes "GET, POST" else codes "GET"
 
 abbrev pub allowed_by : ErrorReply → List ℕ
 allowed_by (NotAllowed e) = methods_of e
@@ -113,6 +108,7 @@ allowed_by (BadBatch f) = []
 allowed_by (BadParameter p) = []
 allowed_by NoMemory = []
 
+-- the methods of the endpoint, if the request's is none of them
 abbrev pub allow_of : Reply → List ℕ
 allow_of (Error error) = allowed_by error
 allow_of Accepted = []

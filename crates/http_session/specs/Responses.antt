@@ -1,5 +1,5 @@
 -- A response that is written in parts.
-use Rattle.std.specs.Prelude.{ℕ, List, [], ◌∷◌, ◌++◌, Option, Some, None}
+use Rattle.std.specs.Prelude.{ℕ, List, [], ◌∷◌, Option, Some, None}
 use Rattle.query_json.specs.Parts.{Parted, to_come}
 
 -- the next part of a response: its head, or what is left of it, and then the answer's parts

@@ -5,10 +5,10 @@ use Rattle.trace_model.specs.StoreKnowledge.{KnownList, lists_of}
 use Rattle.http_requests.specs.AwaitedReads.{Gives, Source, source_of}
 use Rattle.http_session.specs.Sessions.{Submits, Reads, Exchange, EndsAs, FailsAs, last_of, exchange_due}
 use Rattle.http_session.specs.ReadTurns.{ReadsInTurn, ReadsInTurnUpTo}
-use Rattle.http_session.specs.ResponseOrder.{Line, EndsOver, FailsOver}
-use Rattle.http_session.specs.HistoryPoints.{Related, nothing_seen}
-use Rattle.http_session.specs.declared.exchanges.Ended.{Ended}
-use Rattle.http_session.specs.declared.exchanges.SessionError.{SessionError}
+use Rattle.http_session.specs.ResponseOrder.{ConnectionModel, ConnectionMoment, EndsOver, FailsOver}
+use Rattle.http_session.specs.HistoryPoints.{Related, no_points}
+use Rattle.http_session.specs.declared.whole_session.Ended.{Ended}
+use Rattle.http_session.specs.declared.whole_session.SessionError.{SessionError}
 
 -- what a store does, and what it knows in each of its states
 pub record Store (S : Type 0) : Type 1 where
@@ -40,14 +40,6 @@ pub record Moment (R W S : Type 0) : Type 0 where
 abbrev pub moment : {R W S : Type 0} → R → W → S → Moment R W S
 moment input output store = record { input = input; output = output; store = store }
 
--- the states of the connection and of the store at one moment of a session
-pub record ConnectionMoment (C S : Type 0) : Type 0 where
-  pub connection : C
-  pub store : S
-
-abbrev pub connection_moment : {C S : Type 0} → C → S → ConnectionMoment C S
-connection_moment connection store = record { connection = connection; store = store }
-
 -- A session between an input and an output ended, over a store that does this: what was read and written, what holds
 -- for its exchanges, and that it read only while the next request was awaited.
 abbrev pub EndsWith : {S R W : Type 0} → Submits S → Reads S → (List Exchange → Type 0) → Devices R W → Moment R W S → Moment R W S → Ended → Type 0
@@ -71,23 +63,23 @@ FailsWith submits reads Holds devices before after error =
 abbrev pub EndsBetween : {S R W : Type 0} → Store S → Devices R W → Moment R W S → Moment R W S → Ended → Type 0
 EndsBetween store devices before after ended =
     EndsWith store.submits store.reads
-    (λ xs. Related (lists_of store.knows before.store) (store.limits before.store) nothing_seen xs) devices before after ended
+    (λ xs. Related (lists_of store.knows before.store) (store.limits before.store) no_points xs) devices before after ended
 
 -- like EndsBetween, for a session that failed
 abbrev pub FailsBetween : {S R W : Type 0} → Store S → Devices R W → Moment R W S → Moment R W S → SessionError → Type 0
 FailsBetween store devices before after error =
     FailsWith store.submits store.reads
-    (λ xs. Related (lists_of store.knows before.store) (store.limits before.store) nothing_seen xs) devices before after error
+    (λ xs. Related (lists_of store.knows before.store) (store.limits before.store) no_points xs) devices before after error
 
 -- A session over a connection ended: as in EndsBetween, and before each read the responses to all earlier requests were
 -- written.
-abbrev pub EndsServed : {S C : Type 0} → Store S → Line C → ConnectionMoment C S → ConnectionMoment C S → Ended → Type 0
-EndsServed store line before after ended =
-    (over : EndsOver store.submits store.reads line before.connection after.connection before.store after.store ended)
-    × Related (lists_of store.knows before.store) (store.limits before.store) nothing_seen (over.0.opens ++ last_of over.0.ending)
+abbrev pub EndsServed : {S C : Type 0} → Store S → ConnectionModel C → ConnectionMoment C S → ConnectionMoment C S → Ended → Type 0
+EndsServed store model before after ended =
+    (over : EndsOver store.submits store.reads model before after ended)
+    × Related (lists_of store.knows before.store) (store.limits before.store) no_points (over.0.opens ++ last_of over.0.ending)
 
 -- like EndsServed, for a session that failed
-abbrev pub FailsServed : {S C : Type 0} → Store S → Line C → ConnectionMoment C S → ConnectionMoment C S → SessionError → Type 0
-FailsServed store line before after error =
-    (over : FailsOver store.submits store.reads line before.connection after.connection before.store after.store error)
-    × Related (lists_of store.knows before.store) (store.limits before.store) nothing_seen (over.0.opens ++ exchange_due over.0.next)
+abbrev pub FailsServed : {S C : Type 0} → Store S → ConnectionModel C → ConnectionMoment C S → ConnectionMoment C S → SessionError → Type 0
+FailsServed store model before after error =
+    (over : FailsOver store.submits store.reads model before after error)
+    × Related (lists_of store.knows before.store) (store.limits before.store) no_points (over.0.opens ++ exchange_due over.0.next)

@@ -19,10 +19,10 @@ use Rattle.http_session.specs.declared.verdict.Verdict.{Verdict}
 use Rattle.http_session.specs.declared.verdict.Verdict.TheVariants.{Submit, Ask, Reject}
 use Rattle.http_session.specs.declared.reply.Reply.{Reply}
 use Rattle.http_session.specs.declared.reply.Reply.TheVariants.{Accepted, Answered, Refused, Error, NoRequest}
-use Rattle.http_session.specs.declared.exchanges.SessionErrorKind.{SessionErrorKind}
-use Rattle.http_session.specs.declared.exchanges.SessionErrorKind.TheVariants.{Reading, Writing, Memory}
-use Rattle.http_session.specs.declared.exchanges.SessionError.{SessionError}
-use Rattle.http_session.specs.declared.exchanges.PartialWrite.{PartialWrite}
+use Rattle.http_session.specs.declared.whole_session.SessionErrorKind.{SessionErrorKind}
+use Rattle.http_session.specs.declared.whole_session.SessionErrorKind.TheVariants.{Reading, Writing, Memory}
+use Rattle.http_session.specs.declared.whole_session.SessionError.{SessionError}
+use Rattle.http_session.specs.declared.whole_session.PartialWrite.{PartialWrite}
 
 -- a request, its verdict, the reply, and whether the session closes after it
 pub record Exchange : Type 0 where

@@ -22,15 +22,19 @@ use Rattle.http_session.specs.declared.verdict.Verdict.TheVariants.{Submit, Ask,
 abbrev pub asked_of : List ℕ → Request → Asked
 asked_of bytes r = record { method = r.method; target = slice_range bytes r.target.start r.target.end; has_batch_type = r.has_batch_type; closes = r.closes }
 
--- each endpoint accepts GET, and the one of traces accepts POST too
+-- which endpoints take POST: batches are submitted there
+abbrev pub takes_post : Endpoint → Bool
+takes_post Traces = true
+takes_post Trace = false
+takes_post Services = false
+takes_post OperationNames = false
+takes_post Operations = false
+takes_post Dependencies = false
+
+-- each endpoint takes GET
 abbrev pub allows : Endpoint → Method → Bool
 allows e Get = true
-allows Traces Post = true
-allows Trace Post = false
-allows Services Post = false
-allows OperationNames Post = false
-allows Operations Post = false
-allows Dependencies Post = false
+allows e Post = takes_post e
 allows e Other = false
 
 -- a query, or the first parameter that can't be read
@@ -73,11 +77,11 @@ pub record BeginsWithQuery (bytes : List ℕ) : Type 0 where
   pub takes : TakesHead bytes head after
   pub asks : AsksQuery (asked_by head)
 
--- by the method: a query, a batch, or a method that the endpoint doesn't accept
+-- by the method: a query, a batch, or a method that the endpoint doesn't take
 abbrev pub JudgesMethod : Asked → List ℕ → Verdict → Endpoint → List ℕ → Type 0
 JudgesMethod a body v e part =
     ((a.method ≡ Get) × JudgesQuery (query_at e part (pairs_of (query_string_of a.target))) v)
-    ⊎ ((e ≡ Traces) × (a.method ≡ Post) × JudgesBatch a.has_batch_type body v)
+    ⊎ ((takes_post e ≡ true) × (a.method ≡ Post) × JudgesBatch a.has_batch_type body v)
     ⊎ ((allows e a.method ≡ false) × (v ≡ Reject (NotAllowed e)))
 
 -- no endpoint has the path, or the verdict is that of its endpoint

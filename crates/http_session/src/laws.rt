@@ -1,10 +1,10 @@
 //! Laws of sessions that run in pieces. Each function does nothing, and its contract is the law.
 
-ghost use Rattle.http_session.specs.ResponseOrder.{line_of};
+ghost use Rattle.http_session.specs.ResponseOrder.{model_of, connection_moment};
 ghost use Rattle.http_session.specs.SessionRuns.{store_of};
 ghost use Rattle.trace_model.specs.StoreKnowledge.{ForgetsNothing};
-ghost use Rattle.http_session.specs.Pieces.{no_requests_yet, CanContinue, Underway, UnderwayAmong, AnswersSoFar, StaysUnderway, OutlastsWrites, SubmitsSome};
-ghost use Rattle.http_session.specs.Pieces.{ReadsSome, AsksOnce};
+ghost use Rattle.http_session.specs.ResumableSessions.{no_requests_yet, CanContinue, Underway, UnderwayAmong, AnswersSoFar, StaysUnderway, OutlastsWrites, SubmitsSome};
+ghost use Rattle.http_session.specs.ResumableSessions.{ReadsSome, AsksOnce};
 ghost use Rattle.http_session.specs.KnownRefusals.{RefusalsStayKnown, RefusalsStayKnownAmong};
 
 use session_devices::Connection;
@@ -15,11 +15,12 @@ pub fn a_new_session_is_underway<T, C: Connection, B: Backend<T>>(connection: &C
     ensures ready { CanContinue (C.remaining connection.now) no_requests_yet }
 
     ensures alone { Underway (store_of B.submits B.reads B.knows B.limits)
-        (line_of C.remaining C.gives C.Input.has_failed C.contents C.takes C.Output.has_failed)
-        connection.now connection.now backend.now backend.now no_requests_yet }
+        (model_of C.remaining C.gives C.Input.has_failed C.contents C.takes C.Output.has_failed)
+        (connection_moment connection.now backend.now)
+        (connection_moment connection.now backend.now) no_requests_yet }
 
     ensures among { UnderwayAmong (store_of B.submits B.reads B.knows B.limits)
-        (line_of C.remaining C.gives C.Input.has_failed C.contents C.takes C.Output.has_failed)
+        (model_of C.remaining C.gives C.Input.has_failed C.contents C.takes C.Output.has_failed)
         connection.now connection.now backend.now backend.now no_requests_yet }
 {}
 
@@ -28,19 +29,19 @@ pub fn a_new_session_is_underway<T, C: Connection, B: Backend<T>>(connection: &C
 /// forget nothing.
 pub fn a_pause_keeps_a_session_underway<T, C: Connection, B: Backend<T>>()
     ensures submits { StaysUnderway (store_of B.submits B.reads B.knows B.limits)
-        (line_of C.remaining C.gives C.Input.has_failed C.contents C.takes C.Output.has_failed)
+        (model_of C.remaining C.gives C.Input.has_failed C.contents C.takes C.Output.has_failed)
         (SubmitsSome (store_of B.submits B.reads B.knows B.limits)) }
 
     ensures reads { StaysUnderway (store_of B.submits B.reads B.knows B.limits)
-        (line_of C.remaining C.gives C.Input.has_failed C.contents C.takes C.Output.has_failed)
+        (model_of C.remaining C.gives C.Input.has_failed C.contents C.takes C.Output.has_failed)
         (ReadsSome (store_of B.submits B.reads B.knows B.limits)) }
 
     ensures pieces { StaysUnderway (store_of B.submits B.reads B.knows B.limits)
-        (line_of C.remaining C.gives C.Input.has_failed C.contents C.takes C.Output.has_failed)
+        (model_of C.remaining C.gives C.Input.has_failed C.contents C.takes C.Output.has_failed)
         (AsksOnce (store_of B.submits B.reads B.knows B.limits)) }
 
     ensures others { StaysUnderway (store_of B.submits B.reads B.knows B.limits)
-        (line_of C.remaining C.gives C.Input.has_failed C.contents C.takes C.Output.has_failed)
+        (model_of C.remaining C.gives C.Input.has_failed C.contents C.takes C.Output.has_failed)
         (ForgetsNothing B.limits B.knows) }
 {}
 
@@ -48,7 +49,7 @@ pub fn a_pause_keeps_a_session_underway<T, C: Connection, B: Backend<T>>()
 /// what was handed over doesn't change.
 pub fn late_writes_keep_a_session_underway<T, C: Connection, B: Backend<T>>()
     ensures { OutlastsWrites (store_of B.submits B.reads B.knows B.limits)
-        (line_of C.remaining C.gives C.Input.has_failed C.contents C.takes C.Output.has_failed) }
+        (model_of C.remaining C.gives C.Input.has_failed C.contents C.takes C.Output.has_failed) }
 {}
 
 /// The answers so far of a session that is underway belong to one growing history, although others use the store too.
@@ -56,7 +57,7 @@ pub fn late_writes_keep_a_session_underway<T, C: Connection, B: Backend<T>>()
 /// before a batch accepted from it.
 pub fn answers_so_far_are_of_one_history<T, C: Connection, B: Backend<T>>()
     ensures { AnswersSoFar (store_of B.submits B.reads B.knows B.limits)
-        (line_of C.remaining C.gives C.Input.has_failed C.contents C.takes C.Output.has_failed) }
+        (model_of C.remaining C.gives C.Input.has_failed C.contents C.takes C.Output.has_failed) }
 {}
 
 /// A batch that is refused by `JournalFull`, `Stale` or `Conflict` is refused by a list, and the store still knows by
@@ -64,8 +65,8 @@ pub fn answers_so_far_are_of_one_history<T, C: Connection, B: Backend<T>>()
 /// holds for a session that has the store to itself, and for one among others.
 pub fn refusals_stay_known<T, C: Connection, B: Backend<T>>()
     ensures alone { RefusalsStayKnown (store_of B.submits B.reads B.knows B.limits)
-        (line_of C.remaining C.gives C.Input.has_failed C.contents C.takes C.Output.has_failed) }
+        (model_of C.remaining C.gives C.Input.has_failed C.contents C.takes C.Output.has_failed) }
 
     ensures among { RefusalsStayKnownAmong (store_of B.submits B.reads B.knows B.limits)
-        (line_of C.remaining C.gives C.Input.has_failed C.contents C.takes C.Output.has_failed) }
+        (model_of C.remaining C.gives C.Input.has_failed C.contents C.takes C.Output.has_failed) }
 {}

@@ -11,27 +11,27 @@
 //! * `respond`: connections that take complete responses.
 //! * `fixed`: the responses 202 and 500, which need no memory.
 //! * `writing`: writes all of some bytes, or all parts of a response.
-//! * `pieces`: a session that runs in pieces, with pauses between two requests or inside one.
-//! * `exchanges`: the whole session.
+//! * `resumable`: a session that runs in pieces, with pauses between two requests or inside one.
+//! * `whole_session`: a session from its first request to its end.
 //! * `laws`: laws of sessions that run in pieces.
 #![tactic(auto)]
 
-mod exchanges;
 mod fixed;
 pub mod laws;
-mod pieces;
 mod question;
 mod receiving;
 mod reply;
 mod respond;
 mod response;
+mod resumable;
 mod verdict;
+mod whole_session;
 mod writing;
 
-pub use exchanges::{Ended, SessionError, SessionErrorKind, serve_connection, session};
 pub use http_requests::SpareRoom;
-pub use pieces::{Progress, Session};
 pub use reply::Reply;
 pub use respond::Respond;
 pub use response::Response;
+pub use resumable::{Progress, Session};
 pub use verdict::{ErrorReply, Verdict};
+pub use whole_session::{Ended, SessionError, SessionErrorKind, serve_connection, session};

@@ -3,7 +3,7 @@ ghost use Rattle.http_requests.specs.Requests.{IsHeadOf};
 ghost use Rattle.query_http.specs.Paths.{endpoint_rows};
 ghost use Rattle.query_http.specs.QueryStrings.{pairs_of};
 ghost use Rattle.query_http.specs.Queries.{query_at};
-ghost use Rattle.http_session.specs.Verdicts.{JudgesQuery, AsksQuery, asked_of};
+ghost use Rattle.http_session.specs.Verdicts.{JudgesQuery, AsksQuery, asked_of, takes_post};
 ghost use Rattle.http_session.specs.Questions.{AsksQuestion};
 
 use crate::verdict::{ErrorReply, Verdict};
@@ -19,6 +19,20 @@ pub(crate) enum Question {
     Settled(Verdict),
     /// A batch is submitted, and the body is its text.
     Batch,
+}
+
+/// Returns whether an endpoint takes POST. Each takes GET.
+pub(crate) fn takes_post(endpoint: Endpoint) -> bool
+    ensures { result ≡ takes_post endpoint }
+{
+    match endpoint {
+        Endpoint::Traces => true,
+        Endpoint::Trace
+        | Endpoint::Services
+        | Endpoint::OperationNames
+        | Endpoint::Operations
+        | Endpoint::Dependencies => false,
+    }
 }
 
 /// Returns the verdict on a GET of an endpoint.
@@ -74,28 +88,20 @@ pub(crate) fn question_of(
     let Some((endpoint, part)) = find_endpoint(router, path) else {
         return Ok(Question::Settled(Verdict::Reject(ErrorReply::NoSuchPath)));
     };
-    match (request.method, endpoint) {
+    match request.method {
         // For the prover: the match takes the clause of `judge_query` apart, one case for each outcome.
-        (Method::Get, _) => match judge_query(alloc, endpoint, part, query_string) {
+        Method::Get => match judge_query(alloc, endpoint, part, query_string) {
             Ok(verdict) => Ok(Question::Settled(verdict)),
             Err(_) => Err(AllocError),
         },
-        (Method::Post, Endpoint::Traces) => {
+        Method::Post if takes_post(endpoint) => {
             if request.has_batch_type {
                 Ok(Question::Batch)
             } else {
                 Ok(Question::Settled(Verdict::Reject(ErrorReply::UnsupportedType)))
             }
         }
-        (
-            Method::Post,
-            Endpoint::Trace
-            | Endpoint::Services
-            | Endpoint::OperationNames
-            | Endpoint::Operations
-            | Endpoint::Dependencies,
-        )
-        | (Method::Other, _) => {
+        Method::Post | Method::Other => {
             Ok(Question::Settled(Verdict::Reject(ErrorReply::NotAllowed(endpoint))))
         }
     }

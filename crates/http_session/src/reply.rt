@@ -9,6 +9,7 @@ ghost use Rattle.http_session.specs.Replies.{refusal_status, refusal_message, fa
 ghost use Rattle.http_session.specs.declared.reply.Reply.TheVariants as reply;
 
 use crate::fixed::{accepted, internal_error, out_of_memory};
+use crate::question::takes_post;
 use crate::response::Response;
 use crate::verdict::ErrorReply;
 use http_requests::RequestFault;
@@ -187,17 +188,14 @@ fn fixed_error(error: ErrorReply, close: bool) -> Option<&'static [u8]>
     }
 }
 
-/// Returns the methods that an endpoint accepts.
+/// Returns the methods that an endpoint takes.
 fn methods_of(endpoint: Endpoint) -> &'static str
     ensures { result.now ≡ methods_of endpoint }
 {
-    match endpoint {
-        Endpoint::Traces => "GET, POST",
-        Endpoint::Trace
-        | Endpoint::Services
-        | Endpoint::OperationNames
-        | Endpoint::Operations
-        | Endpoint::Dependencies => "GET",
+    if takes_post(endpoint) {
+        "GET, POST"
+    } else {
+        "GET"
     }
 }
 
@@ -216,7 +214,7 @@ impl Reply {
         }
     }
 
-    /// Returns the methods that the endpoint accepts, if the request's is none of them; otherwise an empty text.
+    /// Returns the methods that the endpoint takes, if the request's is none of them; otherwise an empty text.
     fn allow(&self) -> &'static str
         ensures { result.now ≡ allow_of self.now }
     {

@@ -8,23 +8,25 @@ use Rattle.trace_model.specs.declared.refusal.Refusal.TheVariants.{JournalFull, 
 use Rattle.trace_model.specs.Refusals.{admission, refusal_of}
 
 -- the list would accept the entry, or has its batch already
-abbrev pub IsTaken : Limits → List Entry → Entry → Type 0
-IsTaken limits list e = (a : Admission) × (admission limits list e ≡ Ok a)
+abbrev pub IsAdmissible : Limits → List Entry → Entry → Type 0
+IsAdmissible limits list e = (a : Admission) × (admission limits list e ≡ Ok a)
 
--- the list leaves the entry out for this reason, or would accept it and there was no memory
+-- a refusal by the keeper: the list leaves the entry out for this reason, or would accept it and there was no memory
 abbrev pub IsLeftOut : Limits → List Entry → Entry → Refusal → Type 0
 IsLeftOut limits list e (JournalFull batches spans) = refusal_of limits list e ≡ Some (JournalFull batches spans)
 IsLeftOut limits list e (Stale last) = refusal_of limits list e ≡ Some (Stale last)
 IsLeftOut limits list e (Conflict place) = refusal_of limits list e ≡ Some (Conflict place)
-IsLeftOut limits list e NoMemory = IsTaken limits list e
-IsLeftOut limits list e Deferred = IsTaken limits list e
+IsLeftOut limits list e NoMemory = IsAdmissible limits list e
+IsLeftOut limits list e Deferred = IsAdmissible limits list e
 IsLeftOut limits list e _ = ⊥
 
--- the keeper judged by this list; or the clerk ended without judging
+-- the refusal of a job, as its ticket gets it: by the keeper, which judged by this list; or without a list, since the clerk
+-- ended without judging
 abbrev pub IsDenied : Limits → Entry → Refusal → Option (List Entry) → Type 0
 IsDenied limits e why (Some list) = IsLeftOut limits list e why
 IsDenied limits e why None = (why ≡ Closed) ⊎ (why ≡ NoReply)
 
--- by some list, or without one
+-- the refusal of a job, as its ticket gets it without the list: by the keeper, which judged by some list, or since the clerk
+-- ended
 abbrev pub IsDeniedSomehow : Limits → Entry → Refusal → Type 0
 IsDeniedSomehow limits e why = (list : Option (List Entry)) × IsDenied limits e why list

@@ -35,11 +35,11 @@ keeps limits s t more longer = record { same_limits = refl; knowledge = knows_mo
 same_list : (xs ys : List Entry) → ys ≡ xs → IsPrefix xs ys
 same_list xs ys same = subst (λ (z : List Entry). IsPrefix xs z) (sym same) (prefix_self xs)
 
--- refused without a list
+-- the refusal of a batch, of which no list is known: by the seat, or since the clerk ended
 abbrev IsUnjudged : Refusal → Type 0
 IsUnjudged why = (why ≡ Closed) ⊎ (why ≡ NoMemory) ⊎ (why ≡ Busy) ⊎ (why ≡ NoReply)
 
--- refused by a legal prefix of this list
+-- the refusal of a batch by the keeper: a legal prefix of this list leaves it out
 abbrev IsJudgedBy : Limits → List Entry → Batch → Refusal → Type 0
 IsJudgedBy limits longest b why =
     (list : List Entry) × IsPrefix list longest × IsLegal limits list × (e : Entry) × (e.work ≡ brings.Batch b) × IsLeftOut limits list e why
@@ -48,7 +48,7 @@ judged : (limits : Limits) (s : LiveValue) (b : Batch) (why : Refusal) (t : Live
     → IsUnjudged why ⊎ IsJudgedBy limits t.refused_by b why
 judged limits s b why t d =
     ⊎_elim
-    (λ not_taken. inl (⊎_elim (λ e. inl e) (λ other. ⊎_elim (λ m. inr (inl m.0)) (λ busy. inr (inr (inl busy.0))) other) not_taken.1))
+    (λ not_queued. inl (⊎_elim (λ e. inl e) (λ other. ⊎_elim (λ m. inr (inl m.0)) (λ busy. inr (inr (inl busy.0))) other) not_queued.1))
     (λ denied.
     ⊎_elim
     (λ by. inr (by.0, by.3, by.1, next_job s.seat (brings.Batch b), refl, by.4))

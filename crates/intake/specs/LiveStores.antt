@@ -12,7 +12,7 @@ use Rattle.trace_model.specs.declared.refusal.Refusal.TheVariants.{NoMemory, Gon
 use Rattle.trace_model.specs.Histories.{IsLegal}
 use Rattle.trace_model.specs.Answers.{answer}
 use Rattle.read_side.specs.Receipts.{AnsweredAt}
-use Rattle.intake.specs.Seats.{SeatValue, IsNotTaken, next_job, with_job}
+use Rattle.intake.specs.Seats.{SeatValue, IsNotQueued, next_job, with_job}
 use Rattle.intake.specs.Denials.{IsLeftOut}
 use Rattle.trace_model.specs.StoreKnowledge.{KnownList, reached, refused, RefusesBatch}
 
@@ -50,8 +50,8 @@ KnowsPlace limits e place known =
 abbrev pub OneListBegins : List Entry → List Entry → Type 0
 OneListBegins xs ys = IsPrefix xs ys ⊎ IsPrefix ys xs
 
--- a legal prefix of the second list, comparable with the known one, leaves the entry out for this reason; or the clerk
--- has ended
+-- the refusal of a queued job: a legal prefix of the second list, comparable with the known one, leaves the entry out for
+-- this reason; or the clerk ended
 abbrev pub IsTurnedDown : Limits → Entry → Refusal → List Entry → List Entry → Type 0
 IsTurnedDown limits e why known refused_by =
     ((list : List Entry) × IsLegal limits list × OneListBegins list known × IsPrefix list refused_by × IsLeftOut limits list e why)
@@ -67,7 +67,7 @@ LiveSubmits limits s b (Ok place) t =
     × (t.refused_by ≡ s.refused_by)
 LiveSubmits limits s b (Err why) t =
     (t.known ≡ s.known)
-    × (((t.seat ≡ s.seat) × IsNotTaken s.seat why)
+    × (((t.seat ≡ s.seat) × IsNotQueued s.seat why)
     ⊎ (SubmitsAs s.seat b t.seat × IsTurnedDown limits (next_job s.seat (brings.Batch b)) why t.known t.refused_by))
     × IsPrefix s.refused_by t.refused_by
 

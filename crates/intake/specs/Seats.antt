@@ -44,14 +44,15 @@ WasFull s = (items : List Entry) × (length items ≡ s.capacity)
 abbrev pub HasNextNumber : SeatValue → Type 0
 HasNextNumber s = (s.may_submit ≡ true) × (length s.jobs < 2 ^ 64 - 1)
 
--- why a batch was not submitted; a seat that has ended, or has no number left, only says that the desk is closed
-abbrev pub IsNotTaken : SeatValue → Refusal → Type 0
-IsNotTaken s why =
+-- the refusal of a submission, by the seat: why no job was queued; a seat that has ended, or has no number left, only says
+-- that the desk is closed
+abbrev pub IsNotQueued : SeatValue → Refusal → Type 0
+IsNotQueued s why =
     (why ≡ Closed)
     ⊎ ((why ≡ NoMemory) × HasNextNumber s)
     ⊎ ((why ≡ Busy) × HasNextNumber s × WasFull s)
 
--- why a submitted job was not acknowledged: its keeper's refusal, or there is no reply
+-- the refusal of a queued job, by its kind alone: the keeper's, or that of a clerk which ended without judging the job
 abbrev pub IsUnacknowledged : Refusal → Type 0
 IsUnacknowledged (JournalFull batches spans) = Unit {0}
 IsUnacknowledged (Stale last) = Unit {0}

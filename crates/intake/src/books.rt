@@ -74,7 +74,7 @@ impl<N: StoreName> Books<N> {
             (StaysTaken self.old.inbox.ended self.old.inbox.taken self.new.inbox.taken) }
         ensures reason { IfErr result (λ why. why ≡ NoMemory) }
     {
-        self.inbox.end(seat);
+        self.inbox.end_seat(seat);
         let (number, last) = (seat.number(), seat.submitted());
         if self.inbox.has_taken(number, last) {
             // For the prover: no job of an ended seat is lost.

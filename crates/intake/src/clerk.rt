@@ -11,10 +11,10 @@ ghost use Rattle.intake.specs.Books.{Ran, Balances, acknowledged, refused};
 
 use crate::account::Account;
 use crate::accounts::Accounts;
+use crate::answer_slot::JobAnswer;
 use crate::books::Books;
 use crate::denial::Denial;
 use crate::inbox::Inbox;
-use crate::reply_slot::JobOutcome;
 use crate::shared::Shared;
 use crate::ticket::Ack;
 use arrival_journal::Record;
@@ -45,7 +45,7 @@ pub enum Turn {
 /// The clerk of a desk. Contracts see all jobs that it took, and an account of each one.
 ///
 /// If it is dropped without [`run`](Self::run) or [`leave`](Self::leave), each ticket that still waits is told that
-/// no reply comes.
+/// no answer comes.
 #[derive(Drop)]
 pub struct Clerk<N: StoreName> {
     inbox: Inbox<N>,
@@ -190,8 +190,8 @@ impl<N: StoreName> Clerk<N> {
             answer: place_or_refusal(&answer),
         };
         self.accounts.add(rt, &account);
-        let outcome = JobOutcome { answer };
-        self.ending.shared.store_outcome(rt, seat, &slot, outcome);
+        let job_answer = JobAnswer { answer };
+        self.ending.shared.store_answer(rt, seat, &slot, job_answer);
         Ok(Turn::Served { seat, number })
     }
 
@@ -244,7 +244,7 @@ impl<N: StoreName> Clerk<N> {
     }
 
     /// Returns the books at once. Waiting jobs stay in the queue, from which [`Books::take_in`] returns them; their
-    /// tickets are told that no reply comes, or that the desk was closed.
+    /// tickets are told that no answer comes, or that the desk was closed.
     pub fn leave(self, keeper: Keeper<N>) -> Books<N>
         ensures taken { result.inbox.taken ≡ self.taken }
         ensures accounts { result.accounts ≡ self.accounts }

@@ -20,7 +20,7 @@ use std::sync::{Arc, Wait};
 #[derive(Drop)]
 pub struct Inbox<N: StoreName> {
     shared: Arc<Shared<N>>,
-    end: QueueEnd<N>,
+    queue_end: QueueEnd<N>,
     /// For each seat the number of its last job that was taken; 0 if none was.
     last: Vec<u64>,
 }
@@ -34,22 +34,26 @@ impl<N: StoreName> Model for Inbox<N> {
 
     ghost Value = { InboxValue };
 
-    ghost view = { λ i. inbox_value i.end.table_id (view_at i.end) };
+    ghost view = { λ i. inbox_value i.queue_end.table_id (view_at i.queue_end) };
 
-    ghost invariant = { λ i. IsPassOf (arc_value i.shared).queue i.end
-        × ((view_at i.end).takes ≡ true) × ((view_at i.end).submits ≡ false)
-        × AreLast (view_at i.end).made (view_at i.end).taken i.last.items };
+    ghost invariant = { λ i. IsPassOf (arc_value i.shared).queue i.queue_end
+        × ((view_at i.queue_end).takes ≡ true) × ((view_at i.queue_end).submits ≡ false)
+        × AreLast (view_at i.queue_end).made (view_at i.queue_end).taken i.last.items };
 }
 
 impl<N: StoreName> Inbox<N> {
     /// Makes the clerk's end, with the number of each seat's last job that was taken.
-    pub(crate) fn new(shared: Arc<Shared<N>>, end: QueueEnd<N>, last: Vec<u64>) -> Inbox<N>
-        requires queue { IsPassOf (arc_value shared).queue end }
-        requires clerk { ((view end).takes ≡ true) × ((view end).submits ≡ false) }
-        requires last { AreLast (view end).made (view end).taken last.items }
-        ensures { result ≡ inbox_value end.table_id (view end) }
+    pub(crate) fn new(shared: Arc<Shared<N>>, queue_end: QueueEnd<N>, last: Vec<u64>) -> Inbox<N>
+        requires queue { IsPassOf (arc_value shared).queue queue_end }
+        requires clerk { ((view queue_end).takes ≡ true) × ((view queue_end).submits ≡ false) }
+        requires last { AreLast (view queue_end).made (view queue_end).taken last.items }
+        ensures { result ≡ inbox_value queue_end.table_id (view queue_end) }
     {
-        Inbox { shared, end, last }
+        Inbox {
+            shared,
+            queue_end,
+            last,
+        }
     }
 
     /// Takes the next job, if there is one.
@@ -58,7 +62,10 @@ impl<N: StoreName> Inbox<N> {
             ((self.new ≡ self.old) × WasEmpty self.old.ended self.old.taken)
             (λ j. self.new ≡ record self.old { taken = self.old.taken ++ j ∷ [] }) }
     {
-        let job = self.shared.queue.pop_as::<PopJob, R>(rt, &mut self.end)?;
+        let job = self
+            .shared
+            .queue
+            .pop_as::<PopJob, R>(rt, &mut self.queue_end)?;
         let (seat, number) = job.id();
         self.last[seat as usize] = number;
         Some(job)
@@ -92,11 +99,11 @@ impl<N: StoreName> Inbox<N> {
           ended = ended_seat (view end).seat (view end).submitted ∷ self.old.ended;
         } }
     {
-        self.shared.queue.absorb::<TakeIn>(&mut self.end, end);
+        self.shared.queue.absorb::<TakeIn>(&mut self.queue_end, end);
     }
 
     /// Ends a seat, unless it has ended.
-    pub(crate) fn end(&mut self, seat: &mut Seat<N>)
+    pub(crate) fn end_seat(&mut self, seat: &mut Seat<N>)
         requires desk { self.old.desk ≡ seat.old.desk }
         requires seat { (seat.old.may_submit ≡ true)
             ⊎ HasEnded self.old.ended seat.old.seat seat.old.jobs }
@@ -116,6 +123,6 @@ impl<N: StoreName> Inbox<N> {
         ensures same { self.new ≡ self.old }
         ensures waits { (items : List Entry) × AreWhole self.old.ended (self.old.taken ++ items) }
     {
-        self.shared.queue.learn_as::<PopJob>(&mut self.end);
+        self.shared.queue.learn_as::<PopJob>(&mut self.queue_end);
     }
 }

@@ -3,7 +3,7 @@
 ghost use Rattle.std.specs.Prelude.{◌≡◌, IfOk};
 ghost use Rattle.std.specs.Arc.{arc_value};
 
-use crate::reply_slot::ReplySlot;
+use crate::answer_slot::AnswerSlot;
 use arrival_journal::Record;
 use read_side::StoreName;
 use sent_batches::BatchKeys;
@@ -15,7 +15,7 @@ use trace_model::{Entry, Refusal};
 #[derive(Drop)]
 pub(crate) struct Job<N: StoreName> {
     entry: Record,
-    slot: Arc<ReplySlot<N>>,
+    slot: Arc<AnswerSlot<N>>,
 }
 
 impl<N: StoreName> Model for Job<N> {
@@ -36,7 +36,7 @@ impl<N: StoreName> Job<N> {
     pub(crate) fn new(
         keys: BatchKeys,
         entry: &Arc<Entry>,
-        slot: &Arc<ReplySlot<N>>,
+        slot: &Arc<AnswerSlot<N>>,
     ) -> Result<Job<N>, Refusal>
         requires { arc_value slot.now ≡ arc_value entry.now }
         ensures { IfOk result (λ j. j ≡ arc_value entry.now) }
@@ -55,7 +55,7 @@ impl<N: StoreName> Job<N> {
     }
 
     /// Returns the entry, and where its answer goes.
-    pub(crate) fn split(self) -> (Record, Arc<ReplySlot<N>>)
+    pub(crate) fn split(self) -> (Record, Arc<AnswerSlot<N>>)
         ensures entry { result.0 ≡ self }
         ensures slot { arc_value result.1 ≡ self }
     {

@@ -8,7 +8,7 @@
 //! order, with the numbers 1, 2 and so on: nothing is lost, duplicated or changed on the way.
 //!
 //! * `queue`: the queue and its rule, an invariant.
-//! * `job`: what is queued. `reply_slot`: where its answer is stored. `ticket`: the [`Ticket`]. `denial`: the
+//! * `job`: what is queued. `answer_slot`: where its answer is stored. `ticket`: the [`Ticket`]. `denial`: the
 //!   [`Denial`].
 //! * `seat`: the [`Seat`]. `inbox`: the clerk's end of the queue.
 //! * `account`: the result of a job. `accounts`: the results of all jobs. `clerk`: the [`Clerk`]. `books`: what
@@ -20,6 +20,7 @@
 
 mod account;
 mod accounts;
+mod answer_slot;
 mod bell;
 mod books;
 mod clerk;
@@ -30,7 +31,6 @@ mod job;
 mod live;
 mod opening;
 mod queue;
-mod reply_slot;
 mod seat;
 mod shared;
 mod ticket;

@@ -13,7 +13,7 @@ ghost use mathlib.Core.List.{IsPrefix};
 ghost use Rattle.trace_model.specs.declared.entry.Work.TheVariants as brings;
 ghost use Rattle.trace_model.specs.declared.entry.Entry.{Entry};
 ghost use Rattle.trace_model.specs.Histories.{IsLegal};
-ghost use Rattle.intake.specs.Seats.{IsNotTaken, next_job};
+ghost use Rattle.intake.specs.Seats.{IsNotQueued, next_job};
 ghost use Rattle.intake.specs.Denials.{IsDenied};
 ghost use Rattle.intake.specs.LiveStores.{SubmitsAs, IsTurnedDown, LiveSubmits};
 
@@ -100,7 +100,7 @@ impl<N: StoreName> Live<N> {
             ticket ≡ next_job self.old.seat (brings.Batch batch)) }
         ensures submitted { OnOk result (SubmitsAs self.old.seat batch self.new.seat) }
         ensures unchanged { OnErr result (self.new.seat ≡ self.old.seat) }
-        ensures reason { IfErr result (IsNotTaken self.old.seat) }
+        ensures reason { IfErr result (IsNotQueued self.old.seat) }
     {
         let batch = share_process(&mut self.process, batch);
         // For the prover: the match takes the clauses `job` and `reason` of `submit` apart.

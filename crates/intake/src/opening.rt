@@ -53,7 +53,7 @@ pub fn desk<N: StoreName>(
     ensures reason { IfErr result (λ why. why ≡ NoMemory) }
 {
     let last = Mutex::new(Arc::new(alloc, first)?);
-    let replies = bells(alloc, seats)?;
+    let answer_bells = bells(alloc, seats)?;
     let mut made = Vec::with_capacity(alloc, seats as usize)?;
     let none_taken = vec![in alloc; 0; seats as usize]?;
     let (queue, mut end): (Queue<N>, QueueEnd<N>) = Queue::ruled(alloc, capacity)?;
@@ -65,7 +65,7 @@ pub fn desk<N: StoreName>(
             closed: AtomicBool::new(false),
             ended: AtomicBool::new(false),
             jobs: CachePadded::new(Bell::new()),
-            replies,
+            answer_bells,
             last,
         },
     )?;

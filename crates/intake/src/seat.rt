@@ -4,11 +4,11 @@ ghost use Rattle.std.specs.Prelude.{◌≡◌, ◌+◌, true, false, length, [],
 ghost use Rattle.std.specs.Arc.{arc_value};
 ghost use Rattle.crossbeam_queue.specs.Passes.{view, IsPassOf, ruled_capacity};
 ghost use Rattle.trace_model.specs.declared.entry.Work.TheVariants as brings;
-ghost use Rattle.intake.specs.Seats.{next_job, with_job, HasNextNumber, IsNotTaken, IsEndOf, IsNewSeat};
+ghost use Rattle.intake.specs.Seats.{next_job, with_job, HasNextNumber, IsNotQueued, IsEndOf, IsNewSeat};
 
+use crate::answer_slot::AnswerSlot;
 use crate::job::Job;
 use crate::queue::{PushJob, QueueEnd, Resign};
-use crate::reply_slot::ReplySlot;
 use crate::shared::Shared;
 use crate::ticket::Ticket;
 use jaeger_model::Batch;
@@ -22,7 +22,7 @@ use trace_model::{Entry, Refusal, TraceLimit, Work};
 #[derive(Drop)]
 pub struct Seat<N: StoreName> {
     shared: Arc<Shared<N>>,
-    end: QueueEnd<N>,
+    queue_end: QueueEnd<N>,
     number: u16,
     /// The number of jobs that it submitted.
     submitted: u64,
@@ -39,12 +39,13 @@ impl<N: StoreName> Model for Seat<N> {
     ghost Value = { SeatValue };
 
     ghost view = { λ s.
-        seat_value s.end.table_id (ruled_capacity (arc_value s.shared).queue) s.number
-        (view_at s.end) };
+        seat_value s.queue_end.table_id (ruled_capacity (arc_value s.shared).queue) s.number
+        (view_at s.queue_end) };
 
-    ghost invariant = { λ s. IsPassOf (arc_value s.shared).queue s.end
-        × ((view_at s.end).takes ≡ false) × ((view_at s.end).submits ≡ s.may_submit)
-        × ((view_at s.end).seat ≡ s.number) × (length (view_at s.end).submitted ≡ s.submitted) };
+    ghost invariant = { λ s. IsPassOf (arc_value s.shared).queue s.queue_end
+        × ((view_at s.queue_end).takes ≡ false) × ((view_at s.queue_end).submits ≡ s.may_submit)
+        × ((view_at s.queue_end).seat ≡ s.number)
+        × (length (view_at s.queue_end).submitted ≡ s.submitted) };
 }
 
 /// Returns the entry when it has no other owner.
@@ -64,17 +65,18 @@ fn unshared<R: Wait>(rt: &R, entry: Arc<Entry>) -> Entry
 
 impl<N: StoreName> Seat<N> {
     /// Makes a seat that has submitted nothing.
-    pub(crate) fn new(shared: Arc<Shared<N>>, end: QueueEnd<N>, number: u16) -> Seat<N>
-        requires queue { IsPassOf (arc_value shared).queue end }
-        requires rights { ((view end).takes ≡ false) × ((view end).submits ≡ true) }
-        requires seat { (view end).seat ≡ number }
-        requires submitted { (view end).submitted ≡ [] }
+    pub(crate) fn new(shared: Arc<Shared<N>>, queue_end: QueueEnd<N>, number: u16) -> Seat<N>
+        requires queue { IsPassOf (arc_value shared).queue queue_end }
+        requires rights { ((view queue_end).takes ≡ false) × ((view queue_end).submits ≡ true) }
+        requires seat { (view queue_end).seat ≡ number }
+        requires submitted { (view queue_end).submitted ≡ [] }
         ensures seat { result.seat ≡ number }
-        ensures unused { IsNewSeat end.table_id (ruled_capacity (arc_value shared).queue) result }
+        ensures unused { IsNewSeat queue_end.table_id
+            (ruled_capacity (arc_value shared).queue) result }
     {
         Seat {
             shared,
-            end,
+            queue_end,
             number,
             submitted: 0,
             may_submit: true,
@@ -105,7 +107,7 @@ impl<N: StoreName> Seat<N> {
             return None;
         }
         self.may_submit = false;
-        Some(self.shared.queue.another::<Resign>(&mut self.end))
+        Some(self.shared.queue.another::<Resign>(&mut self.queue_end))
     }
 
     /// Submits a batch, as the entry with the seat's next number.
@@ -130,7 +132,7 @@ impl<N: StoreName> Seat<N> {
 
         ensures batch_back { IfErr result (λ r. r.1 ≡ batch) }
         ensures unchanged { OnErr result (self.new ≡ self.old) }
-        ensures reason { IfErr result (λ r. IsNotTaken self.old r.0) }
+        ensures reason { IfErr result (λ r. IsNotQueued self.old r.0) }
     {
         // For the prover: the match takes the clauses `work_back` and `reason` of `enqueue` apart.
         match self.enqueue(rt, alloc, Work::Batch(batch)) {
@@ -161,7 +163,7 @@ impl<N: StoreName> Seat<N> {
             (self.new ≡ with_job self.old (next_job self.old (brings.TraceLimit limit))) }
 
         ensures unchanged { OnErr result (self.new ≡ self.old) }
-        ensures reason { IfErr result (λ why. IsNotTaken self.old why) }
+        ensures reason { IfErr result (λ why. IsNotQueued self.old why) }
     {
         // For the prover: the match takes the clauses `job` and `reason` of `enqueue` apart.
         match self.enqueue(rt, alloc, Work::TraceLimit(limit)) {
@@ -183,7 +185,7 @@ impl<N: StoreName> Seat<N> {
 
         ensures work_back { IfErr result (λ r. r.1 ≡ work) }
         ensures unchanged { OnErr result (self.new ≡ self.old) }
-        ensures reason { IfErr result (λ r. IsNotTaken self.old r.0) }
+        ensures reason { IfErr result (λ r. IsNotQueued self.old r.0) }
     {
         // Impossible: that a seat has submitted all but one of 2^64 jobs.
         if self.shared.is_closed() || !self.may_submit || self.submitted == u64::MAX {
@@ -205,7 +207,7 @@ impl<N: StoreName> Seat<N> {
         match self
             .shared
             .queue
-            .push_as::<PushJob, R>(rt, &mut self.end, job)
+            .push_as::<PushJob, R>(rt, &mut self.queue_end, job)
         {
             Ok(()) => {
                 self.submitted = number;
@@ -227,7 +229,7 @@ impl<N: StoreName> Seat<N> {
         ensures ticket { IfOk result (λ r. r.0 ≡ arc_value entry.now) }
         ensures job { IfOk result (λ r. r.1 ≡ arc_value entry.now) }
     {
-        let slot = Arc::new(alloc, ReplySlot::new(entry))?;
+        let slot = Arc::new(alloc, AnswerSlot::new(entry))?;
         let job = Job::new(self.shared.keys, entry, &slot)?;
         let shared = Arc::try_clone(&self.shared)?;
         Ok((Ticket::new(Arc::try_clone(entry)?, slot, shared), job))

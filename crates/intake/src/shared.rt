@@ -6,9 +6,9 @@ ghost use Rattle.trace_model.specs.declared.refusal.Refusal.TheVariants.{Closed,
 ghost use Rattle.read_side.specs.Receipts.{AnsweredAt};
 ghost use Rattle.intake.specs.Denials.{IsDenied};
 
+use crate::answer_slot::{AnswerSlot, JobAnswer};
 use crate::bell::Bell;
 use crate::queue::Queue;
-use crate::reply_slot::{JobOutcome, ReplySlot};
 use crossbeam_utils::CachePadded;
 use read_side::{Receipt, StoreName};
 use sent_batches::BatchKeys;
@@ -27,8 +27,8 @@ pub(crate) struct Shared<N: StoreName> {
     pub(crate) ended: AtomicBool,
     /// Rings when a job was submitted, and when the desk is closed.
     pub(crate) jobs: CachePadded<Bell>,
-    /// One for each seat: rings when a reply to it is stored, and when the clerk ends.
-    pub(crate) replies: Vec<CachePadded<Bell>>,
+    /// One for each seat: rings when an answer to one of its jobs is stored, and when the clerk ends.
+    pub(crate) answer_bells: Vec<CachePadded<Bell>>,
     /// The last receipt that was stored, or the one of the opening.
     pub(crate) last: Mutex<Arc<Receipt<N>>>,
 }
@@ -44,12 +44,12 @@ impl<N: StoreName> Shared<N> {
 
     /// Returns the bell of a seat.
     pub(crate) fn bell(&self, seat: u16) -> Option<&Bell> {
-        let bell = self.replies.get(seat as usize)?;
+        let bell = self.answer_bells.get(seat as usize)?;
         Some(&**bell)
     }
 
-    /// Returns why a job has no reply, after the clerk has ended.
-    pub(crate) fn refusal_without_reply(&self) -> Refusal
+    /// Returns why a job has no answer, after the clerk has ended.
+    pub(crate) fn refusal_without_answer(&self) -> Refusal
         ensures { (result ≡ Closed) ⊎ (result ≡ NoReply) }
     {
         if self.is_closed() {
@@ -65,23 +65,23 @@ impl<N: StoreName> Shared<N> {
         self.jobs.ring();
     }
 
-    /// Stores the outcome of a seat's job, and its receipt, if it has one.
-    pub(crate) fn store_outcome<R: Wait>(
+    /// Stores the answer to a seat's job, and its receipt, if it has one.
+    pub(crate) fn store_answer<R: Wait>(
         &self,
         rt: &R,
         seat: u16,
-        slot: &ReplySlot<N>,
-        outcome: JobOutcome<N>,
+        slot: &AnswerSlot<N>,
+        job_answer: JobAnswer<N>,
     )
-        requires answered { IfOk outcome.answer (λ a.
+        requires answered { IfOk job_answer.answer (λ a.
             AnsweredAt (arc_value a.receipt).entries a.place slot.now) }
-        requires denied { IfErr outcome.answer (λ d.
+        requires denied { IfErr job_answer.answer (λ d.
             IsDenied N.limits slot.now d.refusal d.list) }
     {
-        if let Some(receipt) = outcome.receipt() {
+        if let Some(receipt) = job_answer.receipt() {
             *self.last.lock(rt) = receipt;
         }
-        slot.store_outcome(outcome);
+        slot.store_answer(job_answer);
         // Impossible: a seat without a bell. Its ticket would sleep until the clerk ends.
         if let Some(bell) = self.bell(seat) {
             bell.ring();
@@ -91,7 +91,7 @@ impl<N: StoreName> Shared<N> {
     /// Records that the clerk has ended. Every waiting ticket looks once more.
     pub(crate) fn end(&self) {
         self.ended.store(true, Ordering::SeqCst);
-        for bell in &self.replies {
+        for bell in &self.answer_bells {
             bell.ring();
         }
     }

@@ -6,8 +6,8 @@ ghost use Rattle.read_side.specs.Receipts.{AnsweredAt};
 ghost use Rattle.intake.specs.Seats.{IsUnacknowledged};
 ghost use Rattle.intake.specs.Denials.{IsDenied, IsDeniedSomehow};
 
+use crate::answer_slot::AnswerSlot;
 use crate::denial::Denial;
-use crate::reply_slot::ReplySlot;
 use crate::shared::Shared;
 use read_side::{Receipt, StoreName};
 use std::marker::Model;
@@ -32,7 +32,7 @@ pub struct Ticket<N: StoreName> {
     /// The job's entry. The clerk gives up its own share before it answers, so the waiting thread frees an entry
     /// that the store does not keep.
     entry: Arc<Entry>,
-    slot: Arc<ReplySlot<N>>,
+    slot: Arc<AnswerSlot<N>>,
     shared: Arc<Shared<N>>,
     /// The number of spins before it sleeps.
     spins: u32,
@@ -54,7 +54,7 @@ impl<N: StoreName> Ticket<N> {
     /// Makes a ticket for the entry, whose answer comes into the slot.
     pub(crate) fn new(
         entry: Arc<Entry>,
-        slot: Arc<ReplySlot<N>>,
+        slot: Arc<AnswerSlot<N>>,
         shared: Arc<Shared<N>>,
     ) -> Ticket<N>
         requires { arc_value slot ≡ arc_value entry }
@@ -77,8 +77,8 @@ impl<N: StoreName> Ticket<N> {
     }
 
     /// Waits for the answer. An acknowledgement's list has at the place an entry that answers for the job's: its
-    /// own, or the one that had its batch before. Of a refusal by the keeper only the number is returned;
-    /// [`answer`](Self::answer) returns the list too.
+    /// own, or the one that had its batch before. A refusal by the keeper is returned without its list, which
+    /// [`answer`](Self::answer) returns too.
     ///
     /// # Errors
     ///
@@ -116,7 +116,7 @@ impl<N: StoreName> Ticket<N> {
                 return answer;
             }
             if ended {
-                let refusal = self.shared.refusal_without_reply();
+                let refusal = self.shared.refusal_without_answer();
                 return Err(Denial {
                     refusal,
                     list: None,

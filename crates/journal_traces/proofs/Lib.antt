@@ -16,7 +16,6 @@ pub mod NearMatches
 pub mod OutlineBounds
 pub mod WindowBounds
 pub mod TracesOfWindows
-pub mod StoredSpans
 pub mod RequestedService
 pub mod SkippedTraces
 pub mod KeyClasses

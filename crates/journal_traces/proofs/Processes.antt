@@ -13,9 +13,11 @@ use Rattle.trace_model.specs.declared.entry.Work.{Work}
 use Rattle.trace_model.specs.declared.entry.Work.TheVariants as brings
 use Rattle.trace_model.specs.EntryWork.{batch_brought, placed_brought}
 use Rattle.trace_model.specs.Places.{entry_at}
+use Rattle.trace_model.specs.TakenSpans.{Taken, placed_taken, numbers_taken}
+use Rattle.trace_model.proofs.TakenSpans.{one_more}
 use Rattle.trace_assembly.specs.declared.spot.Spot.{Spot}
 use Rattle.trace_assembly.specs.LocatedSpans.{span_at}
-use Rattle.journal_traces.specs.SpansAtSpots.{process_at, AreReportedAt}
+use Rattle.journal_traces.specs.SpansAtSpots.{process_at}
 
 of_batch : (p : Process) (ss : List Span) (i : ℕ) (q : Placed) → Some q ≡ slice_get (map {B = Placed} (λ s. record { process = p; span = with_parent s }) ss) i
     → q.process ≡ p
@@ -36,29 +38,31 @@ process_there h s q e = there (entry_at h s.place) e
     there None e = absurd (cc e)
     there (Some x) e = brought x.work s.index q e
 
--- one more span
-pub more_at : (h : List Entry) (spans more : List Placed) (places next : List ℕ) (q : Placed) (place : ℕ) → AreReportedAt h spans places
-    → more ≡ spans ++ q ∷ []
-    → next ≡ places ++ place ∷ [] → Some q.process ≡ process_at h place → AreReportedAt h more next
-more_at h spans more places next q place at put put_place here =
-    ap (map (λ (p : Placed). Some p.process)) put ∙ map_push (λ (p : Placed). Some p.process) spans q ∙ (λ i. at i ++ here i ∷ [])
-    ∙ sym (ap (map (process_at h)) put_place ∙ map_push (process_at h) places place)
+-- the processes of the spans are those to which the numbers lead
+abbrev pub LeadToEach : (ℕ → Option Process) → List Placed → List ℕ → Type 0
+LeadToEach f spans numbers = map (λ (p : Placed). Some p.process) spans ≡ map f numbers
 
--- the processes of spans are those to which their numbers lead
 module _ (f : ℕ → Option Process) where
+  -- one more span, whose number leads to its process
+  pub leads_more : (ts : List Taken) (t : Taken) (p : Placed) → t.span ≡ Some p → Some p.process ≡ f t.number → LeadToEach f (placed_taken ts) (numbers_taken ts)
+      → LeadToEach f (placed_taken (ts ++ t ∷ [])) (numbers_taken (ts ++ t ∷ []))
+  leads_more ts t p is here before =
+      ap (map (λ (q : Placed). Some q.process)) (one_more ts t p is) ∙ map_push (λ (q : Placed). Some q.process) (placed_taken ts) p
+      ∙ (λ i. before i ++ here i ∷ []) ∙ sym (ap (map f) (map_push (λ (u : Taken). u.number) ts t) ∙ map_push f (numbers_taken ts) t.number)
+
   -- the process of one of them
-  process_got : (spans : List Placed) (numbers : List ℕ) → map (λ (p : Placed). Some p.process) spans ≡ map f numbers → (k : ℕ) (d : Placed)
+  process_got : (spans : List Placed) (numbers : List ℕ) → LeadToEach f spans numbers → (k : ℕ) (d : Placed)
       → k < length numbers → Some (get_or spans k d).process ≡ f (get_or numbers k 0)
   process_got [] [] at k d l = absurd (omega arith)
   process_got [] (x ∷ numbers) at k d l = absurd (cc at)
   process_got (p ∷ spans) [] at k d l = absurd (omega arith)
   process_got (p ∷ spans) (x ∷ numbers) at zero d l = cc at
   process_got (p ∷ spans) (x ∷ numbers) at (suc k) d l =
-      let rest : map (λ (p : Placed). Some p.process) spans ≡ map f numbers = cc at in
+      let rest : LeadToEach f spans numbers = cc at in
       process_got spans numbers rest k d (omega arith)
 
   -- spans of one number have one process
-  pub one_process : (spans : List Placed) (numbers : List ℕ) → map (λ (p : Placed). Some p.process) spans ≡ map f numbers → (j k : ℕ) (d : Placed)
+  pub one_process : (spans : List Placed) (numbers : List ℕ) → LeadToEach f spans numbers → (j k : ℕ) (d : Placed)
       → j < length numbers → k < length numbers → get_or numbers j 0 ≡ get_or numbers k 0 → (get_or spans j d).process ≡ (get_or spans k d).process
   one_process spans numbers at j k d lj lk same =
       let both : Some (get_or spans j d).process ≡ Some (get_or spans k d).process =

@@ -1,10 +1,10 @@
 -- Taken spans, as they are read.
 use Rattle.std.proofs.Common.{◌≡◌, ℕ, ◌+◌, ◌<◌, ◌≤◌, Bool, true, false, ◌||◌, List, [], ◌∷◌, ◌++◌, map, length, take, drop, get_or, zero, suc, refl, sym, ap}
-use Rattle.std.proofs.Common.{subst, ◌∙◌, arith, Some, None, Option}
-use Rattle.std.specs.Prelude.{IfSome, is_some, slice_index_or}
+use Rattle.std.proofs.Common.{subst, ◌∙◌, arith, Some, Option}
+use Rattle.std.specs.Prelude.{IfSome, slice_index_or}
 use Rattle.std.specs.List.{list_any, cons_option, All}
-use Rattle.std.proofs.lemmas.Bool.{false≢true, or_right}
-use Rattle.std.proofs.lemmas.List.{append-nil, map_push, take_more, take_all, take-append-drop}
+use Rattle.std.proofs.lemmas.Bool.{or_right}
+use Rattle.std.proofs.lemmas.List.{take_more, take_all, take-append-drop}
 use Rattle.std.proofs.lemmas.List.Elements.{filter_map-append}
 use Rattle.std.proofs.lemmas.List.Folds.{list_any-append}
 use Rattle.jaeger_model.specs.declared.batch.Process.{Process}
@@ -12,26 +12,27 @@ use Rattle.jaeger_model.specs.declared.placed.Placed.{Placed}
 use Rattle.jaeger_model.specs.declared.placed.Seen.{Seen}
 use Rattle.trace_model.specs.declared.query.Find.{Find}
 use Rattle.trace_model.specs.Searching.{matches}
-use Rattle.trace_model.specs.KeptTraces.{spans_there}
 use Rattle.trace_model.specs.SharedProcesses.{ShareProcesses}
-use Rattle.trace_model.proofs.KeptSpans.{one_more}
+use Rattle.trace_model.proofs.TakenSpans.{one_more, some_next}
 use Rattle.trace_model.specs.BorrowedSpans.{seen, placed_by_its_entry}
-use Rattle.trace_model.specs.TakenSpans.{Taken}
+use Rattle.trace_model.specs.TakenSpans.{Taken, placed_taken, numbers_taken}
 use Rattle.journal_traces.specs.declared.process_classes.ProcessClasses.{ProcessClasses}
 use Rattle.journal_traces.specs.ProcessClasses.{Leads}
 use Rattle.journal_traces.specs.TakenSearch.{IsFlagged}
-use Rattle.journal_traces.specs.TakenTraces.{placed_taken, HasProcess, HaveProcesses}
+use Rattle.journal_traces.specs.TakenTraces.{HasProcess, HaveProcesses}
 use Rattle.journal_traces.proofs.ParentReferences.{matches-adopted}
 use Rattle.journal_traces.proofs.TraceMarks.{or_same}
-use Rattle.journal_traces.proofs.Processes.{one_process}
+use Rattle.journal_traces.proofs.Processes.{LeadToEach, leads_more, one_process}
+
+-- the process of a span is the one to which its number leads
+pub own_process : (process_of : ℕ → Option Process) (x : Taken) (p : Placed) → Some p ≡ x.span → HasProcess process_of x
+    → Some p.process ≡ process_of x.number
+own_process process_of x p there has = subst (λ (o : Option Placed). IfSome o (λ (q : Placed). Some q.process ≡ process_of x.number)) (sym there) has
 
 -- the process of a span that is read is the one to which its number leads
 pub process_seen : (process_of : ℕ → Option Process) (x : Taken) (s : Seen) (n : ℕ) → Some (placed_by_its_entry s) ≡ x.span → n ≡ x.number
     → HasProcess process_of x → Some s.process.now ≡ process_of n
-process_seen process_of x s n at number has =
-    let here : Some s.process.now ≡ process_of x.number =
-    subst (λ (o : Option Placed). IfSome o (λ (p : Placed). Some p.process ≡ process_of x.number)) (sym at) has in
-    here ∙ ap process_of (sym number)
+process_seen process_of x s n at number has = own_process process_of x (placed_by_its_entry s) at has ∙ ap process_of (sym number)
 
 pub match_seen : (q : Find) (x : Taken) (s : Seen) → Some (placed_by_its_entry s) ≡ x.span → matches q (seen s) ≡ list_any (matches q) (placed_taken (x ∷ []))
 match_seen q x s at = sym (matches-adopted q (seen s)) ∙ or_same (matches q (placed_by_its_entry s)) ∙ ap (λ o. list_any (matches q) (cons_option o [])) at
@@ -85,38 +86,25 @@ processes_got process_of ts k all = all_got (HasProcess process_of) ts k all
 
 -- ---- the trace of an answer, span by span
 -- the spans up to the index are kept, and if the classes lead to their processes, so do the numbers
-pub record IsKeptUpto (old : ProcessClasses) (xs : List Taken) (i : ℕ) (kept : List (Option Placed)) (numbers : List ℕ) : Type 0 where
-  pub spans : spans_there kept ≡ placed_taken (take i xs)
+pub record IsKeptUpto (old : ProcessClasses) (xs : List Taken) (i : ℕ) (kept : List Taken) : Type 0 where
+  pub spans : placed_taken kept ≡ placed_taken (take i xs)
   pub processes : (process_of : ℕ → Option Process) → HaveProcesses process_of xs → Leads process_of old
-      → map (λ (p : Placed). Some p.process) (spans_there kept) ≡ map process_of numbers
+      → LeadToEach process_of (placed_taken kept) (numbers_taken kept)
 
-module _ (xs : List Taken) (i : ℕ) (x : Taken) (le : i < length xs) (is : x ≡ get_or xs i x) (old : ProcessClasses) (kept : List (Option Placed))
-    (numbers : List ℕ) (before : IsKeptUpto old xs i kept numbers) where
-  pub kept_none : (one : Option Placed) → one ≡ x.span → is_some one ≡ false → IsKeptUpto old xs (i + 1) kept numbers
-  kept_none (Some p) at there = absurd (false≢true (sym there))
-  kept_none None at there = record {
-    spans =
-        before.spans ∙ sym (append-nil (placed_taken (take i xs))) ∙ ap (λ o. placed_taken (take i xs) ++ cons_option o []) at ∙ sym (taken_more xs i x le is);
-    processes = before.processes;
-  }
+pub kept_more : (old : ProcessClasses) (xs : List Taken) (i : ℕ) (x : Taken) → i < length xs → x ≡ get_or xs i x → (kept more : List Taken) (t : Taken) (p : Placed)
+    → IsKeptUpto old xs i kept → more ≡ kept ++ t ∷ [] → Some p ≡ x.span → t.span ≡ x.span
+    → ((process_of : ℕ → Option Process) → HaveProcesses process_of xs → Leads process_of old → process_of t.number ≡ process_of x.number)
+    → IsKeptUpto old xs (i + 1) more
+kept_more old xs i x le is kept more t p before put there same key =
+    let own : t.span ≡ Some p = same ∙ sym there in
+    record {
+      spans = ap placed_taken put ∙ one_more kept t p own ∙ ap (λ l. l ++ p ∷ []) before.spans ∙ some_next xs i x p le is (sym there);
+      processes = λ process_of has known.
+          let here = own_process process_of x p there (has_process xs i x le is process_of has) ∙ sym (key process_of has known) in
+          subst (λ (l : List Taken). LeadToEach process_of (placed_taken l) (numbers_taken l)) (sym put)
+          (leads_more process_of kept t p own here (before.processes process_of has known));
+    }
 
-  pub kept_more : (one : Option Placed) (more : List (Option Placed)) (number : ℕ) (next : List ℕ) → one ≡ x.span → is_some one ≡ true → more ≡ kept ++ one ∷ []
-      → ((process_of : ℕ → Option Process) → HaveProcesses process_of xs → Leads process_of old → process_of number ≡ process_of x.number)
-      → next ≡ numbers ++ number ∷ [] → IsKeptUpto old xs (i + 1) more next
-  kept_more None more number next at there put same put_number = absurd (false≢true there)
-  kept_more (Some p) more number next at there put same put_number =
-      let all : spans_there more ≡ spans_there kept ++ p ∷ [] = one_more kept more (Some p) p put refl in
-      record {
-        spans = all ∙ ap (λ l. l ++ p ∷ []) before.spans ∙ ap (λ o. placed_taken (take i xs) ++ cons_option o []) at ∙ sym (taken_more xs i x le is);
-        processes = λ process_of has known.
-            let own : Some p.process ≡ process_of x.number =
-            subst (λ (o : Option Placed). IfSome o (λ (q : Placed). Some q.process ≡ process_of x.number)) (sym at)
-            (has_process xs i x le is process_of has) in
-            ap (map (λ (q : Placed). Some q.process)) all ∙ map_push (λ (q : Placed). Some q.process) (spans_there kept) p
-            ∙ (λ j. before.processes process_of has known j ++ (own ∙ sym (same process_of has known)) j ∷ [])
-            ∙ sym (ap (map process_of) put_number ∙ map_push process_of numbers number);
-      }
-
-pub kept_share : (spans : List Placed) (numbers : List ℕ) (process_of : ℕ → Option Process)
-    → map (λ (p : Placed). Some p.process) spans ≡ map process_of numbers → ShareProcesses spans numbers
+pub kept_share : (spans : List Placed) (numbers : List ℕ) (process_of : ℕ → Option Process) → LeadToEach process_of spans numbers
+    → ShareProcesses spans numbers
 kept_share spans numbers process_of at j k d one = one_process process_of spans numbers at j k d one.0 one.1 one.2

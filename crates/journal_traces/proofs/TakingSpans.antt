@@ -7,11 +7,11 @@ use Rattle.std.proofs.lemmas.List.{append-nil, map_push}
 use Rattle.std.proofs.lemmas.List.Elements.{All-same, All-push, All-nil, filter_map-append}
 use Rattle.jaeger_model.specs.declared.placed.Placed.{Placed}
 use Rattle.trace_model.specs.declared.entry.Entry.{Entry}
-use Rattle.trace_model.specs.TakenSpans.{Taken}
+use Rattle.trace_model.specs.TakenSpans.{Taken, placed_taken}
 use Rattle.trace_assembly.specs.declared.spot.Spot.{Spot}
 use Rattle.trace_assembly.specs.LocatedSpans.{span_at}
 use Rattle.journal_traces.specs.SpansAtSpots.{process_at, spans_named}
-use Rattle.journal_traces.specs.TakenTraces.{placed_taken, HasProcess}
+use Rattle.journal_traces.specs.TakenTraces.{HasProcess}
 use Rattle.journal_traces.proofs.Processes.{process_there}
 
 -- the last trace has the first of the spans to collect; the spots of the remaining ones are left

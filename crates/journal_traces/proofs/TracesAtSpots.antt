@@ -24,7 +24,7 @@ use Rattle.trace_model.specs.declared.query.Find.{Find}
 use Rattle.trace_model.specs.Places.{entry_at}
 use Rattle.trace_model.specs.Searching.{matches, is_timed, has_tag, cut, ranked_by_start, first_start, matching, found_in}
 use Rattle.std.specs.List.{list_all}
-use Rattle.trace_model.specs.TakenSpans.{Taken}
+use Rattle.trace_model.specs.TakenSpans.{Taken, placed_taken}
 use Rattle.trace_model.specs.EntryWork.{batch_brought, placed_brought}
 use Rattle.arrival_journal.specs.declared.outline.Outline.{Outline}
 use Rattle.arrival_journal.specs.Outlines.{outline_in}
@@ -44,7 +44,7 @@ use Rattle.journal_traces.specs.TakenSearch.{IsFlagged, IsSearching}
 use Rattle.journal_traces.specs.declared.judged_entries.JudgedEntries.{JudgedEntries}
 use Rattle.journal_traces.specs.ReportedSpots.{is_number}
 use Rattle.journal_traces.specs.SpansAtSpots.{process_at, spans_named}
-use Rattle.journal_traces.specs.TakenTraces.{placed_taken, HasProcess}
+use Rattle.journal_traces.specs.TakenTraces.{HasProcess}
 use Rattle.journal_traces.proofs.Processes.{process_there}
 use Rattle.journal_traces.proofs.ParentReferences.{matches-adopted}
 use Rattle.journal_traces.proofs.OutlineBounds.{passed_there}

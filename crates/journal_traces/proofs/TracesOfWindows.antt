@@ -12,9 +12,9 @@ use Rattle.jaeger_model.specs.declared.placed.Placed.{Placed}
 use Rattle.jaeger_model.specs.Texts.{same_text}
 use Rattle.trace_model.specs.declared.entry.Entry.{Entry}
 use Rattle.trace_model.specs.Places.{entry_at}
-use Rattle.trace_model.specs.TakenSpans.{Taken}
+use Rattle.trace_model.specs.TakenSpans.{Taken, placed_taken}
 use Rattle.trace_model.specs.EntryWork.{placed_brought, service_brought}
-use Rattle.trace_model.proofs.KeptSpans.{name_there}
+use Rattle.trace_model.proofs.TakenSpans.{name_there}
 use Rattle.trace_model.proofs.Lists.{each_append}
 use Rattle.trace_model.proofs.NameLaws.{text_is}
 use Rattle.trace_assembly.specs.declared.spot.Spot.{Spot}
@@ -28,7 +28,6 @@ use Rattle.journal_traces.specs.TraceParts.{next_start, cut_at, AreStarts}
 use Rattle.journal_traces.specs.Numbered.{numbered, AreNumbers}
 use Rattle.journal_traces.specs.TagCandidates.{IsSpotWithin, AddsSpan}
 use Rattle.journal_traces.specs.SpansAtSpots.{HasServiceNumber, AreNumberedByService}
-use Rattle.journal_traces.specs.TakenTraces.{placed_taken}
 use Rattle.journal_traces.specs.WindowTraces.{ServedEntry, entry_seen, entries_seen, entries_in, numbered_span, taken_in, taken_reported, trace_reported}
 use Rattle.journal_traces.specs.WindowTraces.{traces_reported, HasService, AreWindowSpots}
 use Rattle.journal_traces.proofs.TraceParts.{cut_begin, cut_push, starts_begin, starts_push}

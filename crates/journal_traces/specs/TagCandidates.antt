@@ -8,7 +8,7 @@ use Rattle.jaeger_model.specs.declared.placed.Placed.{Placed}
 use Rattle.trace_model.specs.declared.entry.Entry.{Entry}
 use Rattle.trace_model.specs.declared.query.Find.{Find}
 use Rattle.trace_model.specs.Searching.{matches}
-use Rattle.trace_model.specs.TakenSpans.{Taken}
+use Rattle.trace_model.specs.TakenSpans.{Taken, placed_taken}
 use Rattle.trace_model.specs.EntryWork.{batch_brought, placed_brought}
 use Rattle.trace_assembly.specs.declared.spot.Spot.{Spot}
 use Rattle.trace_assembly.specs.LocatedSpans.{span_at}
@@ -18,7 +18,6 @@ use Rattle.journal_traces.specs.declared.taken_spot.TakenSpot.{TakenSpot}
 use Rattle.journal_traces.specs.TraceParts.{AreStarts}
 use Rattle.journal_traces.specs.SpansAtSpots.{process_at}
 use Rattle.journal_traces.specs.TakenSearch.{AreJudged}
-use Rattle.journal_traces.specs.TakenTraces.{placed_taken}
 
 -- a search, the collected entries, and the traces that the search considers, whose spans have the numbers of their
 -- entries

@@ -7,13 +7,13 @@ use Rattle.jaeger_model.specs.declared.batch.Process.{Process}
 use Rattle.jaeger_model.specs.declared.placed.Placed.{Placed}
 use Rattle.trace_model.specs.declared.query.Find.{Find}
 use Rattle.trace_model.specs.Searching.{matches}
-use Rattle.trace_model.specs.TakenSpans.{Taken}
+use Rattle.trace_model.specs.TakenSpans.{Taken, placed_taken}
 use Rattle.find_traces.specs.RequestedPairs.{Judgement}
 use Rattle.journal_traces.specs.declared.judged_entries.JudgedEntries.{JudgedEntries}
 use Rattle.journal_traces.specs.declared.process_classes.ProcessClasses.{ProcessClasses}
 use Rattle.journal_traces.specs.ProcessClasses.{Leads}
 use Rattle.journal_traces.specs.ProcessConditions.{IsJudgedAs}
-use Rattle.journal_traces.specs.TakenTraces.{placed_taken, HaveProcesses}
+use Rattle.journal_traces.specs.TakenTraces.{HaveProcesses}
 
 -- the process of the number was judged with this result
 abbrev pub IsOfNumber : Find → (ℕ → Option Process) → ℕ → Option Judgement → Type 0

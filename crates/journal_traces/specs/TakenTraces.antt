@@ -1,15 +1,11 @@
 -- Traces that are collected from a journal.
-use Rattle.std.specs.Prelude.{◌≡◌, ℕ, List, filter_map, Option, Some, IfSome}
+use Rattle.std.specs.Prelude.{◌≡◌, ℕ, List, Option, Some, IfSome}
 use Rattle.std.specs.List.{All}
 use Rattle.jaeger_model.specs.declared.batch.Process.{Process}
 use Rattle.jaeger_model.specs.declared.placed.Placed.{Placed}
 use Rattle.trace_model.specs.declared.entry.Entry.{Entry}
 use Rattle.trace_model.specs.TakenSpans.{Taken}
 use Rattle.journal_traces.specs.SpansAtSpots.{process_at}
-
--- the spans themselves
-abbrev pub placed_taken : List Taken → List Placed
-placed_taken ts = filter_map (λ (t : Taken). t.span) ts
 
 -- the number of the span leads to its process
 abbrev pub HasProcess : (ℕ → Option Process) → Taken → Type 0

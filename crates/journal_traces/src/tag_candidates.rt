@@ -8,14 +8,13 @@ ghost use Rattle.jaeger_model.specs.declared.batch.Process.{Process as ProcessVa
 ghost use Rattle.jaeger_model.specs.Parents.{domain};
 ghost use Rattle.trace_model.specs.Searching.{found_in, matches};
 ghost use Rattle.trace_model.specs.BorrowedSpans.{seen};
-ghost use Rattle.trace_model.specs.TakenSpans.{Taken};
+ghost use Rattle.trace_model.specs.TakenSpans.{Taken, placed_taken};
 ghost use Rattle.trace_assembly.specs.LocatedSpans.{span_at};
 ghost use Rattle.journal_traces.specs.ProcessConditions.{IsJudgedAs};
 ghost use Rattle.journal_traces.specs.TagCandidates.{spot_of, taken_spotted, trace_spotted, traces_spotted, is_entry_met};
 ghost use Rattle.journal_traces.specs.TagCandidates.{may_spot_meet, may_spots_meet, IsMatchFlag, HasMatchFlag, entry_process};
 ghost use Rattle.journal_traces.specs.TagCandidates.{entry_shared, entries_shared, IsTakenFrom, AreNumberedByEntry, AreJudgedEntries};
 ghost use Rattle.journal_traces.specs.TakenSearch.{AreJudged, IsSearching};
-ghost use Rattle.journal_traces.specs.TakenTraces.{placed_taken};
 
 use crate::judged_entries::JudgedEntries;
 use crate::process_conditions::{has_tags, judge};

@@ -3,11 +3,11 @@
 ghost use Rattle.std.specs.Prelude.{◌≡◌, false, ℕ, Option, [], IfOk, OnOk, map, slice_index_or};
 ghost use Rattle.jaeger_model.specs.declared.batch.Process.{Process as ProcessValue};
 ghost use Rattle.trace_model.specs.Adjusting.{adjusted};
-ghost use Rattle.trace_model.specs.KeptTraces.{spans_there};
+ghost use Rattle.trace_model.specs.KeptTraces.{KeptShares};
 ghost use Rattle.trace_model.specs.Searching.{found_in, ids_of};
-ghost use Rattle.trace_model.specs.SharedProcesses.{ShareProcesses};
 ghost use Rattle.journal_traces.specs.ProcessClasses.{Leads, ShareByClass};
-ghost use Rattle.journal_traces.specs.TakenTraces.{placed_taken, HasProcess, HaveProcesses, ShareByNumber};
+ghost use Rattle.journal_traces.specs.TakenTraces.{HasProcess, HaveProcesses, ShareByNumber};
+ghost use Rattle.trace_model.specs.TakenSpans.{placed_taken};
 ghost use Rattle.journal_traces.specs.TakenSearch.{traces_taken, query_taken};
 
 use crate::process_classes::ProcessClasses;
@@ -16,7 +16,7 @@ use crate::taken::TakenTraces;
 use crate::taken_search::TakenSearch;
 use jaeger_model::TraceId;
 use std::alloc::{AllocError, Global};
-use trace_model::{AnsweredTrace, KeptTrace, Limits, TakenSpan};
+use trace_model::{AnsweredTrace, KeptTrace, TakenSpan};
 
 /// Returns the key under which a span is shown: the class of the key of its process, or this key itself if the trace
 /// has no other.
@@ -44,50 +44,52 @@ fn key_of<'a>(
 fn kept_trace<'a>(
     alloc: Global,
     spans: &'a [TakenSpan],
-    limits: Limits,
+    max_skew: u64,
     classes: &mut ProcessClasses<'a>,
 ) -> Result<KeptTrace, AllocError>
-    ensures spans { IfOk result (λ t. spans_there t.spans.items ≡ placed_taken spans.now) }
+    ensures spans { IfOk result (λ t. placed_taken t.spans.items ≡ placed_taken spans.now) }
     ensures shared { (process_of : ℕ → Option ProcessValue) → HaveProcesses process_of spans.now →
-        Leads process_of classes.old →
-        IfOk result (λ t. ShareProcesses (spans_there t.spans.items) t.process_keys.items) }
+        Leads process_of classes.old → IfOk result KeptShares }
     ensures leads { (process_of : ℕ → Option ProcessValue) → HaveProcesses process_of spans.now →
         Leads process_of classes.old → OnOk result (Leads process_of classes.new) }
-    ensures form { IfOk result (λ t. (t.limits ≡ limits) × (t.raw ≡ false)) }
+    ensures form { IfOk result (λ t. (t.max_skew ≡ max_skew) × (t.raw ≡ false)) }
 {
     let mut kept = Vec::with_capacity(alloc, spans.len())?;
-    let mut process_keys = Vec::with_capacity(alloc, spans.len())?;
     let alone = have_one_key(spans);
     for span in spans {
-        let one = span.kept()?;
+        // For the prover: `reported`'s clause says that there is a span.
+        let _seen = span.reported();
         let key = key_of(classes, span, alone)?;
-        if one.is_there() {
-            kept.push(one)?;
-            process_keys.push(u64::from(key))?;
-        }
+        let one = span.with_key(key)?;
+        kept.push(one)?;
     }
     Ok(KeptTrace {
         spans: kept,
-        process_keys,
-        limits,
+        max_skew,
         raw: false,
     })
 }
 
-/// Returns the trace at an index as it is to be shown, without spans if there is none.
+/// Returns the trace at an index as it is to be shown, without spans if there is none. A lone span keeps its key: a
+/// trace with one span has no other process to compare.
 fn kept_at<'a>(
     alloc: Global,
     traces: &'a TakenTraces,
     index: usize,
-    limits: Limits,
+    max_skew: u64,
     classes: &mut ProcessClasses<'a>,
 ) -> Result<AnsweredTrace, AllocError>
     requires { ShareByClass traces.now classes.old }
-    ensures trace { IfOk result (λ s. s ≡ adjusted limits.max_skew
+    ensures trace { IfOk result (λ s. s ≡ adjusted max_skew
         (slice_index_or (map placed_taken traces.now) index [])) }
     ensures classes { OnOk result (ShareByClass traces.now classes.new) }
 {
-    let trace = kept_trace(alloc, traces.trace(index), limits, classes)?;
+    let spans = traces.trace(index);
+    if let [span] = spans {
+        let one = span.with_key(span.process_key())?;
+        return Ok(AnsweredTrace::lone(one));
+    }
+    let trace = kept_trace(alloc, spans, max_skew, classes)?;
     Ok(AnsweredTrace::kept(trace))
 }
 
@@ -119,23 +121,23 @@ fn all_kept(
     alloc: Global,
     traces: &TakenTraces,
     indices: &[usize],
-    limits: Limits,
+    max_skew: u64,
 ) -> Result<Vec<AnsweredTrace>, AllocError>
     requires { ShareByNumber traces.now }
-    ensures { IfOk result (λ v. v.items ≡ map (λ i. adjusted limits.max_skew
+    ensures { IfOk result (λ v. v.items ≡ map (λ i. adjusted max_skew
         (slice_index_or (map placed_taken traces.now) i [])) indices.now) }
 {
     let recurring = recurring_at(alloc, traces, indices)?;
     let mut classes = ProcessClasses::of_recurring(alloc, recurring);
     let mut kept = Vec::with_capacity(alloc, indices.len())?;
     for index in indices {
-        kept.push(kept_at(alloc, traces, *index, limits, &mut classes)?)?;
+        kept.push(kept_at(alloc, traces, *index, max_skew, &mut classes)?)?;
     }
     Ok(kept)
 }
 
-/// Returns the traces that a search finds, in the order of its answer, as they are to be shown. Their spans stay in
-/// the entries.
+/// Returns the traces that a search finds, in the order of its answer, as they are to be shown: clock skews of up to
+/// `max_skew` microseconds are adjusted. Their spans stay in the entries.
 ///
 /// # Errors
 ///
@@ -143,14 +145,14 @@ fn all_kept(
 pub fn find_kept(
     alloc: Global,
     search: &mut TakenSearch<'_, '_>,
-    limits: Limits,
+    max_skew: u64,
 ) -> Result<Vec<AnsweredTrace>, AllocError>
-    ensures { IfOk result (λ v. v.items ≡ map (adjusted limits.max_skew)
+    ensures { IfOk result (λ v. v.items ≡ map (adjusted max_skew)
         (found_in (query_taken search.old) (traces_taken search.old))) }
 {
     let indices = find_traces::find(alloc, search)?;
     // For the prover: the binding lets the clauses of `all_kept` be used for the result.
-    let kept = all_kept(alloc, search.traces(), &indices, limits)?;
+    let kept = all_kept(alloc, search.traces(), &indices, max_skew)?;
     Ok(kept)
 }
 
@@ -171,7 +173,8 @@ pub fn find_kept_ids(
     Ok(ids)
 }
 
-/// Returns all of the traces as they are to be shown, in their order. Their spans stay in the entries.
+/// Returns all of the traces as they are to be shown, in their order: clock skews of up to `max_skew` microseconds are
+/// adjusted. Their spans stay in the entries.
 ///
 /// # Errors
 ///
@@ -179,17 +182,17 @@ pub fn find_kept_ids(
 pub fn keep_all(
     alloc: Global,
     traces: &TakenTraces,
-    limits: Limits,
+    max_skew: u64,
 ) -> Result<Vec<AnsweredTrace>, AllocError>
     requires { ShareByNumber traces.now }
     ensures { IfOk result (λ v. v.items ≡
-        map (adjusted limits.max_skew) (map placed_taken traces.now)) }
+        map (adjusted max_skew) (map placed_taken traces.now)) }
 {
     let recurring = recurring_in(alloc, traces)?;
     let mut classes = ProcessClasses::of_recurring(alloc, recurring);
     let mut kept = Vec::with_capacity(alloc, traces.count())?;
     for index in 0..traces.count() {
-        kept.push(kept_at(alloc, traces, index, limits, &mut classes)?)?;
+        kept.push(kept_at(alloc, traces, index, max_skew, &mut classes)?)?;
     }
     Ok(kept)
 }

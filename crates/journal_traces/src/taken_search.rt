@@ -7,7 +7,8 @@ ghost use Rattle.trace_model.specs.Searching.{matches, first_start, first_id};
 ghost use Rattle.trace_model.specs.BorrowedSpans.{seen};
 ghost use Rattle.journal_traces.specs.ProcessClasses.{Leads};
 ghost use Rattle.journal_traces.specs.ProcessConditions.{of_service_with_tags};
-ghost use Rattle.journal_traces.specs.TakenTraces.{placed_taken, HasProcess, HaveProcesses, ShareByNumber};
+ghost use Rattle.journal_traces.specs.TakenTraces.{HasProcess, HaveProcesses, ShareByNumber};
+ghost use Rattle.trace_model.specs.TakenSpans.{placed_taken};
 ghost use Rattle.journal_traces.specs.TakenSearch.{AreJudged, IsFlagged, IsSearching, traces_taken, query_taken};
 
 use crate::judged_entries::{JudgedEntries, JudgedProcesses};

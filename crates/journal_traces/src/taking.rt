@@ -4,7 +4,8 @@ ghost use Rattle.std.specs.Prelude.{◌≡◌, ◌<◌, ◌^◌, ◌++◌, ◌�
 ghost use Rattle.std.specs.Option.{option_and_then};
 ghost use Rattle.trace_assembly.specs.LocatedSpans.{span_at};
 ghost use Rattle.journal_traces.specs.SpansAtSpots.{process_at, spans_named};
-ghost use Rattle.journal_traces.specs.TakenTraces.{placed_taken, HasProcess, AreNumberedByPlace};
+ghost use Rattle.journal_traces.specs.TakenTraces.{HasProcess, AreNumberedByPlace};
+ghost use Rattle.trace_model.specs.TakenSpans.{placed_taken};
 
 use crate::taken::TakenTraces;
 use arrival_journal::Journal;
@@ -12,8 +13,8 @@ use std::alloc::AllocError;
 use trace_assembly::{Spot, Spots};
 use trace_model::TakenSpan;
 
-/// Collects the span at a spot. The key of its process is the place of its entry.
-fn taken_at(journal: &Journal, spot: Spot) -> Result<Option<TakenSpan>, AllocError>
+/// Returns the span at a spot, if there is one. The key of its process is the place of its entry.
+pub(crate) fn taken_at(journal: &Journal, spot: Spot) -> Result<Option<TakenSpan>, AllocError>
     requires few { length journal.now.held.entries < 2 ^ 32 }
     ensures span { IfOk result (λ t. option_and_then (λ s. s.span) t ≡
         span_at journal.now.held.entries spot) }

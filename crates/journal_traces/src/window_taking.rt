@@ -11,7 +11,7 @@ ghost use Rattle.service_index.specs.ServicePlaces.{AreServiceNumbers};
 ghost use Rattle.journal_traces.specs.TraceRanges.{AreRanged};
 ghost use Rattle.journal_traces.specs.TagCandidates.{AddsSpan};
 ghost use Rattle.journal_traces.specs.SpansAtSpots.{spans_named, trace_named, AreNumberedByService};
-ghost use Rattle.journal_traces.specs.TakenTraces.{placed_taken};
+ghost use Rattle.trace_model.specs.TakenSpans.{placed_taken};
 ghost use Rattle.journal_traces.specs.WindowTraces.{entries_in, entries_seen, traces_reported, AreWindowSpots};
 
 use crate::entry_numbers::EntryNumbers;

@@ -1,9 +1,9 @@
 -- What a store knows of the refusals of a connection stays known.
 use Rattle.std.proofs.Common.{Some, None, Ok, Err}
 use Rattle.trace_model.specs.StoreKnowledge.{ForgetsNothing}
-use Rattle.http_session.specs.ResponseOrder.{Line}
+use Rattle.http_session.specs.ResponseOrder.{ConnectionModel}
 use Rattle.http_session.specs.SessionRuns.{Store}
-use Rattle.http_session.specs.Pieces.{UnderwayAmong}
+use Rattle.http_session.specs.ResumableSessions.{UnderwayAmong}
 use Rattle.http_session.specs.KnownRefusals.{RefusalsAreKnown}
 use Rattle.http_session.proofs.SessionPieces.{Promises, keeps_on}
 use Rattle.http_session.proofs.KnownRefusals.{stays_known_among}
@@ -13,31 +13,31 @@ use Rattle.open_connections.specs.declared.open.OpenConnection.{OpenConnection}
 use Rattle.open_connections.specs.declared.buffered.BufferedConnection.{BufferedConnection}
 use Rattle.open_connections.specs.declared.open.ConnectionProgress.TheVariants.{Answered, HoldsMore, Paused, Writing, Ended, Closing, Failed, Undelivered}
 
-module _ {S C : Type 0} (store : Store S) (promises : Promises store) (line : Line (BufferedConnection C)) (now later : S) (it : OpenConnection C)
+module _ {S C : Type 0} (store : Store S) (promises : Promises store) (model : ConnectionModel (BufferedConnection C)) (now later : S) (it : OpenConnection C)
     (keeps : ForgetsNothing store.limits store.knows now later) where
-  of_underway : (then : S) (under : UnderwayAmong store line it.began.value it.connection then now it.session)
+  of_underway : (then : S) (under : UnderwayAmong store model it.began.value it.connection then now it.session)
       → RefusalsAreKnown store.knows later under.1.so_far.opens
   of_underway then under =
-      stays_known_among store promises line it.began.value it.connection then later it.session (Ok None)
+      stays_known_among store promises model it.began.value it.connection then later it.session (Ok None)
       (under.0, under.1, keeps_on store under.0 now later under.2 keeps)
 
-  of_ended : (has : SessionEnded store line now it) → RefusalsAreKnown store.knows later (exchanges_of store line now it Ended has)
+  of_ended : (has : SessionEnded store model now it) → RefusalsAreKnown store.knows later (exchanges_of store model now it Ended has)
   of_ended has =
-      stays_known_among store promises line it.began.value it.connection has.then later it.session (Ok (Some has.ended))
+      stays_known_among store promises model it.began.value it.connection has.then later it.session (Ok (Some has.ended))
       (has.last, has.served, keeps_on store has.last now later has.keeps keeps)
 
-  of_failed : (has : HasFailed store line now it) → RefusalsAreKnown store.knows later (exchanges_of store line now it Failed has)
+  of_failed : (has : HasFailed store model now it) → RefusalsAreKnown store.knows later (exchanges_of store model now it Failed has)
   of_failed has =
-      stays_known_among store promises line it.began.value it.connection has.then later it.session (Err has.error)
+      stays_known_among store promises model it.began.value it.connection has.then later it.session (Err has.error)
       (has.last, has.served, keeps_on store has.last now later has.keeps keeps)
 
-module _ {S C : Type 0} (store : Store S) (promises : Promises store) (line : Line (BufferedConnection C)) where
-  pub connections_stay_known : ConnectionRefusalsStayKnown store line
-  connections_stay_known now later it Answered came keeps = of_underway store promises line now later it keeps came.then came.underway
-  connections_stay_known now later it HoldsMore came keeps = of_underway store promises line now later it keeps came.then came.underway
-  connections_stay_known now later it Paused came keeps = of_underway store promises line now later it keeps came.then came.underway
-  connections_stay_known now later it Writing came keeps = of_underway store promises line now later it keeps came.then came.underway
-  connections_stay_known now later it Ended came keeps = of_ended store promises line now later it keeps came
-  connections_stay_known now later it Closing came keeps = of_ended store promises line now later it keeps came
-  connections_stay_known now later it Failed came keeps = of_failed store promises line now later it keeps came
-  connections_stay_known now later it Undelivered came keeps = of_underway store promises line now later it keeps came.then came.underway
+module _ {S C : Type 0} (store : Store S) (promises : Promises store) (model : ConnectionModel (BufferedConnection C)) where
+  pub connections_stay_known : ConnectionRefusalsStayKnown store model
+  connections_stay_known now later it Answered came keeps = of_underway store promises model now later it keeps came.then came.underway
+  connections_stay_known now later it HoldsMore came keeps = of_underway store promises model now later it keeps came.then came.underway
+  connections_stay_known now later it Paused came keeps = of_underway store promises model now later it keeps came.then came.underway
+  connections_stay_known now later it Writing came keeps = of_underway store promises model now later it keeps came.then came.underway
+  connections_stay_known now later it Ended came keeps = of_ended store promises model now later it keeps came
+  connections_stay_known now later it Closing came keeps = of_ended store promises model now later it keeps came
+  connections_stay_known now later it Failed came keeps = of_failed store promises model now later it keeps came
+  connections_stay_known now later it Undelivered came keeps = of_underway store promises model now later it keeps came.then came.underway

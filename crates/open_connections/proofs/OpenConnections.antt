@@ -3,18 +3,18 @@ use Rattle.std.proofs.Common.{◌≡◌, ◌≢◌, ℕ, Bool, true, false, List
 use Rattle.std.proofs.lemmas.Bool.Decides.{eqb_tells}
 use Rattle.slab.specs.Slab.{Slab, get, Updates}
 use Rattle.std.specs.Io.KnownBytes.{append_known}
-use Rattle.http_session.specs.ResponseOrder.{Line, IsTwoWay}
-use Rattle.http_session.specs.SessionRuns.{Store, connection_moment, EndsServed, FailsServed}
+use Rattle.http_session.specs.ResponseOrder.{ConnectionModel, connection_moment, IsTwoWay}
+use Rattle.http_session.specs.SessionRuns.{Store, EndsServed, FailsServed}
 use Rattle.trace_model.specs.StoreKnowledge.{ForgetsNothing}
-use Rattle.http_session.specs.Pieces.{AsksOnce, CanContinue, GoesOn, UnderwayAmong, OutlastsWrites, IfOpen, no_requests_yet, piece_of, shared}
-use Rattle.http_session.specs.declared.pieces.Progress.{Progress as Piece}
-use Rattle.http_session.specs.declared.pieces.Progress.TheVariants.{Ended as EndedBy}
-use Rattle.http_session.specs.declared.pieces.Session.{Session}
-use Rattle.http_session.specs.declared.exchanges.Ended.{Ended as EndedSession}
-use Rattle.http_session.specs.declared.exchanges.SessionError.{SessionError}
+use Rattle.http_session.specs.ResumableSessions.{AsksOnce, CanContinue, GoesOn, UnderwayAmong, OutlastsWrites, IfOpen, no_requests_yet, piece_of, shared}
+use Rattle.http_session.specs.declared.resumable.Progress.{Progress as Piece}
+use Rattle.http_session.specs.declared.resumable.Progress.TheVariants.{Ended as EndedBy}
+use Rattle.http_session.specs.declared.resumable.Session.{Session}
+use Rattle.http_session.specs.declared.whole_session.Ended.{Ended as EndedSession}
+use Rattle.http_session.specs.declared.whole_session.SessionError.{SessionError}
 use Rattle.http_session.proofs.SessionPieces.{Promises, others_go_on, others_forget_nothing}
 use Rattle.open_connections.specs.OpenConnections.{IsOpen, SessionEnded, HasFailed, HasCome, HasBroken, Delivers, AllOpen, IsRest, stays_open}
-use Rattle.open_connections.specs.BufferedConnections.{buffered_line, bytes_waiting}
+use Rattle.open_connections.specs.BufferedConnections.{buffered_model, bytes_waiting}
 use Rattle.open_connections.specs.ReadEffects.{LeavesContents}
 use Rattle.http_requests.specs.AwaitedReads.{Gives}
 use Rattle.open_connections.specs.declared.open.OpenConnection.{OpenConnection}
@@ -22,28 +22,28 @@ use Rattle.open_connections.specs.declared.buffered.BufferedConnection.{Buffered
 use Rattle.open_connections.specs.declared.open.ConnectionProgress.{ConnectionProgress}
 use Rattle.open_connections.specs.declared.open.ConnectionProgress.TheVariants.{Answered, HoldsMore, Paused, Writing, Ended, Closing, Failed, Undelivered}
 
-module _ {S C : Type 0} (store : Store S) (promises : Promises store) (line : Line (BufferedConnection C)) where
+module _ {S C : Type 0} (store : Store S) (promises : Promises store) (model : ConnectionModel (BufferedConnection C)) where
   -- while another one is served
-  pub open_still : (t u : S) (it : OpenConnection C) → AsksOnce store t u → IsOpen store line t it → IsOpen store line u it
+  pub open_still : (t u : S) (it : OpenConnection C) → AsksOnce store t u → IsOpen store model t it → IsOpen store model u it
   open_still t u it asks is = record {
     then = is.then;
-    underway = others_go_on store promises line it.began.value it.connection is.then t u it.session is.underway asks;
+    underway = others_go_on store promises model it.began.value it.connection is.then t u it.session is.underway asks;
     ready = is.ready;
     input_works = is.input_works;
     output_works = is.output_works;
   }
 
-  pub all_open_still : (t u : S) (set : Slab (OpenConnection C)) → AsksOnce store t u → AllOpen store line t set → AllOpen store line u set
+  pub all_open_still : (t u : S) (set : Slab (OpenConnection C)) → AsksOnce store t u → AllOpen store model t set → AllOpen store model u set
   all_open_still t u set asks all key it e = open_still t u it asks (all key it e)
 
   -- whatever was done with the store, as long as it has forgotten nothing
-  pub all_open_later : (t u : S) (set : Slab (OpenConnection C)) → ForgetsNothing store.limits store.knows t u → AllOpen store line t set
-      → AllOpen store line u set
+  pub all_open_later : (t u : S) (set : Slab (OpenConnection C)) → ForgetsNothing store.limits store.knows t u → AllOpen store model t set
+      → AllOpen store model u set
   all_open_later t u set keeps all key it e =
       let is = all key it e in
       record {
         then = is.then;
-        underway = others_forget_nothing store promises line it.began.value it.connection is.then t u it.session is.underway keeps;
+        underway = others_forget_nothing store promises model it.began.value it.connection is.then t u it.session is.underway keeps;
         ready = is.ready;
         input_works = is.input_works;
         output_works = is.output_works;
@@ -60,21 +60,21 @@ rest_of_removed old new key removed k it e =
     (λ other. sym (removed.others k other.1) ∙ e)
     (eqb_tells k key)
 
-module _ {S C : Type 0} (store : Store S) (line : Line (BufferedConnection C)) (now : S) where
-  pub rest_is_open : (old new : Slab (OpenConnection C)) → AllOpen store line now old → IsRest old new → AllOpen store line now new
+module _ {S C : Type 0} (store : Store S) (model : ConnectionModel (BufferedConnection C)) (now : S) where
+  pub rest_is_open : (old new : Slab (OpenConnection C)) → AllOpen store model now old → IsRest old new → AllOpen store model now new
   rest_is_open old new all rest key it e = all key it (rest key it e)
 
   -- one was put in
-  pub all_with_one : (old new : Slab (OpenConnection C)) (key : ℕ) (one : OpenConnection C) → AllOpen store line now old → Updates old new key (Some one)
-      → IsOpen store line now one
-      → AllOpen store line now new
+  pub all_with_one : (old new : Slab (OpenConnection C)) (key : ℕ) (one : OpenConnection C) → AllOpen store model now old → Updates old new key (Some one)
+      → IsOpen store model now one
+      → AllOpen store model now new
   all_with_one old new key one all put is k it e =
       ⊎_elim
-      (λ same. subst (λ (x : OpenConnection C). IsOpen store line now x) (cc (ap (get new) same.1 ∙ put.changed, e)) is)
+      (λ same. subst (λ (x : OpenConnection C). IsOpen store model now x) (cc (ap (get new) same.1 ∙ put.changed, e)) is)
       (λ other. all k it (sym (put.others k other.1) ∙ e))
       (eqb_tells k key)
 
-  pub open_if_it_stays : (it : OpenConnection C) (p : ConnectionProgress) → stays_open p ≡ true → HasCome store line now it p → IsOpen store line now it
+  pub open_if_it_stays : (it : OpenConnection C) (p : ConnectionProgress) → stays_open p ≡ true → HasCome store model now it p → IsOpen store model now it
   open_if_it_stays it Answered stays is = is
   open_if_it_stays it HoldsMore stays is = is
   open_if_it_stays it Paused stays is = is
@@ -85,7 +85,7 @@ module _ {S C : Type 0} (store : Store S) (line : Line (BufferedConnection C)) (
   open_if_it_stays it Undelivered stays is = absurd (cc stays)
 
   -- it has come to what its turn says, if that says that it stays open
-  pub come_open : (it : OpenConnection C) (p : ConnectionProgress) → stays_open p ≡ true → IsOpen store line now it → HasCome store line now it p
+  pub come_open : (it : OpenConnection C) (p : ConnectionProgress) → stays_open p ≡ true → IsOpen store model now it → HasCome store model now it p
   come_open it Answered stays is = is
   come_open it HoldsMore stays is = is
   come_open it Paused stays is = is
@@ -97,38 +97,38 @@ module _ {S C : Type 0} (store : Store S) (line : Line (BufferedConnection C)) (
 
   -- nothing changed but what its thread notes of it
   pub moved_open : (old new : OpenConnection C) → new.connection ≡ old.connection → new.session ≡ old.session → new.began.value ≡ old.began.value
-      → IsOpen store line now old → IsOpen store line now new
+      → IsOpen store model now old → IsOpen store model now new
   moved_open old new connection session began is = record {
     then = is.then;
-    underway = subst (λ (b : BufferedConnection C). UnderwayAmong store line b new.connection is.then now new.session) (sym began)
-        (subst (λ (d : BufferedConnection C). UnderwayAmong store line old.began.value d is.then now new.session) (sym connection)
-        (subst (λ (x : Session). UnderwayAmong store line old.began.value old.connection is.then now x) (sym session) is.underway));
-    ready = subst (λ (x : Session). CanContinue (line.source.remaining new.connection) x) (sym session)
-        (subst (λ (d : BufferedConnection C). CanContinue (line.source.remaining d) old.session) (sym connection) is.ready);
-    input_works = subst (λ (d : BufferedConnection C). line.in_failed d ≡ false) (sym connection) is.input_works;
-    output_works = subst (λ (d : BufferedConnection C). line.out_failed d ≡ false) (sym connection) is.output_works;
+    underway = subst (λ (b : BufferedConnection C). UnderwayAmong store model b new.connection is.then now new.session) (sym began)
+        (subst (λ (d : BufferedConnection C). UnderwayAmong store model old.began.value d is.then now new.session) (sym connection)
+        (subst (λ (x : Session). UnderwayAmong store model old.began.value old.connection is.then now x) (sym session) is.underway));
+    ready = subst (λ (x : Session). CanContinue (model.source.remaining new.connection) x) (sym session)
+        (subst (λ (d : BufferedConnection C). CanContinue (model.source.remaining d) old.session) (sym connection) is.ready);
+    input_works = subst (λ (d : BufferedConnection C). model.in_failed d ≡ false) (sym connection) is.input_works;
+    output_works = subst (λ (d : BufferedConnection C). model.out_failed d ≡ false) (sym connection) is.output_works;
   }
 
   -- nothing was read of it yet
   pub new_open : (it : OpenConnection C) (box : BufferedConnection C) → it.connection ≡ box → it.session ≡ no_requests_yet → it.began.value ≡ box
-      → UnderwayAmong store line box box now now no_requests_yet
-      → CanContinue (line.source.remaining box) no_requests_yet → line.in_failed box ≡ false → line.out_failed box ≡ false → IsOpen store line now it
+      → UnderwayAmong store model box box now now no_requests_yet
+      → CanContinue (model.source.remaining box) no_requests_yet → model.in_failed box ≡ false → model.out_failed box ≡ false → IsOpen store model now it
   new_open it box connection session began under can reads writes = record {
     then = now;
-    underway = subst (λ (b : BufferedConnection C). UnderwayAmong store line b it.connection now now it.session) (sym began)
-        (subst (λ (d : BufferedConnection C). UnderwayAmong store line box d now now it.session) (sym connection)
-        (subst (λ (x : Session). UnderwayAmong store line box box now now x) (sym session) under));
-    ready = subst (λ (x : Session). CanContinue (line.source.remaining it.connection) x) (sym session)
-        (subst (λ (d : BufferedConnection C). CanContinue (line.source.remaining d) no_requests_yet) (sym connection) can);
-    input_works = subst (λ (d : BufferedConnection C). line.in_failed d ≡ false) (sym connection) reads;
-    output_works = subst (λ (d : BufferedConnection C). line.out_failed d ≡ false) (sym connection) writes;
+    underway = subst (λ (b : BufferedConnection C). UnderwayAmong store model b it.connection now now it.session) (sym began)
+        (subst (λ (d : BufferedConnection C). UnderwayAmong store model box d now now it.session) (sym connection)
+        (subst (λ (x : Session). UnderwayAmong store model box box now now x) (sym session) under));
+    ready = subst (λ (x : Session). CanContinue (model.source.remaining it.connection) x) (sym session)
+        (subst (λ (d : BufferedConnection C). CanContinue (model.source.remaining d) no_requests_yet) (sym connection) can);
+    input_works = subst (λ (d : BufferedConnection C). model.in_failed d ≡ false) (sym connection) reads;
+    output_works = subst (λ (d : BufferedConnection C). model.out_failed d ≡ false) (sym connection) writes;
   }
 
 -- ---- what waits is written
 
 -- reads leave what was handed over, and writes what is still to be read
 pub two_way_box : {C : Type 0} (remaining : C → Option (List ℕ)) (gives : Gives C) (failed : C → Bool) (contents : C → Option (List ℕ))
-    → LeavesContents C gives contents → IsTwoWay (buffered_line remaining gives failed contents)
+    → LeavesContents C gives contents → IsTwoWay (buffered_model remaining gives failed contents)
 two_way_box remaining gives failed contents leaves = record {
   reads_leave = λ s t bytes given. (
     ap (λ x. append_known x (bytes_waiting t.waiting)) (leaves s.connection t.connection bytes given.0)
@@ -139,21 +139,21 @@ two_way_box remaining gives failed contents leaves = record {
 }
 
 module _ {S C : Type 0} (store : Store S) (now : S) (remaining : C → Option (List ℕ)) (gives : Gives C) (failed : C → Bool) (contents : C → Option (List ℕ))
-    (lasts : OutlastsWrites store (buffered_line remaining gives failed contents)) (old new : OpenConnection C) (p : ConnectionProgress)
-    (is : IsOpen store (buffered_line remaining gives failed contents) now old)
+    (lasts : OutlastsWrites store (buffered_model remaining gives failed contents)) (old new : OpenConnection C) (p : ConnectionProgress)
+    (is : IsOpen store (buffered_model remaining gives failed contents) now old)
     (delivers : Delivers remaining failed contents old new p) where
-  abbrev line : Line (BufferedConnection C)
-  line = buffered_line remaining gives failed contents
+  abbrev model : ConnectionModel (BufferedConnection C)
+  model = buffered_model remaining gives failed contents
 
-  still_underway : UnderwayAmong store line new.began.value new.connection is.then now new.session
+  still_underway : UnderwayAmong store model new.began.value new.connection is.then now new.session
   still_underway =
-      subst (λ (b : BufferedConnection C). UnderwayAmong store line b new.connection is.then now new.session) (sym delivers.began)
-      (subst (λ (x : Session). UnderwayAmong store line old.began.value new.connection is.then now x) (sym delivers.session)
+      subst (λ (b : BufferedConnection C). UnderwayAmong store model b new.connection is.then now new.session) (sym delivers.began)
+      (subst (λ (x : Session). UnderwayAmong store model old.began.value new.connection is.then now x) (sym delivers.session)
       (lasts old.began.value old.connection new.connection is.then now old.session is.underway delivers.nothing_new delivers.kept))
 
-  pub delivered : HasCome store line now new p
+  pub delivered : HasCome store model now new p
   delivered = elim delivers.comes_to [
-    | inl stays ↦ come_open store line now new p stays.0 (record {
+    | inl stays ↦ come_open store model now new p stays.0 (record {
       then = is.then;
       underway = still_underway;
       ready = subst (λ (x : Session). CanContinue (remaining new.connection.connection) x) (sym delivers.session)
@@ -161,31 +161,31 @@ module _ {S C : Type 0} (store : Store S) (now : S) (remaining : C → Option (L
       input_works = delivers.nothing_new.2 ∙ is.input_works;
       output_works = stays.1 ∙ is.output_works;
     })
-    | inr breaks ↦ subst (HasCome store line now new) (sym breaks.0) (record { then = is.then; underway = still_underway; output_failed = breaks.1 })
+    | inr breaks ↦ subst (HasCome store model now new) (sym breaks.0) (record { then = is.then; underway = still_underway; output_failed = breaks.1 })
   ]
 
 -- ---- one turn
 
-module _ {S C : Type 0} (store : Store S) (line : Line (BufferedConnection C)) (t u : S) (old new : OpenConnection C) (before after : Session)
+module _ {S C : Type 0} (store : Store S) (model : ConnectionModel (BufferedConnection C)) (t u : S) (old new : OpenConnection C) (before after : Session)
     (before_is : before ≡ old.session) (after_is : new.session ≡ after)
-    (began : new.began.value ≡ old.began.value) (is : IsOpen store line t old) where
-  under_before : UnderwayAmong store line old.began.value old.connection is.then t before
-  under_before = subst (λ (x : Session). UnderwayAmong store line old.began.value old.connection is.then t x) (sym before_is) is.underway
+    (began : new.began.value ≡ old.began.value) (is : IsOpen store model t old) where
+  under_before : UnderwayAmong store model old.began.value old.connection is.then t before
+  under_before = subst (λ (x : Session). UnderwayAmong store model old.began.value old.connection is.then t x) (sym before_is) is.underway
 
-  pub came_open : GoesOn store line old.connection new.connection t u before after (Ok None) → CanContinue (line.source.remaining new.connection) after
-      → (line.in_failed new.connection ≡ false) × (line.out_failed new.connection ≡ false) → IsOpen store line u new
+  pub came_open : GoesOn store model old.connection new.connection t u before after (Ok None) → CanContinue (model.source.remaining new.connection) after
+      → (model.in_failed new.connection ≡ false) × (model.out_failed new.connection ≡ false) → IsOpen store model u new
   came_open goes can works =
       let came = goes.among old.began.value is.then under_before in
       record {
         then = is.then;
-        underway = subst (λ (b : BufferedConnection C). UnderwayAmong store line b new.connection is.then u new.session) (sym began)
-            (subst (λ (x : Session). UnderwayAmong store line old.began.value new.connection is.then u x) (sym after_is) came);
-        ready = subst (CanContinue (line.source.remaining new.connection)) (sym after_is) can;
+        underway = subst (λ (b : BufferedConnection C). UnderwayAmong store model b new.connection is.then u new.session) (sym began)
+            (subst (λ (x : Session). UnderwayAmong store model old.began.value new.connection is.then u x) (sym after_is) came);
+        ready = subst (CanContinue (model.source.remaining new.connection)) (sym after_is) can;
         input_works = works.0;
         output_works = works.1;
       }
 
-  pub came_ended : (ended : EndedSession) → GoesOn store line old.connection new.connection t u before after (Ok (Some ended)) → SessionEnded store line u new
+  pub came_ended : (ended : EndedSession) → GoesOn store model old.connection new.connection t u before after (Ok (Some ended)) → SessionEnded store model u new
   came_ended ended goes =
       let came = goes.among old.began.value is.then under_before in
       record {
@@ -193,12 +193,12 @@ module _ {S C : Type 0} (store : Store S) (line : Line (BufferedConnection C)) (
         last = came.0;
         ended = ended;
         served = subst
-            (λ (b : BufferedConnection C). EndsServed (shared store) line (connection_moment b is.then) (connection_moment new.connection came.0) ended)
+            (λ (b : BufferedConnection C). EndsServed (shared store) model (connection_moment b is.then) (connection_moment new.connection came.0) ended)
             (sym began) came.1;
         keeps = came.2;
       }
 
-  pub came_failed : (error : SessionError) → GoesOn store line old.connection new.connection t u before after (Err error) → HasFailed store line u new
+  pub came_failed : (error : SessionError) → GoesOn store model old.connection new.connection t u before after (Err error) → HasFailed store model u new
   came_failed error goes =
       let came = goes.among old.began.value is.then under_before in
       record {
@@ -206,24 +206,24 @@ module _ {S C : Type 0} (store : Store S) (line : Line (BufferedConnection C)) (
         last = came.0;
         error = error;
         served = subst
-            (λ (b : BufferedConnection C). FailsServed (shared store) line (connection_moment b is.then) (connection_moment new.connection came.0) error)
+            (λ (b : BufferedConnection C). FailsServed (shared store) model (connection_moment b is.then) (connection_moment new.connection came.0) error)
             (sym began) came.1;
         keeps = came.2;
       }
 
   -- the same by the piece that its session has made
-  pub came_on : (p q : Piece) → p ≡ q → piece_of (Ok q) ≡ Ok None → GoesOn store line old.connection new.connection t u before after (piece_of (Ok p))
-      → IfOpen (piece_of (Ok p)) (CanContinue (line.source.remaining new.connection) after)
-      → (line.in_failed new.connection ≡ false) × (line.out_failed new.connection ≡ false) → IsOpen store line u new
+  pub came_on : (p q : Piece) → p ≡ q → piece_of (Ok q) ≡ Ok None → GoesOn store model old.connection new.connection t u before after (piece_of (Ok p))
+      → IfOpen (piece_of (Ok p)) (CanContinue (model.source.remaining new.connection) after)
+      → (model.in_failed new.connection ≡ false) × (model.out_failed new.connection ≡ false) → IsOpen store model u new
   came_on p q same open_still goes can works =
       let is = ap (λ (x : Piece). piece_of (Ok x)) same ∙ open_still in
       came_open
-      (subst (λ (r : Result (Option EndedSession) SessionError). GoesOn store line old.connection new.connection t u before after r) is goes)
-      (subst (λ (r : Result (Option EndedSession) SessionError). IfOpen r (CanContinue (line.source.remaining new.connection) after)) is can)
+      (subst (λ (r : Result (Option EndedSession) SessionError). GoesOn store model old.connection new.connection t u before after r) is goes)
+      (subst (λ (r : Result (Option EndedSession) SessionError). IfOpen r (CanContinue (model.source.remaining new.connection) after)) is can)
       works
 
-  pub came_to_end : (p : Piece) (ended : EndedSession) → p ≡ EndedBy ended → GoesOn store line old.connection new.connection t u before after (piece_of (Ok p))
-      → SessionEnded store line u new
+  pub came_to_end : (p : Piece) (ended : EndedSession) → p ≡ EndedBy ended → GoesOn store model old.connection new.connection t u before after (piece_of (Ok p))
+      → SessionEnded store model u new
   came_to_end p ended same goes =
-      came_ended ended (subst (λ (r : Result (Option EndedSession) SessionError). GoesOn store line old.connection new.connection t u before after r)
+      came_ended ended (subst (λ (r : Result (Option EndedSession) SessionError). GoesOn store model old.connection new.connection t u before after r)
       (ap (λ (x : Piece). piece_of (Ok x)) same) goes)

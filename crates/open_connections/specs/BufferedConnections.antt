@@ -4,7 +4,7 @@ use Rattle.std.specs.Io.KnownBytes.{Appends, append_known}
 use Rattle.session_devices.specs.ByteTakers.{Takings}
 use Rattle.http_requests.specs.AwaitedReads.{Gives}
 use Rattle.query_json.specs.Parts.{Parted, to_come}
-use Rattle.http_session.specs.ResponseOrder.{Line, line_of}
+use Rattle.http_session.specs.ResponseOrder.{ConnectionModel, model_of}
 use Rattle.open_connections.specs.declared.buffered.BufferedConnection.{BufferedConnection}
 
 -- the bytes that wait
@@ -26,7 +26,7 @@ buffered_takes remaining failed contents s bytes t =
     Appends (handed_over contents s) (handed_over contents t) bytes
     × (remaining t.connection ≡ remaining s.connection) × (failed t.connection ≡ failed s.connection)
 
-abbrev pub buffered_line : {C : Type 0} → (C → Option (List ℕ)) → Gives C → (C → Bool) → (C → Option (List ℕ)) → Line (BufferedConnection C)
-buffered_line remaining gives failed contents =
-    line_of (λ s. remaining s.connection) (buffered_gives gives) (λ s. failed s.connection)
+abbrev pub buffered_model : {C : Type 0} → (C → Option (List ℕ)) → Gives C → (C → Bool) → (C → Option (List ℕ)) → ConnectionModel (BufferedConnection C)
+buffered_model remaining gives failed contents =
+    model_of (λ s. remaining s.connection) (buffered_gives gives) (λ s. failed s.connection)
     (handed_over contents) (buffered_takes remaining failed contents) (λ s. s.failed)

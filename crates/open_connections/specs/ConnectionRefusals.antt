@@ -2,7 +2,7 @@
 use Rattle.std.specs.Prelude.{List, ◌++◌}
 use Rattle.trace_model.specs.StoreKnowledge.{ForgetsNothing}
 use Rattle.http_session.specs.Sessions.{Exchange, last_of, exchange_due}
-use Rattle.http_session.specs.ResponseOrder.{Line}
+use Rattle.http_session.specs.ResponseOrder.{ConnectionModel}
 use Rattle.http_session.specs.SessionRuns.{Store}
 use Rattle.http_session.specs.KnownRefusals.{RefusalsAreKnown}
 use Rattle.open_connections.specs.OpenConnections.{HasCome}
@@ -12,20 +12,20 @@ use Rattle.open_connections.specs.declared.open.ConnectionProgress.{ConnectionPr
 use Rattle.open_connections.specs.declared.open.ConnectionProgress.TheVariants.{Answered, HoldsMore, Paused, Writing, Ended, Closing, Failed, Undelivered}
 
 -- the exchanges of a connection since it began
-abbrev pub exchanges_of : {S C : Type 0} (store : Store S) (line : Line (BufferedConnection C)) (now : S) (it : OpenConnection C)
-    (progress : ConnectionProgress) → HasCome store line now it progress → List Exchange
-exchanges_of store line now it Answered came = came.underway.1.so_far.opens
-exchanges_of store line now it HoldsMore came = came.underway.1.so_far.opens
-exchanges_of store line now it Paused came = came.underway.1.so_far.opens
-exchanges_of store line now it Writing came = came.underway.1.so_far.opens
-exchanges_of store line now it Ended came = came.served.0.0.opens ++ last_of came.served.0.0.ending
-exchanges_of store line now it Closing came = came.served.0.0.opens ++ last_of came.served.0.0.ending
-exchanges_of store line now it Failed came = came.served.0.0.opens ++ exchange_due came.served.0.0.next
-exchanges_of store line now it Undelivered came = came.underway.1.so_far.opens
+abbrev pub exchanges_of : {S C : Type 0} (store : Store S) (model : ConnectionModel (BufferedConnection C)) (now : S) (it : OpenConnection C)
+    (progress : ConnectionProgress) → HasCome store model now it progress → List Exchange
+exchanges_of store model now it Answered came = came.underway.1.so_far.opens
+exchanges_of store model now it HoldsMore came = came.underway.1.so_far.opens
+exchanges_of store model now it Paused came = came.underway.1.so_far.opens
+exchanges_of store model now it Writing came = came.underway.1.so_far.opens
+exchanges_of store model now it Ended came = came.served.0.0.opens ++ last_of came.served.0.0.ending
+exchanges_of store model now it Closing came = came.served.0.0.opens ++ last_of came.served.0.0.ending
+exchanges_of store model now it Failed came = came.served.0.0.opens ++ exchange_due came.served.0.0.next
+exchanges_of store model now it Undelivered came = came.underway.1.so_far.opens
 
 -- the store knows the refusals of a connection in one more turn, and later
-abbrev pub ConnectionRefusalsStayKnown : {S C : Type 0} → Store S → Line (BufferedConnection C) → Type 0
-ConnectionRefusalsStayKnown {S = S} {C = C} store line =
-    (now later : S) (it : OpenConnection C) (progress : ConnectionProgress) (came : HasCome store line now it progress)
+abbrev pub ConnectionRefusalsStayKnown : {S C : Type 0} → Store S → ConnectionModel (BufferedConnection C) → Type 0
+ConnectionRefusalsStayKnown {S = S} {C = C} store model =
+    (now later : S) (it : OpenConnection C) (progress : ConnectionProgress) (came : HasCome store model now it progress)
     → ForgetsNothing store.limits store.knows now later
-    → RefusalsAreKnown store.knows later (exchanges_of store line now it progress came)
+    → RefusalsAreKnown store.knows later (exchanges_of store model now it progress came)

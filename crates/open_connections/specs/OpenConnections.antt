@@ -4,12 +4,12 @@ use Rattle.std.specs.Io.KnownBytes.{Keeps as KeepsBytes}
 use Rattle.std.specs.Option.{option_map}
 use Rattle.slab.specs.Slab.{Slab, get}
 use Rattle.trace_model.specs.StoreKnowledge.{ForgetsNothing}
-use Rattle.http_session.specs.ResponseOrder.{Line}
-use Rattle.http_session.specs.SessionRuns.{Store, connection_moment, EndsServed, FailsServed}
-use Rattle.http_session.specs.Pieces.{CanContinue, UnderwayAmong, shared}
-use Rattle.http_session.specs.declared.exchanges.Ended.{Ended as EndedSession}
-use Rattle.http_session.specs.declared.exchanges.SessionError.{SessionError}
-use Rattle.open_connections.specs.BufferedConnections.{buffered_line, buffered_takes, handed_over}
+use Rattle.http_session.specs.ResponseOrder.{ConnectionModel, connection_moment}
+use Rattle.http_session.specs.SessionRuns.{Store, EndsServed, FailsServed}
+use Rattle.http_session.specs.ResumableSessions.{CanContinue, UnderwayAmong, shared}
+use Rattle.http_session.specs.declared.whole_session.Ended.{Ended as EndedSession}
+use Rattle.http_session.specs.declared.whole_session.SessionError.{SessionError}
+use Rattle.open_connections.specs.BufferedConnections.{buffered_model, buffered_takes, handed_over}
 use Rattle.open_connections.specs.declared.open.OpenConnection.{OpenConnection}
 use Rattle.open_connections.specs.declared.buffered.BufferedConnection.{BufferedConnection}
 use Rattle.open_connections.specs.declared.open.ConnectionProgress.{ConnectionProgress}
@@ -20,45 +20,45 @@ use Rattle.open_connections.specs.declared.open.ConnectionProgress.TheVariants.{
 
 -- The connection can continue: its session is underway from the start of the connection and the state of the store
 -- then, and the connection hasn't failed.
-pub record IsOpen {S C : Type 0} (store : Store S) (line : Line (BufferedConnection C)) (now : S) (it : OpenConnection C) : Type 0 where
+pub record IsOpen {S C : Type 0} (store : Store S) (model : ConnectionModel (BufferedConnection C)) (now : S) (it : OpenConnection C) : Type 0 where
   pub then : S
-  pub underway : UnderwayAmong store line it.began.value it.connection then now it.session
-  pub ready : CanContinue (line.source.remaining it.connection) it.session
-  pub input_works : line.in_failed it.connection ≡ false
-  pub output_works : line.out_failed it.connection ≡ false
+  pub underway : UnderwayAmong store model it.began.value it.connection then now it.session
+  pub ready : CanContinue (model.source.remaining it.connection) it.session
+  pub input_works : model.in_failed it.connection ≡ false
+  pub output_works : model.out_failed it.connection ≡ false
 
 -- its session has ended, as one that began with the connection
-pub record SessionEnded {S C : Type 0} (store : Store S) (line : Line (BufferedConnection C)) (now : S) (it : OpenConnection C) : Type 0 where
+pub record SessionEnded {S C : Type 0} (store : Store S) (model : ConnectionModel (BufferedConnection C)) (now : S) (it : OpenConnection C) : Type 0 where
   pub then : S
   pub last : S
   pub ended : EndedSession
-  pub served : EndsServed (shared store) line (connection_moment it.began.value then) (connection_moment it.connection last) ended
+  pub served : EndsServed (shared store) model (connection_moment it.began.value then) (connection_moment it.connection last) ended
   pub keeps : ForgetsNothing store.limits store.knows last now
 
 -- its session has failed, as one that began with the connection
-pub record HasFailed {S C : Type 0} (store : Store S) (line : Line (BufferedConnection C)) (now : S) (it : OpenConnection C) : Type 0 where
+pub record HasFailed {S C : Type 0} (store : Store S) (model : ConnectionModel (BufferedConnection C)) (now : S) (it : OpenConnection C) : Type 0 where
   pub then : S
   pub last : S
   pub error : SessionError
-  pub served : FailsServed (shared store) line (connection_moment it.began.value then) (connection_moment it.connection last) error
+  pub served : FailsServed (shared store) model (connection_moment it.began.value then) (connection_moment it.connection last) error
   pub keeps : ForgetsNothing store.limits store.knows last now
 
 -- its session is underway, and the connection failed before the client took the last response
-pub record HasBroken {S C : Type 0} (store : Store S) (line : Line (BufferedConnection C)) (now : S) (it : OpenConnection C) : Type 0 where
+pub record HasBroken {S C : Type 0} (store : Store S) (model : ConnectionModel (BufferedConnection C)) (now : S) (it : OpenConnection C) : Type 0 where
   pub then : S
-  pub underway : UnderwayAmong store line it.began.value it.connection then now it.session
-  pub output_failed : line.out_failed it.connection ≡ true
+  pub underway : UnderwayAmong store model it.began.value it.connection then now it.session
+  pub output_failed : model.out_failed it.connection ≡ true
 
 -- what became of a connection in one more turn
-abbrev pub HasCome : {S C : Type 0} → Store S → Line (BufferedConnection C) → S → OpenConnection C → ConnectionProgress → Type 0
-HasCome store line now it Answered = IsOpen store line now it
-HasCome store line now it HoldsMore = IsOpen store line now it
-HasCome store line now it Paused = IsOpen store line now it
-HasCome store line now it Writing = IsOpen store line now it
-HasCome store line now it Ended = SessionEnded store line now it
-HasCome store line now it Closing = SessionEnded store line now it
-HasCome store line now it Failed = HasFailed store line now it
-HasCome store line now it Undelivered = HasBroken store line now it
+abbrev pub HasCome : {S C : Type 0} → Store S → ConnectionModel (BufferedConnection C) → S → OpenConnection C → ConnectionProgress → Type 0
+HasCome store model now it Answered = IsOpen store model now it
+HasCome store model now it HoldsMore = IsOpen store model now it
+HasCome store model now it Paused = IsOpen store model now it
+HasCome store model now it Writing = IsOpen store model now it
+HasCome store model now it Ended = SessionEnded store model now it
+HasCome store model now it Closing = SessionEnded store model now it
+HasCome store model now it Failed = HasFailed store model now it
+HasCome store model now it Undelivered = HasBroken store model now it
 
 abbrev pub stays_open : ConnectionProgress → Bool
 stays_open Answered = true
@@ -71,24 +71,24 @@ stays_open Failed = false
 stays_open Undelivered = false
 
 -- each connection of the set
-abbrev pub AllOpen : {S C : Type 0} → Store S → Line (BufferedConnection C) → S → Slab (OpenConnection C) → Type 0
-AllOpen {C = C} store line now set = (key : ℕ) (it : OpenConnection C) → get set key ≡ Some it → IsOpen store line now it
+abbrev pub AllOpen : {S C : Type 0} → Store S → ConnectionModel (BufferedConnection C) → S → Slab (OpenConnection C) → Type 0
+AllOpen {C = C} store model now set = (key : ℕ) (it : OpenConnection C) → get set key ≡ Some it → IsOpen store model now it
 
 -- The connection left the set with what waits: the session that began with the connection under the key ended or failed,
 -- or the client didn't take its last response.
-pub record HasLeft {S C : Type 0} (store : Store S) (line : Line (BufferedConnection C)) (now : S) (before : Option (OpenConnection C))
+pub record HasLeft {S C : Type 0} (store : Store S) (model : ConnectionModel (BufferedConnection C)) (now : S) (before : Option (OpenConnection C))
     (progress : ConnectionProgress) (box : BufferedConnection C) : Type 0 where
   pub it : OpenConnection C
   pub box_is : it.connection ≡ box
   pub began : option_map (λ (o : OpenConnection C). o.began.value) before ≡ Some it.began.value
   pub closed : stays_open progress ≡ false
-  pub comes : HasCome store line now it progress
+  pub comes : HasCome store model now it progress
 
 -- what became of the connection under a key in a turn
-abbrev pub TurnsTo : {S C : Type 0} → Store S → Line (BufferedConnection C) → S → Slab (OpenConnection C) → ℕ → ConnectionTurn C → Type 0
-TurnsTo store line now set key Absent = get set key ≡ None
-TurnsTo store line now set key (Open progress) = stays_open progress ≡ true
-TurnsTo store line now set key (Left progress box) = HasLeft store line now (get set key) progress box
+abbrev pub TurnsTo : {S C : Type 0} → Store S → ConnectionModel (BufferedConnection C) → S → Slab (OpenConnection C) → ℕ → ConnectionTurn C → Type 0
+TurnsTo store model now set key Absent = get set key ≡ None
+TurnsTo store model now set key (Open progress) = stays_open progress ≡ true
+TurnsTo store model now set key (Left progress box) = HasLeft store model now (get set key) progress box
 
 -- the set is empty
 abbrev pub IsEmpty : {C : Type 0} → Slab (OpenConnection C) → Type 0
@@ -110,5 +110,5 @@ pub record Delivers {C : Type 0} (remaining : C → Option (List ℕ)) (failed :
 
 -- ---- sockets, about whose bytes nothing is known
 
-abbrev pub socket_line : Line (BufferedConnection Socket)
-socket_line = buffered_line (λ s. None) (λ s given t. Unit {0}) (λ s. s.failed) (λ s. None)
+abbrev pub socket_model : ConnectionModel (BufferedConnection Socket)
+socket_model = buffered_model (λ s. None) (λ s given t. Unit {0}) (λ s. s.failed) (λ s. None)

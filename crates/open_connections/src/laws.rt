@@ -1,7 +1,7 @@
 //! Laws of open connections. Each function does nothing, and its contract is the law.
 
 ghost use Rattle.http_session.specs.SessionRuns.{store_of};
-ghost use Rattle.open_connections.specs.BufferedConnections.{buffered_line};
+ghost use Rattle.open_connections.specs.BufferedConnections.{buffered_model};
 ghost use Rattle.open_connections.specs.ConnectionRefusals.{ConnectionRefusalsStayKnown};
 
 use crate::nonblocking::TryConnection;
@@ -12,5 +12,5 @@ use trace_model::Backend;
 /// ([`ConnectionSet::take_turn`](crate::ConnectionSet::take_turn): `turn`), whatever other connections do.
 pub fn refusals_stay_known<T, C: TryConnection, B: Backend<T>>()
     ensures { ConnectionRefusalsStayKnown (store_of B.submits B.reads B.knows B.limits)
-        (buffered_line C.remaining C.gives C.has_failed C.contents) }
+        (buffered_model C.remaining C.gives C.has_failed C.contents) }
 {}

@@ -3,8 +3,8 @@
 ghost use Rattle.std.specs.Prelude.{◌≡◌, true, false, OnOk};
 ghost use Rattle.query_http.specs.Paths.{endpoint_rows};
 ghost use Rattle.http_session.specs.SessionRuns.{store_of};
-ghost use Rattle.http_session.specs.Pieces.{AsksOnce, CanContinue, GoesOn, IfOpen, no_requests_yet, piece_of};
-ghost use Rattle.open_connections.specs.BufferedConnections.{buffered_line};
+ghost use Rattle.http_session.specs.ResumableSessions.{AsksOnce, CanContinue, GoesOn, IfOpen, no_requests_yet, piece_of};
+ghost use Rattle.open_connections.specs.BufferedConnections.{buffered_model};
 ghost use Rattle.open_connections.specs.OpenConnections.{IsOpen, HasCome, Delivers, stays_open};
 
 use crate::buffered::BufferedConnection;
@@ -115,7 +115,7 @@ impl<C: TryConnection> OpenConnection<C> {
         requires ready { CanContinue (C.remaining self.old.connection.connection) self.old.session }
 
         ensures goes_on { GoesOn (store_of B.submits B.reads B.knows B.limits)
-            (buffered_line C.remaining C.gives C.has_failed C.contents)
+            (buffered_model C.remaining C.gives C.has_failed C.contents)
             self.old.connection self.new.connection backend.old backend.new
             self.old.session self.new.session (piece_of result) }
 
@@ -195,11 +195,11 @@ impl<C: TryConnection> OpenConnection<C> {
         requires routes { router.now ≡ endpoint_rows }
 
         requires underway { IsOpen (store_of B.submits B.reads B.knows B.limits)
-            (buffered_line C.remaining C.gives C.has_failed C.contents)
+            (buffered_model C.remaining C.gives C.has_failed C.contents)
             backend.old self.old }
 
         ensures comes { HasCome (store_of B.submits B.reads B.knows B.limits)
-            (buffered_line C.remaining C.gives C.has_failed C.contents)
+            (buffered_model C.remaining C.gives C.has_failed C.contents)
             backend.new self.new result }
 
         ensures asks { AsksOnce (store_of B.submits B.reads B.knows B.limits)
@@ -236,11 +236,11 @@ impl<C: TryConnection> OpenConnection<C> {
         requires routes { router.now ≡ endpoint_rows }
 
         requires underway { IsOpen (store_of B.submits B.reads B.knows B.limits)
-            (buffered_line C.remaining C.gives C.has_failed C.contents)
+            (buffered_model C.remaining C.gives C.has_failed C.contents)
             backend.old self.old }
 
         ensures comes { HasCome (store_of B.submits B.reads B.knows B.limits)
-            (buffered_line C.remaining C.gives C.has_failed C.contents)
+            (buffered_model C.remaining C.gives C.has_failed C.contents)
             backend.new self.new result }
 
         ensures asks { AsksOnce (store_of B.submits B.reads B.knows B.limits)

@@ -2,8 +2,8 @@
 
 ghost use Rattle.std.specs.Prelude.{◌≡◌, false, IfOk};
 ghost use Rattle.http_session.specs.SessionRuns.{store_of};
-ghost use Rattle.http_session.specs.Pieces.{AsksOnce};
-ghost use Rattle.open_connections.specs.BufferedConnections.{buffered_line};
+ghost use Rattle.http_session.specs.ResumableSessions.{AsksOnce};
+ghost use Rattle.open_connections.specs.BufferedConnections.{buffered_model};
 ghost use Rattle.open_connections.specs.OpenConnections.{AllOpen, IsEmpty, IsRest, TurnsTo};
 
 use crate::buffered::BufferedConnection;
@@ -112,11 +112,11 @@ impl<C: TryConnection + Drop> ConnectionSet<C> {
         requires works { C.has_failed connection ≡ false }
 
         requires underway { AllOpen (store_of B.submits B.reads B.knows B.limits)
-            (buffered_line C.remaining C.gives C.has_failed C.contents)
+            (buffered_model C.remaining C.gives C.has_failed C.contents)
             backend.now self.old }
 
         ensures underway { AllOpen (store_of B.submits B.reads B.knows B.limits)
-            (buffered_line C.remaining C.gives C.has_failed C.contents)
+            (buffered_model C.remaining C.gives C.has_failed C.contents)
             backend.now self.new }
     {
         let buffered = BufferedConnection::new(alloc, connection);
@@ -141,18 +141,18 @@ impl<C: TryConnection + Drop> ConnectionSet<C> {
         backend: &mut B,
     ) -> ConnectionTurn<C>
         requires underway { AllOpen (store_of B.submits B.reads B.knows B.limits)
-            (buffered_line C.remaining C.gives C.has_failed C.contents)
+            (buffered_model C.remaining C.gives C.has_failed C.contents)
             backend.old self.old }
 
         ensures underway { AllOpen (store_of B.submits B.reads B.knows B.limits)
-            (buffered_line C.remaining C.gives C.has_failed C.contents)
+            (buffered_model C.remaining C.gives C.has_failed C.contents)
             backend.new self.new }
 
         ensures asks { AsksOnce (store_of B.submits B.reads B.knows B.limits)
             backend.old backend.new }
 
         ensures turn { TurnsTo (store_of B.submits B.reads B.knows B.limits)
-            (buffered_line C.remaining C.gives C.has_failed C.contents)
+            (buffered_model C.remaining C.gives C.has_failed C.contents)
             backend.new self.old key result }
     {
         let Some(mut open) = self.connections.try_remove(key) else {

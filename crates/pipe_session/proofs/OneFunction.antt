@@ -6,7 +6,7 @@ use Rattle.trace_model.specs.LimitedHistories.{LimitedHistory}
 use Rattle.trace_model.proofs.Prefixes.{prefix_self, prefix_trans}
 use Rattle.pipe_session.specs.DirectCalls.{DirectSubmits, DirectReads}
 use Rattle.http_session.specs.Sessions.{Exchange, texts, Run, EndsAs, FailsAs, last_of, responses, malformed_responses, is_clean, exchange_due, bytes_due}
-use Rattle.http_session.specs.declared.exchanges.SessionError.{SessionError}
+use Rattle.http_session.specs.declared.whole_session.SessionError.{SessionError}
 use Rattle.pipe_session.specs.OneFunction.{NeverWants, Finished, Failed}
 use Rattle.pipe_session.proofs.ExactRuns.{exact}
 use Rattle.pipe_session.proofs.Courses.{Stand, ends_at, RunsTo, runs_to, one_course}

@@ -9,11 +9,10 @@ use Rattle.http_requests.specs.declared.request.Method.{Method}
 use Rattle.http_requests.specs.declared.request.Method.TheVariants.{Get, Post, Other}
 use Rattle.query_http.specs.declared.fault.Parameter.{Parameter}
 use Rattle.query_http.specs.declared.paths.Endpoint.{Endpoint}
-use Rattle.query_http.specs.declared.paths.Endpoint.TheVariants.{Traces, Trace, Services, OperationNames, Operations, Dependencies}
 use Rattle.query_http.specs.QueryStrings.{pairs_of}
 use Rattle.query_http.specs.Queries.{query_at, path_of, query_string_of}
 use Rattle.query_http.proofs.PathLaws.{one_endpoint}
-use Rattle.http_session.specs.Verdicts.{allows, JudgesQuery, JudgesBatch, JudgesMethod, Judges}
+use Rattle.http_session.specs.Verdicts.{takes_post, allows, JudgesQuery, JudgesBatch, JudgesMethod, Judges}
 use Rattle.http_session.specs.declared.verdict.ErrorReply.TheVariants.{NoSuchPath, NotAllowed, UnsupportedType, BadBatch, BadParameter, NoMemory}
 use Rattle.http_session.specs.declared.verdict.Verdict.{Verdict}
 use Rattle.http_session.specs.declared.verdict.Verdict.TheVariants.{Submit, Ask, Reject}
@@ -32,7 +31,7 @@ batch_verdict true (Err f) = Reject (BadBatch f)
 -- of an endpoint with the verdict of a query and the one of a batch
 method_verdict : Method → Endpoint → Verdict → Verdict → Verdict
 method_verdict Get e query batch = query
-method_verdict Post e query batch = if allows e Post then batch else Reject (NotAllowed e)
+method_verdict Post e query batch = if takes_post e then batch else Reject (NotAllowed e)
 method_verdict Other e query batch = Reject (NotAllowed e)
 
 verdict_at : Asked → List ℕ → Endpoint → List ℕ → Verdict
@@ -63,26 +62,18 @@ by_batch has_type body (Reject (NotAllowed e)) memory is = absurd is
 by_batch has_type body (Reject (BadParameter p)) memory is = absurd is
 by_batch has_type body (Ask q) memory is = absurd is
 
-each_takes_get : (e : Endpoint) → allows e Get ≡ true
-each_takes_get Traces = refl
-each_takes_get Trace = refl
-each_takes_get Services = refl
-each_takes_get OperationNames = refl
-each_takes_get Operations = refl
-each_takes_get Dependencies = refl
-
 by_get : (m : Method) (e : Endpoint) (query batch : Verdict) → m ≡ Get → query ≡ method_verdict m e query batch
 unfolding method_verdict
 by_get m e query batch is = sym (ap (λ (n : Method). method_verdict n e query batch) is)
 
-by_post : (m : Method) (e : Endpoint) (query batch : Verdict) → m ≡ Post → e ≡ Traces → batch ≡ method_verdict m e query batch
+by_post : (m : Method) (e : Endpoint) (query batch : Verdict) → m ≡ Post → takes_post e ≡ true → batch ≡ method_verdict m e query batch
 unfolding method_verdict
 by_post m e query batch is at =
-    sym (ap (λ (n : Method). method_verdict n e query batch) is ∙ ap (λ (f : Endpoint). method_verdict Post f query batch) at)
+    sym (ap (λ (n : Method). method_verdict n e query batch) is ∙ ap (λ (t : Bool). if t then batch else Reject (NotAllowed e)) at)
 
 by_neither : (m : Method) (e : Endpoint) (query batch : Verdict) → allows e m ≡ false → Reject (NotAllowed e) ≡ method_verdict m e query batch
 unfolding method_verdict
-by_neither Get e query batch not = absurd (cc (each_takes_get e, not))
+by_neither Get e query batch not = absurd (cc not)
 by_neither Post e query batch not = sym (ap (λ (t : Bool). if t then batch else Reject (NotAllowed e)) not)
 by_neither Other e query batch not = refl
 

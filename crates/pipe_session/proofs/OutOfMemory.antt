@@ -10,8 +10,8 @@ use Rattle.pipe_session.specs.DirectCalls.{DirectSubmits, DirectReads}
 use Rattle.http_session.specs.Sessions.{Exchange, LeavesOpen, texts, Submits, Reads, Run, EndsAs, FailsAs, Ending, Ending.{clean, closing, malformed}, last_of}
 use Rattle.http_session.specs.Sessions.{malformed_response, response_to, responses, Due, Due.{none_yet, due, due_malformed}, exchange_due, bytes_due}
 use Rattle.http_requests.specs.LineLaws.{no_bytes_await}
-use Rattle.http_session.specs.declared.exchanges.SessionErrorKind.TheVariants.{Reading}
-use Rattle.http_session.specs.declared.exchanges.SessionError.{SessionError}
+use Rattle.http_session.specs.declared.whole_session.SessionErrorKind.TheVariants.{Reading}
+use Rattle.http_session.specs.declared.whole_session.SessionError.{SessionError}
 use Rattle.pipe_session.specs.OneFunction.{NeverWants, Failed, WroteFirst}
 use Rattle.std.specs.Prelude.{take}
 

@@ -5,7 +5,7 @@ use mathlib.Core.List.{IsPrefix}
 use Rattle.trace_model.specs.LimitedHistories.{LimitedHistory}
 use Rattle.trace_model.proofs.Prefixes.{prefix_trans}
 use Rattle.http_requests.proofs.OneRequest.{Breaks, breaks_all}
-use Rattle.http_session.specs.declared.exchanges.SessionErrorKind.{SessionErrorKind}
+use Rattle.http_session.specs.declared.whole_session.SessionErrorKind.{SessionErrorKind}
 use Rattle.http_session.specs.Sessions.{Exchange, IsExchange, LeavesOpen, texts, response_to, responses, Ending, Ending.{closing, malformed}, last_of}
 use Rattle.http_session.specs.Sessions.{malformed_response, Due, Due.{none_yet, due, due_malformed}, exchange_due, IsDue, bytes_due}
 use Rattle.pipe_session.specs.ExactAnswers.{held_after}

@@ -10,8 +10,8 @@ use Rattle.span_store.specs.NextEntry.{next_entry}
 use Rattle.pipe_session.specs.DirectCalls.{DirectSubmits, DirectReads}
 use Rattle.http_session.specs.SessionRuns.{Devices, Moment, EndsWith, FailsWith}
 use Rattle.http_session.specs.Sessions.{Exchange}
-use Rattle.http_session.specs.declared.exchanges.Ended.{Ended}
-use Rattle.http_session.specs.declared.exchanges.SessionError.{SessionError}
+use Rattle.http_session.specs.declared.whole_session.Ended.{Ended}
+use Rattle.http_session.specs.declared.whole_session.SessionError.{SessionError}
 use Rattle.http_session.specs.declared.verdict.Verdict.{Verdict}
 use Rattle.http_session.specs.declared.verdict.Verdict.TheVariants.{Submit, Ask, Reject}
 use Rattle.http_session.specs.declared.reply.Reply.{Reply}

@@ -5,8 +5,8 @@ use Rattle.trace_model.specs.LimitedHistories.{LimitedHistory}
 use Rattle.pipe_session.specs.DirectCalls.{DirectSubmits, DirectReads}
 use Rattle.http_session.specs.SessionRuns.{Moment}
 use Rattle.http_session.specs.Sessions.{Exchange, EndsAs, FailsAs, last_of, exchange_due}
-use Rattle.http_session.specs.declared.exchanges.Ended.{Ended}
-use Rattle.http_session.specs.declared.exchanges.SessionError.{SessionError}
+use Rattle.http_session.specs.declared.whole_session.Ended.{Ended}
+use Rattle.http_session.specs.declared.whole_session.SessionError.{SessionError}
 use Rattle.http_session.specs.declared.verdict.ErrorReply.TheVariants.{NoMemory}
 use Rattle.http_session.specs.declared.verdict.Verdict.TheVariants.{Reject}
 use Rattle.pipe_session.specs.ExactAnswers.{HasMemory}

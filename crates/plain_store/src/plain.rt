@@ -131,7 +131,7 @@ pub fn trace_shown(
     limits: Limits,
     raw: bool,
 ) -> Result<AnsweredTrace, AllocError>
-    ensures { IfOk result (λ s. s ≡ shown_as limits raw spans.items) }
+    ensures { IfOk result (λ s. s ≡ shown_as limits.max_skew raw spans.items) }
 {
     let shown = if raw {
         all_unadjusted(alloc, spans)?

@@ -1,5 +1,5 @@
 -- Processes with their numbers, which are in their names.
-use Rattle.std.specs.Prelude.{◌≡◌, ◌<◌, ℕ, List, [], ◌∷◌, ◌++◌, All, get_or, length, map}
+use Rattle.std.specs.Prelude.{◌≡◌, ◌+◌, ◌<◌, ℕ, List, [], ◌∷◌, ◌++◌, All, get_or, length, map}
 use Rattle.std.specs.Fmt.{decimal}
 use Rattle.json.specs.Print.{quoted}
 use Rattle.serde_json.specs.Data.{Data, Members, no_members, member, null}
@@ -32,6 +32,10 @@ named_members spans (p ∷ ps) = member (name_of p) (process_tree_at spans p.spa
 -- one of them as the member of an object
 abbrev pub named_text : List Shown → NamedProcess → List ℕ
 named_text spans p = quoted (name_of p) ++ 58 ∷ compact_text (process_tree_at spans p.span)
+
+-- the process at a place, which the span at an index has
+abbrev pub named_at : ℕ → ℕ → NamedProcess
+named_at place span = record { number = place + 1; span = span }
 
 -- one of the spans has it
 abbrev pub HasSpan : List Shown → NamedProcess → Type 0

@@ -12,7 +12,7 @@ use crate::values::flags_number;
 use jaeger_model::{Text, span_text, trace_text};
 use serde_json::{Map, Value, json, put};
 use std::alloc::{AllocError, Global};
-use trace_adjust::show;
+use trace_adjust::{show, show_lone};
 use trace_model::{AnsweredTrace, Shown, ShownTrace, TraceForm};
 
 /// Returns a list of texts, or null if there are none.
@@ -107,7 +107,8 @@ fn trace_json(
     spans: Value,
     id: String,
 ) -> Result<Value, AllocError>
-    ensures { IfOk result (λ v. view v ≡ trace_object (view processes) (view spans) (string_bytes id)) }
+    ensures { IfOk result (λ v.
+        view v ≡ trace_object (view processes) (view spans) (string_bytes id)) }
 {
     json!(in alloc; {"processes": processes, "spans": spans, "traceID": id, "warnings": null})
 }
@@ -134,6 +135,7 @@ impl Tree for AnsweredTrace {
     fn to_json(&self, alloc: Global) -> Result<Value, AllocError> {
         match self.form() {
             TraceForm::Ready(made) => made.to_json(alloc),
+            TraceForm::Lone(span) => show_lone(alloc, span)?.to_json(alloc),
             TraceForm::Kept(kept) => show(alloc, kept)?.to_json(alloc),
         }
     }

@@ -3,7 +3,7 @@ ghost use Rattle.std.specs.Prelude.{◌≡◌, map, IfOk};
 ghost use Rattle.trace_model.specs.Searching.{found_in};
 ghost use Rattle.journal_traces.specs.TagCandidates.{traces_spotted};
 ghost use Rattle.journal_traces.specs.TakenSearch.{IsSearching};
-ghost use Rattle.journal_traces.specs.TakenTraces.{placed_taken};
+ghost use Rattle.trace_model.specs.TakenSpans.{placed_taken};
 ghost use Rattle.span_store.specs.FoundAnswers.{found_answer};
 
 use find_traces::PreparedSearch;
@@ -84,7 +84,7 @@ impl<'q> CollectedSearch<'q> {
             let ids = find_kept_ids(alloc, &mut search)?;
             return Ok(Answer::Ids(Seq::from_vec(ids)));
         }
-        let found = find_kept(alloc, &mut search, limits)?;
+        let found = find_kept(alloc, &mut search, limits.max_skew)?;
         Ok(Answer::Traces(Seq::from_vec(found)))
     }
 }

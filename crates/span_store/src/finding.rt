@@ -3,7 +3,8 @@
 ghost use Rattle.std.specs.Prelude.{◌≡◌, ◌<◌, ◌^◌, ◌++◌, ◌∷◌, [], IfOk, OnOk, length, map, slice_index_or};
 ghost use Rattle.trace_model.specs.Searching.{found_in, ids_of};
 ghost use Rattle.journal_traces.specs.CandidateTraces.{traces_of, query_of};
-ghost use Rattle.journal_traces.specs.TakenTraces.{placed_taken, AreNumberedByPlace};
+ghost use Rattle.journal_traces.specs.TakenTraces.{AreNumberedByPlace};
+ghost use Rattle.trace_model.specs.TakenSpans.{placed_taken};
 
 use jaeger_model::TraceId;
 use journal_traces::{CandidateSearch, TakenTraces, take_trace};

@@ -2,7 +2,8 @@
 ghost use Rattle.std.specs.Prelude.{◌≡◌, IfOk, map};
 ghost use Rattle.trace_model.specs.Adjusting.{adjusted};
 ghost use Rattle.trace_model.specs.declared.answer.Answer.TheVariants as say;
-ghost use Rattle.journal_traces.specs.TakenTraces.{placed_taken, ShareByNumber};
+ghost use Rattle.journal_traces.specs.TakenTraces.{ShareByNumber};
+ghost use Rattle.trace_model.specs.TakenSpans.{placed_taken};
 
 use jaeger_model::Seq;
 use journal_traces::{TakenTraces, keep_all};
@@ -23,7 +24,8 @@ impl Model for FoundTraces {
     ghost use Rattle.trace_model.specs.Adjusting.{adjusted};
     ghost use Rattle.trace_model.specs.declared.answer.Answer.{Answer};
     ghost use Rattle.trace_model.specs.declared.answer.Answer.TheVariants as say;
-    ghost use Rattle.journal_traces.specs.TakenTraces.{placed_taken, ShareByNumber};
+    ghost use Rattle.journal_traces.specs.TakenTraces.{ShareByNumber};
+    ghost use Rattle.trace_model.specs.TakenSpans.{placed_taken};
 
     ghost Value = { Answer };
 
@@ -45,7 +47,7 @@ impl FoundTraces {
     pub(crate) fn answer(self, alloc: Global) -> Result<Answer, AllocError>
         ensures { IfOk result (λ a. a ≡ self) }
     {
-        let kept = keep_all(alloc, &self.traces, self.limits)?;
+        let kept = keep_all(alloc, &self.traces, self.limits.max_skew)?;
         Ok(Answer::Traces(Seq::from_vec(kept)))
     }
 }

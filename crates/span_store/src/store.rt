@@ -12,7 +12,7 @@ ghost use Rattle.trace_model.specs.Refusals.{followed_by, with_admitted};
 ghost use Rattle.arrival_journal.specs.Journals.{admission_by, place_by};
 ghost use Rattle.trace_assembly.specs.LocatedSpans.{located_events, shown_spots};
 ghost use Rattle.call_links.specs.NumberedCalls.{links_in, AreServicesNumbered};
-ghost use Rattle.journal_traces.specs.TakenTraces.{placed_taken};
+ghost use Rattle.trace_model.specs.TakenSpans.{placed_taken};
 ghost use Rattle.service_index.specs.ServicePlaces.{service_number_of, places_of};
 ghost use Rattle.span_store.specs.CollectedAnswers.{form_answer};
 ghost use Rattle.span_store.specs.FoundAnswers.{FindsTheSame};
@@ -455,7 +455,10 @@ impl SpanStore {
         if spots.is_empty() {
             return Ok(Answer::Trace(None));
         }
-        let trace = gather(self.alloc, &self.journal, spots, self.limits(), raw)?;
+        // For the prover: `len`'s clause `legal` is used below.
+        let _legal = self.journal.len();
+        let max_skew = self.limits().max_skew;
+        let trace = gather(self.alloc, &self.journal, spots, max_skew, raw)?;
         Ok(Answer::Trace(Some(AnsweredTrace::kept(trace))))
     }
 }

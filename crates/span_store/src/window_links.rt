@@ -2,7 +2,7 @@
 ghost use Rattle.std.specs.Prelude.{◌≡◌, IfOk, map};
 ghost use Rattle.trace_model.specs.declared.answer.Answer.TheVariants as say;
 ghost use Rattle.call_links.specs.NumberedCalls.{links_in, AreServicesNumbered};
-ghost use Rattle.journal_traces.specs.TakenTraces.{placed_taken};
+ghost use Rattle.trace_model.specs.TakenSpans.{placed_taken};
 
 use call_links::LinkCounts;
 use jaeger_model::Seq;
@@ -23,7 +23,7 @@ impl Model for WindowLinks {
     ghost use Rattle.trace_model.specs.declared.answer.Answer.{Answer};
     ghost use Rattle.trace_model.specs.declared.answer.Answer.TheVariants as say;
     ghost use Rattle.call_links.specs.NumberedCalls.{links_in, AreServicesNumbered};
-    ghost use Rattle.journal_traces.specs.TakenTraces.{placed_taken};
+    ghost use Rattle.trace_model.specs.TakenSpans.{placed_taken};
 
     ghost Value = { Answer };
 

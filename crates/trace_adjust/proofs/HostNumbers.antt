@@ -1,5 +1,5 @@
--- Numbers tell hosts apart, and clocks by numbers are the spans' clocks.
-use Rattle.std.proofs.Common.{Bor, eqb-true, ◌≡◌, ℕ, zero, suc, pos, ◌+◌, ◌<◌, Bool, true, false, List, [], ◌∷◌, ◌++◌, map, take, drop, length, get_or, set}
+-- Numbers tell hosts apart, and deltas by numbers are those of the spans' clocks.
+use Rattle.std.proofs.Common.{Bor, eqb-true, ◌≡◌, ℕ, zero, suc, ℤ, ◌+◌, ◌<◌, Bool, true, false, List, [], ◌∷◌, ◌++◌, map, take, drop, length, get_or}
 use Rattle.std.proofs.Common.{refl, sym, ap, ◌∙◌, arith, subst}
 use Rattle.std.specs.Prelude.{Option, Some, None, IfSome, option_map, is_some, option_and_then, slice_get, not, ◌||◌, ◌==◌, cond, unwrap_or, codes}
 use Rattle.std.specs.Prelude.{if◌then◌else◌}
@@ -10,21 +10,17 @@ use Rattle.std.specs.Cmp.Lexicographic.{texts_ties, bytes_decides}
 use Rattle.std.proofs.lemmas.Bool.{false≢true}
 use Rattle.std.proofs.lemmas.Map.Made.{IfSome-find_same}
 use Rattle.std.proofs.lemmas.Option.{get_or_from_slice_get, slice_get_within, slice_get_past, slice_get-get_or}
-use Rattle.std.proofs.lemmas.List.{map-set, map-append, map_more, map_push, get_or-map, length-map, length-take-le, take-append-drop}
+use Rattle.std.proofs.lemmas.List.{map-append, map_more, map_push, get_or-map, get_or_default, length-map, length-take-le, take-append-drop}
 use Rattle.jaeger_model.specs.declared.placed.Placed.{Placed}
-use Rattle.jaeger_model.specs.declared.span.Span.{Span}
 use Rattle.jaeger_model.specs.Texts.{same_text, text_cmp}
 use Rattle.jaeger_model.specs.Tags.{first_text}
 use Rattle.trace_model.specs.Adjusting.{host_of, new_delta, clock_at, clock_below}
-use Rattle.trace_adjust.specs.declared.clock.HostClock.{HostClock}
-use Rattle.trace_adjust.specs.KnownClocks.{clock_near, is_unset, written, clock_delta, delta_at, delta_or_none}
+use Rattle.trace_adjust.specs.KnownClocks.{clock_near, clock_with, clocks_with}
 use Rattle.trace_model.specs.SharedProcesses.{ShareProcesses}
-use Rattle.trace_adjust.specs.Hosts.{hosts_of, number_in, kept_under, IsHostKept, AreKept, hosted, all_hosted}
-use Rattle.trace_adjust.specs.Hosts.{AreHostNumbers, IsNumber, IsNumbered, AreHostsNumbered}
-use Rattle.trace_adjust.specs.Hosts.{clock_at_by, below_by, near_by, host_delta, delta_by}
+use Rattle.trace_adjust.specs.Hosts.{hosts_of, number_in, kept_under, IsHostKept, AreKept, AreHostNumbers, delta_by}
 use Rattle.trace_adjust.proofs.Places.{place_push, place_found}
+use Rattle.trace_adjust.proofs.KnownClocks.{with_at}
 use Rattle.trace_model.proofs.NameLaws.{same_where, text_is, text_self, text_turned}
-use Rattle.trace_model.proofs.ParentChains.{is_some-map}
 use Rattle.trace_model.proofs.Tables.{entered, kept}
 
 -- ---- numbers
@@ -34,112 +30,28 @@ number_there hosts t n e =
     subst (λ o. IfSome o (λ h. h ≡ t)) (sym (place_found (same_text t) hosts []) ∙ ap (option_map (λ j. get_or hosts j [])) e)
     (IfSome-find_same bytes_decides t hosts)
 
-pub is_number : (hosts : List (List ℕ)) (t : List ℕ) (n : ℕ) → number_in hosts t ≡ Some n → IsNumber hosts n
-is_number hosts t n e = ap (number_in hosts) (number_there hosts t n e) ∙ e
-
 -- two hosts have the same number if they are equal
 pub same_number : (hosts : List (List ℕ)) (t u : List ℕ) (n k : ℕ) → number_in hosts t ≡ Some n → number_in hosts u ≡ Some k → (n == k) ≡ same_text t u
 same_number hosts t u n k e f =
     same_where n k t u (λ one. sym (number_there hosts t n e) ∙ ap (λ j. get_or hosts j []) one ∙ number_there hosts u k f)
     (λ one. let both : Some n ≡ Some k = sym e ∙ ap (number_in hosts) one ∙ f in cc both)
 
--- ---- clocks by numbers are clocks
-pub below_hosted : (m : ℕ) (trace : List Placed) (c : HostClock) (n : ℕ) (p : Placed) → IsNumber (hosts_of trace) c.host
-    → number_in (hosts_of trace) (host_of p) ≡ Some n
-    → hosted (hosts_of trace) (below_by m c n p.span) ≡ clock_below m (hosted (hosts_of trace) c) p
-below_hosted m trace c n p known number =
-    let hosts = hosts_of trace in
-    let empty : (n == 0) ≡ same_text (host_of p) [] = same_number hosts (host_of p) [] n 0 number refl in
-    let other : (n == c.host) ≡ same_text (host_of p) (get_or hosts c.host []) = same_number hosts (host_of p) (get_or hosts c.host []) n c.host number known in
-    let own : get_or hosts n [] ≡ host_of p = number_there hosts (host_of p) n number in
-    by_tests (n == 0) (n == c.host)
-    ∙ (λ i. if empty i || not (other i) then clock_at m (own i) (new_delta (hosted hosts c) p.span) p.span else clock_at m (get_or hosts c.host [])
-    c.delta p.span)
+-- ---- deltas by numbers are those of the clocks
+below_is : (m : ℕ) (hosts : List (List ℕ)) (q p : Placed) (nq n : ℕ) (d : ℤ) → number_in hosts [] ≡ Some 0 → number_in hosts (host_of q) ≡ Some nq
+    → number_in hosts (host_of p) ≡ Some n
+    → clock_with m p (delta_by m nq d q.span n p.span) ≡ clock_below m (clock_with m q d) p
+below_is m hosts q p nq n d none above number =
+    let empty : (n == 0) ≡ same_text (host_of p) [] = same_number hosts (host_of p) [] n 0 number none in
+    let other : (n == nq) ≡ same_text (host_of p) (host_of q) = same_number hosts (host_of p) (host_of q) n nq number above in
+    by_tests (n == 0) (n == nq)
+    (λ e. sym (number_there hosts (host_of p) n number) ∙ ap (λ j. get_or hosts j []) (eqb-true n nq e) ∙ number_there hosts (host_of q) nq above)
+    ∙ (λ i. if empty i || not (other i) then clock_at m (host_of p) (new_delta (clock_with m q d) p.span) p.span else clock_at m (host_of q) d p.span)
   where
-    by_tests : (a b : Bool) → hosted (hosts_of trace)
-        (if a || not b then clock_at_by m n (new_delta (hosted (hosts_of trace) c) p.span) p.span else clock_at_by m c.host c.delta p.span)
-        ≡ (if a || not b then clock_at m (get_or (hosts_of trace) n []) (new_delta (hosted (hosts_of trace) c) p.span) p.span else clock_at m
-        (get_or (hosts_of trace) c.host []) c.delta p.span)
-    by_tests true b = refl
-    by_tests false true = refl
-    by_tests false false = refl
-
-below_numbered : (m : ℕ) (hosts : List (List ℕ)) (c : HostClock) (n : ℕ) (s : Span) → IsNumber hosts c.host → IsNumber hosts n
-    → IsNumber hosts (below_by m c n s).host
-below_numbered m hosts c n s known own = by_test ((n == 0) || not (n == c.host))
-  where
-    by_test : (b : Bool) → IsNumber hosts (if b then clock_at_by m n (new_delta (hosted hosts c) s) s else clock_at_by m c.host c.delta s).host
-    by_test true = own
-    by_test false = known
-
-pub hosted_at : {X Y : Type 0} (f : X → Y) (cs : List (Option X)) (k : ℕ) → get_or (map (option_map f) cs) k None ≡ option_map f (get_or cs k None)
-hosted_at f [] k = refl
-hosted_at f (c ∷ cs) zero = refl
-hosted_at f (c ∷ cs) (suc k) = hosted_at f cs k
-
-pub hosted_none : {X Y : Type 0} (f : X → Y) (o : Option X) → option_map f o ≡ None → o ≡ None
-hosted_none f None e = refl
-hosted_none f (Some x) e = absurd (false≢true (sym (ap is_some e)))
-
-pub written_hosted : {X Y : Type 0} (f : X → Y) (cs : List (Option X)) (i : ℕ) (o : Option X)
-    → map (option_map f) (written cs i o) ≡ written (map (option_map f) cs) i (option_map f o)
-written_hosted f cs i o =
-    by_test (is_unset (get_or cs i None))
-    ∙ ap (λ b. if not b then set (map (option_map f) cs) i (option_map f o) else map (option_map f) cs)
-    (sym (ap is_some (hosted_at f cs i) ∙ is_some-map f (get_or cs i None)))
-  where
-    by_test : (b : Bool) → map (option_map f) (if b then set cs i o else cs)
-        ≡ (if b then set (map (option_map f) cs) i (option_map f o) else map (option_map f) cs)
-    by_test true = map-set (option_map f) cs i o
-    by_test false = refl
-
-pub near_hosted : (m : ℕ) (trace : List Placed) (cs : List (Option HostClock)) (n : ℕ) (p : Placed) (o : Option ℕ) → AreHostsNumbered (hosts_of trace) cs
-    → number_in (hosts_of trace) (host_of p) ≡ Some n
-    → option_map (hosted (hosts_of trace)) (near_by m cs n p.span o) ≡ clock_near m (all_hosted (hosts_of trace) cs) p o
-near_hosted m trace cs n p None known number = ap (λ h. Some (clock_at m h (pos 0) p.span)) (number_there (hosts_of trace) (host_of p) n number)
-near_hosted m trace cs n p (Some j) known number =
-    by_above (get_or cs j None) (known j) ∙ ap (option_map (λ above. clock_below m above p)) (sym (hosted_at (hosted (hosts_of trace)) cs j))
-  where
-    by_above : (c : Option HostClock) → IsNumbered (hosts_of trace) c
-        → option_map (hosted (hosts_of trace)) (option_map (λ above. below_by m above n p.span) c) ≡ option_map
-        (λ above. clock_below m above p) (option_map (hosted (hosts_of trace)) c)
-    by_above None k = refl
-    by_above (Some c) k = ap Some (below_hosted m trace c n p k number)
-
-pub near_numbered : (m : ℕ) (trace : List Placed) (cs : List (Option HostClock)) (n : ℕ) (p : Placed) (o : Option ℕ) → AreHostsNumbered (hosts_of trace) cs
-    → number_in (hosts_of trace) (host_of p) ≡ Some n
-    → IsNumbered (hosts_of trace) (near_by m cs n p.span o)
-near_numbered m trace cs n p None known number = is_number (hosts_of trace) (host_of p) n number
-near_numbered m trace cs n p (Some j) known number = by_above (get_or cs j None) (known j)
-  where
-    by_above : (c : Option HostClock) → IsNumbered (hosts_of trace) c → IsNumbered (hosts_of trace) (option_map (λ above. below_by m above n p.span) c)
-    by_above None k = tt
-    by_above (Some c) k = below_numbered m (hosts_of trace) c n p.span k (is_number (hosts_of trace) (host_of p) n number)
-
-pub written_numbered : (hosts : List (List ℕ)) (cs : List (Option HostClock)) (i : ℕ) (o : Option HostClock) → AreHostsNumbered hosts cs → IsNumbered hosts o
-    → AreHostsNumbered hosts (written cs i o)
-written_numbered hosts cs i o known here = elim (is_unset (get_or cs i None)) as (λ b. AreHostsNumbered hosts (if b then set cs i o else cs)) [
-  | true ↦ set_numbered cs i known
-  | false ↦ known
-]
-  where
-    set_numbered : (cs : List (Option HostClock)) (i : ℕ) → AreHostsNumbered hosts cs → AreHostsNumbered hosts (set cs i o)
-    set_numbered [] i known k = known k
-    set_numbered (c ∷ cs) zero known zero = here
-    set_numbered (c ∷ cs) zero known (suc k) = known (suc k)
-    set_numbered (c ∷ cs) (suc i) known zero = known zero
-    set_numbered (c ∷ cs) (suc i) known (suc k) = set_numbered cs i (λ j. known (suc j)) k
-
--- ---- deltas by numbers
-delta_hosted : (hosts : List (List ℕ)) (c : Option HostClock) → delta_or_none host_delta c ≡ delta_or_none clock_delta (option_map (hosted hosts) c)
-delta_hosted hosts None = refl
-delta_hosted hosts (Some c) = refl
-
-pub same_delta : (hosts : List (List ℕ)) (first : ℕ → Option ℕ) (cs : List (Option HostClock)) (i id : ℕ)
-    → delta_by first cs i id ≡ delta_at first (all_hosted hosts cs) i id
-same_delta hosts first cs i id =
-    ap (λ d. if unwrap_or (first id) i == i then d else pos 0)
-    (delta_hosted hosts (get_or cs i None) ∙ ap (delta_or_none clock_delta) (sym (hosted_at (hosted hosts) cs i)))
+    by_tests : (a b : Bool) → (b ≡ true → host_of p ≡ host_of q) → clock_with m p (if a || not b then new_delta (clock_with m q d) p.span else d)
+        ≡ (if a || not b then clock_at m (host_of p) (new_delta (clock_with m q d) p.span) p.span else clock_at m (host_of q) d p.span)
+    by_tests true b same = refl
+    by_tests false true same = ap (λ h. clock_at m h d p.span) (same refl)
+    by_tests false false same = refl
 
 -- ---- the table of numbers, with one more host
 -- a host that is there already changes nothing
@@ -169,6 +81,27 @@ number_read hosts (p ∷ trace) [] i d e l are = absurd (cc are)
 number_read hosts (p ∷ trace) (n ∷ ns) zero d e l are = let first : Some n ≡ number_in hosts (host_of p) = cc are in sym first
 number_read hosts (p ∷ trace) (n ∷ ns) (suc i) d e l are =
     let rest : AreHostNumbers hosts trace ns = cc are in number_read hosts trace ns i d e (omega arith) rest
+
+-- the clock with the delta is the one below the parent's
+pub near_some : (m : ℕ) (trace : List Placed) (ns : List ℕ) (ds : List (Option ℤ)) (i j : ℕ) (p q e : Placed) (d r : ℤ) → i < length trace → j < length trace
+    → p ≡ get_or trace i p → q ≡ get_or trace j q → AreHostNumbers (hosts_of trace) trace ns → length ds ≡ length trace → get_or ds j None ≡ Some d
+    → r ≡ delta_by m (get_or ns j 0) d q.span (get_or ns i 0) p.span
+    → option_map (clock_with m (get_or trace i e)) (Some r) ≡ clock_near m (clocks_with m trace ds) (get_or trace i e) (Some j)
+near_some m trace ns ds i j p q e d r l lj here there are many known is =
+    let hosts = hosts_of trace in
+    let own : number_in hosts (host_of p) ≡ Some (get_or ns i 0) = ap (λ x. number_in hosts (host_of x)) here ∙ number_read hosts trace ns i p 0 l are in
+    let above : number_in hosts (host_of q) ≡ Some (get_or ns j 0) = ap (λ x. number_in hosts (host_of x)) there ∙ number_read hosts trace ns j q 0 lj are in
+    let clock : get_or (clocks_with m trace ds) j None ≡ Some (clock_with m q d) =
+    with_at m trace ds j q many ∙ ap (option_map (clock_with m (get_or trace j q))) known ∙ ap (λ x. Some (clock_with m x d)) (sym there) in
+    subst (λ x. option_map (clock_with m x) (Some r) ≡ clock_near m (clocks_with m trace ds) x (Some j)) (here ∙ get_or_default trace i p e l)
+    (ap (λ z. Some (clock_with m p z)) is
+    ∙ ap Some (below_is m hosts q p (get_or ns j 0) (get_or ns i 0) d refl above own)
+    ∙ ap (option_map (λ a. clock_below m a p)) (sym clock))
+
+pub near_none : (m : ℕ) (trace : List Placed) (ds : List (Option ℤ)) (j : ℕ) (p : Placed) → length ds ≡ length trace → get_or ds j None ≡ None
+    → None ≡ clock_near m (clocks_with m trace ds) p (Some j)
+near_none m trace ds j p many none =
+    ap (option_map (λ a. clock_below m a p)) (sym (with_at m trace ds j p many ∙ ap (option_map (clock_with m (get_or trace j p))) none))
 
 -- ---- one more span's host
 module _ (ps : List Placed) (i : ℕ) (p : Placed) (l : i < length ps) (e : p ≡ get_or ps i p) where

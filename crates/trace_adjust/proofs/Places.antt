@@ -1,13 +1,15 @@
 -- First places, as a table of them grows, and what is there.
-use Rattle.std.proofs.Common.{◌≡◌, ℕ, zero, suc, ◌+◌, ◌<◌, nat_lt, Bool, true, false, ◌||◌, cond, List, [], ◌∷◌, ◌++◌, map, take, length, get_or, refl, sym, ap}
-use Rattle.std.proofs.Common.{◌∙◌, arith, eqb-true, eq-eqb}
+use Rattle.std.proofs.Common.{◌≡◌, ℕ, suc, ◌+◌, ◌<◌, nat_lt, Bool, true, false, ◌||◌, cond, List, [], ◌∷◌, ◌++◌, map, take, length, get_or, refl, sym, ap}
+use Rattle.std.proofs.Common.{◌∙◌, arith, eqb-true, ⊎_elim, subst}
+use Rattle.std.proofs.lemmas.Bool.{cases_eq}
 use Rattle.std.proofs.lemmas.Bool.Decides.{nat_tests}
-use Rattle.std.specs.Prelude.{Option, Some, None, option_map, is_some, find, not, unwrap_or, ◌==◌, if◌then◌else◌}
+use Rattle.std.specs.Prelude.{Option, Some, None, option_map, is_some, find, not, ◌==◌, if◌then◌else◌}
 use Rattle.std.specs.Option.{option_or}
 use Rattle.std.specs.List.{list_any, position, position_or_len}
 use Rattle.std.specs.Ordering.{nat_cmp, is_eq}
 use Rattle.std.specs.Cmp.{unsigned_ties}
-use Rattle.std.proofs.lemmas.List.{take_more, map_push, length-map, length-take-le, get_or-map}
+use Rattle.std.proofs.lemmas.List.{take_more, map_push, length-map, length-take-le, get_or-map, get_or_at, get_or_append_left}
+use Rattle.jaeger_model.specs.declared.ids.SpanId.{SpanId}
 use Rattle.jaeger_model.specs.declared.placed.Placed.{Placed}
 use Rattle.jaeger_model.specs.Parents.{parent}
 use Rattle.trace_model.specs.ServiceLinks.{has_id, parent_in, place_of_parent}
@@ -16,7 +18,7 @@ use Rattle.trace_model.specs.Adjusting.{spans_of}
 use Rattle.trace_model.proofs.Lists.{found_at}
 use Rattle.trace_model.proofs.Tables.{entered, kept, entry_map}
 use Rattle.trace_adjust.specs.KnownClocks.{place_of, first_at, place_in, parent_at}
-use Rattle.trace_model.proofs.ParentChains.{parent_there, parent_within}
+use Rattle.trace_model.proofs.ParentChains.{parent_there, parent_within, is_some-map}
 
 -- in a list with one item more
 pub place_push : {X : Type 0} (test : X → Bool) (xs : List X) (x : X)
@@ -73,31 +75,28 @@ place_there trace p d = ap (option_map (λ j. get_or trace j d)) (same_place tra
 pub place_below : (trace : List Placed) (p : Placed) (j : ℕ) → place_in trace p ≡ Some j → j < length trace
 place_below trace p j e = parent_within trace p j (sym (same_place trace p) ∙ e)
 
-same_more : (a b : ℕ) → (suc a == suc b) ≡ (a == b)
-same_more a b = grind (arith, nat_tests)
-
-not_zero : (k : ℕ) → (0 == suc k) ≡ false
-not_zero k = grind (arith, nat_tests)
-
-one_on : (o : Option ℕ) (k : ℕ) → (unwrap_or (option_map suc o) (suc k) == suc k) ≡ (unwrap_or o k == k)
-one_on None k = same_more k k
-one_on (Some j) k = same_more j k
-
--- ---- a span is the first of its id if no span before it has it
-pub is_first : (ps : List Placed) (i : ℕ) (d : Placed) → i < length ps
-    → (unwrap_or (first_at (get_or ps i d).span.id.0 ps) i == i) ≡ not (list_any (has_id (get_or ps i d).span.id) (take i ps))
-is_first [] i d l = absurd (omega arith)
-is_first (p ∷ ps) zero d l = ap (λ b. unwrap_or (cond b (Some 0) (option_map suc (first_at p.span.id.0 ps))) 0 == 0) (eq-eqb p.span.id.0 p.span.id.0 refl)
-is_first (p ∷ ps) (suc k) d l =
-    elim (p.span.id.0 == (get_or ps k d).span.id.0) as (λ b.
-    (unwrap_or (cond b (Some 0) (option_map suc (first_at (get_or ps k d).span.id.0 ps))) (suc k) == suc k)
-    ≡ not (b || list_any (has_id (get_or ps k d).span.id) (take k ps))) [
-      | true ↦ not_zero k
-      | false ↦ one_on (first_at (get_or ps k d).span.id.0 ps) k ∙ is_first ps k d (omega arith)
-    ]
-
 pub same_parent : (trace : List Placed) (g : ℕ → Option ℕ) → ((id : ℕ) → g id ≡ first_at id trace) → (p : Placed) → parent_at g p ≡ place_in trace p
 same_parent trace g h p = ap (λ o. if (parent p.span).0 == 0 then None else o) (h (parent p.span).0)
+
+-- ---- ids that are repeated
+any_place : {X : Type 0} (test : X → Bool) (xs : List X) → is_some (place_of test xs) ≡ list_any test xs
+any_place test [] = refl
+any_place test (x ∷ xs) =
+    elim (test x) as (λ b. is_some (cond b (Some 0) (option_map suc (place_of test xs))) ≡ (b || list_any test xs)) [
+      | true ↦ refl
+      | false ↦ is_some-map suc (place_of test xs) ∙ any_place test xs
+    ]
+
+pub has_place : (id : SpanId) (ps : List Placed) → is_some (first_at id.0 ps) ≡ list_any (has_id id) ps
+has_place id ps = any_place (has_id id) ps
+
+-- one more element at the end
+pub below_push : {X : Type 0} (P : ℕ → X → Type 0) (xs ys : List X) (x e : X) (i : ℕ) → length xs ≡ i → ys ≡ xs ++ x ∷ []
+    → ((k : ℕ) → k < i → P k (get_or xs k e)) → P i x → (k : ℕ) → k < i + 1 → P k (get_or ys k e)
+below_push P xs ys x e i many put below here k l = ⊎_elim
+    (λ (same : k ≡ i). subst (λ j. P j (get_or ys j e)) (sym same) (subst (P i) (sym (ap (λ zs. get_or zs i e) put ∙ get_or_at xs x [] e i many)) here))
+    (λ (other : k ≡ i → ⊥). subst (P k) (sym (ap (λ zs. get_or zs k e) put ∙ get_or_append_left xs (x ∷ []) e k (omega (arith, many, l, other)))) (below k (omega arith)))
+    (cases_eq k i)
 
 -- ---- the spans of what is shown
 abbrev span_of : Shown → Placed

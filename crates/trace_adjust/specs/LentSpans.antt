@@ -1,13 +1,18 @@
 -- Borrowed spans as they are shown, each moved by the delta of its clock or unchanged, and their logs.
-use Rattle.std.specs.Prelude.{◌≡◌, ℕ, ℤ, pos, ◌+ℤ◌, IsTrue, Bool, true, false, List, [], ◌∷◌, map, get_or, drop, Option, Some, None}
+use Rattle.std.specs.Prelude.{◌≡◌, ℕ, ℤ, pos, ◌+ℤ◌, IsTrue, Bool, true, false, List, [], ◌∷◌, map, get_or, drop, IsSome, Option, Some, None}
 use Rattle.std.specs.List.{list_all}
 use Rattle.jaeger_model.specs.declared.placed.Placed.{Placed}
 use Rattle.jaeger_model.specs.declared.span.Log.{Log}
 use Rattle.trace_model.specs.declared.answer.Shown.{Shown}
 use Rattle.trace_model.specs.declared.answered_trace.KeptTrace.{KeptTrace}
-use Rattle.trace_model.specs.Adjusting.{fits, move_log, shifted, with_parent_first}
-use Rattle.trace_model.specs.KeptTraces.{spans_there}
+use Rattle.trace_model.specs.Adjusting.{fits, move_log, shifted, spans_of, with_parent_first}
+use Rattle.trace_model.specs.KeptTraces.{lone_value}
+use Rattle.trace_model.specs.SharedProcesses.{ShareProcesses}
+use Rattle.trace_model.specs.TakenSpans.{Taken, placed_taken, numbers_taken}
 use Rattle.trace_adjust.specs.declared.lent_logs.LentLog.{LentLog}
+use Rattle.trace_adjust.specs.declared.lent_spans.LentForm.{LentForm}
+use Rattle.trace_adjust.specs.declared.lent_spans.LentForm.TheVariants.{Lone, Several}
+use Rattle.trace_adjust.specs.declared.lent_spans.MovedSpans.{MovedSpans}
 
 -- the logs, moved if there is a delta
 abbrev pub logs_by : Option ℤ → List Log → List Log
@@ -26,19 +31,35 @@ abbrev pub placed_as : Bool → Placed → Placed
 placed_as true p = p
 placed_as false p = with_parent_first p
 
--- no entry lacks the span
-abbrev pub AreThere : List (Option Placed) → Type 0
-AreThere spans = map Some (spans_there spans) ≡ spans
+-- each of the spans exists
+abbrev pub AreThere : List Taken → Type 0
+AreThere ts = map Some (placed_taken ts) ≡ map (λ (t : Taken). t.span) ts
 
 -- the spans as they are shown, each moved by its delta, which is 0 for those after the last delta
 abbrev pub shifted_all : ℕ → List ℤ → List Placed → List Shown
 shifted_all max_skew deltas [] = []
 shifted_all max_skew deltas (p ∷ ps) = shifted max_skew (get_or deltas 0 (pos 0)) p ∷ shifted_all max_skew (drop 1 deltas) ps
 
--- the spans that exist, as they are shown
-abbrev pub shown_spans : Bool → ℕ → List (Option Placed) → List ℤ → List Shown
-shown_spans raw max_skew spans deltas = shifted_all max_skew deltas (map (placed_as raw) (spans_there spans))
+-- taken spans as they are shown
+abbrev pub shown_spans : Bool → ℕ → List Taken → List ℤ → List Shown
+shown_spans raw max_skew spans deltas = shifted_all max_skew deltas (map (placed_as raw) (placed_taken spans))
 
 -- those of a trace
 abbrev pub shown_by_deltas : KeptTrace → List ℤ → List Shown
-shown_by_deltas t deltas = shown_spans t.raw t.limits.max_skew t.spans.items deltas
+shown_by_deltas t deltas = shown_spans t.raw t.max_skew t.spans.items deltas
+
+abbrev pub moved_value : MovedSpans → List Shown
+moved_value m = shown_spans m.raw m.max_skew m.spans.items m.deltas.items
+
+-- the spans exist, and those with one key have one process
+pub record AreLent (m : MovedSpans) : Type 0 where
+  pub there : AreThere m.spans.items
+  pub shares : ShareProcesses (spans_of (moved_value m)) (numbers_taken m.spans.items)
+
+abbrev pub lent_value : LentForm → List Shown
+lent_value (Lone t) = lone_value t
+lent_value (Several m) = moved_value m.value
+
+abbrev pub IsLentForm : LentForm → Type 0
+IsLentForm (Lone t) = IsSome t.span
+IsLentForm (Several m) = AreLent m.value

@@ -2,4 +2,5 @@ pub mod Hosts
 pub mod LentSpans
 pub mod LentReferences
 pub mod KnownClocks
-pub mod TraceClocks
+pub mod KnownDeltas
+pub mod SpanDeltas

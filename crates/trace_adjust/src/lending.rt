@@ -4,46 +4,29 @@ ghost use Rattle.std.specs.Prelude.{◌≡◌, ℕ, List, pos, false, IfOk, map}
 ghost use Rattle.std.specs.List.{list_all};
 ghost use Rattle.std.specs.Ordering.{int_eq};
 ghost use Rattle.jaeger_model.specs.declared.placed.Placed.{Placed as PlacedValue};
-ghost use Rattle.trace_model.specs.Adjusting.{skew_adjusted, spans_of, with_parent_first, adjusted};
-ghost use Rattle.trace_model.specs.KeptTraces.{spans_there, kept_value, KeptShares};
-ghost use Rattle.trace_model.specs.SharedProcesses.{ShareProcesses};
+ghost use Rattle.trace_model.specs.Adjusting.{with_parent_first, adjusted};
+ghost use Rattle.trace_model.specs.KeptTraces.{kept_value, KeptShares};
+ghost use Rattle.trace_model.specs.TakenSpans.{placed_taken};
 ghost use Rattle.trace_adjust.specs.LentSpans.{AreThere, shifted_all, shown_by_deltas};
-ghost use Rattle.trace_adjust.specs.TraceClocks.{AreTraceClocks};
+ghost use Rattle.trace_adjust.specs.Hosts.{AreHostNumbers, hosts_of};
 
+use crate::hosts::host_numbers;
 use crate::lent_placed::LentPlaced;
-use crate::lent_spans::LentSpans;
-use crate::skew::{TraceClocks, clocks_of};
+use crate::lent_spans::{LentSpans, MovedSpans};
+use crate::process_keys::process_keys_of;
+use crate::span_deltas::all_deltas;
 use std::alloc::{AllocError, Global};
-use trace_model::{KeptSpan, KeptTrace};
+use trace_model::{KeptTrace, TakenSpan};
 
-/// Borrows the spans that exist, before their clock skew is adjusted.
-fn all_lent<'a>(alloc: Global, kept: &'a [KeptSpan]) -> Result<Vec<LentPlaced<'a>>, AllocError>
-    ensures { IfOk result (λ v. v.items ≡ map with_parent_first (spans_there kept.now)) }
+/// Borrows the spans, before their clock skew is adjusted.
+fn all_lent<'a>(alloc: Global, spans: &'a [TakenSpan]) -> Result<Vec<LentPlaced<'a>>, AllocError>
+    ensures { IfOk result (λ v. v.items ≡ map with_parent_first (placed_taken spans.now)) }
 {
-    let mut lent = Vec::with_capacity(alloc, kept.len())?;
-    for span in kept {
-        if let Some(reported) = span.reported() {
-            lent.push(LentPlaced::with_parent_first(reported))?;
-        }
+    let mut lent = Vec::with_capacity(alloc, spans.len())?;
+    for span in spans {
+        lent.push(LentPlaced::with_parent_first(span.reported()))?;
     }
     Ok(lent)
-}
-
-/// Returns the delta of each span's clock, 0 if it has none.
-fn all_deltas(
-    alloc: Global,
-    trace: &[LentPlaced],
-    clocks: &TraceClocks,
-) -> Result<Vec<i128>, AllocError>
-    ensures { (max_skew : ℕ) → AreTraceClocks max_skew trace.now clocks.now →
-        IfOk result (λ v.
-        shifted_all max_skew v.items trace.now ≡ skew_adjusted max_skew trace.now) }
-{
-    let mut deltas = Vec::with_capacity(alloc, trace.len())?;
-    for (place, placed) in trace.iter().enumerate() {
-        deltas.push(clocks.delta_at(place, placed.id()))?;
-    }
-    Ok(deltas)
 }
 
 /// Whether no span moves.
@@ -64,15 +47,30 @@ fn needed(alloc: Global, deltas: Vec<i128>) -> Vec<i128>
     deltas
 }
 
+/// Returns the numbers of the hosts of these spans of a trace. The keys of their processes are dropped.
+fn hosts_of_trace(
+    alloc: Global,
+    trace: &KeptTrace,
+    lent: &[LentPlaced],
+) -> Result<Vec<usize>, AllocError>
+    requires shares { KeptShares trace.now }
+    requires lent { lent.now ≡ map with_parent_first (placed_taken trace.now.spans.items) }
+    ensures { IfOk result (λ v. AreHostNumbers (hosts_of lent.now) lent.now v.items) }
+{
+    let keys = process_keys_of(alloc, &trace.spans)?;
+    host_numbers(alloc, lent, &keys)
+}
+
 /// Returns the deltas of these spans of a trace, or none if no span moves.
 fn deltas_of(alloc: Global, trace: &KeptTrace, lent: &[LentPlaced]) -> Result<Vec<i128>, AllocError>
     requires shares { KeptShares trace.now }
-    requires lent { lent.now ≡ map with_parent_first (spans_there trace.now.spans.items) }
-    ensures { IfOk result (λ v. shifted_all trace.now.limits.max_skew v.items lent.now
-        ≡ adjusted trace.now.limits.max_skew (spans_there trace.now.spans.items)) }
+    requires lent { lent.now ≡ map with_parent_first (placed_taken trace.now.spans.items) }
+    ensures { IfOk result (λ v. shifted_all trace.now.max_skew v.items lent.now
+        ≡ adjusted trace.now.max_skew (placed_taken trace.now.spans.items)) }
 {
-    let clocks = clocks_of(alloc, lent, &trace.process_keys, trace.limits.max_skew)?;
-    Ok(needed(alloc, all_deltas(alloc, lent, &clocks)?))
+    let hosts = hosts_of_trace(alloc, trace, lent)?;
+    let deltas = all_deltas(alloc, lent, &hosts, trace.max_skew)?;
+    Ok(needed(alloc, deltas))
 }
 
 /// Returns the deltas of the spans of a trace as it is to be shown.
@@ -87,42 +85,31 @@ fn shown_deltas(alloc: Global, trace: &KeptTrace) -> Result<Vec<i128>, AllocErro
     deltas_of(alloc, trace, &lent)
 }
 
-/// Drops the spans that their entries lack. Allocates nothing.
-fn without_missing(trace: KeptTrace) -> KeptTrace
-    ensures there { AreThere result.spans.items }
-    ensures spans { spans_there result.spans.items ≡ spans_there trace.spans.items }
-    ensures process_keys { result.process_keys ≡ trace.process_keys }
-    ensures limits { result.limits ≡ trace.limits }
-    ensures raw { result.raw ≡ trace.raw }
+/// For the prover: each span is read once, which says that it exists.
+fn see_each(spans: &[TakenSpan])
+    ensures { AreThere spans.now }
 {
-    let mut spans = trace.spans;
-    spans.retain(|span| span.is_there());
-    KeptTrace {
-        spans,
-        process_keys: trace.process_keys,
-        limits: trace.limits,
-        raw: trace.raw,
+    for span in spans {
+        let _reported = span.reported();
     }
 }
 
-/// Returns the spans of a trace as they are shown, each borrowed from its entry, and the keys of their processes. Spans
-/// with one key have one process.
+/// Returns the spans of a trace as they are shown, each borrowed from its entry.
 ///
 /// # Errors
 ///
 /// Out of memory, and nothing else.
-pub fn lend(alloc: Global, trace: KeptTrace) -> Result<(LentSpans, Vec<u64>), AllocError>
+pub fn lend(alloc: Global, trace: KeptTrace) -> Result<LentSpans, AllocError>
     requires { KeptShares trace }
-    ensures spans { IfOk result (λ r. r.0 ≡ kept_value trace) }
-    ensures shares { IfOk result (λ r. ShareProcesses (spans_of r.0) r.1.items) }
+    ensures { IfOk result (λ r. r ≡ kept_value trace) }
 {
-    let kept = without_missing(trace);
-    let deltas = shown_deltas(alloc, &kept)?;
-    let spans = LentSpans {
-        spans: kept.spans,
-        raw: kept.raw,
-        max_skew: kept.limits.max_skew,
+    see_each(&trace.spans);
+    let deltas = shown_deltas(alloc, &trace)?;
+    let moved = MovedSpans {
+        spans: trace.spans,
+        raw: trace.raw,
+        max_skew: trace.max_skew,
         deltas,
     };
-    Ok((spans, kept.process_keys))
+    LentSpans::several(alloc, moved)
 }

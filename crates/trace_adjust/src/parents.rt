@@ -4,30 +4,55 @@ ghost use Rattle.std.specs.Prelude.{◌≡◌, ℕ, IfOk, map};
 ghost use Rattle.std.specs.Ordering.{nat_cmp};
 ghost use Rattle.std.specs.BTreeMap.{get};
 ghost use Rattle.trace_adjust.specs.KnownClocks.{first_at, parent_at, place_in};
+ghost use Rattle.trace_adjust.specs.SpanDeltas.{AreRepeated};
 
 use crate::lent_placed::LentPlaced;
 use std::alloc::{AllocError, Global};
 use std::collections::BTreeMap;
 
-/// Returns the place of the first span with each id.
-pub(crate) fn first_places(
-    alloc: Global,
-    trace: &[LentPlaced],
-) -> Result<BTreeMap<u64, usize>, AllocError>
-    ensures { IfOk result (λ m. (id : ℕ) → get nat_cmp m id ≡ first_at id trace.now) }
+/// For each span of a trace the place of its parent, and whether a span before it has its id.
+#[derive(Drop)]
+pub(crate) struct Links {
+    pub(crate) parents: Vec<Option<u32>>,
+    pub(crate) repeated: Vec<bool>,
+}
+
+/// The place of the first span with each id, and for each span whether one before it has its id.
+#[derive(Drop)]
+struct FirstPlaces {
+    places: BTreeMap<u64, u32>,
+    repeated: Vec<bool>,
+}
+
+/// Converts a place to 32 bits, in which it is stored. A place that doesn't fit is reported as out of memory.
+fn place_u32(place: usize) -> Result<u32, AllocError>
+    ensures { IfOk result (λ n. n ≡ place) }
 {
-    let mut first = BTreeMap::new(alloc);
+    // Impossible: a store has at most 10,000,000 spans.
+    u32::try_from(place).map_err(|_| AllocError)
+}
+
+/// Returns the place of the first span with each id, and which ids are repeated.
+fn first_places(alloc: Global, trace: &[LentPlaced]) -> Result<FirstPlaces, AllocError>
+    ensures places { IfOk result (λ f.
+        (id : ℕ) → get nat_cmp f.places id ≡ first_at id trace.now) }
+    ensures repeated { IfOk result (λ f. AreRepeated trace.now f.repeated.items) }
+{
+    let mut places = BTreeMap::new(alloc);
+    let mut repeated = Vec::with_capacity(alloc, trace.len())?;
     for (place, placed) in trace.iter().enumerate() {
         let id = placed.id().0;
-        if !first.contains_key(&id) {
-            first.insert(id, place)?;
+        let is_repeated = places.contains_key(&id);
+        repeated.push(is_repeated)?;
+        if !is_repeated {
+            places.insert(id, place_u32(place)?)?;
         }
     }
-    Ok(first)
+    Ok(FirstPlaces { places, repeated })
 }
 
 /// Returns the place of a span's parent.
-fn place_of_parent(first: &BTreeMap<u64, usize>, placed: &LentPlaced) -> Option<usize>
+fn place_of_parent(first: &BTreeMap<u64, u32>, placed: &LentPlaced) -> Option<u32>
     ensures { result ≡ parent_at (λ id. get nat_cmp first.now id) placed.now }
 {
     let parent = placed.parent();
@@ -38,18 +63,30 @@ fn place_of_parent(first: &BTreeMap<u64, usize>, placed: &LentPlaced) -> Option<
 }
 
 /// Returns the places of the parents of the spans.
-pub(crate) fn parent_places(
+fn parent_places(
     alloc: Global,
     trace: &[LentPlaced],
-    first: &BTreeMap<u64, usize>,
-) -> Result<Vec<Option<usize>>, AllocError>
+    first: &BTreeMap<u64, u32>,
+) -> Result<Vec<Option<u32>>, AllocError>
     requires { (id : ℕ) → get nat_cmp first.now id ≡ first_at id trace.now }
-    ensures { IfOk result (λ v. v.items ≡
-        map (place_in trace.now) trace.now) }
+    ensures { IfOk result (λ v. v.items ≡ map (place_in trace.now) trace.now) }
 {
     let mut parents = Vec::with_capacity(alloc, trace.len())?;
     for placed in trace {
         parents.push(place_of_parent(first, placed))?;
     }
     Ok(parents)
+}
+
+/// Returns the places of the parents of the spans, and which ids are repeated. The table of first places is dropped.
+pub(crate) fn links_of(alloc: Global, trace: &[LentPlaced]) -> Result<Links, AllocError>
+    ensures parents { IfOk result (λ l. l.parents.items ≡ map (place_in trace.now) trace.now) }
+    ensures repeated { IfOk result (λ l. AreRepeated trace.now l.repeated.items) }
+{
+    let first = first_places(alloc, trace)?;
+    let parents = parent_places(alloc, trace, &first.places)?;
+    Ok(Links {
+        parents,
+        repeated: first.repeated,
+    })
 }

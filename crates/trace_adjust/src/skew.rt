@@ -1,48 +1,17 @@
-//! The spans of a trace, moved by their clocks.
+//! The spans of a trace, moved by their deltas.
 
-ghost use Rattle.std.specs.Prelude.{◌≡◌, IfOk, None, OnOk, OnErr, get_or, map};
-ghost use Rattle.std.specs.Ordering.{nat_cmp};
-ghost use Rattle.std.specs.BTreeMap.{get};
+ghost use Rattle.std.specs.Prelude.{◌≡◌, IfOk, OnOk, OnErr, map};
 ghost use Rattle.trace_model.specs.Adjusting.{with_parent_first, unadjusted, spans_of, shown_adjusted, adjusted};
 ghost use Rattle.trace_model.specs.SharedProcesses.{ShareProcesses};
-ghost use Rattle.trace_adjust.specs.Hosts.{delta_by, host_delta};
-ghost use Rattle.trace_adjust.specs.KnownClocks.{delta_or_none};
-ghost use Rattle.trace_adjust.specs.TraceClocks.{AreTraceClocks};
+ghost use Rattle.trace_adjust.specs.SpanDeltas.{AreDeltas};
 
-use crate::clock::HostClock;
-use crate::clocks::all_clocks;
 use crate::hosts::host_numbers;
 use crate::lent_placed::LentPlaced;
-use crate::parents::{first_places, parent_places};
-use jaeger_model::{Placed, SpanId};
+use crate::span_deltas::all_deltas;
+use jaeger_model::Placed;
 use span_steps::{shift, unadjusted, with_parent_first};
 use std::alloc::{AllocError, Global};
-use std::collections::BTreeMap;
 use trace_model::Shown;
-
-/// The clocks of the spans of a trace, and the place of the first span with each id.
-#[derive(Drop)]
-pub(crate) struct TraceClocks {
-    first: BTreeMap<u64, usize>,
-    clocks: Vec<Option<HostClock>>,
-}
-
-/// Returns the clocks of a trace's spans. Spans with one key have one process.
-pub(crate) fn clocks_of(
-    alloc: Global,
-    trace: &[LentPlaced],
-    process_keys: &[u64],
-    max_skew: u64,
-) -> Result<TraceClocks, AllocError>
-    requires { ShareProcesses trace.now process_keys.now }
-    ensures { IfOk result (λ s. AreTraceClocks max_skew trace.now s) }
-{
-    let first = first_places(alloc, trace)?;
-    let parents = parent_places(alloc, trace, &first)?;
-    let hosts = host_numbers(alloc, trace, process_keys)?;
-    let clocks = all_clocks(alloc, trace, &parents, &hosts, max_skew)?;
-    Ok(TraceClocks { first, clocks })
-}
 
 /// Borrows the spans unchanged.
 #[tactic(auto, using(std::proofs::lemmas::List::map_more))]
@@ -56,76 +25,39 @@ fn all_unchanged<'a>(alloc: Global, trace: &'a [Shown]) -> Result<Vec<LentPlaced
     Ok(lent)
 }
 
-/// Returns the clocks of spans that are copied.
-fn clocks_of_shown(
+/// Returns the deltas of spans that are copied. Spans with one key have one process.
+fn deltas_of_shown(
     alloc: Global,
     trace: &[Shown],
     process_keys: &[u64],
     max_skew: u64,
-) -> Result<TraceClocks, AllocError>
+) -> Result<Vec<i128>, AllocError>
     requires { ShareProcesses (spans_of trace.now) process_keys.now }
-    ensures { IfOk result (λ s. AreTraceClocks max_skew (spans_of trace.now) s) }
+    ensures { IfOk result (λ v. AreDeltas max_skew (spans_of trace.now) v.items) }
 {
     let lent = all_unchanged(alloc, trace)?;
-    clocks_of(alloc, &lent, process_keys, max_skew)
+    let hosts = host_numbers(alloc, &lent, process_keys)?;
+    all_deltas(alloc, &lent, &hosts, max_skew)
 }
 
-/// Returns the delta of the clock at the place, or 0 if there is none.
-fn clock_delta(clocks: &[Option<HostClock>], place: usize) -> i128
-    ensures { result ≡ delta_or_none host_delta (get_or clocks.now place None) }
-{
-    match clocks.get(place) {
-        Some(Some(clock)) => clock.delta,
-        _ => 0,
-    }
-}
-
-/// Returns the delta of the span at the place: 0 if it has no clock, or if a span before it has its id. The ids are
-/// looked up only for a clock that moves.
-fn delta_at(
-    first: &BTreeMap<u64, usize>,
-    clocks: &[Option<HostClock>],
-    place: usize,
-    id: u64,
-) -> i128
-    ensures { result ≡ delta_by (λ id. get nat_cmp first.now id) clocks.now place id }
-{
-    let delta = clock_delta(clocks, place);
-    if delta == 0 || first.get(&id).copied().unwrap_or(place) == place {
-        return delta;
-    }
-    0
-}
-
-impl TraceClocks {
-    /// Returns the delta of the span at the place, which has this id.
-    pub(crate) fn delta_at(&self, place: usize, id: SpanId) -> i128
-        ensures { result ≡ delta_by (λ id. get nat_cmp self.now.first id)
-            self.now.clocks.items place id.0 }
-    {
-        delta_at(&self.first, &self.clocks, place, id.0)
-    }
-}
-
-/// Moves the spans by their clocks. If memory runs out, the first of them are moved already.
+/// Moves the spans by their deltas. If memory runs out, the first of them are moved already.
 fn shift_all(
     alloc: Global,
     trace: &mut [Shown],
-    clocks: &TraceClocks,
+    deltas: &[i128],
     max_skew: u64,
 ) -> Result<(), AllocError>
-    requires { AreTraceClocks max_skew (spans_of trace.old) clocks.now }
+    requires { AreDeltas max_skew (spans_of trace.old) deltas.now }
     ensures { OnOk result (trace.new ≡ shown_adjusted max_skew trace.old) }
 {
     for place in 0..trace.len() {
         let shown = &mut trace[place];
-        let delta = clocks.delta_at(place, shown.placed.span.id);
-        shift(alloc, shown, delta, max_skew)?;
+        shift(alloc, shown, deltas[place], max_skew)?;
     }
     Ok(())
 }
 
-/// Returns the spans moved by their clocks.
+/// Returns the spans moved by their deltas.
 fn all_shifted(
     alloc: Global,
     mut spans: Vec<Shown>,
@@ -135,8 +67,8 @@ fn all_shifted(
     requires { ShareProcesses (spans_of spans.items) process_keys.now }
     ensures { IfOk result (λ v. v.items ≡ shown_adjusted max_skew spans.items) }
 {
-    let clocks = clocks_of_shown(alloc, &spans, process_keys, max_skew)?;
-    shift_all(alloc, &mut spans, &clocks, max_skew)?;
+    let deltas = deltas_of_shown(alloc, &spans, process_keys, max_skew)?;
+    shift_all(alloc, &mut spans, &deltas, max_skew)?;
     Ok(spans)
 }
 

@@ -4,7 +4,6 @@ use Rattle.std.proofs.lemmas.List.{map-id}
 use Rattle.jaeger_model.specs.declared.batch.Process.{Process}
 use Rattle.jaeger_model.specs.declared.placed.Placed.{Placed}
 use Rattle.trace_model.specs.declared.answer.Shown.{Shown}
-use Rattle.trace_model.specs.declared.limits.Limits.{Limits}
 use Rattle.trace_model.specs.Adjusting.{spans_of, with_parent_first, unadjusted, adjusted, shown_as}
 use Rattle.trace_model.specs.AdjustingTerms.{still}
 use Rattle.trace_model.specs.SharedProcesses.{ShareProcesses}
@@ -45,7 +44,7 @@ first_shares ps keys share = unadjusted_shares (map with_parent_first ps) keys (
 pub adjusted_shares : (m : ℕ) (ps : List Placed) (keys : List ℕ) → ShareProcesses ps keys → ShareProcesses (spans_of (adjusted m ps)) keys
 adjusted_shares m ps keys share = shared_alike (λ (s : Shown). s.placed) ps (adjusted m ps) keys (same_but_times m ps) share
 
-pub shown_shares : (limits : Limits) (raw : Bool) (ps : List Placed) (keys : List ℕ) → ShareProcesses ps keys
-    → ShareProcesses (spans_of (shown_as limits raw ps)) keys
-shown_shares limits true ps keys share = unadjusted_shares ps keys share
-shown_shares limits false ps keys share = adjusted_shares limits.max_skew ps keys share
+pub shown_shares : (m : ℕ) (raw : Bool) (ps : List Placed) (keys : List ℕ) → ShareProcesses ps keys
+    → ShareProcesses (spans_of (shown_as m raw ps)) keys
+shown_shares m true ps keys share = unadjusted_shares ps keys share
+shown_shares m false ps keys share = adjusted_shares m ps keys share

@@ -19,7 +19,7 @@ pub mod AdjustingTerms
 pub mod Places
 pub mod BorrowedSpans
 pub mod SharedProcesses
+pub mod TakenSpans
 pub mod KeptTraces
 pub mod LentNames
-pub mod TakenSpans
 pub mod StoreKnowledge

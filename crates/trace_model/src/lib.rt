@@ -27,7 +27,7 @@ mod trace_limit;
 
 pub use admission::Admission;
 pub use answer::{Answer, Link, Operation, Shown, with_kind};
-pub use answered_trace::{AnsweredTrace, KeptSpan, KeptTrace, TraceForm, reported_in};
+pub use answered_trace::{AnsweredTrace, KeptTrace, TraceForm};
 pub use backend::Backend;
 pub use clock::Clock;
 pub use entry::{Entry, Work};
@@ -36,5 +36,5 @@ pub use name::Name;
 pub use query::{Find, Query};
 pub use refusal::Refusal;
 pub use shown_trace::ShownTrace;
-pub use taken_span::TakenSpan;
+pub use taken_span::{TakenSpan, reported_in};
 pub use trace_limit::TraceLimit;

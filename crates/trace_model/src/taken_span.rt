@@ -2,14 +2,14 @@
 ghost use Rattle.std.specs.Prelude.{◌≡◌, Some, slice_get, IfOk, IfSome, option_map};
 ghost use Rattle.std.specs.Option.{option_and_then};
 ghost use Rattle.std.specs.Arc.{arc_value};
+ghost use Rattle.jaeger_model.specs.Parents.{domain};
 ghost use Rattle.trace_model.specs.EntryWork.{placed_brought};
 ghost use Rattle.trace_model.specs.BorrowedSpans.{placed_by_its_entry};
 
-use crate::answered_trace::{KeptSpan, reported_in};
 use crate::entry::Entry;
 use crate::name::Name;
-use jaeger_model::Seen;
-use std::alloc::AllocError;
+use jaeger_model::{Batch, Placed, Seen, place_span};
+use std::alloc::{AllocError, Global};
 use std::marker::Model;
 use std::sync::Arc;
 
@@ -34,6 +34,27 @@ impl Model for TakenSpan {
     ghost view = { λ s. record { span = slice_get (placed_brought (arc_value s.entry).work) s.index; number = s.process_key } };
 
     ghost invariant = { λ s. IsSome (slice_get (placed_brought (arc_value s.entry).work) s.index) };
+}
+
+/// Copies the span of a batch at an index; its process is shared.
+fn placed_in(alloc: Global, batch: &Batch, index: u32) -> Result<Option<Placed>, AllocError>
+    ensures { IfOk result (λ p. p ≡ slice_get (domain batch.now) index) }
+{
+    match batch.spans.as_slice().get(index as usize) {
+        Some(span) => Ok(Some(place_span(alloc, &batch.process, span)?)),
+        None => Ok(None),
+    }
+}
+
+/// Borrows the span of a batch at an index, as it was reported.
+pub fn reported_in(batch: &Batch, index: u32) -> Option<Seen>
+    ensures { option_map placed_by_its_entry result ≡ slice_get (domain batch.now) index }
+{
+    let span = batch.spans.as_slice().get(index as usize)?;
+    Some(Seen {
+        process: batch.process.get(),
+        span,
+    })
 }
 
 impl TakenSpan {
@@ -83,15 +104,38 @@ impl TakenSpan {
         seen
     }
 
-    /// Returns the span in the form of an answer's trace.
+    /// Returns the same span with another key of its process.
     ///
     /// # Errors
     ///
     /// Out of memory, and nothing else.
-    pub fn kept(&self) -> Result<KeptSpan, AllocError>
-        ensures { IfOk result (λ k. k ≡ self.now.span) }
+    pub fn with_key(&self, process_key: u32) -> Result<TakenSpan, AllocError>
+        ensures span { IfOk result (λ s. s.span ≡ self.now.span) }
+        ensures number { IfOk result (λ s. s.number ≡ process_key) }
     {
-        KeptSpan::new(&self.entry, self.index)
+        let entry = Arc::try_clone(&self.entry)?;
+        Ok(TakenSpan {
+            entry,
+            index: self.index,
+            process_key,
+        })
+    }
+
+    /// Copies the span; its process is shared.
+    ///
+    /// # Errors
+    ///
+    /// Out of memory, and nothing else.
+    pub fn copy(&self, alloc: Global) -> Result<Placed, AllocError>
+        ensures { IfOk result (λ p. Some p ≡ self.now.span) }
+    {
+        let Some(batch) = self.entry.work.batch() else {
+            unreachable!();
+        };
+        let Some(placed) = placed_in(alloc, batch, self.index)? else {
+            unreachable!();
+        };
+        Ok(placed)
     }
 
     /// Returns the name of the service that reported it.
@@ -99,7 +143,7 @@ impl TakenSpan {
     /// # Errors
     ///
     /// Out of memory, and nothing else.
-    #[tactic(auto, using(crate::proofs::KeptSpans::name_there))]
+    #[tactic(auto, using(crate::proofs::TakenSpans::name_there))]
     pub fn service(&self) -> Result<Name, AllocError>
         ensures { IfOk result (λ n. Some n ≡ option_map (λ p. p.process.service) self.now.span) }
     {

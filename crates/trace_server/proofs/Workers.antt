@@ -8,8 +8,7 @@ use Rattle.std.proofs.lemmas.List.FromFn.{length-range_with_len}
 use Rattle.atomic_table.specs.Seated.{TableId}
 use Rattle.trace_model.specs.declared.entry.Entry.{Entry}
 use Rattle.trace_model.specs.declared.limits.Limits.{Limits}
-use Rattle.read_side.specs.Keepers.{Lists}
-use Rattle.intake.specs.declared.account.Account.{Account}
+use Rattle.intake.specs.declared.books.Books.{Books}
 use Rattle.intake.specs.declared.queue.EndedSeat.{EndedSeat}
 use Rattle.intake.specs.Seats.{SeatValue}
 use Rattle.intake.specs.Books.{AllTaken, HasEnded, MovesFor, StillEnded, StaysTaken}
@@ -108,14 +107,13 @@ new_open desk seats each = λ k d lt. let n = each k d lt in (n.0, n.1)
 
 -- ---- the books
 
-pub books_closed : (limits : Limits) (lists : Lists) (seats : List SeatValue) (judged : List Entry) (accounts : List Account) (before taken left : List Entry)
-    (a0 r0 a r l : ℕ)
-    → HasJudged limits judged accounts lists a0 r0 → a ≡ a0 → r ≡ r0 → before ≡ [] → MovesJobs judged before taken left
+pub books_closed : {N : Type 0} (limits : Limits) (books : Books N) (seats : List SeatValue) (before taken left : List Entry) (a r l : ℕ)
+    → HasJudged limits books → a ≡ books.acknowledged → r ≡ books.refused → before ≡ [] → MovesJobs books.inbox.taken before taken left
     → AreSeatsTaken taken seats → l ≡ length left
-    → ClosesBooks limits lists seats a r l
-books_closed limits lists seats judged accounts before taken left a0 r0 a r l h aa rr none moves whole ls = record {
-  judged_jobs = judged;
-  accounts = accounts;
+    → ClosesBooks limits books.keeper seats a r l
+books_closed limits books seats before taken left a r l h aa rr none moves whole ls = record {
+  judged_jobs = books.inbox.taken;
+  accounts = books.accounts;
   unjudged_jobs = moves.0;
   ran = h.ran;
   whole = subst (λ z. AreSeatsTaken z seats) moves.1 whole;

@@ -1,14 +1,12 @@
 -- The workers' seats, before and after their work.
-use Rattle.std.specs.Prelude.{◌≡◌, ℕ, ◌+◌, true, List, [], ◌∷◌, ◌++◌, length, All}
+use Rattle.std.specs.Prelude.{◌≡◌, true, List, [], ◌++◌, All}
 use Rattle.atomic_table.specs.Seated.{TableId}
 use Rattle.trace_model.specs.declared.entry.Entry.{Entry}
 use Rattle.trace_model.specs.declared.limits.Limits.{Limits}
-use Rattle.read_side.specs.Keepers.{Lists, no_entries}
-use Rattle.intake.specs.declared.account.Account.{Account}
+use Rattle.read_side.specs.Keepers.{no_entries}
+use Rattle.intake.specs.declared.books.Books.{Books}
 use Rattle.intake.specs.Seats.{SeatValue}
-use Rattle.intake.specs.Books.{Ran, AllTaken}
-use Rattle.intake.specs.Books.{acknowledged as acknowledged_of, refused as refused_of}
-use Rattle.intake.specs.LiveStores.{SeatGoesOn}
+use Rattle.intake.specs.Books.{Ran, AllTaken, acknowledged, refused}
 
 -- seats of this desk that may submit more
 abbrev pub AreOpen : TableId → List SeatValue → Type 0
@@ -19,19 +17,18 @@ abbrev pub AreNew : TableId → List SeatValue → Type 0
 AreNew desk seats =
     All (λ (s : SeatValue). (s.desk ≡ desk) × (s.may_submit ≡ true) × (s.jobs ≡ [])) seats
 
--- a clerk of an empty store judged all jobs that it took, which led to these lists, and the counts are those of its
--- answers
-pub record HasJudged (limits : Limits) (taken : List Entry) (accounts : List Account) (lists : Lists) (acknowledged refused : ℕ) : Type 0 where
-  pub ran : Ran limits [] [] no_entries taken accounts lists
-  pub acknowledged_is : acknowledged ≡ acknowledged_of accounts
-  pub refused_is : refused ≡ refused_of accounts
+-- these books are of a clerk of an empty store: it judged all jobs that it took, which led to the keeper's lists, and the
+-- counts are those of its answers
+pub record HasJudged {N : Type 0} (limits : Limits) (books : Books N) : Type 0 where
+  pub ran : Ran limits [] [] no_entries books.inbox.taken books.accounts books.keeper
+  pub acknowledged_is : books.acknowledged ≡ acknowledged books.accounts
+  pub refused_is : books.refused ≡ refused books.accounts
 
 -- it judged them at this desk, and left none
-pub record KeepsBooks {A : Type 0} (limits : Limits) (opened closed : TableId) (taken : List Entry) (accounts : List Account) (lists : Lists)
-    (acknowledged refused : ℕ) (left : List A) : Type 0 where
-  pub judged : HasJudged limits taken accounts lists acknowledged refused
-  pub same_desk : closed ≡ opened
-  pub none_left : left ≡ []
+pub record KeepsBooks {N : Type 0} (limits : Limits) (desk : TableId) (books : Books N) : Type 0 where
+  pub judged : HasJudged limits books
+  pub same_desk : books.inbox.desk ≡ desk
+  pub none_left : books.left.items ≡ []
 
 -- these jobs were taken, and all of them are left over
 abbrev pub MovesJobs : List Entry → List Entry → List Entry → List Entry → Type 0

@@ -57,8 +57,7 @@ pub(crate) fn close_books<N: StoreName, R: Wait>(
     workers: Vec<EndedWorker<N>>,
 ) -> Result<Totals, Refusal>
     requires open { AreOpen books.inbox.desk (map (λ w. w.live.seat) workers.items) }
-    requires judged { HasJudged N.limits books.inbox.taken books.accounts books.keeper
-        books.acknowledged books.refused }
+    requires judged { HasJudged N.limits books }
     requires left { books.left.items ≡ [] }
     ensures { IfOk result (λ t. ClosesBooks N.limits books.keeper
         (map (λ w. w.live.seat) workers.items) t.acknowledged t.refused t.left) }

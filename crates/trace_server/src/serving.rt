@@ -139,8 +139,7 @@ impl<'d, 's, N: StoreName, R: Wait> OwnWork<R, Books<N>> for ClerkWork<'d, 's, N
 
     ghost ready = { λ w. (w.slot.now ≡ Some no_entries) × IsNewClerk w.clerk };
 
-    ghost gives = { λ w books. KeepsBooks N.limits w.clerk.desk books.inbox.desk books.inbox.taken
-        books.accounts books.keeper books.acknowledged books.refused books.left.items };
+    ghost gives = { λ w books. KeepsBooks N.limits w.clerk.desk books };
 
     /// Runs the clerk until the desk is closed. It takes the keeper out of the slot. Without workers, the desk is
     /// closed first.
@@ -156,6 +155,27 @@ impl<'d, 's, N: StoreName, R: Wait> OwnWork<R, Books<N>> for ClerkWork<'d, 's, N
     }
 }
 
+/// Returns the state that the workers share.
+fn worker_context<'a, 's: 'a, N: StoreName, G>(
+    alloc: Global,
+    desk: &'a Desk<N>,
+    setup: &ServerSetup<'s, G>,
+    quota: &'a ConnectionQuota,
+    periodic: &'a PeriodicCounts,
+) -> WorkerContext<'a, N, G> {
+    WorkerContext {
+        alloc,
+        listener: setup.listener,
+        desk,
+        observer: setup.observer,
+        notices: setup.notices,
+        periodic,
+        loads: setup.loads,
+        quota,
+        idle: setup.config.options.idle,
+    }
+}
+
 /// Runs the clerk in this thread, and the workers in their own threads, until all sessions have ended. If no thread can
 /// be created for them, the desk is closed and no connection is served.
 fn serve_sessions<
@@ -165,8 +185,7 @@ fn serve_sessions<
 >(rt: &R, alloc: Global, shared: SharedStore<N>, setup: &ServerSetup<'_, G>) -> ServedSessions<N>
     requires keeper { shared.keeper ≡ no_entries }
     requires clerk { IsNewClerk shared.clerk }
-    ensures judged { HasJudged N.limits result.books.inbox.taken result.books.accounts
-        result.books.keeper result.books.acknowledged result.books.refused }
+    ensures judged { HasJudged N.limits result.books }
     ensures left { result.books.left.items ≡ [] }
     ensures desk { result.books.inbox.desk ≡ shared.clerk.desk }
     ensures seats { IfOk result.workers (λ v. AllZip SeatGoesOn
@@ -180,17 +199,7 @@ fn serve_sessions<
     } = shared;
     let quota = ConnectionQuota::new(setup.config.options.sessions);
     let periodic = PeriodicCounts::new(setup.config.options.report);
-    let server = WorkerContext {
-        alloc,
-        listener: setup.listener,
-        desk: &desk,
-        observer: setup.observer,
-        notices: setup.notices,
-        periodic: &periodic,
-        loads: setup.loads,
-        quota: &quota,
-        idle: setup.config.options.idle,
-    };
+    let server = worker_context(alloc, &desk, setup, &quota, &periodic);
     let mut slot = Some(keeper);
     // For the prover: the promise that `beside` asks for.
     let seats = KeepSeats(Snapshot::of(&lives));
@@ -212,16 +221,9 @@ fn serve_sessions<
     if let Some(untaken) = slot {
         untaken.close(rt);
     }
-    // For the prover: the match takes the cases of `beside`'s clause `theirs` apart.
-    match outcomes {
-        Some(outcomes) => ServedSessions {
-            books,
-            workers: outcomes,
-        },
-        None => ServedSessions {
-            books,
-            workers: Err(AllocError),
-        },
+    ServedSessions {
+        books,
+        workers: outcomes.unwrap_or(Err(AllocError)),
     }
 }
 

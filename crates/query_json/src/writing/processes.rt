@@ -1,17 +1,17 @@
-ghost use Rattle.std.specs.Prelude.{◌≡◌, ◌<◌, ◌∷◌, List, [], All, IfOk, decimal, get_or, length, map, string_bytes};
+ghost use Rattle.std.specs.Prelude.{◌≡◌, ◌+◌, ◌<◌, ◌^◌, ◌∷◌, List, [], All, IfOk, decimal, get_or, length, map, string_bytes};
 ghost use Rattle.std.specs.Bool.{OnTrue};
 ghost use Rattle.serde_json.specs.Data.{string};
 ghost use Rattle.serde_json.specs.Written.{compact_text};
 ghost use Rattle.trace_model.specs.declared.answer.Shown.{Shown};
 ghost use Rattle.query_json.specs.Page.{Puts};
 ghost use Rattle.query_json.specs.Trees.{process_tree};
-ghost use Rattle.query_json.specs.NamedProcesses.{AreNamed, HasSpan, first_named, named_text};
+ghost use Rattle.query_json.specs.NamedProcesses.{AreNamed, HasSpan, first_named, named_at, named_text};
 ghost use Rattle.query_json.specs.ProcessNumbers.{IsFirst, first_process};
 ghost use Rattle.query_json.specs.TraceProcesses.{process_names};
 
 use super::values::write_tags;
 use super::{Page, WriteJson};
-use crate::naming::{FirstSpan, names};
+use crate::naming::{FirstSpan, names, place_u32};
 use jaeger_model::Process;
 use std::alloc::{AllocError, Global};
 use std::collections::BTreeMap;
@@ -32,8 +32,8 @@ impl WriteJson for Process {
 /// A process of a trace: the index of a span that has it, and its number, counted from 1, which its name contains.
 #[derive(Clone, Copy)]
 pub(crate) struct NamedProcess {
-    number: u64,
-    span: usize,
+    number: u32,
+    span: u32,
 }
 
 impl NamedProcess {
@@ -42,6 +42,17 @@ impl NamedProcess {
         ensures { result ≡ first_named }
     {
         NamedProcess { number: 1, span: 0 }
+    }
+
+    /// Returns the process with this number of others before it, which the span at the index has.
+    fn at(place: usize, span: usize) -> Result<NamedProcess, AllocError>
+        requires { place + 1 < 2 ^ 64 }
+        ensures { IfOk result (λ p. p ≡ named_at place span) }
+    {
+        Ok(NamedProcess {
+            number: place_u32(place + 1)?,
+            span: place_u32(span)?,
+        })
     }
 }
 
@@ -69,9 +80,8 @@ fn by_name<'n>(
 {
     let mut named = BTreeMap::new(alloc);
     for (place, first) in processes.iter().enumerate() {
-        let number = place as u64 + 1;
         let span = first.span;
-        named.insert(names[place].as_str(), NamedProcess { number, span })?;
+        named.insert(names[place].as_str(), NamedProcess::at(place, span)?)?;
     }
     Ok(named)
 }
@@ -106,11 +116,11 @@ pub(super) fn in_order(
 }
 
 /// Writes the name of the process with this number, as a JSON string.
-pub(super) fn write_name(out: &mut Page, number: u64)
+pub(super) fn write_name(out: &mut Page, number: u32)
     ensures { Puts out.old out.new (compact_text (string (112 ∷ decimal number))) }
 {
     out.push_str("\"p");
-    out.count(number);
+    out.count(u64::from(number));
     out.push_str("\"");
 }
 
@@ -121,7 +131,7 @@ fn write_named(out: &mut Page, spans: &LentSpans, named: NamedProcess)
 {
     write_name(out, named.number);
     out.push_str(":");
-    spans.at(named.span).process().write(out);
+    spans.at(named.span as usize).process().write(out);
 }
 
 /// Writes the process at the index, which one of the spans has, after its name.

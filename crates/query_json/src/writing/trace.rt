@@ -1,13 +1,12 @@
-ghost use Rattle.std.specs.Prelude.{◌≡◌, ◌==◌, ◌+◌, ◌<◌, ◌^◌, ◌∷◌, [], IfOk, OnOk, get_or, length, map, string_bytes};
+ghost use Rattle.std.specs.Prelude.{◌≡◌, ◌==◌, ◌+◌, ◌<◌, ◌^◌, ◌∷◌, [], All, IfOk, OnOk, get_or, length, map, string_bytes};
 ghost use Rattle.std.specs.List.{list_all};
 ghost use Rattle.serde_json.specs.Data.{string};
 ghost use Rattle.serde_json.specs.Written.{compact_text};
-ghost use Rattle.trace_model.specs.Adjusting.{spans_of};
 ghost use Rattle.trace_model.specs.KeptTraces.{kept_value, KeptShares};
-ghost use Rattle.trace_model.specs.SharedProcesses.{ShareProcesses};
 ghost use Rattle.query_json.specs.LentTraces.{IsNumbered, IsWritable};
 ghost use Rattle.query_json.specs.NamedProcesses.{AreNamed, first_named};
 ghost use Rattle.query_json.specs.Page.{Puts};
+ghost use Rattle.query_json.specs.ProcessNumbers.{IsFirst, first_process};
 ghost use Rattle.query_json.specs.TracePieces.{close_text, item_spans, pieces_of, span_pieces, span_text_in, trace_pieces};
 ghost use Rattle.query_json.specs.Trees.{processes_of, trace_id_text, trace_tree};
 ghost use Rattle.query_json.specs.TraceProcesses.{process_place};
@@ -15,7 +14,7 @@ ghost use Rattle.query_json.specs.TraceProcesses.{process_place};
 use super::processes::{NamedProcess, in_order, is_first_alone, write_process};
 use super::span::write_span;
 use super::{Page, WriteJson, write_separator};
-use crate::naming::lent_places;
+use crate::naming::{FirstSpan, lent_places};
 use crate::tree::Tree;
 use std::alloc::{AllocError, Global};
 use std::snapshot::Snapshot;
@@ -55,19 +54,32 @@ fn check_count(processes: usize, spans: usize) -> Result<(), AllocError>
     }
 }
 
+/// Returns the place of each span's process among the processes, and the processes in the order of their first spans.
+/// The list of the spans' keys is dropped when it returns.
+fn places_by_keys(
+    alloc: Global,
+    spans: &LentSpans,
+) -> Result<(Vec<u32>, Vec<FirstSpan<'_>>), AllocError>
+    ensures places { IfOk result (λ r.
+        r.0.items ≡ map (process_place (processes_of spans.now)) spans.now) }
+    ensures processes { IfOk result (λ r. map first_process r.1.items ≡ processes_of spans.now) }
+    ensures firsts { IfOk result (λ r. All (IsFirst spans.now) r.1.items) }
+{
+    let keys = spans.process_keys(alloc)?;
+    lent_places(alloc, spans, &keys)
+}
+
 /// Returns the place of each span's process among the processes, and the processes in the order of their names.
 fn named_processes(
     alloc: Global,
     spans: &LentSpans,
-    keys: &[u64],
 ) -> Result<(Vec<u32>, Vec<NamedProcess>), AllocError>
-    requires { ShareProcesses (spans_of spans.now) keys.now }
     ensures places { IfOk result (λ r.
         r.0.items ≡ map (process_place (processes_of spans.now)) spans.now) }
     ensures processes { IfOk result (λ r.
         AreNamed spans.now (processes_of spans.now) r.1.items) }
 {
-    let (places, processes) = lent_places(alloc, spans, keys)?;
+    let (places, processes) = places_by_keys(alloc, spans)?;
     let named = in_order(alloc, &processes)?;
     Ok((places, named))
 }
@@ -269,8 +281,8 @@ fn lent_item(alloc: Global, kept: KeptTrace) -> Result<TraceItem, AllocError>
     ensures spans { IfOk result (λ t. item_spans t ≡ kept_value kept) }
     ensures writable { IfOk result IsWritable }
 {
-    let (spans, keys) = lend(alloc, kept)?;
-    let (places, processes) = named_processes(alloc, &spans, &keys)?;
+    let spans = lend(alloc, kept)?;
+    let (places, processes) = named_processes(alloc, &spans)?;
     check_count(processes.len(), spans.len())?;
     if is_first_alone(&processes) && are_zero(&places) {
         return Ok(TraceItem::One(spans));
@@ -290,6 +302,7 @@ impl TraceItem {
         ensures writable { IfOk result IsWritable }
     {
         match trace.into_form() {
+            TraceForm::Lone(span) => Ok(TraceItem::One(LentSpans::lone(span))),
             TraceForm::Kept(kept) => lent_item(alloc, kept),
             TraceForm::Ready(made) => Ok(TraceItem::Made(MadeTrace::new(alloc, &made)?)),
         }

@@ -2,13 +2,14 @@
 
 use jaeger_model::{Batch, Seq, SharedProcess, Text, TraceId};
 use query_json::{AnswerParts, answer_json};
+use span_store::SpanStore;
 use std::alloc::{AllocError, Global};
+use std::hash::RandomState;
+use std::mem::drop;
 use std::sync::Arc;
 use std::test::*;
-use trace_model::{
-    Answer, AnsweredTrace, Entry, KeptSpan, KeptTrace, Limits, Link, Name, Operation, Work,
-};
-use trace_samples::{kept, process, retry, span, submitted};
+use trace_model::{Answer, Entry, Limits, Link, Name, Operation, Query, Work};
+use trace_samples::{beside, host_process, kept, retry, service_find, span, submitted};
 
 /// The length of a long name, and the number of them that make an answer of more than 2 MB.
 const LETTERS: usize = 4_000;
@@ -72,12 +73,12 @@ fn links(alloc: Global) -> Result<Answer, AllocError> {
     Ok(Answer::Links(Seq::from_vec(links)))
 }
 
-/// An entry of a process of its own with one span, whose operation has a long name.
-fn entry(alloc: Global, number: u32, letters: usize) -> Result<Arc<Entry>, AllocError> {
-    let mut span = span(alloc, 1, u64::from(number) + 1)?;
+/// An entry of a process of its own with one span of the trace, whose operation has a long name.
+fn entry(alloc: Global, trace: u64, number: u64, letters: usize) -> Result<Arc<Entry>, AllocError> {
+    let mut span = span(alloc, trace, number)?;
     span.operation = long_name(alloc, letters)?;
-    let mut process = process(alloc, "a")?;
-    process.service = Text::from_str(alloc, format!(in alloc; "s{number}")?.as_str())?;
+    let host = format!(in alloc; "h{number}")?;
+    let process = host_process(alloc, "a", host.as_str())?;
     let mut spans = Vec::new(alloc);
     let added = spans.push(span);
     let spans = Seq::from_vec(kept(spans, added)?);
@@ -86,54 +87,69 @@ fn entry(alloc: Global, number: u32, letters: usize) -> Result<Arc<Entry>, Alloc
         spans,
         seq_no: None,
     };
-    submitted(alloc, 0, u64::from(number), Work::Batch(batch))
+    submitted(alloc, 0, number, Work::Batch(batch))
 }
 
-/// Adds that many spans, each of an entry of its own, and one that its entry doesn't have.
-fn add_spans(
-    alloc: Global,
-    spans: &mut Vec<KeptSpan>,
-    count: u32,
-    letters: usize,
-) -> Result<(), AllocError> {
-    for number in 0..count {
-        let entry = entry(alloc, number, letters)?;
-        spans.push(KeptSpan::new(&entry, 0)?)?;
+/// Adds traces with that many spans each, each span of an entry of its own.
+fn fill(alloc: Global, store: &mut SpanStore, counts: &[u32], letters: usize) -> Result<(), Fail> {
+    let mut trace = 0u64;
+    let mut number = 0u64;
+    for count in counts {
+        trace = trace.saturating_add(1);
+        for _ in 0..*count {
+            number = number.saturating_add(1);
+            let entry = entry(alloc, trace, number, letters)?;
+            store.apply(entry).map_err(|_| "refused")?;
+        }
     }
-    let entry = entry(alloc, count, LETTERS)?;
-    spans.push(KeptSpan::new(&entry, 1)?)?;
     Ok(())
 }
 
-/// Returns a trace of that many spans, in the form in which a store keeps it.
-fn trace(
+/// A store of such traces.
+fn stored(
     alloc: Global,
-    limits: Limits,
-    count: u32,
+    keys: RandomState,
+    counts: &[u32],
     letters: usize,
-) -> Result<AnsweredTrace, AllocError> {
-    let mut spans = Vec::new(alloc);
-    let added = add_spans(alloc, &mut spans, count, letters);
-    let spans = kept(spans, added)?;
-    Ok(AnsweredTrace::kept(KeptTrace {
-        spans,
-        process_keys: Vec::new(alloc),
-        limits,
-        raw: false,
-    }))
+) -> Result<SpanStore, Fail> {
+    let limits = Limits::new(1_000, 1_000, 0, 200).ok_or("limits")?;
+    let mut store = SpanStore::open(alloc, keys, limits)?;
+    let filled = fill(alloc, &mut store, counts, letters);
+    kept(store, filled)
 }
 
-fn one_trace(alloc: Global, limits: Limits) -> Result<Answer, AllocError> {
-    Ok(Answer::Trace(Some(trace(alloc, limits, MANY, LETTERS)?)))
+/// The answer to a query. A store refuses none, unless memory runs out.
+fn answer(store: &SpanStore, query: &Query) -> Result<Answer, AllocError> {
+    store.answer(query).map_err(|_| AllocError)
 }
 
-/// Traces with spans and without.
-fn traces(alloc: Global, limits: Limits) -> Result<Answer, AllocError> {
-    let mut traces = Vec::new(alloc);
-    for count in [0, 1, 300, 0, 2, 300] {
-        traces.push(trace(alloc, limits, count, LETTERS)?)?;
-    }
-    Ok(Answer::Traces(Seq::from_vec(traces)))
+/// The first trace of the store.
+fn first_trace(store: &SpanStore) -> Result<Answer, AllocError> {
+    let id = TraceId { high: 0, low: 1 };
+    answer(store, &Query::Trace { id, raw: false })
+}
+
+/// All traces of the store.
+fn all_traces(alloc: Global, store: &SpanStore) -> Result<Answer, AllocError> {
+    answer(store, &Query::Find(service_find(alloc, "a")?))
+}
+
+/// One large trace.
+fn one_trace(alloc: Global, keys: RandomState) -> Result<Answer, Fail> {
+    let store = stored(alloc, keys, &[MANY], LETTERS)?;
+    let trace = first_trace(&store);
+    let (store, trace) = beside(store, trace)?;
+    drop(store);
+    Ok(trace)
+}
+
+/// Traces of one span and of many.
+fn traces(alloc: Global, keys: RandomState) -> Result<Answer, Fail> {
+    let store = stored(alloc, keys, &[1, 300, 1, 2, 300], LETTERS)?;
+    let traces = all_traces(alloc, &store);
+    let (store, traces) = beside(store, traces)?;
+    drop(store);
+    Ok(traces)
 }
 
 /// Returns the greatest size of the part that this number of parts precede.
@@ -182,28 +198,20 @@ fn is_parted(alloc: Global, answer: Answer) -> Result<bool, AllocError> {
 #[test]
 fn large_answers_are_parted(rt: HostRuntime) -> Result<(), Fail> {
     let alloc = rt.alloc();
-    let limits = Limits::new(1, 1, 0, 200).ok_or("limits")?;
+    let keys = RandomState::new(&rt)?;
     assert!(rt; is_parted(alloc, names(alloc)?)?);
     assert!(rt; is_parted(alloc, operations(alloc)?)?);
     assert!(rt; is_parted(alloc, ids(alloc)?)?);
     assert!(rt; is_parted(alloc, links(alloc)?)?);
-    assert!(rt; is_parted(alloc, one_trace(alloc, limits)?)?);
-    assert!(rt; is_parted(alloc, traces(alloc, limits)?)?);
+    assert!(rt; is_parted(alloc, one_trace(alloc, keys)?)?);
+    assert!(rt; is_parted(alloc, traces(alloc, keys)?)?);
     Ok(())
 }
 
-/// A trace of two large spans.
-fn two_spans(alloc: Global, limits: Limits) -> Result<Answer, AllocError> {
-    Ok(Answer::Trace(Some(trace(alloc, limits, 2, VERY_MANY)?)))
-}
-
 /// Whether the parts of a trace of two large spans are as long as its text and, if they are taken, make it up.
-fn are_made(alloc: Global, limits: Limits, taken: bool) -> Result<bool, AllocError> {
-    let text = tree_text(alloc, &two_spans(alloc, limits)?)?;
-    let mut parts = retry(
-        AllocError,
-        || AnswerParts::new(alloc, two_spans(alloc, limits)?),
-    )?;
+fn are_made(store: &SpanStore, alloc: Global, taken: bool) -> Result<bool, AllocError> {
+    let text = tree_text(alloc, &first_trace(store)?)?;
+    let mut parts = retry(AllocError, || AnswerParts::new(alloc, first_trace(store)?))?;
     let mut same = parts.remaining() == text.len();
     let mut left = text.as_bytes();
     for _ in 0..3u8 {
@@ -216,17 +224,26 @@ fn are_made(alloc: Global, limits: Limits, taken: bool) -> Result<bool, AllocErr
     Ok(same && left.is_empty() == taken)
 }
 
+/// The same of the only trace of a store.
+fn are_made_of(alloc: Global, keys: RandomState, taken: bool) -> Result<bool, Fail> {
+    let store = stored(alloc, keys, &[2], VERY_MANY)?;
+    let made = are_made(&store, alloc, taken);
+    let (store, made) = beside(store, made)?;
+    drop(store);
+    Ok(made)
+}
+
 #[test]
 fn parts_are_made(rt: HostRuntime) -> Result<(), Fail> {
-    let limits = Limits::new(1, 1, 0, 200).ok_or("limits")?;
-    assert!(rt; are_made(rt.alloc(), limits, false)?);
+    let keys = RandomState::new(&rt)?;
+    assert!(rt; are_made_of(rt.alloc(), keys, false)?);
     Ok(())
 }
 
 /// Taking the parts doesn't allocate: the check of allocations counts both.
 #[test]
 fn memory_for_parts(rt: HostRuntime) -> Result<(), Fail> {
-    let limits = Limits::new(1, 1, 0, 200).ok_or("limits")?;
-    assert!(rt; are_made(rt.alloc(), limits, true)?);
+    let keys = RandomState::new(&rt)?;
+    assert!(rt; are_made_of(rt.alloc(), keys, true)?);
     Ok(())
 }

@@ -38,6 +38,7 @@ fn entries_of(alloc: Global, many: u32) -> Result<Vec<Arc<Entry>>, AllocError> {
 fn span_count(trace: &AnsweredTrace) -> usize {
     match trace.form() {
         TraceForm::Ready(made) => made.len(),
+        TraceForm::Lone(_) => 1,
         TraceForm::Kept(kept) => kept.spans.len(),
     }
 }

@@ -3,7 +3,7 @@ use Rattle.std.proofs.KnownBytes.{Consumes-nil, Appends-nil}
 use Rattle.http_requests.specs.AwaitedReads.{source_of}
 use Rattle.http_session.specs.Sessions.{none_yet}
 use Rattle.http_session.proofs.SessionTurns.{nothing_was_due}
-use Rattle.http_session.specs.declared.exchanges.SessionErrorKind.TheVariants.{Memory}
+use Rattle.http_session.specs.declared.whole_session.SessionErrorKind.TheVariants.{Memory}
 use Rattle.commands.proofs.ReadLimits.{session_limit}
 use Rattle.commands.proofs.pipe.run_pipe.Goals as goal
 

@@ -1,12 +1,11 @@
 use Rattle.std.proofs.Common.{◌≡◌, ◌∙◌, ◌++◌, ◌∷◌, [], ◌+◌, List, Option, None, map, drop, get_or, ap, sym, subst}
 use Rattle.std.specs.Prelude.{IfSome}
 use Rattle.std.specs.Option.{option_and_then}
-use Rattle.trace_model.specs.TakenSpans.{Taken}
+use Rattle.trace_model.specs.TakenSpans.{Taken, placed_taken}
 use Rattle.trace_assembly.specs.LocatedSpans.{span_at}
 use Rattle.trace_assembly.specs.declared.spot.Spot.{Spot}
 use Rattle.journal_traces.specs.declared.taken_spot.TakenSpot.{TakenSpot}
 use Rattle.journal_traces.specs.TagCandidates.{entries_shared, IsTakenFrom, spot_of}
-use Rattle.journal_traces.specs.TakenTraces.{placed_taken}
 use Rattle.journal_traces.proofs.TracesAtSpots.{spots_left, no_spots_left, spots_named}
 use Rattle.journal_traces.proofs.TakingSpans.{IsTaking, taking_more, taking_over, taken_spans, taken_numbers}
 use Rattle.journal_traces.proofs.tag_candidates.take_spots.Goals as goal

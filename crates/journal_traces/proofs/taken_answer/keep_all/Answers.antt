@@ -3,7 +3,7 @@ use Rattle.std.proofs.lemmas.List.{length-map, map_push, take_all, take_more}
 use Rattle.jaeger_model.specs.declared.placed.Placed.{Placed}
 use Rattle.trace_model.specs.Adjusting.{adjusted}
 use Rattle.trace_model.specs.declared.answer.Shown.{Shown}
-use Rattle.journal_traces.specs.TakenTraces.{placed_taken}
+use Rattle.trace_model.specs.TakenSpans.{placed_taken}
 use Rattle.journal_traces.proofs.taken_answer.keep_all.Goals as goal
 
 pub loop-index-init : goal.loop-index-init
@@ -17,7 +17,7 @@ loop-index-init c =
 pub loop-index-preserved : goal.loop-index-preserved
 loop-index-preserved c =
     let xs : List (List Placed) = map placed_taken c.args.traces.now in
-    let f : List Placed → List Shown = adjusted c.args.limits.max_skew in
+    let f : List Placed → List Shown = adjusted c.args.max_skew in
     let i = c.loop-index.index in
     let long = length-map c.args.traces.now placed_taken in
     let within : i < length xs = omega (arith, c.loop-index-test.true, c.count-index-end.ensures) in
@@ -33,4 +33,4 @@ returns c =
     let xs : List (List Placed) = map placed_taken c.args.traces.now in
     let long = length-map c.args.traces.now placed_taken in
     let all : length xs ≤ c.loop-index.index = omega (arith, c.loop-index-test.false, c.count-index-end.ensures) in
-    c.loop-index.invariant.kept ∙ ap (map (adjusted c.args.limits.max_skew)) (take_all c.loop-index.index xs all)
+    c.loop-index.invariant.kept ∙ ap (map (adjusted c.args.max_skew)) (take_all c.loop-index.index xs all)

@@ -7,7 +7,7 @@ pub kept-requires : goal.kept-requires
 kept-requires c =
     let process_of = c.requires.process_of in
     c.in_ok-trace.ensures.shared process_of
-    (subst (HaveProcesses process_of) (sym c.trace.ensures) (processes_got process_of c.args.traces.now c.args.index c.requires.each)) c.requires.leads
+    (subst (HaveProcesses process_of) (sym c.trace-spans.ensures) (processes_got process_of c.args.traces.now c.args.index c.requires.each)) c.requires.leads
 
 pub returns-clause-classes : goal.returns-clause-classes
 returns-clause-classes c =
@@ -17,6 +17,6 @@ returns-clause-classes c =
       each = c.requires.each;
       leads =
           c.in_ok-trace.ensures.leads process_of
-          (subst (HaveProcesses process_of) (sym c.trace.ensures) (processes_got process_of c.args.traces.now c.args.index c.requires.each))
+          (subst (HaveProcesses process_of) (sym c.trace-spans.ensures) (processes_got process_of c.args.traces.now c.args.index c.requires.each))
           c.requires.leads;
     }

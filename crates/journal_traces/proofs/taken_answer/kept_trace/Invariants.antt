@@ -7,6 +7,6 @@ use Rattle.journal_traces.proofs.taken_answer.kept_trace.Given as goal
 
 abbrev pub invariant-loop-span : goal.invariant-loop-span
 invariant-loop-span l = record {
-  kept : IsKeptUpto l.fn.classes l.spans l.span-index l.kept.items l.process_keys.items;
+  kept : IsKeptUpto l.fn.classes l.spans l.span-index l.kept.items;
   leads : (process_of : ℕ → Option Process) → HaveProcesses process_of l.spans → Leads process_of l.fn.classes → Leads process_of l.classes;
 }

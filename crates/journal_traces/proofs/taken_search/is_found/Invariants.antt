@@ -3,7 +3,8 @@ use Rattle.std.specs.List.{list_any, All}
 use Rattle.jaeger_model.specs.declared.batch.Process.{Process}
 use Rattle.trace_model.specs.Searching.{matches}
 use Rattle.journal_traces.specs.ProcessClasses.{Leads}
-use Rattle.journal_traces.specs.TakenTraces.{placed_taken, HaveProcesses}
+use Rattle.journal_traces.specs.TakenTraces.{HaveProcesses}
+use Rattle.trace_model.specs.TakenSpans.{placed_taken}
 use Rattle.journal_traces.specs.TakenSearch.{AreJudged, IsFlagged}
 use Rattle.journal_traces.proofs.taken_search.is_found.Given as goal
 

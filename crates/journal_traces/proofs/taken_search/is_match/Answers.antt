@@ -6,7 +6,7 @@ use Rattle.trace_model.specs.BorrowedSpans.{seen}
 use Rattle.span_steps.specs.SpanConditions.{meets_span_conditions}
 use Rattle.journal_traces.specs.ProcessConditions.{of_service_with_tags}
 use Rattle.journal_traces.specs.TakenSearch.{may_number_meet}
-use Rattle.journal_traces.specs.TakenTraces.{placed_taken}
+use Rattle.trace_model.specs.TakenSpans.{placed_taken}
 use Rattle.journal_traces.proofs.SpanConditions.{fails_span, passes_span}
 use Rattle.journal_traces.proofs.TakenSpans.{process_seen, match_seen}
 use Rattle.journal_traces.proofs.taken_search.is_match.Goals as goal

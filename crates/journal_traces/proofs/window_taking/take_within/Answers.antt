@@ -13,7 +13,7 @@ use Rattle.journal_traces.specs.declared.window_traces.WindowSpots.{WindowSpots}
 use Rattle.journal_traces.specs.TraceParts.{cut_at}
 use Rattle.journal_traces.specs.Numbered.{AreNumbers}
 use Rattle.journal_traces.specs.SpansAtSpots.{spans_named, trace_named, AreNumberedByService}
-use Rattle.journal_traces.specs.TakenTraces.{placed_taken}
+use Rattle.trace_model.specs.TakenSpans.{placed_taken}
 use Rattle.journal_traces.specs.WindowTraces.{entries_seen, traces_reported, AreWindowSpots}
 use Rattle.journal_traces.proofs.Numbering.{none_known}
 use Rattle.journal_traces.proofs.SkippedTraces.{skipped}

@@ -4,7 +4,7 @@ use Rattle.std.specs.List.{list_any}
 use Rattle.trace_model.specs.ServiceLinks.{in_window}
 use Rattle.trace_assembly.specs.AssembledRows.{spots_of}
 use Rattle.journal_traces.specs.SpansAtSpots.{trace_named}
-use Rattle.journal_traces.specs.TakenTraces.{placed_taken}
+use Rattle.trace_model.specs.TakenSpans.{placed_taken}
 use Rattle.journal_traces.specs.WindowTraces.{traces_reported, AreWindowSpots}
 use Rattle.journal_traces.proofs.window_taking.take_within.Given as goal
 

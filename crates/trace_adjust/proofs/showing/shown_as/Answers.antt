@@ -12,4 +12,4 @@ new-requires c =
 pub new-requires-2 : goal.new-requires-2
 new-requires-2 c =
     subst (λ ss. ShareProcesses (spans_of ss) c.args.process_keys.items) (sym (c.from_vec.ensures ∙ c.in_ok-shown-2.ensures))
-    (adjusted_shares c.args.limits.max_skew c.args.spans.items c.args.process_keys.items c.requires)
+    (adjusted_shares c.args.max_skew c.args.spans.items c.args.process_keys.items c.requires)

@@ -1,4 +1,4 @@
-use Rattle.std.proofs.Common.{◌≡◌, ◌∙◌, [], length, sym, ap, subst}
+use Rattle.std.proofs.Common.{◌∙◌, [], length, sym, ap, subst}
 use Rattle.trace_model.specs.Adjusting.{spans_of, shown_adjusted}
 use Rattle.trace_model.specs.SharedProcesses.{ShareProcesses}
 use Rattle.trace_adjust.proofs.ShiftedSpans.{as_many_shown}

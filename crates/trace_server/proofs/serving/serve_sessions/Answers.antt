@@ -11,10 +11,10 @@ beside-books-requires-clause-keeps g c κs within = λ given post.
     let same = ap (λ l. map (λ p. p.live.seat) l.items) c.of.ensures in
     IfOk-weaker given _ _ (λ v each. subst (λ (ss : List SeatValue). AllZip SeatGoesOn ss (map (λ w. w.live.seat) v.items)) (sym same) each) post
 
-pub returns-in-Some-outcomes-clause-seats : goal.returns-in-Some-outcomes-clause-seats
-returns-in-Some-outcomes-clause-seats g c =
+pub returns-clause-seats : goal.returns-clause-seats
+returns-clause-seats g c =
     let same = ap (λ l. map (λ p. p.live.seat) l.items) c.of.ensures in
-    let kept : IfOk c.in-Some-outcomes.outcomes (λ v. AllZip SeatGoesOn (map (λ p. p.live.seat) c.of.result.value.items) (map (λ w. w.live.seat) v.items)) =
+    let kept : IfOk c.unwrap_or.result (λ v. AllZip SeatGoesOn (map (λ p. p.live.seat) c.of.result.value.items) (map (λ w. w.live.seat) v.items)) =
     search rules in
-    IfOk-weaker c.in-Some-outcomes.outcomes _ _ (λ v each.
+    IfOk-weaker c.unwrap_or.result _ _ (λ v each.
     subst (λ (ss : List SeatValue). AllZip SeatGoesOn ss (map (λ w. w.live.seat) v.items)) same each) kept

@@ -11,8 +11,8 @@ pub returns-then-has_taken-clause-whole : goal.returns-then-has_taken-clause-who
 returns-then-has_taken-clause-whole g c =
     let l = c.learn_queue.ensures in
     subst (λ (t : InboxValue). AllTaken c.args.seat.now.seat c.args.seat.now.jobs t.taken) (sym l.same)
-    (taken-already c.end.new.self.ended c.args.seat.now.seat c.submitted-last.result c.args.seat.now.jobs c.end.new.self.taken l.waits.0 c.end.ensures.ended
-    l.waits.1 (search rules) (search rules))
+    (taken-already c.end_seat.new.self.ended c.args.seat.now.seat c.submitted-last.result c.args.seat.now.jobs c.end_seat.new.self.taken
+    l.waits.0 c.end_seat.ensures.ended l.waits.1 (search rules) (search rules))
 
 pub returns-in_default-clause-whole : goal.returns-in_default-clause-whole
 returns-in_default-clause-whole g c =

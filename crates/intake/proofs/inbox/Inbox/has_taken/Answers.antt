@@ -8,7 +8,7 @@ use Rattle.intake.proofs.inbox.Inbox.has_taken.Goals as goal
 
 pub returns : goal.returns
 returns g c =
-    let v = view c.self.inside.end in
+    let v = view c.self.inside.queue_end in
     let taken = c.args.self.now.taken in
     let numbers = c.self.inside.last.items in
     let same : v.taken ≡ taken = ap (λ (z : InboxValue). z.taken) c.self.view_is in

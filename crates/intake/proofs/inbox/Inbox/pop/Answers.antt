@@ -11,7 +11,7 @@ pop_as-requires-clause-rule g c = (takes _ _ c.self.invariant.1 c.self.invariant
 
 pub invariant_of-self-2 : goal.invariant_of-self-2
 invariant_of-self-2 g c =
-    let v = view c.self.inside.end in
+    let v = view c.self.inside.queue_end in
     let w = view c.pop_as.new.pass in
     let job = c.in_ok-job.job in
     let rule = c.in_ok-job.ensures.rule in

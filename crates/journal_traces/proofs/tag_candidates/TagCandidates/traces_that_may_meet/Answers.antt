@@ -5,10 +5,9 @@ use Rattle.std.proofs.lemmas.List.{length-map, take_all}
 use Rattle.jaeger_model.specs.declared.placed.Placed.{Placed}
 use Rattle.trace_model.specs.declared.entry.Entry.{Entry}
 use Rattle.trace_model.specs.Searching.{matches, matching}
-use Rattle.trace_model.specs.TakenSpans.{Taken}
+use Rattle.trace_model.specs.TakenSpans.{Taken, placed_taken}
 use Rattle.journal_traces.specs.TagCandidates.{TagCandidatesValue, AreNumberedByEntry, IsMatchFlag, entries_shared}
 use Rattle.journal_traces.specs.TagCandidates.{trace_spotted, traces_spotted, may_spots_meet}
-use Rattle.journal_traces.specs.TakenTraces.{placed_taken}
 use Rattle.journal_traces.proofs.TraceParts.{cuts}
 use Rattle.journal_traces.proofs.TakenSpans.{placed_got}
 use Rattle.journal_traces.proofs.TracesAtSpots.{trace_kept, trace_passed, trace_unmet, matching_found, none_matching, searching}

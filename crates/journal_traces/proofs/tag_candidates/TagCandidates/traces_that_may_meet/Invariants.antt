@@ -1,7 +1,7 @@
 use Rattle.std.proofs.Common.{◌≡◌, map, take}
 use Rattle.trace_model.specs.Searching.{matching}
 use Rattle.journal_traces.specs.TagCandidates.{AreNumberedByEntry, traces_spotted}
-use Rattle.journal_traces.specs.TakenTraces.{placed_taken}
+use Rattle.trace_model.specs.TakenSpans.{placed_taken}
 use Rattle.journal_traces.proofs.tag_candidates.TagCandidates.traces_that_may_meet.Given as goal
 
 abbrev pub invariant-loop-index : goal.invariant-loop-index

@@ -4,8 +4,8 @@ use Rattle.std.specs.List.{list_any, All}
 use Rattle.std.proofs.lemmas.Result.{IfOk-weaker}
 use Rattle.trace_model.specs.declared.query.Find.{Find}
 use Rattle.trace_model.specs.Searching.{matches}
-use Rattle.trace_model.specs.TakenSpans.{Taken}
-use Rattle.journal_traces.specs.TakenTraces.{placed_taken, HaveProcesses}
+use Rattle.trace_model.specs.TakenSpans.{Taken, placed_taken}
+use Rattle.journal_traces.specs.TakenTraces.{HaveProcesses}
 use Rattle.journal_traces.specs.TakenSearch.{IsFlagged, traces_taken, query_taken}
 use Rattle.journal_traces.proofs.TakenSpans.{placed_got, all_got, processes_got}
 use Rattle.journal_traces.proofs.taken_search.TakenSearchSearched.is_found_at.Goals as goal

@@ -1,5 +1,5 @@
 use Rattle.std.proofs.Common.{refl, ◌∙◌}
-use Rattle.http_session.specs.declared.pieces.Progress.TheVariants.{Paused, Answered}
+use Rattle.http_session.specs.declared.resumable.Progress.TheVariants.{Paused, Answered}
 use Rattle.open_connections.proofs.OpenConnections.{came_on, came_to_end, came_failed, come_open, moved_open}
 use Rattle.open_connections.proofs.open.OpenConnection.continue_session.Goals as goal
 

@@ -6,9 +6,8 @@ use Rattle.std.proofs.Math.Numerals.{add-one}
 use Rattle.serde_json.specs.Data.{Members, put}
 use Rattle.trace_model.specs.declared.answer.Shown.{Shown}
 use Rattle.query_json.specs.declared.naming.FirstSpan.{FirstSpan}
-use Rattle.query_json.specs.declared.writing.processes.NamedProcess.{NamedProcess}
 use Rattle.query_json.specs.ProcessNames.{process_name}
-use Rattle.query_json.specs.NamedProcesses.{named_members}
+use Rattle.query_json.specs.NamedProcesses.{named_at, named_members}
 use Rattle.query_json.specs.ProcessNumbers.{IsFirst, first_process}
 use Rattle.query_json.specs.Trees.{process_tree, processes_by_name}
 use Rattle.query_json.proofs.NamedProcesses.{AreKeyed, Entry, HaveSpans, first_tree, first_within, have_all, have_insert, keyed_insert, named_insert}
@@ -21,7 +20,8 @@ loop-place-preserved c =
     let xs = c.args.processes.now in
     let x = c.index-processes-place.result in
     let es = l.named.entries in
-    let p : NamedProcess = record { number = l.place + 1; span = x.span } in
+    let p = named_at l.place x.span in
+    let inserted = rw c.in_ok-at.ensures at c.in_ok-insert.ensures.entries in
     let below : l.place < length xs = omega arith in
     let here : drop l.place xs ≡ x ∷ drop (l.place + 1) xs =
     drop_more xs l.place x below ∙ ap (λ y. y ∷ drop (l.place + 1) xs) (sym c.index-processes-place.is) in
@@ -30,14 +30,14 @@ loop-place-preserved c =
     let first : (ss : List Shown) → All (IsFirst ss) xs → IsFirst ss x =
     λ ss all. subst (IsFirst ss) (sym c.index-processes-place.is) (All-get_or (IsFirst ss) xs l.place x below all) in
     record {
-      keyed = subst AreKeyed (sym c.in_ok-insert.ensures.entries) (keyed_insert es c.as_str.result p name l.invariant.keyed);
+      keyed = subst AreKeyed (sym inserted) (keyed_insert es c.as_str.result p name l.invariant.keyed);
       have =
-          λ ss all. subst (HaveSpans ss) (sym c.in_ok-insert.ensures.entries)
+          λ ss all. subst (HaveSpans ss) (sym inserted)
           (have_insert ss es c.as_str.result p (first_within ss x (first ss all)) (l.invariant.have ss all));
       named = λ ss all.
           let ms = named_members ss (map (λ e. e.1) es) in
           let grown : named_members ss (map (λ e. e.1) c.insert.new.self.entries) ≡ put (process_name l.place) (process_tree x.process.now) ms =
-          ap (λ (m : List Entry). named_members ss (map (λ e. e.1) m)) c.in_ok-insert.ensures.entries
+          ap (λ (m : List Entry). named_members ss (map (λ e. e.1) m)) inserted
           ∙ named_insert ss es c.as_str.result p name l.invariant.keyed
           ∙ ap (λ d. put (process_name l.place) d ms) (first_tree ss x (first ss all)) in
           ap₂ (λ n (m : Members). processes_by_name n (map first_process (drop (l.place + 1) xs)) m) (add-one l.place) grown

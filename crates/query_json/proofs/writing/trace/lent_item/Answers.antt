@@ -15,7 +15,7 @@ returns-then-are_zero-clause-writable c =
     let known : IsNumbered ss places ps =
     numbered ss places ps c.in_ok-places.ensures.places c.in_ok-places.ensures.processes
     (omega (arith, c.in_ok-check_count.ensures, c.len.ensures, c.len-2.ensures, c.in_ok-places.processes.ok.0)) in
-    let alone : ps ≡ first_named ∷ [] = sym c.deref-2.ensures.value ∙ OnTrue_at c.if-is_first_alone.true c.is_first_alone.ensures in
+    let alone : ps ≡ first_named ∷ [] = sym c.deref.ensures.value ∙ OnTrue_at c.if-is_first_alone.true c.is_first_alone.ensures in
     let none : (k : ℕ) → get_or places k 0 ≡ 0 =
     zeros places (ap (list_all (λ p. p == 0)) (sym c.deref-then-is_first_alone.ensures.value) ∙ sym c.are_zero.ensures ∙ c.if-are_zero.true) in
     one_numbered ss places ps known alone none

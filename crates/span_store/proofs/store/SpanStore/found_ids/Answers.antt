@@ -1,5 +1,4 @@
-use Rattle.std.proofs.Common.{◌∙◌, List, ap}
-use Rattle.trace_assembly.specs.declared.spot.Spot.{Spot}
+use Rattle.std.proofs.Common.{◌∙◌, ap}
 use Rattle.trace_model.specs.declared.answer.Answer.TheVariants as say
 use Rattle.trace_model.specs.LimitedHistories.{LimitedHistory}
 use Rattle.trace_model.specs.declared.query.Find.{Find}

@@ -1,6 +1,5 @@
 use Rattle.std.proofs.Common.{◌≡◌, ◌∙◌, List, map, length, ap, sym, arith}
 use Rattle.jaeger_model.specs.declared.placed.Placed.{Placed}
-use Rattle.trace_assembly.specs.declared.spot.Spot.{Spot}
 use Rattle.trace_model.specs.declared.answer.Answer.TheVariants as say
 use Rattle.trace_model.specs.declared.limits.Limits.{Limits}
 use Rattle.trace_model.specs.declared.entry.Entry.{Entry}
@@ -10,7 +9,7 @@ use Rattle.trace_model.specs.Histories.{events}
 use Rattle.trace_model.specs.declared.query.Find.{Find}
 use Rattle.trace_model.specs.Searching.{found_in, traces}
 use Rattle.journal_traces.specs.SpansAtSpots.{process_at, traces_named}
-use Rattle.journal_traces.specs.TakenTraces.{placed_taken}
+use Rattle.trace_model.specs.TakenSpans.{placed_taken}
 use Rattle.span_store.proofs.store.SpanStore.found_traces.Goals as goal
 
 pub take_found-requires : goal.take_found-requires

@@ -1,10 +1,11 @@
-use Rattle.std.proofs.Common.{rules, ◌≡◌, ◌∙◌, ◌<◌, Some, None, ap, sym, subst, length}
+use Rattle.std.proofs.Common.{rules, ◌≡◌, ◌∙◌, ◌<◌, Some, None, ap, sym, subst, length, arith}
 use Rattle.std.specs.Prelude.{option_map}
 use Rattle.trace_model.specs.LimitedHistories.{LimitedHistory}
 use Rattle.trace_model.specs.declared.answer.Answer.TheVariants.{Trace}
+use Rattle.trace_model.specs.declared.limits.Limits.{Limits}
 use Rattle.trace_model.specs.Adjusting.{shown_as}
 use Rattle.trace_model.specs.Histories.{events}
-use Rattle.trace_model.specs.KeptTraces.{spans_there}
+use Rattle.trace_model.specs.TakenSpans.{placed_taken, numbers_taken}
 use Rattle.trace_model.specs.ShownSpans.{spans_of_trace, trace_found}
 use Rattle.trace_assembly.specs.AssembledRows.{spots_of}
 use Rattle.span_store.proofs.SharedProcesses.{share_processes}
@@ -18,9 +19,9 @@ returns-then-is_empty c =
     let none : length spots ≡ 0 = search rules in
     let named = spots_name held.limits.traces held.entries c.self.inside.shown.newest (spots_of c.self.inside.shown)
     c.args.id spots c.self.invariant.follows c.spots-spots.ensures in
-    subst (λ (v : LimitedHistory). Trace None ≡ Trace (option_map (shown_as v.limits c.args.raw) (trace_found v.limits.traces (events v.entries) c.args.id)))
+    subst (λ (v : LimitedHistory). Trace None ≡ Trace (option_map (shown_as v.limits.max_skew c.args.raw) (trace_found v.limits.traces (events v.entries) c.args.id)))
     c.self.view_is
-    (ap Trace (none_found (shown_as held.limits c.args.raw) held.entries spots (spans_of_trace held.limits.traces (events held.entries) c.args.id) named none))
+    (ap Trace (none_found (shown_as held.limits.max_skew c.args.raw) held.entries spots (spans_of_trace held.limits.traces (events held.entries) c.args.id) named none))
 
 pub returns : goal.returns
 returns c =
@@ -29,17 +30,20 @@ returns c =
     let some : 0 < length spots = search rules in
     let named = spots_name held.limits.traces held.entries c.self.inside.shown.newest (spots_of c.self.inside.shown)
     c.args.id spots c.self.invariant.follows c.spots-spots.ensures in
-    let there = spans_there c.in_ok-trace.trace.spans.items in
+    let there = placed_taken c.in_ok-trace.trace.spans.items in
     let form = c.in_ok-trace.ensures.form in
-    let shown : c.kept.result ≡ shown_as held.limits c.args.raw there =
+    let shown : c.kept.result ≡ shown_as held.limits.max_skew c.args.raw there =
     c.kept.ensures ∙ (λ i. shown_as (form.0 i) (form.1 i) there)
-    ∙ ap (λ l. shown_as l c.args.raw there) (c.limits.ensures ∙ ap (λ (v : LimitedHistory). v.limits) (sym c.self.view_is)) in
+    ∙ ap (λ (l : Limits). shown_as l.max_skew c.args.raw there) (c.limits-max_skew.ensures ∙ ap (λ (v : LimitedHistory). v.limits) (sym c.self.view_is)) in
     subst (λ (v : LimitedHistory). Trace (Some c.kept.result)
-    ≡ Trace (option_map (shown_as v.limits c.args.raw) (trace_found v.limits.traces (events v.entries) c.args.id))) c.self.view_is
-    (ap Trace (some_found (shown_as held.limits c.args.raw) held.entries spots (spans_of_trace held.limits.traces (events held.entries) c.args.id)
+    ≡ Trace (option_map (shown_as v.limits.max_skew c.args.raw) (trace_found v.limits.traces (events v.entries) c.args.id))) c.self.view_is
+    (ap Trace (some_found (shown_as held.limits.max_skew c.args.raw) held.entries spots (spans_of_trace held.limits.traces (events held.entries) c.args.id)
     there c.kept.result named c.in_ok-trace.ensures.spans some shown))
+
+pub gather-requires : goal.gather-requires
+gather-requires c = omega (arith, c.self.invariant.placed.batches, c.self.invariant.placed.kept.fits, c.len-legal.ensures.legal.batches)
 
 pub kept-requires : goal.kept-requires
 kept-requires c =
-    let trace = c.in_ok-trace.trace in
-    share_processes c.self.inside.journal.held.entries (spans_there trace.spans.items) trace.process_keys.items c.in_ok-trace.ensures.places
+    let spans = c.in_ok-trace.trace.spans.items in
+    share_processes c.self.inside.journal.held.entries (placed_taken spans) (numbers_taken spans) c.in_ok-trace.ensures.places

@@ -9,7 +9,7 @@ use Rattle.trace_assembly.specs.AssembledRows.{spots_of}
 use Rattle.service_index.specs.ServicePlaces.{service_at, service_number_in}
 use Rattle.call_links.specs.NumberedCalls.{links_in}
 use Rattle.journal_traces.specs.SpansAtSpots.{trace_named}
-use Rattle.journal_traces.specs.TakenTraces.{placed_taken}
+use Rattle.trace_model.specs.TakenSpans.{placed_taken}
 use Rattle.span_store.proofs.RingFollowsEvents.{trace_stands}
 use Rattle.span_store.proofs.IndexesAreKept.{kept_spots, kept_traces}
 use Rattle.journal_traces.proofs.SpansAtSpots.{links_chosen}

@@ -1,5 +1,5 @@
 use Rattle.std.proofs.Common.{sym, subst}
-use Rattle.open_connections.specs.OpenConnections.{socket_line}
+use Rattle.open_connections.specs.OpenConnections.{socket_model}
 use Rattle.open_connections.proofs.OpenConnections.{rest_is_open}
 use Rattle.trace_server.specs.WorkerConnections.{live_store, AllUnderway}
 use Rattle.trace_server.proofs.SessionPieces.{asking_goes_on}
@@ -8,7 +8,7 @@ use Rattle.trace_server.proofs.event_loop.EventLoop.serve.Goals as goal
 pub returns-in-Open-clause-underway : goal.returns-in-Open-clause-underway
 returns-in-Open-clause-underway g c =
     rest_is_open (live_store g.N.StoreName.limits)
-    socket_line c.take_turn.new.backend c.take_turn.new.self c.keep.new.self.connections c.take_turn.ensures.underway c.keep.ensures.rest
+    socket_model c.take_turn.new.backend c.take_turn.new.self c.keep.new.self.connections c.take_turn.ensures.underway c.keep.ensures.rest
 
 pub returns-in-Open-clause-goes_on : goal.returns-in-Open-clause-goes_on
 returns-in-Open-clause-goes_on g c = asking_goes_on g.N.StoreName.limits c.args.store.now c.take_turn.new.backend c.take_turn.ensures.asks

@@ -1,0 +1,20 @@
+use Rattle.std.proofs.Common.{arith, map}
+use Rattle.std.proofs.lemmas.List.{length-map}
+use Rattle.trace_model.specs.TakenSpans.{placed_taken}
+use Rattle.trace_adjust.specs.LentSpans.{placed_as}
+use Rattle.trace_adjust.proofs.Deltas.{length_shifted}
+use Rattle.trace_adjust.proofs.ExistingSpans.{there_count}
+use Rattle.trace_adjust.proofs.lent_spans.MovedSpans.len.Goals as goal
+
+pub returns : goal.returns
+returns c =
+    let m = c.args.self.now in
+    let ps = placed_taken m.spans.items in
+    omega (
+      arith,
+      c.len.ensures,
+      m.spans.ok.0,
+      there_count m.spans.items c.requires.there,
+      length-map ps (placed_as m.raw),
+      length_shifted m.max_skew m.deltas.items (map (placed_as m.raw) ps),
+    )
