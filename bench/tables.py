@@ -622,7 +622,7 @@ def memory_quotes(found):
     page = "docs/operating.md"
     one, five = (found.of("memory", 100_000, tags) for tags in TAGS)
     of_processes = found.rows("memory --process-tags")
-    yield page, f"An empty server takes {found.of('memory', 0, 1)[1]:.0f} MB"
+    yield page, f"An empty server takes {max(it[3] for it in found.rows('memory') if not it[0]):.0f} MB"
     of_bytes = [it[-2] for it in of_processes] + [it[3] / it[2] for it in found.rows("memory") if it[0] == 100_000]
     yield page, f"take {min(of_bytes):.1f} to {max(of_bytes):.1f} times the bytes that come"
     yield page, f"spans * ({OF_SPAN} + {OF_TAG} * tags of a span) + batches * ({OF_BATCH} + {OF_PROCESS_TAG} * tags of a process)"

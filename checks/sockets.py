@@ -690,8 +690,9 @@ def many_at_once():
 
 def a_long_answer():
     """While its one worker makes an answer for longer than `--idle`, nobody counts as silent: not the client that asked, nor another one."""
-    with Server("--port", 0, "--workers", 1, "--idle", 2, *ROOM_FOR_MANY) as server:
-        many_spans(server)
+    count = 1_000_000
+    with Server("--port", 0, "--workers", 1, "--idle", 2, "--batches", 1000, "--spans", count) as server:
+        many_spans(server, count)
         with server.client() as asking, server.client() as other:
             other.ask(get("/api/x"), 404)
             reader = Counting(asking)
