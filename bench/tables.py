@@ -682,7 +682,7 @@ def gate_quotes(found):
     tried, now, by_clock = found.of("gate", "the whole from nothing, commit 43f411d3, kit 13b, four cores of 2.5 GHz, beside up to eight other jobs")
     yield "docs/MAINTAINING.md", f"An earlier version with its {edits} wrong bodies took {processor} and {clock}, also beside other work"
     yield "docs/MAINTAINING.md", f"with its {tried} wrong bodies took {now} minutes of a processor and {by_clock} by the clock"
-    product, tests = (found.of("gate", name)[1] for name in ("the product, commit 735a13fa, kit 13f, in parts, six to eight jobs on four cores of 2.5 GHz",
+    product, tests = (found.of("gate", name)[1] for name in ("the product, commit bd1cc20c, kit 13f, in parts, six to ten jobs on four cores of 2.5 GHz, sampled",
                                                              "the tests, the same"))
     edits, processor, _ = found.of("gate", "the wrong bodies, the same")
     yield "docs/MAINTAINING.md", f"the product {product} minutes of a processor, the tests {tests}, the {edits} wrong bodies"
