@@ -28,6 +28,7 @@ PAGES = ["README.md", "bench/README.md", FIGURES, "docs/operating.md", "docs/ser
 BLOCK = re.compile(r"(<!-- results: (\w+) -->\n).*?(<!-- end of results -->)", re.S)
 SIZES = [1000, 10_000]
 WRITERS = [1, 2, 4, 8]
+WRITER_WORDS = dict(zip(WRITERS, ("one", "two", "four", "eight")))
 TAGS = [1, 5]
 PROCESS_TAGS = [4, 12, 20]
 IN_BATCH = [100, 17, 10, 2, 1]
@@ -35,6 +36,8 @@ CONNECTIONS = [1, 20]
 # The rule of docs/operating.md: what is reckoned for a span, for a tag of it, for a batch and for a tag of its process, in bytes; and for a place of a
 # batch's list of spans that no span takes.
 OF_SPAN, OF_TAG, OF_BATCH, OF_PROCESS_TAG, OF_PLACE = 300, 75, 530, 120, 150
+# The most bytes of memory for each byte of a body that comes in chunks which are cut at the head of each list: calculated, not measured.
+IN_CHUNKS = 9.6
 # The files of deploy/ that have limits, each with its limit of memory.
 SHIPPED = {"deploy/jaeger_one.service": r"MemoryMax=(\d+)G", "deploy/compose.yaml": r"mem_limit: (\d+)g", "deploy/pod.yaml": r"limits:\s+memory: (\d+)Gi"}
 MOST_SPANS = 10_000_000
@@ -473,12 +476,13 @@ def speed(found):
     per_span = ", ".join(f"{found.of('memory', 100_000, tags)[2]:,} with {tags}" for tags in (1, 5, 10))
     mine, plain = (cell(found.of("compare --count", name)) for name in ("rattle", "rust"))
     mine_full, plain_full = found.of("growth", "the longest POST, ms", 10_000_000)
+    rounds = re.search(r"--rounds (\d+)", found.series["growth"]["command"])[1]
     rows = [
         ["decoding, instructions a byte", mine, plain, decoders(found)[0]],
         *([f"spans taken in a second from {writers} writer{'s' * (writers > 1)}", *of_both(ALONE, writers)] for writers in (1, 4)),
         ["a POST of one of four writers, beside two readers at full speed, p99, ms", *of_both(POST, 4)],
         ["20 traces with their JSON among 100,000 spans, ms", f"{store_ms:.2f}", f"{scan_ms:.0f}", two(scan_ms / store_ms)],
-        ["the longest POST while a store fills to 10,000,000 spans, ms", cell(mine_full), cell(plain_full), two(plain_full / mine_full)],
+        [f"the longest POST while a store fills to 10,000,000 spans, the least of {rounds} rounds, ms", cell(mine_full), cell(plain_full), two(plain_full / mine_full)],
         ["memory at 100,000 spans, bytes a span, by its tags", per_span, "not compared", ""],
     ]
     heads = ["What", "Kiwibismuth", "Plain Rust", "Times as good"]
@@ -569,7 +573,7 @@ TABLES = {name: it for name, it in globals().items() if name in (
 def quotes(found):
     """The sentences that quote figures, with their pages."""
     noise = ("bench/README.md", f"the ratios of the rounds of `serve.py` differ by up to {found.series['serve']['noise']} of themselves")
-    return [noise, *runs_quote(found), *unplaced(found), held_quote(found), itself_quote(found), core_quote(found), *memory_quotes(found), *connection_quotes(found),
+    return [noise, *runs_quote(found), *unplaced(found), held_quote(found), itself_quote(found), *core_quotes(found), *memory_quotes(found), *connection_quotes(found),
             *gate_quotes(found)]
 
 
@@ -597,8 +601,8 @@ def held_quote(found):
     plain = {size: max(row[5] for row in found.rows("held") if row[1:3] == [size, "spans"]) for size in (100_000, 1_000_000, 10_000_000)}
     small = max(row[5] for row in found.rows("held") if row[2] != "spans" or row[1] == 100_000)
     alone = max(row[3] for row in found.rows("held"))
-    return ("docs/serve.md", f"the longest POST took {small:.0f} ms over 100,000 spans or bodies made to be costly, {plain[1_000_000]:.0f} ms over "
-            f"1,000,000 spans and {plain[10_000_000]:.0f} ms over 10,000,000. While nobody asked, a POST took up to {alone:.0f} ms")
+    return ("docs/serve.md", f"the longest POST took {small} ms over 100,000 spans or bodies made to be costly, {plain[1_000_000]} ms over "
+            f"1,000,000 spans and {plain[10_000_000]:.0f} ms over 10,000,000. While nobody asked, a POST took up to {alone} ms")
 
 
 def itself_quote(found):
@@ -610,11 +614,14 @@ def itself_quote(found):
     return ("bench/README.md", f"On machine {found.series['serve, itself']['machine']} its rates were {of(ALONE)} of its own, and its processor time {of(COST)}")
 
 
-def core_quote(found):
-    """How many spans a core takes by estimate."""
+def core_quotes(found):
+    """How many spans a core takes by estimate, and the most of the table."""
     costs = span_costs(found)
-    return ("docs/operating.md", f"A span takes [{span(costs, cell)} microseconds of CPU](../bench/figures.md#servepy) in batches of ten, so one core takes "
-            f"{span([1e6 / cost for cost in costs])} spans a second by estimate")
+    yield "docs/operating.md", (f"A span takes [{span(costs, cell)} microseconds of CPU](../bench/figures.md#servepy) in batches of ten, so one core takes "
+                                f"{span([1e6 / cost for cost in costs])} spans a second by estimate")
+    most, writers = max((found.of("serve", ALONE, writers, size)[0], writers) for writers in WRITERS for size in SIZES)
+    yield "docs/operating.md", (f"The most in the table of [`serve.py`](../bench/figures.md#servepy) is {most:,} spans a second, from {WRITER_WORDS[writers]} writers "
+                                "on the same four cores")
 
 
 def memory_quotes(found):
@@ -633,8 +640,11 @@ def memory_quotes(found):
     yield page, f"times {worst:.1f}, the most bytes of memory that were measured for each byte of a body of tags"
     yield page, f"times {worst:.1f}: {megabytes(1024 * 4_194_304 * worst / 1e6)} with the defaults"
     small, large = (megabytes(1000 * body * worst / 1e6) for body in (1_048_576, 4_194_304))
+    chunked, coming_chunked = (megabytes(bodies * 4_194_304 * IN_CHUNKS / 1e6) for bodies in (1000, 1024))
+    yield page, f"cut at the head of each list may take up to {IN_CHUNKS} (calculated, not tried)"
+    yield page, f"is {large} stored and {megabytes(1024 * 4_194_304 * worst / 1e6)} of bodies, or {chunked} and {coming_chunked} if bodies come in chunks"
     yield "docs/serve.md", (f"for 1,000 batches expect [up to {small}](operating.md#what-else-takes-memory-and-the-most) with bodies of at most 1 MB, and up to {large} at "
-                            "the server's own limit")
+                            f"the server's own limit ({chunked} in chunks, by calculation)")
     yield "README.md", f"take [{found.of('memory', 100_000, 1)[1]} MB (one tag) to {found.of('memory', 100_000, 10)[1]} MB (ten tags)]"
     start = at_start()
     told = [f"{-(-100_000 * each // 1_000_000)} MB" for each in start]
@@ -679,15 +689,16 @@ def connection_quotes(found):
 def gate_quotes(found):
     """What pages say of the time that the gate takes."""
     edits, processor, clock = found.of("gate", "an earlier version, with other work beside it")
-    tried, now, by_clock = found.of("gate", "the whole from nothing, commit 43f411d3, kit 13b, four cores of 2.5 GHz, beside up to eight other jobs")
+    whole = "the whole from nothing, commit 43f411d3, kit 13b, four cores of 2.5 GHz, beside up to eight other jobs"
+    tried, now, by_clock = found.of("gate", whole)
     yield "docs/MAINTAINING.md", f"An earlier version with its {edits} wrong bodies took {processor} and {clock}, also beside other work"
     yield "docs/MAINTAINING.md", f"with its {tried} wrong bodies took {now} minutes of a processor and {by_clock} by the clock"
-    product, tests = (found.of("gate", name)[1] for name in ("the product, commit bd1cc20c, kit 13f, in parts, six to ten jobs on four cores of 2.5 GHz, sampled",
-                                                             "the tests, the same"))
+    code, tests = (found.of("gate", name)[1] for name in ("the product, commit bd1cc20c, kit 13f, in parts, six to ten jobs on four cores of 2.5 GHz, sampled",
+                                                          "the tests, the same"))
     edits, processor, _ = found.of("gate", "the wrong bodies, the same")
-    yield "docs/MAINTAINING.md", f"the product {product} minutes of a processor, the tests {tests}, the {edits} wrong bodies"
+    yield "docs/MAINTAINING.md", f"the crates without tests {code} minutes of a processor, the test crates {tests}, the {edits} wrong bodies"
     yield "README.md", f"tries {len(glob.glob('crates/*/must-fail/*.edit', root_dir=results.ROOT))} wrong bodies"
-    yield "README.md", f"{by_clock} minutes on four cores of 2.5 GHz, beside other jobs"
+    yield "README.md", f"with {re.search(r'commit [0-9a-f]+', whole)[0]} {by_clock} minutes on four cores of 2.5 GHz, beside other jobs"
     least, most = found.of("proofs", "a test crate before its first test")
     once, often = found.of("proofs", "a public function whose contract names much, once a crate")
     yield "docs/MAINTAINING.md", f"{least} to {most} seconds of a processor to read what it stands on, and {once} to {often} once for each public function"

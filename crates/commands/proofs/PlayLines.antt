@@ -2,8 +2,7 @@
 use Rattle.std.proofs.Common.{◌≡◌, ℕ, ◌==◌, ◌++◌, Bool, true, false, List, [], length, Option, Some, None, Result, Ok, Err, inl, inr, refl, sym, ap, ◌∙◌, subst}
 use Rattle.std.proofs.Common.{codes}
 use Rattle.std.specs.Prelude.{◌≢◌, if◌then◌else◌}
-use Rattle.text_lines.specs.HandledLines.{LineReply}
-use Rattle.text_lines.specs.LineResults.{LineResult}
+use Rattle.text_lines.specs.HandledLines.{LineReply, LineResult}
 use Rattle.trace_model.specs.declared.refusal.Refusal.TheVariants.{NoMemory}
 use Rattle.schedule_core.specs.declared.step.Step.{Step}
 use Rattle.schedule_core.specs.declared.outcome.Outcome.{Outcome}
@@ -14,7 +13,7 @@ use Rattle.schedule_core.specs.BoundedMachines.{Steps}
 use Rattle.step_lines.specs.declared.fault.StepFault.{StepFault}
 use Rattle.step_lines.specs.OutcomeLines.{outcome_line}
 use Rattle.step_lines.specs.Steps.{step_in}
-use Rattle.commands.specs.PlayRuns.{IsMade, MakesStep, IsMachineAt, TakesStep, played, played_as, skipped, step_fault_line}
+use Rattle.commands.specs.PlayRuns.{IsMade, MakesStep, IsMachineAt, TakesStep, play_moment, played, played_as, skipped, step_fault_line}
 
 pub is_made : (w0 : Option Machine) (s : Step) (o : Outcome) (w1 : Option Machine) → Steps w0 s o w1 → o ≢ Refused NoMemory → IsMade w0 s o w1
 is_made None s o w1 e other = absurd (other e.0)
@@ -22,7 +21,7 @@ is_made (Some m) s o w1 (inl e) other = (m, refl, e.0, e.1)
 is_made (Some m) s o w1 (inr e) other = absurd (other e.0)
 
 pub made_and_said : (said0 said1 : List ℕ) (w0 w1 : Option Machine) (s : Step) (o : Outcome)
-    → IsMade w0 s o w1 → said1 ≡ said0 ++ (outcome_line o ++ codes "\n") → MakesStep said0 said1 w0 w1 s
+    → IsMade w0 s o w1 → said1 ≡ said0 ++ (outcome_line o ++ codes "\n") → MakesStep (play_moment said0 w0) (play_moment said1 w1) s
 made_and_said said0 said1 w0 w1 s o made reply = record {
   machine = made.0;
   was = made.1;
@@ -76,7 +75,7 @@ same_machine w m k is (inl e) = some_is m k (sym e ∙ is)
 same_machine w m k is (inr e) = absurd (some_none k (sym is ∙ e))
 
 pub line_played : (w0 w1 : Option Machine) (n : ℕ) (line said0 said1 : List ℕ) (s : Step) → said0 ≡ [] → (length line == 0) ≡ false → Ok s ≡ step_in line
-    → MakesStep said0 said1 w0 w1 s → TakesStep w0 n line (record { text = said1; faulty = false }) w1
+    → MakesStep (play_moment said0 w0) (play_moment said1 w1) s → TakesStep w0 n line (record { text = said1; faulty = false }) w1
 line_played w0 w1 n line said0 said1 s none e is made m stands =
     let same : made.machine ≡ m = sym (same_machine w0 m made.machine made.was stands) in
     takes_as w1 n line m (record { text = said1; faulty = false }) (played_as n m (Ok s)) (played_step n m line (Ok s) e is)

@@ -1,13 +1,14 @@
 -- A status of a failed device while both devices work says how many reads were made.
 use Rattle.std.proofs.Common.{◌≡◌, ℕ, ◌⊎◌, inl, inr, Bool, true, false, List, [], ◌∷◌, ◌++◌, Option, subst, sym, ◌∙◌, arith}
-use Rattle.http_requests.specs.AwaitedReads.{Gives, GivesWhile, FailsToRead, Source}
+use Rattle.http_requests.specs.AwaitedReads.{Gives, GivesWhile, FailsToRead, Source, input_moment, read_rule}
 use Rattle.http_session.specs.Sessions.{Exchange, IsCause}
-use Rattle.http_session.specs.ReadTurns.{ReadsInTurnUpTo}
+use Rattle.http_session.specs.ReadTurns.{input_run, ReadsInTurnUpTo}
 use Rattle.http_session.specs.declared.whole_session.SessionErrorKind.{SessionErrorKind}
 use Rattle.http_session.specs.declared.whole_session.SessionErrorKind.TheVariants.{Reading, Writing, Memory}
 use Rattle.text_lines.specs.declared.exit_status.ExitStatus.{ExitStatus}
 use Rattle.text_lines.specs.declared.exit_status.ExitStatus.TheVariants.{DeviceFailed}
 use Rattle.session_devices.specs.declared.limits.TheConstants.{MAX_READS}
+use Rattle.text_lines.specs.RunErrors.{BothWork}
 use Rattle.text_lines.specs.ReadCounts.{GivesEach, MakesReads, StatusIsReads, reads_of}
 use Rattle.trace_model.specs.declared.limits.Limits.{Limits}
 use Rattle.jaeger_model.specs.declared.ids.TraceId.{TraceId}
@@ -21,7 +22,7 @@ never_both b is_true is_false = absurd (let both : true ≡ false = sym is_true 
 -- ---- a session
 
 each_read : {R : Type 0} (gives : Gives R) (Awaits : List ℕ → Type 0) (s t : R) (old new : List ℕ) (pieces : List (List ℕ))
-    → GivesWhile gives Awaits s t old new pieces → GivesEach gives s t pieces
+    → GivesWhile (read_rule gives Awaits) (input_moment s old) (input_moment t new) pieces → GivesEach (reads_of gives s t) pieces
 each_read gives Awaits s t old new [] e = e.0
 each_read gives Awaits s t old new (p ∷ ps) e = (e.1, e.2, each_read gives Awaits e.1 t (old ++ p) new ps e.3)
 
@@ -35,15 +36,15 @@ made_by Memory i o taken made c lost works writes = absurd cc
 -- a session that failed
 pub session_limit : {R : Type 0} (source : Source R) (in0 in1 : R) (i o : Bool) (opens : List Exchange) (taken : List ℕ) (made : ℕ)
     (cause : SessionErrorKind) (status : ExitStatus)
-    → IsCause cause i o taken made → ReadsInTurnUpTo source in0 in1 i opens taken made → status ≡ cause_status cause
-    → StatusIsReads (reads_of source.gives in0 in1) i o status
-session_limit source in0 in1 i o opens taken made cause status why f is = λ lost works writes.
-    last f.last works (made_by cause i o taken made why (sym is ∙ lost) works writes)
+    → IsCause cause i o taken made → ReadsInTurnUpTo source (input_run in0 in1 i) opens taken made → status ≡ cause_status cause
+    → StatusIsReads (reads_of source.gives in0 in1) (BothWork i o) status
+session_limit source in0 in1 i o opens taken made cause status why f is = λ lost work.
+    last f.last work.0 (made_by cause i o taken made why (sym is ∙ lost) work.0 work.1)
   where
     last : (in1 ≡ f.before) ⊎ FailsToRead source f.before in1 i → i ≡ false → made ≡ MAX_READS → MakesReads (reads_of source.gives in0 in1) MAX_READS
     last (inl same) works made_is = (
       f.reads.pieces,
-      subst (λ r. GivesEach source.gives in0 r f.reads.pieces) (sym same)
+      subst (λ r. GivesEach (reads_of source.gives in0 r) f.reads.pieces) (sym same)
           (each_read source.gives _ in0 f.before [] taken f.reads.pieces f.reads.each),
       f.count ∙ made_is,
     )

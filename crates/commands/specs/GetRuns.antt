@@ -12,8 +12,8 @@ use Rattle.trace_model.specs.ShownSpans.{trace_found}
 use Rattle.text_lines.specs.declared.exit_status.ExitStatus.{ExitStatus}
 use Rattle.text_lines.specs.declared.exit_status.ExitStatus.TheVariants.{Success, NotFound, FaultyLine}
 use Rattle.text_lines.specs.Lines.{lines_of}
-use Rattle.text_lines.specs.HandledLines.{LineReply, HandlesLine}
-use Rattle.text_lines.specs.LineResults.{LineResult, result_of_lines}
+use Rattle.text_lines.specs.HandledLines.{LineReply, LineResult, HandlesLine}
+use Rattle.text_lines.specs.LineResults.{result_of_lines}
 use Rattle.commands.specs.LineFaults.{line_fault_text}
 use Rattle.commands.specs.declared.get.line_fault.LineFault.{LineFault}
 use Rattle.commands.specs.JudgedLines.{JudgedLine, judged_line}

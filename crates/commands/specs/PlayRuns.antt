@@ -1,5 +1,6 @@
 -- What `play` writes for an input.
-use Rattle.std.specs.Prelude.{◌≡◌, ℕ, ◌==◌, ◌⊎◌, Bool, true, false, List, ◌++◌, length, Option, Some, None, Result, Ok, Err, if◌then◌else◌, codes}
+use Rattle.std.specs.Prelude.{◌≡◌, ℕ, ◌==◌, ◌⊎◌, Bool, true, false, List, ◌++◌, length, codes}
+use Rattle.std.specs.Prelude.{Option, Some, None, Result, Ok, Err, if◌then◌else◌}
 use Rattle.std.specs.Fmt.{decimal}
 use Rattle.trace_model.specs.declared.limits.Limits.{Limits}
 use Rattle.schedule_core.specs.declared.step.Step.{Step}
@@ -12,8 +13,8 @@ use Rattle.step_lines.specs.Steps.{step_in}
 use Rattle.text_lines.specs.declared.exit_status.ExitStatus.{ExitStatus}
 use Rattle.text_lines.specs.declared.exit_status.ExitStatus.TheVariants.{Success, FaultyLine}
 use Rattle.text_lines.specs.Lines.{lines_of}
-use Rattle.text_lines.specs.HandledLines.{HandlesLine, nothing_said}
-use Rattle.text_lines.specs.LineResults.{LineResult, result_of_lines}
+use Rattle.text_lines.specs.HandledLines.{LineResult, HandlesLine, nothing_said}
+use Rattle.text_lines.specs.LineResults.{result_of_lines}
 
 abbrev pub step_fault_line : ℕ → StepFault → List ℕ
 step_fault_line n fault = codes "line " ++ decimal n ++ codes ": " ++ step_fault_text fault ++ codes "\n"
@@ -64,9 +65,17 @@ TakesStep w0 n line reply w1 = (m : Machine) → IsMachineAt w0 m → IsMachineA
 abbrev pub IsMade : Option Machine → Step → Outcome → Option Machine → Type 0
 IsMade w0 s o w1 = (m : Machine) × (w0 ≡ Some m) × (o ≡ (step m s).outcome) × (w1 ≡ Some (step m s).machine)
 
+-- the reply to a line as far as it is written, and the state of the world
+pub record PlayMoment : Type 0 where
+  pub said : List ℕ
+  pub world : Option Machine
+
+abbrev pub play_moment : List ℕ → Option Machine → PlayMoment
+play_moment said world = record { said = said; world = world }
+
 -- a step was run, and its outcome was written
-pub record MakesStep (said0 said1 : List ℕ) (w0 w1 : Option Machine) (s : Step) : Type 0 where
+pub record MakesStep (before after : PlayMoment) (s : Step) : Type 0 where
   pub machine : Machine
-  pub was : w0 ≡ Some machine
-  pub is : w1 ≡ Some (step machine s).machine
-  pub says : said1 ≡ said0 ++ (made machine s).reply.text
+  pub was : before.world ≡ Some machine
+  pub is : after.world ≡ Some (step machine s).machine
+  pub says : after.said ≡ before.said ++ (made machine s).reply.text

@@ -34,4 +34,5 @@ pub record TurnsWordsAway (words : List Text) (input output : Traffic) (status :
 
 -- the command of the words was run, or the words were answered with a fault
 abbrev pub Runs : List Text → Traffic → Traffic → ExitStatus → Type 0
-Runs words input output status = ((command : Command) × AsksCommand words command × Does command input output status) ⊎ TurnsWordsAway words input output status
+Runs words input output status =
+    ((command : Command) × AsksCommand words command × Does command input output status) ⊎ TurnsWordsAway words input output status

@@ -10,7 +10,7 @@
 ghost use Rattle.std.specs.Prelude.{◌≡◌, false, IfErr};
 ghost use Rattle.text_lines.specs.ReadCounts.{LimitIsReads, StatusIsReads, reads_of};
 ghost use Rattle.session_devices.specs.Traffic.{traffic_of};
-ghost use Rattle.text_lines.specs.RunErrors.{RunsAs, RunsOrStops, expected_of};
+ghost use Rattle.text_lines.specs.RunErrors.{BothWork, RunsAs, RunsOrStops, expected_of};
 ghost use Rattle.commands.specs.GetRuns.{nothing_held, output_of, status_by as status_at, status_of as status_for};
 
 mod batches;
@@ -53,7 +53,7 @@ fn take_all<R: Input, W: Output>(
         (traffic_of W.contents W.has_failed output.old output.new)
         (expected_of (output_of limits trace) (status_for limits trace)) result }
     ensures limit { IfErr result (LimitIsReads (reads_of R.gives input.old input.new)
-        (R.has_failed input.new) (W.has_failed output.new)) }
+        (BothWork (R.has_failed input.new) (W.has_failed output.new))) }
 {
     let faulty = answer_lines(alloc, input, output, batches)?;
     let found = write_trace(alloc, output, batches.store(), trace)?;
@@ -75,7 +75,7 @@ fn finish<R: Input, W: Output>(
         (traffic_of W.contents W.has_failed output.old output.new)
         (expected_of (output_of limits trace) (status_for limits trace)) result }
     ensures limit { IfErr result (LimitIsReads (reads_of R.gives input.old input.new)
-        (R.has_failed input.new) (W.has_failed output.new)) }
+        (BothWork (R.has_failed input.new) (W.has_failed output.new))) }
 {
     let mut batches = Batches::new(alloc, keys, limits)?;
     let status = take_all(alloc, &mut batches, input, output, limits, trace);
@@ -107,7 +107,7 @@ pub fn run_get<R: Input, W: Output>(
         (traffic_of W.contents W.has_failed output.old output.new)
         (expected_of (output_of limits trace) (status_for limits trace)) result }
     ensures limit { StatusIsReads (reads_of R.gives input.old input.new)
-        (R.has_failed input.new) (W.has_failed output.new) result }
+        (BothWork (R.has_failed input.new) (W.has_failed output.new)) result }
 {
     match finish(alloc, keys, input, output, limits, trace) {
         Ok(status) => status,

@@ -37,7 +37,7 @@ pub fn run_pipe<R: Input, W: Output>(
     ensures pipes { Pipes (traffic_of R.remaining R.has_failed input.old input.new)
         (traffic_of W.contents W.has_failed output.old output.new) limits result }
     ensures limit { StatusIsReads (reads_of R.gives input.old input.new)
-        (R.has_failed input.new) (W.has_failed output.new) result }
+        (BothWork (R.has_failed input.new) (W.has_failed output.new)) result }
 {
     let Ok(opened) = SpanStore::open(alloc, keys, limits) else {
         return ExitStatus::OutOfMemory;

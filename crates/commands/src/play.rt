@@ -8,7 +8,7 @@
 ghost use Rattle.std.specs.Prelude.{◌≡◌, false};
 ghost use Rattle.text_lines.specs.ReadCounts.{StatusIsReads, reads_of};
 ghost use Rattle.session_devices.specs.Traffic.{traffic_of};
-ghost use Rattle.text_lines.specs.RunErrors.{RunsAs, expected_of};
+ghost use Rattle.text_lines.specs.RunErrors.{BothWork, RunsAs, expected_of};
 ghost use Rattle.trace_model.specs.declared.limits.Limits.{Limits as LimitsValue};
 ghost use Rattle.schedule_core.specs.Machine.{new_machine};
 ghost use Rattle.commands.specs.PlayRuns.{IsMachineAt, output_of, play_status, status_of as status_for};
@@ -46,7 +46,7 @@ fn play_lines<R: Input, W: Output>(
         (traffic_of W.contents W.has_failed output.old output.new)
         (expected_of (output_of limits) (status_for limits)) result }
     ensures limit { StatusIsReads (reads_of R.gives input.old input.new)
-        (R.has_failed input.new) (W.has_failed output.new) result }
+        (BothWork (R.has_failed input.new) (W.has_failed output.new)) result }
 {
     match answer_lines(alloc, input, output, script) {
         Ok(faulty) => status_of(faulty),
@@ -74,7 +74,7 @@ pub fn run_play<R: Input, W: Output>(
         (traffic_of W.contents W.has_failed output.old output.new)
         (expected_of (output_of limits) (status_for limits)) result }
     ensures limit { StatusIsReads (reads_of R.gives input.old input.new)
-        (R.has_failed input.new) (W.has_failed output.new) result }
+        (BothWork (R.has_failed input.new) (W.has_failed output.new)) result }
 {
     let Ok(mut script) = Script::new(alloc, keys, limits) else {
         return ExitStatus::OutOfMemory;

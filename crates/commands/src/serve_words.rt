@@ -11,7 +11,9 @@ ghost use Rattle.commands.specs.CommandWords.{ReadsWords, TakesWords};
 
 use crate::words::{limits_of, matches_of, number, with_limits};
 use clap::{Arg, ArgMatches, value_parser};
-use serve_options::{Host, MAX_CONNECTIONS, MAX_QUEUE, MAX_SECONDS, MAX_WORKERS, ServeOptions};
+use serve_options::{
+    Host, MAX_CONNECTIONS, MAX_QUEUE, MAX_SECONDS, MAX_WORKERS, RequestedOptions, ServeOptions,
+};
 use std::alloc::{AllocError, Global};
 use std::convert::AsStr;
 use std::io;
@@ -187,7 +189,7 @@ fn serve_options_of(matches: &ArgMatches<'_>, host: Host) -> Option<ServeOptions
     let connections = matches.get_one::<u32>("connections")?;
     let idle = matches.get_one::<u32>("idle")?;
     let report = matches.get_one::<u32>("report")?;
-    ServeOptions::new(
+    ServeOptions::new(RequestedOptions {
         limits,
         host,
         port,
@@ -197,7 +199,7 @@ fn serve_options_of(matches: &ArgMatches<'_>, host: Host) -> Option<ServeOptions
         connections,
         idle,
         report,
-    )
+    })
 }
 
 /// Reads the options of `serve`. The first of the words is the subcommand's name.

@@ -1,12 +1,12 @@
 -- How a body is read, part by part.
-use Rattle.std.proofs.Common.{◌≡◌, ℕ, Bool, List, [], ◌++◌, refl, sym, subst, append_assoc}
+use Rattle.std.proofs.Common.{Bool, [], ◌++◌, Some}
 use Rattle.std.specs.Io.KnownBytes.{IsAtEnd}
 use Rattle.session_devices.specs.ByteTakers.{Takings, TakesNothing, TakesJoined}
-use Rattle.http_requests.specs.Requests.{HasBody, BodyBreaks, AwaitsBody}
+use Rattle.http_requests.specs.Requests.{AwaitsBody}
 use Rattle.http_requests.specs.AwaitedReads.{Source}
-use Rattle.http_requests.specs.ReceivedBytes.{ReadBuffer, ReadsOn, ReadsOnWhile, IsRead, ReadFails, StopsWhile, put_back}
-use Rattle.http_requests.specs.Bodies.{TakesBody, BreaksBody, body_moment}
-use Rattle.http_requests.specs.PartialRequests.{IsPart, AwaitsMoreBody, Comes, TakesOn, TakesPart}
+use Rattle.http_requests.specs.ReceivedBytes.{ReadBuffer, ReadsOn, IsRead, ReadFails, StopsWhile, read_moment, failed_call}
+use Rattle.http_requests.specs.Bodies.{TakesBody, BreaksBody, body_moment, body_call}
+use Rattle.http_requests.specs.PartialRequests.{IsPart, AwaitsMoreBody, reader_moment, ContinuesBody, TakesPart}
 use Rattle.http_requests.specs.declared.request.BodyLength.{BodyLength}
 use Rattle.http_requests.specs.declared.request.RequestFault.{RequestFault}
 use Rattle.http_requests.specs.declared.request.RequestFault.TheVariants as fault
@@ -18,43 +18,44 @@ use Rattle.http_requests.proofs.Parts.{awaits_body, ended_breaks, breaks_anyway}
 
 module _ {S R : Type 0} (takes : Takings S) (source : Source R) where
   pub begins_body : TakesNothing S takes → (s : R) (r : ReadBuffer) (before : S) (size : BodyLength) (reader : BodyReader) → IsPart size [] [] reader
-      → TakesPart takes source (body_moment s r before) (body_moment s r before) size reader
+      → TakesPart (body_call takes source size) (body_moment s r before) (body_moment s r before) reader
   begins_body nothing s r before size reader part =
       record { text = []; content = []; part = part; reads = nothing_yet source (AwaitsBody size) s r; put = nothing before }
 
   module _ (joined : TakesJoined S takes) (s t : R) (old here new : ReadBuffer) (before now after : S) (size : BodyLength) (was is : BodyReader)
-      (so : TakesPart takes source (body_moment s old before) (body_moment t here now) size was) where
-    pub more_body : TakesOn takes here new now after was (λ of text content. Comes of text content new.held is More)
-        → TakesPart takes source (body_moment s old before) (body_moment t new after) size is
+      (so : TakesPart (body_call takes source size) (body_moment s old before) (body_moment t here now) was) where
+    pub more_body : ContinuesBody takes (reader_moment was here now) (reader_moment is new after) (Some More)
+        → TakesPart (body_call takes source size) (body_moment s old before) (body_moment t new after) is
     more_body on = record {
       text = so.text ++ on.text;
       content = so.content ++ on.content;
-      part = on.come size so.text so.content so.part;
+      part = on.outcome size so.text so.content so.part;
       reads = with_text source (AwaitsBody size) s t old here new so.text on.text so.reads on.cut;
       put = joined before now after so.content on.content so.put on.put;
     }
 
-    pub whole_body : TakesOn takes here new now after was (λ of text content. Comes of text content new.held is Whole)
-        → TakesBody takes source (body_moment s old before) (body_moment t new after) size
+    pub whole_body : ContinuesBody takes (reader_moment was here now) (reader_moment is new after) (Some Whole)
+        → TakesBody (body_call takes source size) (body_moment s old before) (body_moment t new after)
     whole_body on = record {
       text = so.text ++ on.text;
       body = so.content ++ on.content;
-      body_is = on.come size so.text so.content so.part;
+      body_is = on.outcome size so.text so.content so.part;
       reads = with_text source (AwaitsBody size) s t old here new so.text on.text so.reads on.cut;
       put = joined before now after so.content on.content so.put on.put;
     }
 
-    pub malformed_body : (why : RequestFault) → TakesOn takes here new now after was (λ of text content. Comes of text content new.held is (Fault why))
-        → BreaksBody source s t old new size why
+    pub malformed_body : (why : RequestFault) → ContinuesBody takes (reader_moment was here now) (reader_moment is new after) (Some (Fault why))
+        → BreaksBody (body_call takes source size) (body_moment s old before) (body_moment t new after) why
     malformed_body why on = record {
       text = so.text ++ on.text;
       reads = with_text source (AwaitsBody size) s t old here new so.text on.text so.reads on.cut;
-      breaks = breaks_anyway (IsAtEnd (source.remaining t)) why size ((so.text ++ on.text) ++ new.held) (on.come size so.text so.content so.part);
+      breaks = breaks_anyway (IsAtEnd (source.remaining t)) why size ((so.text ++ on.text) ++ new.held) (on.outcome size so.text so.content so.part);
     }
 
   module _ (s m t : R) (old here new : ReadBuffer) (before after : S) (size : BodyLength) (reader : BodyReader)
-      (so : TakesPart takes source (body_moment s old before) (body_moment m here after) size reader) (awaits : AwaitsMoreBody reader here.held) where
-    pub ended_body : IsAtEnd (source.remaining m) → BreaksBody source s m old here size fault.Body
+      (so : TakesPart (body_call takes source size) (body_moment s old before) (body_moment m here after) reader)
+      (awaits : AwaitsMoreBody reader here.held) where
+    pub ended_body : IsAtEnd (source.remaining m) → BreaksBody (body_call takes source size) (body_moment s old before) (body_moment m here after) fault.Body
     ended_body at_end =
         record {
           text = so.text;
@@ -62,8 +63,8 @@ module _ {S R : Type 0} (takes : Takings S) (source : Source R) where
           breaks = ended_breaks _ size (so.text ++ here.held) (awaits_body size so.text so.content here.held reader so.part awaits) at_end;
         }
 
-    pub body_read_on : ReadsOn (source.remaining m) (source.remaining t) here new → IsRead source.gives m t here new
-        → TakesPart takes source (body_moment s old before) (body_moment t new after) size reader
+    pub body_read_on : ReadsOn (source.remaining m) (source.remaining t) here new → IsRead source.gives (read_moment m here) (read_moment t new)
+        → TakesPart (body_call takes source size) (body_moment s old before) (body_moment t new after) reader
     body_read_on on read = record {
       text = so.text;
       content = so.content;
@@ -73,7 +74,8 @@ module _ {S R : Type 0} (takes : Takings S) (source : Source R) where
       put = so.put;
     }
 
-    pub body_stops_there : (failed : Bool) (why : ReadError) → ReadFails source m t failed here why → StopsWhile source (AwaitsBody size) s t failed old why
+    pub body_stops_there : (failed : Bool) (why : ReadError) → ReadFails source (read_moment m here) (failed_call t failed why)
+        → StopsWhile source (AwaitsBody size) (read_moment s old) (failed_call t failed why)
     body_stops_there failed why last =
         stops_reading source (AwaitsBody size) s m t failed old here so.text why so.reads (awaits_body size so.text so.content here.held reader so.part awaits)
         last

@@ -1,10 +1,10 @@
 -- How a part of a body that was taken comes to more of it.
-use Rattle.std.proofs.Common.{All, ◌≡◌, ℕ, ◌+◌, ◌-◌, ◌≤◌, ◌<◌, min, Bool, true, false, List, [], ◌∷◌, ◌++◌, length, take, drop, Option, Some, None, refl, sym}
+use Rattle.std.proofs.Common.{◌≡◌, ℕ, ◌+◌, ◌-◌, ◌≤◌, ◌<◌, min, List, [], ◌∷◌, ◌++◌, length, take, drop, Option, Some, None, refl, sym}
 use Rattle.std.proofs.Common.{ap, ◌∙◌, subst, arith, inl, inr, append_assoc, append-nil, length-append}
-use Rattle.std.proofs.lemmas.List.{flat_map_more, take-append-drop, take_all, length-take-le, length-drop}
+use Rattle.std.proofs.lemmas.List.{flat_map_more, take-append-drop, length-take-le, length-drop}
 use Rattle.std.proofs.Math.Seq.{take-append_seam}
 use Rattle.httparse.specs.Ascii.{crlf_bytes}
-use Rattle.http_requests.specs.Chunks.{IsSizeLine, IsSomeSizeLine, IsTrailer, IsContent, IsDecided, Chunk, texts, contents, HasNone, NeverHas}
+use Rattle.http_requests.specs.Chunks.{IsSizeLine, IsSomeSizeLine, IsTrailer, IsContent, Chunk, texts, contents, HasNone, NeverHas}
 use Rattle.session_devices.specs.ByteTakers.{Takings, TakesNothing, TakesJoined}
 use Rattle.http_requests.specs.declared.request.TheConstants.{MAX_BODY_BYTES}
 use Rattle.http_requests.specs.declared.request.BodyLength.{BodyLength}
@@ -17,17 +17,21 @@ use Rattle.http_requests.specs.declared.body_reader.Stage.TheVariants.{Length, S
 use Rattle.http_requests.specs.declared.body_reader.Stage.TheVariants as stage
 use Rattle.http_requests.specs.Requests.{HasBody, BodyBreaks, AwaitsBody}
 use Rattle.http_requests.specs.ReceivedBytes.{ReadBuffer, put_back}
-use Rattle.http_requests.specs.Bodies.{AwaitsLine, IsLineEnd}
-use Rattle.http_requests.specs.PartialRequests.{WithChunks, WithData, WithLastLine, IsPartAt, IsPart, HasLookedAt, HasLooked, AwaitsAt}
-use Rattle.http_requests.specs.PartialRequests.{AwaitsMoreBody, TakesOn, TakesText}
-use Rattle.http_requests.proofs.ChunkParts.{shorter, none_after, awaited_after, line_awaited, no_size, passes, each_with, sum_with, texts_with, content_awaited}
+use Rattle.http_requests.specs.Bodies.{IsLineEnd}
+use Rattle.http_requests.specs.PartialRequests.{IsPartAt, IsPart, HasLookedAt, HasLooked, AwaitsAt}
+use Rattle.http_requests.specs.PartialRequests.{AwaitsMoreBody, BodyPart, body_part, ReaderMoment, reader_moment, sinkless_moment, HasStepOutcome}
+use Rattle.http_requests.specs.PartialRequests.{ContinuesBody, ContinuesWithoutData}
+use Rattle.http_requests.specs.declared.body_reader.BodyLook.{BodyLook}
+use Rattle.http_requests.specs.declared.body_reader.BodyLook.TheVariants.{Whole, More, Fault}
+use Rattle.http_requests.proofs.ChunkParts.{none_after, awaited_after, line_awaited, no_size, passes, each_with, sum_with, texts_with, content_awaited}
 use Rattle.http_requests.proofs.ChunkParts.{no_more_content, trailer_awaited, no_trailer_comes, chunks_whole}
 
 -- ---- a size line
 
-pub line_then_data : (of : BodyLength) (front fed line : List ℕ) (left size : ℕ) → IsPartAt of front fed left SizeLine → IsSizeLine line size → 0 < size
+pub line_then_data : (of : BodyLength) (front fed line : List ℕ) (left size : ℕ) → IsPartAt of (body_part front fed) left SizeLine
+    → IsSizeLine line size → 0 < size
     → size ≤ left
-    → IsPartAt of (front ++ line) (fed ++ []) (left - size) (Data size)
+    → IsPartAt of (body_part (front ++ line) (fed ++ [])) (left - size) (Data size)
 line_then_data Chunked front fed line left size so is some fits = record {
   chunks = so.chunks;
   line = line;
@@ -45,8 +49,8 @@ line_then_data (Bytes n) front fed line left size so is some fits = absurd so
 line_then_data Unreadable front fed line left size so is some fits = absurd so
 line_then_data TooLarge front fed line left size so is some fits = absurd so
 
-pub line_then_trailer : (of : BodyLength) (front fed line : List ℕ) (left : ℕ) → IsPartAt of front fed left SizeLine → IsSizeLine line 0
-    → IsPartAt of (front ++ line) (fed ++ []) left (Trailer 0)
+pub line_then_trailer : (of : BodyLength) (front fed line : List ℕ) (left : ℕ) → IsPartAt of (body_part front fed) left SizeLine → IsSizeLine line 0
+    → IsPartAt of (body_part (front ++ line) (fed ++ [])) left (Trailer 0)
 line_then_trailer Chunked front fed line left so is = record {
   chunks = so.chunks;
   line = line;
@@ -60,7 +64,8 @@ line_then_trailer (Bytes n) front fed line left so is = absurd so
 line_then_trailer Unreadable front fed line left so is = absurd so
 line_then_trailer TooLarge front fed line left so is = absurd so
 
-pub line_passes : (of : BodyLength) (front fed line held : List ℕ) (left size : ℕ) → IsPartAt of front fed left SizeLine → IsSizeLine line size → left < size
+pub line_passes : (of : BodyLength) (front fed line held : List ℕ) (left size : ℕ) → IsPartAt of (body_part front fed) left SizeLine
+    → IsSizeLine line size → left < size
     → BodyBreaks ⊥ fault.TooLarge of ((front ++ line) ++ held)
 line_passes Chunked front fed line held left size so is large =
     subst (λ (l : List ℕ). BodyBreaks ⊥ fault.TooLarge Chunked ((l ++ line) ++ held)) (sym so.text_is)
@@ -69,7 +74,7 @@ line_passes (Bytes n) front fed line held left size so is large = absurd so
 line_passes Unreadable front fed line held left size so is large = absurd so
 line_passes TooLarge front fed line held left size so is large = absurd so
 
-pub no_line_comes : (of : BodyLength) (front fed held : List ℕ) (left : ℕ) → IsPartAt of front fed left SizeLine → NeverHas IsSomeSizeLine held
+pub no_line_comes : (of : BodyLength) (front fed held : List ℕ) (left : ℕ) → IsPartAt of (body_part front fed) left SizeLine → NeverHas IsSomeSizeLine held
     → BodyBreaks ⊥ fault.Body of (front ++ held)
 no_line_comes Chunked front fed held left so never =
     subst (λ (l : List ℕ). BodyBreaks ⊥ fault.Body Chunked (l ++ held)) (sym so.text_is) (no_size so.chunks left so.each so.sum held never)
@@ -79,8 +84,9 @@ no_line_comes TooLarge front fed held left so never = absurd so
 
 -- ---- data, and CR LF after them
 
-pub data_then : (of : BodyLength) (front fed piece : List ℕ) (left count rest : ℕ) → IsPartAt of front fed left (Data count) → length piece + rest ≡ count
-    → IsPartAt of (front ++ piece) (fed ++ piece) left (Data rest)
+pub data_then : (of : BodyLength) (front fed piece : List ℕ) (left count rest : ℕ) → IsPartAt of (body_part front fed) left (Data count)
+    → length piece + rest ≡ count
+    → IsPartAt of (body_part (front ++ piece) (fed ++ piece)) left (Data rest)
 data_then Chunked front fed piece left count rest so long = record {
   chunks = so.chunks;
   line = so.line;
@@ -98,8 +104,8 @@ data_then (Bytes n) front fed piece left count rest so long = absurd so
 data_then Unreadable front fed piece left count rest so long = absurd so
 data_then TooLarge front fed piece left count rest so long = absurd so
 
-pub end_then_line : (of : BodyLength) (front fed line : List ℕ) (left : ℕ) → IsPartAt of front fed left (Data 0) → IsLineEnd line
-    → IsPartAt of (front ++ line) (fed ++ []) left SizeLine
+pub end_then_line : (of : BodyLength) (front fed line : List ℕ) (left : ℕ) → IsPartAt of (body_part front fed) left (Data 0) → IsLineEnd line
+    → IsPartAt of (body_part (front ++ line) (fed ++ [])) left SizeLine
 end_then_line Chunked front fed line left so is =
     let fits : so.size ≤ so.size + left = omega arith in
     let long : length so.got ≡ so.size = omega (arith, so.lacking) in
@@ -125,7 +131,7 @@ never_content held never more text rest is e = never more text rest (is.text_is 
     is_nothing [] e = refl
     is_nothing (x ∷ xs) e = absurd (omega (arith, e))
 
-pub no_end_comes : (of : BodyLength) (front fed held : List ℕ) (left : ℕ) → IsPartAt of front fed left (Data 0) → NeverHas IsLineEnd held
+pub no_end_comes : (of : BodyLength) (front fed held : List ℕ) (left : ℕ) → IsPartAt of (body_part front fed) left (Data 0) → NeverHas IsLineEnd held
     → BodyBreaks ⊥ fault.Body of (front ++ held)
 no_end_comes Chunked front fed held left so never =
     let fits : so.size ≤ so.size + left = omega arith in
@@ -144,7 +150,7 @@ no_end_comes TooLarge front fed held left so never = absurd so
 abbrev rest_of : List Chunk → ℕ
 rest_of chunks = MAX_BODY_BYTES - length (contents chunks)
 
-pub trailer_ends : (of : BodyLength) (front fed text : List ℕ) (left seen : ℕ) → IsPartAt of front fed left (Trailer seen) → IsTrailer text
+pub trailer_ends : (of : BodyLength) (front fed text : List ℕ) (left seen : ℕ) → IsPartAt of (body_part front fed) left (Trailer seen) → IsTrailer text
     → HasBody of (front ++ text) (fed ++ [])
 trailer_ends Chunked front fed text left seen so is =
     let whole = chunks_whole so.chunks (rest_of so.chunks) so.each (omega (arith, so.small)) so.line so.line_is text is in
@@ -154,7 +160,8 @@ trailer_ends (Bytes n) front fed text left seen so is = absurd so
 trailer_ends Unreadable front fed text left seen so is = absurd so
 trailer_ends TooLarge front fed text left seen so is = absurd so
 
-pub no_trailer_then : (of : BodyLength) (front fed held : List ℕ) (left seen : ℕ) → IsPartAt of front fed left (Trailer seen) → NeverHas IsTrailer held
+pub no_trailer_then : (of : BodyLength) (front fed held : List ℕ) (left seen : ℕ) → IsPartAt of (body_part front fed) left (Trailer seen)
+    → NeverHas IsTrailer held
     → BodyBreaks ⊥ fault.Body of (front ++ held)
 no_trailer_then Chunked front fed held left seen so never =
     subst (λ (l : List ℕ). BodyBreaks ⊥ fault.Body Chunked (l ++ held)) (sym so.text_is)
@@ -163,8 +170,8 @@ no_trailer_then (Bytes n) front fed held left seen so never = absurd so
 no_trailer_then Unreadable front fed held left seen so never = absurd so
 no_trailer_then TooLarge front fed held left seen so never = absurd so
 
-pub trailer_seen : (of : BodyLength) (front fed : List ℕ) (left seen more : ℕ) → IsPartAt of front fed left (Trailer seen)
-    → IsPartAt of front fed left (Trailer more)
+pub trailer_seen : (of : BodyLength) (front fed : List ℕ) (left seen more : ℕ) → IsPartAt of (body_part front fed) left (Trailer seen)
+    → IsPartAt of (body_part front fed) left (Trailer more)
 trailer_seen Chunked front fed left seen more so = so
 trailer_seen (Bytes n) front fed left seen more so = absurd so
 trailer_seen Unreadable front fed left seen more so = absurd so
@@ -172,21 +179,22 @@ trailer_seen TooLarge front fed left seen more so = absurd so
 
 -- ---- a body by its length, and one that isn't read
 
-pub length_then : (of : BodyLength) (front fed piece : List ℕ) (left count rest : ℕ) → IsPartAt of front fed left (Length count) → length piece + rest ≡ count
-    → IsPartAt of (front ++ piece) (fed ++ piece) left (Length rest)
+pub length_then : (of : BodyLength) (front fed piece : List ℕ) (left count rest : ℕ) → IsPartAt of (body_part front fed) left (Length count)
+    → length piece + rest ≡ count
+    → IsPartAt of (body_part (front ++ piece) (fed ++ piece)) left (Length rest)
 length_then (Bytes n) front fed piece left count rest so long = (ap (λ l. l ++ piece) so.0, omega (arith, so.1, long, length-append fed piece))
 length_then Chunked front fed piece left count rest so long = absurd so
 length_then Unreadable front fed piece left count rest so long = absurd so
 length_then TooLarge front fed piece left count rest so long = absurd so
 
-pub length_ends : (of : BodyLength) (front fed piece : List ℕ) (left count : ℕ) → IsPartAt of front fed left (Length count) → length piece ≡ count
+pub length_ends : (of : BodyLength) (front fed piece : List ℕ) (left count : ℕ) → IsPartAt of (body_part front fed) left (Length count) → length piece ≡ count
     → HasBody of (front ++ piece) (fed ++ piece)
 length_ends (Bytes n) front fed piece left count so long = (ap (λ l. l ++ piece) so.0, omega (arith, so.1, long, length-append fed piece))
 length_ends Chunked front fed piece left count so long = absurd so
 length_ends Unreadable front fed piece left count so long = absurd so
 length_ends TooLarge front fed piece left count so long = absurd so
 
-pub refused_breaks : (of : BodyLength) (why : RequestFault) (front fed held : List ℕ) (left : ℕ) → IsPartAt of front fed left (stage.Unreadable why)
+pub refused_breaks : (of : BodyLength) (why : RequestFault) (front fed held : List ℕ) (left : ℕ) → IsPartAt of (body_part front fed) left (stage.Unreadable why)
     → BodyBreaks ⊥ why of (front ++ held)
 refused_breaks Unreadable fault.Body front fed held left so = tt
 refused_breaks TooLarge fault.TooLarge front fed held left so = tt
@@ -199,7 +207,7 @@ refused_breaks Chunked why front fed held left so = absurd so
 
 -- ---- what is awaited after a part
 
-data_awaited : (front fed held : List ℕ) (left count : ℕ) → IsPartAt Chunked front fed left (Data count) → AwaitsAt (Data count) held
+data_awaited : (front fed held : List ℕ) (left count : ℕ) → IsPartAt Chunked (body_part front fed) left (Data count) → AwaitsAt (Data count) held
     → AwaitsBody Chunked (front ++ held)
 data_awaited front fed held left count so awaits =
     let fits : so.size ≤ so.size + left = omega arith in
@@ -207,7 +215,7 @@ data_awaited front fed held left count so awaits =
     (content_awaited so.chunks (so.size + left) so.each so.sum so.line so.size so.line_is so.some fits (so.got ++ held)
     (awaited_after so.size count so.got so.lacking held awaits))
 
-awaits_at : (of : BodyLength) (front fed held : List ℕ) (left : ℕ) (stage : Stage) → IsPartAt of front fed left stage → AwaitsAt stage held
+awaits_at : (of : BodyLength) (front fed held : List ℕ) (left : ℕ) (stage : Stage) → IsPartAt of (body_part front fed) left stage → AwaitsAt stage held
     → AwaitsBody of (front ++ held)
 awaits_at (Bytes n) front fed held left (Length count) so short = omega (arith, so.1, short, ap length so.0, length-append front held)
 awaits_at Chunked front fed held left SizeLine so awaits =
@@ -273,70 +281,91 @@ cut_of : (old : ReadBuffer) (count : ℕ) → old ≡ put_back (take count old.h
 cut_of old count = ap (λ (l : List ℕ). record old { held = l }) (sym (take-append-drop count old.held))
 
 -- so many bytes were taken, and no data are in them
-pub text_taken : (old new : ReadBuffer) (was : BodyReader) (Come : BodyLength → List ℕ → List ℕ → Type 0) (count : ℕ)
+pub text_taken : (old new : ReadBuffer) (was is : BodyReader) (look : Option BodyLook) (count : ℕ)
     → new ≡ record old { held = drop count old.held }
-    → ((of : BodyLength) (front fed : List ℕ) → IsPart of front fed was → Come of (front ++ take count old.held) (fed ++ [])) → TakesText old new was Come
-text_taken old new was Come count is come =
-    record { text = take count old.held; content = []; cut = cut_of old count ∙ ap (put_back (take count old.held)) (sym is); put = refl; come = come }
+    → ((of : BodyLength) (front fed : List ℕ) → IsPart of front fed was
+    → HasStepOutcome of (body_part (front ++ take count old.held) (fed ++ [])) (sinkless_moment is new) look)
+    → ContinuesWithoutData (sinkless_moment was old) (sinkless_moment is new) look
+text_taken old new was is look count new_is outcome = record {
+  text = take count old.held;
+  content = [];
+  cut = cut_of old count ∙ ap (put_back (take count old.held)) (sym new_is);
+  put = refl;
+  outcome = outcome;
+}
 
 -- nothing was taken
-pub none_taken : (old : ReadBuffer) (was : BodyReader) (Come : BodyLength → List ℕ → List ℕ → Type 0)
-    → ((of : BodyLength) (front fed : List ℕ) → IsPart of front fed was → Come of front fed) → TakesText old old was Come
-none_taken old was Come come = record {
+pub none_taken : (old : ReadBuffer) (was is : BodyReader) (look : Option BodyLook)
+    → ((of : BodyLength) (front fed : List ℕ) → IsPart of front fed was → HasStepOutcome of (body_part front fed) (sinkless_moment is old) look)
+    → ContinuesWithoutData (sinkless_moment was old) (sinkless_moment is old) look
+none_taken old was is look outcome = record {
   text = [];
   content = [];
   cut = refl;
   put = refl;
-  come =
-      λ of front fed part. subst (λ (l : List ℕ). Come of l (fed ++ [])) (sym (append-nil front))
-      (subst (Come of front) (sym (append-nil fed)) (come of front fed part));
+  outcome =
+      λ of front fed part. subst (λ (l : List ℕ). HasStepOutcome of (body_part l (fed ++ [])) (sinkless_moment is old) look) (sym (append-nil front))
+      (subst (λ (l : List ℕ). HasStepOutcome of (body_part front l) (sinkless_moment is old) look) (sym (append-nil fed)) (outcome of front fed part));
 }
 
 module _ {S : Type 0} (takes : Takings S) where
   -- the first bytes were taken and pushed into the sink
-  pub data_taken : (old new : ReadBuffer) (before after : S) (was : BodyReader) (Come : BodyLength → List ℕ → List ℕ → Type 0) (count : ℕ)
+  pub data_taken : (old new : ReadBuffer) (before after : S) (was is : BodyReader) (look : Option BodyLook) (count : ℕ)
       → takes before (take count old.held) after → new ≡ record old { held = drop count old.held }
-      → ((of : BodyLength) (front fed : List ℕ) → IsPart of front fed was → Come of (front ++ take count old.held) (fed ++ take count old.held))
-      → TakesOn takes old new before after was Come
-  data_taken old new before after was Come count put is come =
+      → ((of : BodyLength) (front fed : List ℕ) → IsPart of front fed was
+      → HasStepOutcome of (body_part (front ++ take count old.held) (fed ++ take count old.held)) (reader_moment is new after) look)
+      → ContinuesBody takes (reader_moment was old before) (reader_moment is new after) look
+  data_taken old new before after was is look count put new_is outcome =
       record {
         text = take count old.held;
         content = take count old.held;
-        cut = cut_of old count ∙ ap (put_back (take count old.held)) (sym is);
+        cut = cut_of old count ∙ ap (put_back (take count old.held)) (sym new_is);
         put = put;
-        come = come;
+        outcome = outcome;
       }
 
-  pub with_sink : TakesNothing S takes → (old new : ReadBuffer) (s : S) (was : BodyReader) (Come : BodyLength → List ℕ → List ℕ → Type 0)
-      → TakesText old new was Come → TakesOn takes old new s s was Come
-  with_sink nothing old new s was Come taken =
+  -- an outcome doesn't depend on the sink
+  same_outcome : (of : BodyLength) (part : BodyPart) (new : ReadBuffer) (is : BodyReader) (s : S) (look : Option BodyLook)
+      → HasStepOutcome of part (sinkless_moment is new) look → HasStepOutcome of part (reader_moment is new s) look
+  same_outcome of part new is s None outcome = outcome
+  same_outcome of part new is s (Some Whole) outcome = outcome
+  same_outcome of part new is s (Some More) outcome = outcome
+  same_outcome of part new is s (Some (Fault why)) outcome = outcome
+
+  pub with_sink : TakesNothing S takes → (old new : ReadBuffer) (s : S) (was is : BodyReader) (look : Option BodyLook)
+      → ContinuesWithoutData (sinkless_moment was old) (sinkless_moment is new) look
+      → ContinuesBody takes (reader_moment was old s) (reader_moment is new s) look
+  with_sink nothing old new s was is look taken =
       record {
         text = taken.text;
         content = taken.content;
         cut = taken.cut;
         put = subst (λ (l : List ℕ). takes s l s) (sym taken.put) (nothing s);
-        come = taken.come;
+        outcome =
+            λ of front fed part. same_outcome of (body_part (front ++ taken.text) (fed ++ taken.content)) new is s look (taken.outcome of front fed part);
       }
 
-  pub taken_in_turn : TakesJoined S takes
-      → (old mid new : ReadBuffer) (before now after : S) (was then : BodyReader) (Come : BodyLength → List ℕ → List ℕ → Type 0)
-      → TakesOn takes old mid before now was (λ of text content. IsPart of text content then) → TakesOn takes mid new now after then Come
-      → TakesOn takes old new before after was Come
-  taken_in_turn joined old mid new before now after was then Come first second = record {
+  pub taken_in_turn : TakesJoined S takes → (before mid after : ReaderMoment S) (look : Option BodyLook)
+      → ContinuesBody takes before mid None → ContinuesBody takes mid after look → ContinuesBody takes before after look
+  taken_in_turn joined before mid after look first second = record {
     text = first.text ++ second.text;
     content = first.content ++ second.content;
-    cut = first.cut ∙ ap (put_back first.text) second.cut ∙ ap (λ (l : List ℕ). record new { held = l }) (sym (append_assoc first.text second.text new.held));
-    put = joined before now after first.content second.content first.put second.put;
-    come = λ of front fed part.
-        subst (λ (l : List ℕ). Come of l (fed ++ (first.content ++ second.content))) (append_assoc front first.text second.text)
-        (subst (Come of ((front ++ first.text) ++ second.text)) (append_assoc fed first.content second.content)
-        (second.come of (front ++ first.text) (fed ++ first.content) (first.come of front fed part)));
+    cut =
+        first.cut ∙ ap (put_back first.text) second.cut
+        ∙ ap (λ (l : List ℕ). record after.received { held = l }) (sym (append_assoc first.text second.text after.received.held));
+    put = joined before.sink mid.sink after.sink first.content second.content first.put second.put;
+    outcome = λ of front fed part.
+        subst (λ (l : List ℕ). HasStepOutcome of (body_part l (fed ++ (first.content ++ second.content))) after look)
+        (append_assoc front first.text second.text)
+        (subst (λ (l : List ℕ). HasStepOutcome of (body_part ((front ++ first.text) ++ second.text) l) after look)
+        (append_assoc fed first.content second.content)
+        (second.outcome of (front ++ first.text) (fed ++ first.content) (first.outcome of front fed part)));
   }
 
 -- the part of a reader whose stage is known
 pub at_stage : (of : BodyLength) (front fed : List ℕ) (reader : BodyReader) (stage : Stage) → reader.stage ≡ stage → IsPart of front fed reader
-    → IsPartAt of front fed reader.left stage
-at_stage of front fed reader stage is part = subst (λ (s : Stage). IsPartAt of front fed reader.left s) is part
+    → IsPartAt of (body_part front fed) reader.left stage
+at_stage of front fed reader stage is part = subst (λ (s : Stage). IsPartAt of (body_part front fed) reader.left s) is part
 
 -- a text that begins the bytes and isn't empty is taken
 pub fewer_held : (old new : ReadBuffer) (Is : List ℕ → Type 0) (count : ℕ) → HasNone Is [] → Is (take count old.held) → count ≤ length old.held

@@ -1,16 +1,14 @@
 -- What reading a body does to the bytes received and to the sink.
-use Rattle.std.specs.Prelude.{◌≡◌, ℕ, ◌+◌, ◌<◌, ◌≤◌, ◌==◌, ◌&&◌, Bool, true, false, List, [], ◌∷◌, ◌++◌, length, take, All, Result, Ok, Err}
+use Rattle.std.specs.Prelude.{◌≡◌, ℕ, ◌≤◌, ◌==◌, ◌&&◌, Bool, true, false, List, [], ◌∷◌, ◌++◌, length, take, Result, Ok, Err}
 use Rattle.std.specs.Io.KnownBytes.{IsAtEnd}
 use Rattle.httparse.specs.Ascii.{crlf_bytes}
-use Rattle.http_requests.specs.Chunks.{IsSomeSizeLine, IsContent, Chunk, IsChunk, texts, contents, HasNone, Lacks}
+use Rattle.http_requests.specs.Chunks.{IsSomeSizeLine, HasNone}
 use Rattle.http_requests.specs.ChunkLooks.{EndsNoLine}
-use Rattle.http_requests.specs.declared.request.TheConstants.{MAX_BODY_BYTES}
-use Rattle.http_requests.specs.Requests.{HasBody, BodyBreaks, IsShorter, AwaitsBody}
+use Rattle.http_requests.specs.Requests.{HasBody, BodyBreaks, AwaitsBody}
 use Rattle.http_requests.specs.AwaitedReads.{Source}
-use Rattle.http_requests.specs.ReceivedBytes.{ReadBuffer, ReadsOnWhile, put_back}
+use Rattle.http_requests.specs.ReceivedBytes.{ReadBuffer, ReadMoment, read_moment, ReadsOnWhile, put_back}
 use Rattle.session_devices.specs.ByteTakers.{Takings}
 use Rattle.http_requests.specs.declared.request.BodyLength.{BodyLength}
-use Rattle.http_requests.specs.declared.request.BodyLength.TheVariants.{Chunked}
 use Rattle.http_requests.specs.declared.request.RequestFault.{RequestFault}
 
 -- ---- a text of one kind at the start
@@ -55,21 +53,44 @@ pub record BodyMoment (R S : Type 0) : Type 0 where
 abbrev pub body_moment : {R S : Type 0} → R → ReadBuffer → S → BodyMoment R S
 body_moment input received sink = record { input = input; received = received; sink = sink }
 
+-- a call that reads a body: what the sink does with bytes, what is known about the input, and the announced length
+pub record BodyCall (R S : Type 0) : Type 1 where
+  pub takes : Takings S
+  pub source : Source R
+  pub size : BodyLength
+
+abbrev pub body_call : {R S : Type 0} → Takings S → Source R → BodyLength → BodyCall R S
+body_call takes source size = record { takes = takes; source = source; size = size }
+
+-- the input and the bytes received at one moment of such a call
+abbrev pub without_sink : {R S : Type 0} → BodyMoment R S → ReadMoment R
+without_sink m = read_moment m.input m.received
+
+-- the same, before this text was taken from the bytes received
+abbrev pub before_taking : {R S : Type 0} → List ℕ → BodyMoment R S → ReadMoment R
+before_taking text m = read_moment m.input (put_back text m.received)
+
+-- some reads were made and then this text was taken; each read was made while more of the body was awaited
+abbrev pub ReadsForBody : {R S : Type 0} → BodyCall R S → BodyMoment R S → BodyMoment R S → List ℕ → Type 0
+ReadsForBody call before after text =
+    ReadsOnWhile call.source (AwaitsBody call.size) (without_sink before) (before_taking text after)
+
 -- the body that the head announces was taken and pushed into the sink; each read for it was made while more was awaited
-pub record TakesBody {S R : Type 0} (takes : Takings S) (source : Source R) (before after : BodyMoment R S) (size : BodyLength) : Type 0 where
+pub record TakesBody {R S : Type 0} (call : BodyCall R S) (before after : BodyMoment R S) : Type 0 where
   pub text : List ℕ
   pub body : List ℕ
-  pub body_is : HasBody size text body
-  pub reads : ReadsOnWhile source (AwaitsBody size) before.input after.input before.received (put_back text after.received)
-  pub put : takes before.sink body after.sink
+  pub body_is : HasBody call.size text body
+  pub reads : ReadsForBody call before after text
+  pub put : call.takes before.sink body after.sink
 
 -- a text was taken, and with what is left it isn't the body that the head announces, for this reason; each read was
 -- made while more of a body was awaited
-pub record BreaksBody {R : Type 0} (source : Source R) (s t : R) (old new : ReadBuffer) (size : BodyLength) (why : RequestFault) : Type 0 where
+pub record BreaksBody {R S : Type 0} (call : BodyCall R S) (before after : BodyMoment R S) (why : RequestFault) : Type 0 where
   pub text : List ℕ
-  pub reads : ReadsOnWhile source (AwaitsBody size) s t old (put_back text new)
-  pub breaks : BodyBreaks (IsAtEnd (source.remaining t)) why size (text ++ new.held)
+  pub reads : ReadsForBody call before after text
+  pub breaks : BodyBreaks (IsAtEnd (call.source.remaining after.input)) why call.size (text ++ after.received.held)
 
-abbrev pub ReadsBody : {S R : Type 0} → Takings S → Source R → BodyMoment R S → BodyMoment R S → BodyLength → Result (Unit {0}) RequestFault → Type 0
-ReadsBody takes source before after size (Ok _) = TakesBody takes source before after size
-ReadsBody takes source before after size (Err why) = BreaksBody source before.input after.input before.received after.received size why
+-- how a call ends that reads a body
+abbrev pub ReadsBody : {R S : Type 0} → BodyCall R S → BodyMoment R S → BodyMoment R S → Result (Unit {0}) RequestFault → Type 0
+ReadsBody call before after (Ok _) = TakesBody call before after
+ReadsBody call before after (Err why) = BreaksBody call before after why

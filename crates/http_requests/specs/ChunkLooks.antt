@@ -12,10 +12,10 @@ use Rattle.http_requests.specs.declared.chunked.trailer.TheConstants.{MAX_TRAILE
 
 -- What a parser found in the first `most` of `count` bytes: a complete text; an incomplete one, if there are fewer
 -- than `most`; or none that can come, also if it is still incomplete after `most` bytes.
-abbrev pub LooksBy : {T E : Type 0} → Result (Status T) E → ℕ → ℕ → Look T → Type 0
-LooksBy parsed count most (Whole found) = parsed ≡ Ok (Complete found)
-LooksBy parsed count most More = (parsed ≡ Ok Partial) × (count < most)
-LooksBy {T} {E} parsed count most Never = ((e : E) × (parsed ≡ Err e)) ⊎ ((parsed ≡ Ok Partial) × (most ≤ count))
+abbrev pub FoundByParser : {T E : Type 0} → Result (Status T) E → ℕ → ℕ → Look T → Type 0
+FoundByParser parsed count most (Whole found) = parsed ≡ Ok (Complete found)
+FoundByParser parsed count most More = (parsed ≡ Ok Partial) × (count < most)
+FoundByParser {T} {E} parsed count most Never = ((e : E) × (parsed ≡ Err e)) ⊎ ((parsed ≡ Ok Partial) × (most ≤ count))
 
 -- no line ends in the bytes
 abbrev pub EndsNoLine : List ℕ → Type 0

@@ -1,5 +1,6 @@
 -- The fields of a head, by name (RFC 9110, sections 5 and 5.6.1).
-use Rattle.std.specs.Prelude.{◌≡◌, ℕ, ◌==◌, ◌&&◌, ◌||◌, Bool, not, List, [], ◌∷◌, map, filter, length, nat_lt, if◌then◌else◌, Option, Some, None}
+use Rattle.std.specs.Prelude.{◌≡◌, ℕ, ◌==◌, ◌&&◌, ◌||◌, Bool, not, List, [], ◌∷◌, map, filter, length}
+use Rattle.std.specs.Prelude.{nat_lt, if◌then◌else◌, Option, Some, None}
 use Rattle.std.specs.List.{list_any, list_all, slice_split, position_or_len, before_first, after_first}
 use Rattle.std.specs.Char.{to_ascii_lowercase}
 use Rattle.jaeger_model.specs.Texts.{same_text}

@@ -1,6 +1,7 @@
 -- Laws that the impls of this crate name, and their lemmas. A clause can't name its own crate's proofs/, so they are in
 -- specs/. What ends with a line comes with the end of one: until a line has ended it is awaited still.
-use Rattle.std.proofs.Common.{◌≡◌, ℕ, ◌==◌, ◌||◌, nat_le, ◌<◌, Bool, true, false, List, [], ◌∷◌, ◌++◌, length, take, drop, refl, sym, ap, ◌∙◌, subst, arith}
+use Rattle.std.proofs.Common.{◌≡◌, ℕ, ◌==◌, ◌||◌, nat_le, ◌<◌, Bool, true, false, List, [], ◌∷◌, ◌++◌, length}
+use Rattle.std.proofs.Common.{take, drop, refl, sym, ap, ◌∙◌, subst, arith}
 use Rattle.std.proofs.Common.{append_assoc, append-nil, length-append}
 use Rattle.std.specs.List.{list_any, flat_map}
 use Rattle.std.proofs.lemmas.Bool.Decides.{nat_tests}
@@ -78,8 +79,8 @@ cut_before seen part lines rest ends e none =
     let cut = ends_before seen part ends.0 rest (e ∙ ap (λ l. l ++ rest) ends.1 ∙ append_assoc ends.0 (10 ∷ []) rest) none in
     (cut.0, cut.1 ∙ ap (λ l. l ++ cut.0) (sym ends.1))
 
-none_longer : (Is : List ℕ → Type 0) (seen part : List ℕ) → ((text : List ℕ) → Is text → EndsLine text) → HasNone Is seen → has_feed part ≡ false
-    → HasNone Is (seen ++ part)
+none_longer : (Is : List ℕ → Type 0) (seen part : List ℕ) → ((text : List ℕ) → Is text → EndsLine text) → HasNone Is seen
+    → has_feed part ≡ false → HasNone Is (seen ++ part)
 none_longer Is seen part ends none new text rest is e =
     let cut = cut_before seen part text rest (ends text is) e new in
     none text cut.0 is cut.1
@@ -108,7 +109,8 @@ head_not_due bytes seen awaits not =
     let all = take-append-drop seen bytes in
     subst AwaitsHead all (head_longer (take seen bytes) (drop seen bytes) awaits new.1 (omega (arith, new.0, ap length all)))
 
-pub trailer_not_due : (bytes : List ℕ) (seen : ℕ) → HasNone IsTrailer (take seen bytes) → is_due bytes seen MAX_TRAILER_BYTES ≡ false → HasNone IsTrailer bytes
+pub trailer_not_due : (bytes : List ℕ) (seen : ℕ) → HasNone IsTrailer (take seen bytes)
+    → is_due bytes seen MAX_TRAILER_BYTES ≡ false → HasNone IsTrailer bytes
 trailer_not_due bytes seen none not =
     let new = not_due bytes seen MAX_TRAILER_BYTES not in
     subst (HasNone IsTrailer) (take-append-drop seen bytes) (none_longer IsTrailer (take seen bytes) (drop seen bytes) trailer_ends none new.1)

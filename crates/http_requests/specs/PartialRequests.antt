@@ -16,10 +16,9 @@ use Rattle.http_requests.specs.declared.body_reader.Stage.TheVariants.{Length, S
 use Rattle.http_requests.specs.declared.body_reader.Stage.TheVariants as stage
 use Rattle.http_requests.specs.declared.reading.HeadWait.{HeadWait}
 use Rattle.http_requests.specs.Heads.{AwaitsHead}
-use Rattle.http_requests.specs.Requests.{HasBody, BodyBreaks, IsShorter, AwaitsBody}
-use Rattle.http_requests.specs.AwaitedReads.{Source}
-use Rattle.http_requests.specs.ReceivedBytes.{ReadBuffer, ReadsOnWhile, put_back}
-use Rattle.http_requests.specs.Bodies.{AwaitsLine, AwaitsRest, BodyMoment}
+use Rattle.http_requests.specs.Requests.{HasBody, BodyBreaks, IsShorter}
+use Rattle.http_requests.specs.ReceivedBytes.{ReadBuffer, put_back}
+use Rattle.http_requests.specs.Bodies.{AwaitsLine, AwaitsRest, BodyMoment, BodyCall, ReadsForBody}
 
 -- ---- a head
 
@@ -67,18 +66,26 @@ pub record WithLastLine (text content : List ℕ) : Type 0 where
   pub content_is : content ≡ contents chunks
   pub small : length (contents chunks) ≤ MAX_BODY_BYTES
 
-abbrev pub IsPartAt : BodyLength → List ℕ → List ℕ → ℕ → Stage → Type 0
-IsPartAt (Bytes n) text content left (Length count) = (text ≡ content) × (length content + count ≡ n)
-IsPartAt Chunked text content left SizeLine = WithChunks text content left
-IsPartAt Chunked text content left (Data count) = WithData text content left count
-IsPartAt Chunked text content left (Trailer seen) = WithLastLine text content
-IsPartAt Unreadable text content left (stage.Unreadable fault.Body) = Unit {0}
-IsPartAt TooLarge text content left (stage.Unreadable fault.TooLarge) = Unit {0}
-IsPartAt _ text content left _ = ⊥
+-- a part of a body: its text, and the data in it
+pub record BodyPart : Type 0 where
+  pub text : List ℕ
+  pub content : List ℕ
 
--- a part of a body of this length, and of its data
+abbrev pub body_part : List ℕ → List ℕ → BodyPart
+body_part text content = record { text = text; content = content }
+
+abbrev pub IsPartAt : BodyLength → BodyPart → ℕ → Stage → Type 0
+IsPartAt (Bytes n) part left (Length count) = (part.text ≡ part.content) × (length part.content + count ≡ n)
+IsPartAt Chunked part left SizeLine = WithChunks part.text part.content left
+IsPartAt Chunked part left (Data count) = WithData part.text part.content left count
+IsPartAt Chunked part left (Trailer seen) = WithLastLine part.text part.content
+IsPartAt Unreadable part left (stage.Unreadable fault.Body) = Unit {0}
+IsPartAt TooLarge part left (stage.Unreadable fault.TooLarge) = Unit {0}
+IsPartAt _ part left _ = ⊥
+
+-- the reader has taken this part of a body of this length
 abbrev pub IsPart : BodyLength → List ℕ → List ℕ → BodyReader → Type 0
-IsPart size text content reader = IsPartAt size text content reader.left reader.stage
+IsPart size text content reader = IsPartAt size (body_part text content) reader.left reader.stage
 
 -- ---- what follows it
 
@@ -103,15 +110,26 @@ AwaitsMoreBody reader held = AwaitsAt reader.stage held
 
 -- ---- what a look finds
 
--- what became of the body with the part taken, given the bytes that follow
-abbrev pub Comes : BodyLength → List ℕ → List ℕ → List ℕ → BodyReader → BodyLook → Type 0
-Comes size text content held reader Whole = HasBody size text content
-Comes size text content held reader More = IsPart size text content reader
-Comes size text content held reader (Fault why) = BodyBreaks ⊥ why size (text ++ held)
+-- the states of a reader, of the bytes received and of the sink at one moment
+pub record ReaderMoment (S : Type 0) : Type 0 where
+  pub reader : BodyReader
+  pub received : ReadBuffer
+  pub sink : S
 
-abbrev pub ComesOr : BodyLength → List ℕ → List ℕ → List ℕ → BodyReader → Option BodyLook → Type 0
-ComesOr size text content held reader None = IsPart size text content reader
-ComesOr size text content held reader (Some look) = Comes size text content held reader look
+abbrev pub reader_moment : {S : Type 0} → BodyReader → ReadBuffer → S → ReaderMoment S
+reader_moment reader received sink = record { reader = reader; received = received; sink = sink }
+
+-- what became of a body of this length, of which this part was taken: it is complete, the reader has taken this part, or
+-- the part with the bytes that follow is malformed
+abbrev pub HasOutcome : {S : Type 0} → BodyLength → BodyPart → ReaderMoment S → BodyLook → Type 0
+HasOutcome size part after Whole = HasBody size part.text part.content
+HasOutcome size part after More = IsPart size part.text part.content after.reader
+HasOutcome size part after (Fault why) = BodyBreaks ⊥ why size (part.text ++ after.received.held)
+
+-- the same after one step of a look, which decides nothing if another step may follow
+abbrev pub HasStepOutcome : {S : Type 0} → BodyLength → BodyPart → ReaderMoment S → Option BodyLook → Type 0
+HasStepOutcome size part after None = IsPart size part.text part.content after.reader
+HasStepOutcome size part after (Some look) = HasOutcome size part after look
 
 -- if nothing is decided, more is awaited
 abbrev pub Leaves : BodyReader → List ℕ → BodyLook → Type 0
@@ -124,24 +142,27 @@ LeavesOr reader held None = HasLooked reader held
 LeavesOr reader held (Some look) = Leaves reader held look
 
 -- A text was taken from the bytes received, and the data in it were pushed into the sink. Whatever part the reader had
--- taken before, that part with this text is as `Come` says.
-pub record TakesOn {S : Type 0} (takes : Takings S) (old new : ReadBuffer) (before after : S) (was : BodyReader)
-    (Come : BodyLength → List ℕ → List ℕ → Type 0) : Type 0 where
+-- taken before, that part with this text has this outcome.
+pub record ContinuesBody {S : Type 0} (takes : Takings S) (before after : ReaderMoment S) (look : Option BodyLook) : Type 0 where
   pub text : List ℕ
   pub content : List ℕ
-  pub cut : old ≡ put_back text new
-  pub put : takes before content after
-  pub come : (size : BodyLength) (front fed : List ℕ) → IsPart size front fed was → Come size (front ++ text) (fed ++ content)
+  pub cut : before.received ≡ put_back text after.received
+  pub put : takes before.sink content after.sink
+  pub outcome : (size : BodyLength) (front fed : List ℕ) → IsPart size front fed before.reader
+      → HasStepOutcome size (body_part (front ++ text) (fed ++ content)) after look
 
--- like TakesOn, for a text without data
-abbrev pub TakesText : ReadBuffer → ReadBuffer → BodyReader → (BodyLength → List ℕ → List ℕ → Type 0) → Type 0
-TakesText old new was Come = TakesOn {S = Unit {0}} (λ s content t. content ≡ []) old new tt tt was Come
+-- the states of a reader and of the bytes received at one moment, without a sink
+abbrev pub sinkless_moment : BodyReader → ReadBuffer → ReaderMoment (Unit {0})
+sinkless_moment reader received = reader_moment reader received tt
+
+-- like ContinuesBody, for a text without data
+abbrev pub ContinuesWithoutData : ReaderMoment (Unit {0}) → ReaderMoment (Unit {0}) → Option BodyLook → Type 0
+ContinuesWithoutData before after look = ContinuesBody {S = Unit {0}} (λ s content t. content ≡ []) before after look
 
 -- a part of a body was taken, and its data were pushed into the sink; each read for it was made while more was awaited
-pub record TakesPart {S R : Type 0} (takes : Takings S) (source : Source R) (before after : BodyMoment R S) (size : BodyLength)
-    (reader : BodyReader) : Type 0 where
+pub record TakesPart {R S : Type 0} (call : BodyCall R S) (before after : BodyMoment R S) (reader : BodyReader) : Type 0 where
   pub text : List ℕ
   pub content : List ℕ
-  pub part : IsPart size text content reader
-  pub reads : ReadsOnWhile source (AwaitsBody size) before.input after.input before.received (put_back text after.received)
-  pub put : takes before.sink content after.sink
+  pub part : IsPart call.size text content reader
+  pub reads : ReadsForBody call before after text
+  pub put : call.takes before.sink content after.sink

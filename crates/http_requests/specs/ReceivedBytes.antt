@@ -1,14 +1,13 @@
 -- What reads do to the bytes received, and what one search for the head of a request finds.
-use Rattle.std.specs.Prelude.{◌≡◌, ℕ, ◌+◌, ◌*◌, ◌≤◌, ◌⊎◌, Bool, true, false, if◌then◌else◌, List, [], ◌++◌, length, take, drop, Option, Result, Ok, Err}
+use Rattle.std.specs.Prelude.{◌≡◌, ℕ, ◌+◌, ◌*◌, ◌≤◌, ◌⊎◌, Bool, true, false, if◌then◌else◌}
+use Rattle.std.specs.Prelude.{List, [], ◌++◌, length, take, drop, Option, Result, Ok, Err}
 use Rattle.std.specs.Io.KnownBytes.{Consumes, IsAtEnd}
-use Rattle.httparse.specs.Grammar.{RequestHead}
 use Rattle.http_requests.specs.declared.room.TheConstants.{READ_BYTES}
 use Rattle.http_requests.specs.Heads.{TakesHead, AwaitsHead}
 use Rattle.http_requests.specs.HeadContents.{body_length}
-use Rattle.http_requests.specs.Requests.{Spells, IsHeadOf, IsMalformed, AwaitsRequest}
-use Rattle.http_requests.specs.AwaitedReads.{Gives, Source, counted, ReadsWhile, FailsToRead}
+use Rattle.http_requests.specs.Requests.{IsHeadOf, IsMalformed}
+use Rattle.http_requests.specs.AwaitedReads.{Gives, Source, counted, read_rule, InputMoment, input_moment, ReadsWhile, FailsToRead}
 use Rattle.http_requests.specs.declared.request.BodyLength.{BodyLength}
-use Rattle.http_requests.specs.declared.request.RequestFault.{RequestFault}
 use Rattle.http_requests.specs.declared.request.RequestFault.TheVariants as fault
 use Rattle.http_requests.specs.declared.request.Request.{Request}
 use Rattle.http_requests.specs.declared.read_buffer.ReadError.{ReadError}
@@ -49,31 +48,7 @@ SameUnlessReading failed0 failed1 (Err Reading) = Unit {0}
 abbrev pub put_back : List ℕ → ReadBuffer → ReadBuffer
 put_back text r = record r { held = text ++ r.held }
 
--- one read was made, and its bytes were appended to those received
-abbrev pub IsRead : {R : Type 0} → Gives R → R → R → ReadBuffer → ReadBuffer → Type 0
-IsRead gives s t old new =
-    (piece : List ℕ) × gives s piece t × (new.held ≡ old.held ++ piece) × (new.left + 1 ≡ old.left)
-
--- Some reads were made, each while more was awaited, given the bytes received by then. Each takes one of the reads
--- left.
-pub record ReadsOnWhile {R : Type 0} (source : Source R) (Awaits : List ℕ → Type 0) (s t : R) (old new : ReadBuffer) : Type 0 where
-  pub on : ReadsOn (source.remaining s) (source.remaining t) old new
-  pub waits : ReadsWhile (counted source.gives) Awaits (s, old.left) (t, new.left) old.held new.held
-
--- Why one more read returned nothing: memory ran out before it, no read was left, or it failed.
-abbrev pub ReadFails : {R : Type 0} → Source R → R → R → Bool → ReadBuffer → ReadError → Type 0
-ReadFails source s t failed here Memory = t ≡ s
-ReadFails source s t failed here Reading =
-    ((t ≡ s) × (here.left ≡ 0) × (here.ended ≡ false)) ⊎ FailsToRead source s t failed
-
--- A call ended in an error. Some reads were made, each while more was awaited, given the bytes received by then. More
--- was still awaited, and one more read returned nothing.
-pub record StopsWhile {R : Type 0} (source : Source R) (Awaits : List ℕ → Type 0) (s t : R) (failed : Bool) (old : ReadBuffer) (why : ReadError) : Type 0 where
-  pub here : ReadBuffer
-  pub before : R
-  pub reads : ReadsOnWhile source Awaits s before old here
-  pub awaits : Awaits here.held
-  pub last : ReadFails source before t failed here why
+-- ---- reads of an input into a buffer
 
 -- the state of the input at one moment, and the bytes received
 pub record ReadMoment (R : Type 0) : Type 0 where
@@ -83,42 +58,87 @@ pub record ReadMoment (R : Type 0) : Type 0 where
 abbrev pub read_moment : {R : Type 0} → R → ReadBuffer → ReadMoment R
 read_moment input received = record { input = input; received = received }
 
+-- the same, with the number of reads left as a part of the input's state
+abbrev pub counted_moment : {R : Type 0} → ReadMoment R → InputMoment (R × ℕ)
+counted_moment m = input_moment (m.input, m.received.left) m.received.held
+
+-- one read was made, and its bytes were appended to those received
+abbrev pub IsRead : {R : Type 0} → Gives R → ReadMoment R → ReadMoment R → Type 0
+IsRead gives before after =
+    (piece : List ℕ) × gives before.input piece after.input
+    × (after.received.held ≡ before.received.held ++ piece) × (after.received.left + 1 ≡ before.received.left)
+
+-- Some reads were made, each while more was awaited, given the bytes received by then. Each takes one of the reads
+-- left.
+pub record ReadsOnWhile {R : Type 0} (source : Source R) (Awaits : List ℕ → Type 0) (before after : ReadMoment R) : Type 0 where
+  pub on : ReadsOn (source.remaining before.input) (source.remaining after.input) before.received after.received
+  pub waits : ReadsWhile (read_rule (counted source.gives) Awaits) (counted_moment before) (counted_moment after)
+
+-- ---- calls that ended in an error
+
+-- the input after a call that ended in an error, whether the input has failed, and the error
+pub record FailedCall (R : Type 0) : Type 0 where
+  pub input : R
+  pub failed : Bool
+  pub why : ReadError
+
+abbrev pub failed_call : {R : Type 0} → R → Bool → ReadError → FailedCall R
+failed_call input failed why = record { input = input; failed = failed; why = why }
+
+-- the statement for this error: the first if reading failed, the second if memory ran out
+abbrev pub ByError : ReadError → Type 0 → Type 0 → Type 0
+ByError Reading IfReading IfMemory = IfReading
+ByError Memory IfReading IfMemory = IfMemory
+
+-- Why one more read returned nothing: no read was left, it failed, or memory ran out before it.
+abbrev pub ReadFails : {R : Type 0} → Source R → ReadMoment R → FailedCall R → Type 0
+ReadFails source before after =
+    ByError after.why
+    (((after.input ≡ before.input) × (before.received.left ≡ 0) × (before.received.ended ≡ false))
+    ⊎ FailsToRead source before.input after.input after.failed)
+    (after.input ≡ before.input)
+
+-- A call ended in an error. Some reads were made, each while more was awaited, given the bytes received by then. More
+-- was still awaited, and one more read returned nothing.
+pub record StopsWhile {R : Type 0} (source : Source R) (Awaits : List ℕ → Type 0) (before : ReadMoment R) (after : FailedCall R) : Type 0 where
+  pub here : ReadMoment R
+  pub reads : ReadsOnWhile source Awaits before here
+  pub awaits : Awaits here.received.held
+  pub last : ReadFails source here after
+
+-- ---- what one search for the head of a request finds
+
+-- what was reported about a head, its length, and the announced length of the body
+pub record FoundHead : Type 0 where
+  pub request : Request
+  pub len : ℕ
+  pub size : BodyLength
+
+abbrev pub found_head : Request → ℕ → BodyLength → FoundHead
+found_head request len size = record { request = request; len = len; size = size }
+
 -- The bytes start with the head of a request, of this length, with this report and this announced body length. Each
 -- read for it was made while a head was awaited.
-pub record FindsHead {R : Type 0} (source : Source R) (s t : R) (old new : ReadBuffer) (r : Request) (len : ℕ) (size : BodyLength) : Type 0 where
-  pub is : IsHeadOf (take len new.held) r
-  pub takes : TakesHead new.held is.head (drop len new.held)
-  pub inside : len ≤ length new.held
-  pub size_is : size ≡ body_length is.head
-  pub reads : ReadsOnWhile source AwaitsHead s t old new
+pub record FindsHead {R : Type 0} (source : Source R) (before after : ReadMoment R) (found : FoundHead) : Type 0 where
+  pub is : IsHeadOf (take found.len after.received.held) found.request
+  pub takes : TakesHead after.received.held is.head (drop found.len after.received.held)
+  pub inside : found.len ≤ length after.received.held
+  pub size_is : found.size ≡ body_length is.head
+  pub reads : ReadsOnWhile source AwaitsHead before after
 
 -- the input has ended and nothing is left
-pub record FindsEnd {R : Type 0} (source : Source R) (s t : R) (old new : ReadBuffer) : Type 0 where
-  pub reads : ReadsOnWhile source AwaitsHead s t old new
-  pub at_end : IsAtEnd (source.remaining t)
-  pub nothing : new.held ≡ []
+pub record FindsEnd {R : Type 0} (source : Source R) (before after : ReadMoment R) : Type 0 where
+  pub reads : ReadsOnWhile source AwaitsHead before after
+  pub at_end : IsAtEnd (source.remaining after.input)
+  pub nothing : after.received.held ≡ []
 
 -- what is left doesn't start with a head
-pub record FindsNone {R : Type 0} (source : Source R) (s t : R) (old new : ReadBuffer) : Type 0 where
-  pub reads : ReadsOnWhile source AwaitsHead s t old new
-  pub malformed : IsMalformed (IsAtEnd (source.remaining t)) new.held fault.Head
+pub record FindsNone {R : Type 0} (source : Source R) (before after : ReadMoment R) : Type 0 where
+  pub reads : ReadsOnWhile source AwaitsHead before after
+  pub malformed : IsMalformed (IsAtEnd (source.remaining after.input)) after.received.held fault.Head
 
 -- what one search for the head of a request finds
 abbrev pub Finds : {R : Type 0} → Source R → ReadMoment R → ReadMoment R → Next → Type 0
-Finds source before after (One r len size) = FindsHead source before.input after.input before.received after.received r len size
-Finds source before after Clean = FindsEnd source before.input after.input before.received after.received
-Finds source before after NoHead = FindsNone source before.input after.input before.received after.received
-
--- ---- requests whose head was taken, and then the body
-
--- a request with this head and this body was taken; each read for it was made while it was awaited
-pub record TakesRequest {R : Type 0} (source : Source R) (s t : R) (old new : ReadBuffer) (head : RequestHead) (body : List ℕ) : Type 0 where
-  pub text : List ℕ
-  pub reads : ReadsOnWhile source AwaitsRequest s t old (put_back text new)
-  pub spells : Spells text head body
-
--- what was taken and what is left don't start with a request; each read was made while one was awaited
-pub record FindsFault {R : Type 0} (source : Source R) (s t : R) (old new : ReadBuffer) (why : RequestFault) : Type 0 where
-  pub text : List ℕ
-  pub reads : ReadsOnWhile source AwaitsRequest s t old (put_back text new)
-  pub malformed : IsMalformed (IsAtEnd (source.remaining t)) (text ++ new.held) why
+Finds source before after (One request len size) = FindsHead source before after (found_head request len size)
+Finds source before after Clean = FindsEnd source before after
+Finds source before after NoHead = FindsNone source before after

@@ -1,8 +1,8 @@
 ghost use Rattle.std.specs.Prelude.{IfOk, IfErr};
 ghost use Rattle.http_requests.specs.Requests.{AwaitsBody};
 ghost use Rattle.http_requests.specs.AwaitedReads.{source_of};
-ghost use Rattle.http_requests.specs.ReceivedBytes.{KnowsItsEnd, StopsWhile, SameUnlessReading};
-ghost use Rattle.http_requests.specs.Bodies.{ReadsBody, body_moment};
+ghost use Rattle.http_requests.specs.ReceivedBytes.{KnowsItsEnd, StopsWhile, SameUnlessReading, read_moment, failed_call};
+ghost use Rattle.http_requests.specs.Bodies.{ReadsBody, body_call, body_moment};
 
 use crate::body_reader::{BodyLook, BodyReader};
 use crate::read_buffer::{ReadBuffer, ReadError};
@@ -26,11 +26,13 @@ pub fn read_body<R: Input, S: Sink>(
     size: BodyLength,
 ) -> Result<Result<(), RequestFault>, ReadError>
     requires end { KnowsItsEnd received.old.ended (R.remaining input.old) }
-    ensures body { IfOk result (ReadsBody S.takes (source_of R.remaining R.gives)
+    ensures body { IfOk result (ReadsBody
+        (body_call S.takes (source_of R.remaining R.gives) size)
         (body_moment input.old received.old sink.old)
-        (body_moment input.new received.new sink.new) size) }
+        (body_moment input.new received.new sink.new)) }
     ensures err { IfErr result (λ why. StopsWhile (source_of R.remaining R.gives)
-        (AwaitsBody size) input.old input.new (R.has_failed input.new) received.old why) }
+        (AwaitsBody size) (read_moment input.old received.old)
+        (failed_call input.new (R.has_failed input.new) why)) }
     ensures same { SameUnlessReading (R.has_failed input.old) (R.has_failed input.new) result }
 {
     let mut reader = BodyReader::new(size);

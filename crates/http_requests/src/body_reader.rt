@@ -1,10 +1,10 @@
 //! A body that is read piece by piece: its state between two reads.
 
-ghost use Rattle.std.specs.Prelude.{◌≡◌, ◌<◌, ℕ, List, [], length, take, drop, min, IfNone};
+ghost use Rattle.std.specs.Prelude.{◌≡◌, ◌<◌, ℕ, List, [], length, take, drop, min, IfNone, Some};
 ghost use Rattle.http_requests.specs.Chunks.{IsTrailer, HasNone, NeverHas};
-ghost use Rattle.http_requests.specs.HeadSearches.{LooksFor};
+ghost use Rattle.http_requests.specs.HeadSearches.{LooksFor, search_for};
 ghost use Rattle.http_requests.specs.Bodies.{AwaitsRest, IsLineEnd, Begins, begins_line_end, may_begin_line_end};
-ghost use Rattle.http_requests.specs.PartialRequests.{IsPart, HasLooked, Comes, ComesOr, Leaves, LeavesOr, TakesOn, TakesText};
+ghost use Rattle.http_requests.specs.PartialRequests.{IsPart, HasLooked, Leaves, LeavesOr, ContinuesBody, ContinuesWithoutData, reader_moment, sinkless_moment};
 ghost use Rattle.http_requests.specs.declared.body_reader.Stage.TheVariants as stage;
 
 use crate::chunked::{Look, MAX_TRAILER_BYTES, look_for_size, look_for_trailer};
@@ -90,7 +90,8 @@ fn may_begin_line_end(bytes: &[u8]) -> bool
 
 /// Looks for CR LF at the start of the bytes.
 fn look_for_line_end(bytes: &[u8]) -> Look<usize>
-    ensures { LooksFor (AwaitsRest IsLineEnd) (Begins IsLineEnd) (NeverHas IsLineEnd)
+    ensures { LooksFor
+        (search_for (AwaitsRest IsLineEnd) (Begins IsLineEnd) (NeverHas IsLineEnd))
         bytes.now result }
 {
     if begins_line_end(bytes) {
@@ -136,8 +137,8 @@ impl BodyReader {
     /// Takes a size line.
     fn take_size_line(&mut self, received: &mut ReadBuffer) -> Option<BodyLook>
         requires stage { self.old.stage ≡ stage.SizeLine }
-        ensures took { TakesText received.old received.new self.old
-            (λ size text content. ComesOr size text content received.new.held self.new result) }
+        ensures took { ContinuesWithoutData (sinkless_moment self.old received.old)
+            (sinkless_moment self.new received.new) result }
         ensures leaves { LeavesOr self.new received.new.held result }
         ensures fewer { IfNone result (length received.new.held < length received.old.held) }
     {
@@ -163,8 +164,8 @@ impl BodyReader {
     /// Takes the CR LF after the data of a chunk.
     fn take_line_end(&mut self, received: &mut ReadBuffer) -> Option<BodyLook>
         requires stage { self.old.stage ≡ stage.Data 0 }
-        ensures took { TakesText received.old received.new self.old
-            (λ size text content. ComesOr size text content received.new.held self.new result) }
+        ensures took { ContinuesWithoutData (sinkless_moment self.old received.old)
+            (sinkless_moment self.new received.new) result }
         ensures leaves { LeavesOr self.new received.new.held result }
         ensures fewer { IfNone result (length received.new.held < length received.old.held) }
     {
@@ -183,8 +184,8 @@ impl BodyReader {
     fn take_trailer(&mut self, received: &mut ReadBuffer, seen: usize) -> BodyLook
         requires stage { self.old.stage ≡ stage.Trailer seen }
         requires looked { HasLooked self.old received.old.held }
-        ensures took { TakesText received.old received.new self.old
-            (λ size text content. Comes size text content received.new.held self.new result) }
+        ensures took { ContinuesWithoutData (sinkless_moment self.old received.old)
+            (sinkless_moment self.new received.new) (Some result) }
         ensures leaves { Leaves self.new received.new.held result }
     {
         let bytes = received.as_slice();
@@ -209,8 +210,8 @@ impl BodyReader {
         count: u64,
     ) -> BodyLook
         requires stage { self.old.stage ≡ stage.Length count }
-        ensures took { TakesOn S.takes received.old received.new sink.old sink.new self.old
-            (λ size text content. Comes size text content received.new.held self.new result) }
+        ensures took { ContinuesBody S.takes (reader_moment self.old received.old sink.old)
+            (reader_moment self.new received.new sink.new) (Some result) }
         ensures leaves { Leaves self.new received.new.held result }
     {
         let put = push_some(received, sink, count);
@@ -230,8 +231,8 @@ impl BodyReader {
     ) -> Option<BodyLook>
         requires stage { self.old.stage ≡ stage.Data count }
         requires some { 0 < count }
-        ensures took { TakesOn S.takes received.old received.new sink.old sink.new self.old
-            (λ size text content. ComesOr size text content received.new.held self.new result) }
+        ensures took { ContinuesBody S.takes (reader_moment self.old received.old sink.old)
+            (reader_moment self.new received.new sink.new) result }
         ensures leaves { LeavesOr self.new received.new.held result }
         ensures fewer { IfNone result (length received.new.held < length received.old.held) }
     {
@@ -248,8 +249,8 @@ impl BodyReader {
     /// once.
     fn step<S: Sink>(&mut self, received: &mut ReadBuffer, sink: &mut S) -> Option<BodyLook>
         requires looked { HasLooked self.old received.old.held }
-        ensures took { TakesOn S.takes received.old received.new sink.old sink.new self.old
-            (λ size text content. ComesOr size text content received.new.held self.new result) }
+        ensures took { ContinuesBody S.takes (reader_moment self.old received.old sink.old)
+            (reader_moment self.new received.new sink.new) result }
         ensures leaves { LeavesOr self.new received.new.held result }
         ensures fewer { IfNone result (length received.new.held < length received.old.held) }
     {
@@ -267,8 +268,8 @@ impl BodyReader {
     /// bytes that were not taken are examined again together with the next ones.
     pub fn take_from<S: Sink>(&mut self, received: &mut ReadBuffer, sink: &mut S) -> BodyLook
         requires looked { HasLooked self.old received.old.held }
-        ensures took { TakesOn S.takes received.old received.new sink.old sink.new self.old
-            (λ size text content. Comes size text content received.new.held self.new result) }
+        ensures took { ContinuesBody S.takes (reader_moment self.old received.old sink.old)
+            (reader_moment self.new received.new sink.new) (Some result) }
         ensures leaves { Leaves self.new received.new.held result }
     {
         // For the prover: its proof names the loop by the label.

@@ -1,6 +1,6 @@
 ghost use Rattle.std.specs.Prelude.{◌≡◌, ◌≤◌, ◌+◌, [], false, IfErr, OnOk, OnErr, length, drop};
 ghost use Rattle.http_requests.specs.AwaitedReads.{source_of};
-ghost use Rattle.http_requests.specs.ReceivedBytes.{ReadsOn, IsRead, ReadFails, SameUnlessReading};
+ghost use Rattle.http_requests.specs.ReceivedBytes.{ReadsOn, IsRead, ReadFails, SameUnlessReading, read_moment, failed_call};
 
 use crate::room::{Room, SpareRoom};
 use session_devices::{Input, MAX_READS};
@@ -97,10 +97,11 @@ impl ReadBuffer {
         requires { self.old.ended ≡ false }
         ensures ok { OnOk result (ReadsOn (R.remaining input.old) (R.remaining input.new)
             self.old self.new) }
-        ensures read { OnOk result (IsRead R.gives input.old input.new self.old self.new) }
+        ensures read { OnOk result (IsRead R.gives (read_moment input.old self.old)
+            (read_moment input.new self.new)) }
         ensures err { IfErr result (λ why. ReadFails (source_of R.remaining R.gives)
-            input.old input.new
-            (R.has_failed input.new) self.old why) }
+            (read_moment input.old self.old)
+            (failed_call input.new (R.has_failed input.new) why)) }
         ensures unchanged { OnErr result (self.new ≡ self.old) }
         ensures same { SameUnlessReading (R.has_failed input.old) (R.has_failed input.new) result }
         ensures fewer { OnOk result (self.new.left + 1 ≡ self.old.left) }

@@ -1,10 +1,10 @@
 ghost use Rattle.std.specs.Prelude.{◌≡◌, ◌≤◌, ℕ, List, length, take, IfOk, IfErr};
 ghost use Rattle.http_requests.specs.FramedHeads.{Frames};
 ghost use Rattle.http_requests.specs.Heads.{AwaitsHead, NeverHasHead};
-ghost use Rattle.http_requests.specs.HeadSearches.{LooksFor};
+ghost use Rattle.http_requests.specs.HeadSearches.{LooksFor, search_for};
 ghost use Rattle.http_requests.specs.PartialRequests.{HasSeen, SeesAll};
 ghost use Rattle.http_requests.specs.AwaitedReads.{source_of};
-ghost use Rattle.http_requests.specs.ReceivedBytes.{KnowsItsEnd, StopsWhile, Finds, SameUnlessReading, read_moment};
+ghost use Rattle.http_requests.specs.ReceivedBytes.{KnowsItsEnd, StopsWhile, Finds, SameUnlessReading, read_moment, failed_call};
 
 use crate::chunked::Look;
 use crate::head::HeadSearch;
@@ -42,8 +42,9 @@ impl HeadWait {
     /// and the length of its body. Bytes that were examined are not examined again before a line ends after them.
     pub fn look(&mut self, bytes: &[u8]) -> Look<(Request, usize, BodyLength)>
         requires seen { HasSeen self.old bytes.now }
-        ensures found { LooksFor AwaitsHead (λ bytes found. Frames bytes found.1 found.0 found.2)
-            NeverHasHead bytes.now result }
+        ensures found { LooksFor (search_for AwaitsHead
+            (λ bytes found. Frames bytes found.1 found.0 found.2) NeverHasHead)
+            bytes.now result }
         ensures seen { SeesAll self.new bytes.now result }
     {
         let mut search = HeadSearch::new();
@@ -76,7 +77,8 @@ pub fn next_head<R: Input>(input: &mut R, received: &mut ReadBuffer) -> Result<N
     ensures found { IfOk result (Finds (source_of R.remaining R.gives)
         (read_moment input.old received.old) (read_moment input.new received.new)) }
     ensures err { IfErr result (λ why. StopsWhile (source_of R.remaining R.gives)
-        AwaitsHead input.old input.new (R.has_failed input.new) received.old why) }
+        AwaitsHead (read_moment input.old received.old)
+        (failed_call input.new (R.has_failed input.new) why)) }
     ensures same { SameUnlessReading (R.has_failed input.old) (R.has_failed input.new) result }
 {
     let mut wait = HeadWait::new();

@@ -1,6 +1,6 @@
 ghost use Rattle.std.specs.Prelude.{◌≡◌, ◌≤◌, ◌+◌, [], vec_len, length, drop, true, IfOk, OnOk, OnErr};
 ghost use Rattle.std.specs.Io.KnownBytes.{Keeps};
-ghost use Rattle.http_requests.specs.AwaitedReads.{source_of};
+ghost use Rattle.http_requests.specs.AwaitedReads.{source_of, input_moment};
 ghost use Rattle.http_requests.specs.Pieces.{GetsPiece};
 
 use session_devices::{Failed, Input};
@@ -135,8 +135,8 @@ impl Room {
     /// Reads once, at most a piece, after the bytes held. Returns the number of bytes read.
     pub(crate) fn read_from<R: Input>(&mut self, input: &mut R) -> Result<usize, Failed>
         requires room { self.old.end + READ_BYTES ≤ vec_len self.old.bytes }
-        ensures ok { IfOk result (GetsPiece (source_of R.remaining R.gives) input.old input.new
-            (held self.old) (held self.new)) }
+        ensures ok { IfOk result (GetsPiece (source_of R.remaining R.gives)
+            (input_moment input.old (held self.old)) (input_moment input.new (held self.new))) }
         ensures works { OnOk result (R.has_failed input.new ≡ R.has_failed input.old) }
         ensures same { OnErr result (held self.new ≡ held self.old) }
         ensures err { OnErr result (Keeps (R.remaining input.old) (R.remaining input.new)

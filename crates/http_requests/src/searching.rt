@@ -1,6 +1,6 @@
 ghost use Rattle.std.specs.Prelude.{◌≡◌, ◌≤◌, ℕ, List, [], false, length, take};
 ghost use Rattle.http_requests.specs.LineEnds.{is_due};
-ghost use Rattle.http_requests.specs.HeadSearches.{LooksFor};
+ghost use Rattle.http_requests.specs.HeadSearches.{LooksFor, search_for};
 
 use crate::chunked::Look;
 use crate::line_ends::is_due;
@@ -27,7 +27,7 @@ pub(crate) trait Search {
 
     /// Searches the bytes received so far.
     fn look(&mut self, bytes: &[u8]) -> Look<Self::Found>
-        ensures { LooksFor awaits (finds self.new) never_has bytes.now result };
+        ensures { LooksFor (search_for awaits (finds self.new) never_has) bytes.now result };
 
     /// The text is awaited before the first byte.
     ghost awaited_first: { awaits [] };
@@ -42,7 +42,8 @@ pub(crate) trait Search {
 pub(crate) fn look_when_due<S: Search>(bytes: &[u8], seen: usize, sought: &mut S) -> Look<S::Found>
     requires seen { seen ≤ length bytes.now }
     requires before { S.awaits (take seen bytes.now) }
-    ensures { LooksFor S.awaits (S.finds sought.new) S.never_has bytes.now result }
+    ensures { LooksFor (search_for S.awaits (S.finds sought.new) S.never_has)
+        bytes.now result }
 {
     if is_due(bytes, seen, S::MAX_LENGTH) {
         sought.look(bytes)

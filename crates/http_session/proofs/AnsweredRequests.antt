@@ -6,9 +6,9 @@ use Rattle.http_requests.specs.ReceivedBytes.{ReadBuffer, put_back}
 use Rattle.http_requests.proofs.OneRequest.{request_is_some}
 use Rattle.http_session.specs.IncomingRequests.{ReceivesOne}
 use Rattle.http_session.specs.Replies.{closes, takes_no_memory, response_of}
-use Rattle.http_session.specs.Sessions.{Exchange, IsExchange, Submits, Reads, Step, WritesResponse}
+use Rattle.http_session.specs.Sessions.{Exchange, IsExchange, Store, Step, output_state, WritesResponse}
 use Rattle.http_session.specs.ResponseOrder.{ConnectionModel, connection_moment, IsTwoWay, EndsOver, FailsOver}
-use Rattle.http_session.specs.ResumableSessions.{SoFar}
+use Rattle.http_session.specs.ResumableSessions.{between_requests, SoFar}
 use Rattle.http_session.specs.declared.verdict.Verdict.{Verdict}
 use Rattle.http_session.specs.declared.reply.Reply.{Reply}
 use Rattle.http_session.specs.declared.whole_session.SessionErrorKind.TheVariants.{Memory}
@@ -27,18 +27,18 @@ fewer_left old here v asked found =
     let left : old.left ≡ here.left = ap (λ (b : ReadBuffer). b.left) found.cut in
     rw left (omega (arith, some_text old here v asked found, held, length-append found.text here.held))
 
-module _ {S C : Type 0} (submits : Submits S) (reads : Reads S) (model : ConnectionModel C) (two : IsTwoWay model) (c0 c2 : C) (s t : S) (old here : ReadBuffer)
+module _ {S C : Type 0} (store : Store S) (model : ConnectionModel C) (two : IsTwoWay model) (c0 c2 : C) (s t : S) (old here : ReadBuffer)
     (answered : ℕ)
-    (v : Verdict) (asked : Bool) (so : SoFar submits reads model (connection_moment c0 s) (connection_moment c2 t) old answered)
+    (v : Verdict) (asked : Bool) (so : SoFar store model (connection_moment c0 s) (between_requests c2 t old answered))
     (found : ReceivesOne old here v asked) where
   -- with the request's text put back
   abbrev pub whole : ReadBuffer
   whole = put_back found.text here
 
-  so_whole : SoFar submits reads model (connection_moment c0 s) (connection_moment c2 t) whole answered
-  so_whole = subst (λ (b : ReadBuffer). SoFar submits reads model (connection_moment c0 s) (connection_moment c2 t) b answered) found.cut so
+  so_whole : SoFar store model (connection_moment c0 s) (between_requests c2 t whole answered)
+  so_whole = subst (λ (b : ReadBuffer). SoFar store model (connection_moment c0 s) (between_requests c2 t b answered)) found.cut so
 
-  module _ (c3 : C) (u : S) (reply : Reply) (close : Bool) (step : Step submits reads t v reply u) (close_is : close ≡ (asked || closes reply)) where
+  module _ (c3 : C) (u : S) (reply : Reply) (close : Bool) (step : Step store t v reply u) (close_is : close ≡ (asked || closes reply)) where
     abbrev pub turn : Exchange
     turn = record { text = found.text; head = found.head; body = found.body; verdict = v; reply = reply; close = asked || closes reply }
 
@@ -46,28 +46,29 @@ module _ {S C : Type 0} (submits : Submits S) (reads : Reads S) (model : Connect
     is_turn = record { spells = found.spells; verdict_follows = found.verdict_follows; close_is = ap (λ (b : Bool). b || closes reply) found.closes_is }
 
     pub answered_open : Appends (model.contents c2) (model.contents c3) (response_of reply close) → model.takes c2 (response_of reply close) c3 → close ≡ false
-        → SoFar submits reads model (connection_moment c0 s) (connection_moment c3 u) here (answered + 1)
+        → SoFar store model (connection_moment c0 s) (between_requests c3 u here (answered + 1))
     answered_open wrote took stays =
-        goes_on submits reads model two c0 c2 c3 s t u whole here.held answered turn so_whole is_turn (sym close_is ∙ stays) refl
+        goes_on store model two c0 c2 c3 s t u whole here.held answered turn so_whole is_turn (sym close_is ∙ stays) refl
         (some_text old here v asked found) step
         (subst (λ (b : Bool). Appends (model.contents c2) (model.contents c3) (response_of reply b)) close_is wrote)
         (subst (λ (b : Bool). model.takes c2 (response_of reply b) c3) close_is took)
 
     pub answered_last : Appends (model.contents c2) (model.contents c3) (response_of reply close) → model.takes c2 (response_of reply close) c3 → close ≡ true
-        → EndsOver submits reads model (connection_moment c0 s) (connection_moment c3 u) (record { answered = answered + 1; clean = false })
+        → EndsOver store model (connection_moment c0 s) (connection_moment c3 u) (record { answered = answered + 1; clean = false })
     answered_last wrote took leaves =
-        ends_closing submits reads model two c0 c2 c3 s t u whole here.held answered turn so_whole is_turn (sym close_is ∙ leaves) refl step
+        ends_closing store model two c0 c2 c3 s t u whole here.held answered turn so_whole is_turn (sym close_is ∙ leaves) refl step
         (subst (λ (b : Bool). Appends (model.contents c2) (model.contents c3) (response_of reply b)) close_is wrote)
         (subst (λ (b : Bool). model.takes c2 (response_of reply b) c3) close_is took)
 
     pub answered_not : (partial_write : PartialWrite)
-        → WritesResponse (model.contents c2) (model.contents c3) false (model.out_failed c3) (response_of reply close) (Err partial_write)
+        → WritesResponse (output_state (model.contents c2) false) (output_state (model.contents c3) (model.out_failed c3)) (response_of reply close)
+        (Err partial_write)
         → model.takes c2 (take partial_write.written (response_of reply close)) c3 → model.in_failed c2 ≡ false
         → (takes_no_memory reply ≡ true → partial_write.cause ≢ Memory)
-        → FailsOver submits reads model (connection_moment c0 s) (connection_moment c3 u)
+        → FailsOver store model (connection_moment c0 s) (connection_moment c3 u)
         (record { answered = answered; written = partial_write.written; cause = partial_write.cause })
     answered_not partial_write said took in_works spared =
-        fails_due submits reads model two c0 c2 c3 s t u whole here.held answered turn partial_write so_whole is_turn refl step
-        (subst (λ (b : Bool). WritesResponse (model.contents c2) (model.contents c3) false (model.out_failed c3) (response_of reply b) (Err partial_write))
-        close_is said)
+        fails_due store model two c0 c2 c3 s t u whole here.held answered turn partial_write so_whole is_turn refl step
+        (subst (λ (b : Bool). WritesResponse (output_state (model.contents c2) false) (output_state (model.contents c3) (model.out_failed c3))
+        (response_of reply b) (Err partial_write)) close_is said)
         (subst (λ (b : Bool). model.takes c2 (take partial_write.written (response_of reply b)) c3) close_is took) in_works spared

@@ -1,12 +1,12 @@
 -- How what is done with a connection goes on.
 use Rattle.std.proofs.Common.{◌≡◌, ℕ, ◌+◌, Bool, List, [], ◌∷◌, ◌++◌, length, map, Option, refl, sym, ap, ap₂, ◌∙◌, subst, subst₂, append_assoc, append-nil}
 use Rattle.std.proofs.Common.{length-append}
-use Rattle.session_devices.specs.ByteTakers.{Takings, LeavesOther}
+use Rattle.session_devices.specs.ByteTakers.{LeavesOther}
 use Rattle.http_requests.specs.Requests.{AwaitsRequest}
-use Rattle.http_requests.specs.AwaitedReads.{Gives, GivesWhile, ReadsWhile}
+use Rattle.http_requests.specs.AwaitedReads.{Gives, GivesWhile, ReadsWhile, input_moment, read_rule}
 use Rattle.http_session.specs.Sessions.{Exchange, texts, responses}
 use Rattle.http_session.specs.ReadTurns.{AwaitsNext, ReadsInTurn}
-use Rattle.http_session.specs.ResponseOrder.{Act, got, put, reads_of, Transcript, ActsWhile, AwaitsAnswered, AnswersInTurn}
+use Rattle.http_session.specs.ResponseOrder.{ConnectionModel, Act, got, put, reads_of, Transcript, transcript, ActsLead, AwaitsAnswered, AnswersInTurn}
 
 -- after all of them, when all are answered
 after_all : (opens : List Exchange) (held : List ℕ) → AwaitsRequest held → AwaitsAnswered opens (texts opens ++ held) (responses opens)
@@ -38,16 +38,16 @@ reads_of_got : (ps : List (List ℕ)) → reads_of (map got ps) ≡ ps
 reads_of_got [] = refl
 reads_of_got (p ∷ ps) = ap (λ (l : List (List ℕ)). p ∷ l) (reads_of_got ps)
 
-module _ {C : Type 0} (gives : Gives C) (takes : Takings C) where
-  acts_join : (Awaits : List ℕ → List ℕ → Type 0) (xs ys : List Act) (s m t : Transcript C) → ActsWhile gives takes Awaits s m xs
-      → ActsWhile gives takes Awaits m t ys
-      → ActsWhile gives takes Awaits s t (xs ++ ys)
-  acts_join Awaits [] ys s m t first second = subst (λ (x : Transcript C). ActsWhile gives takes Awaits x t ys) (sym first) second
+module _ {C : Type 0} (model : ConnectionModel C) where
+  acts_join : (Awaits : List ℕ → List ℕ → Type 0) (xs ys : List Act) (s m t : Transcript C) → ActsLead model Awaits s m xs
+      → ActsLead model Awaits m t ys
+      → ActsLead model Awaits s t (xs ++ ys)
+  acts_join Awaits [] ys s m t first second = subst (λ (x : Transcript C). ActsLead model Awaits x t ys) (sym first) second
   acts_join Awaits (got p ∷ xs) ys s m t first second = (first.0, first.1, first.2, acts_join Awaits xs ys _ m t first.3 second)
   acts_join Awaits (put w ∷ xs) ys s m t first second = (first.0, first.1, acts_join Awaits xs ys _ m t first.2 second)
 
-  acts_weaker : (A B : List ℕ → List ℕ → Type 0) → ((h w : List ℕ) → A h w → B h w) → (xs : List Act) (s t : Transcript C) → ActsWhile gives takes A s t xs
-      → ActsWhile gives takes B s t xs
+  acts_weaker : (A B : List ℕ → List ℕ → Type 0) → ((h w : List ℕ) → A h w → B h w) → (xs : List Act) (s t : Transcript C) → ActsLead model A s t xs
+      → ActsLead model B s t xs
   acts_weaker A B weaker [] s t acts = acts
   acts_weaker A B weaker (got p ∷ xs) s t acts = (weaker s.received s.written acts.0, acts.1, acts.2, acts_weaker A B weaker xs _ t acts.3)
   acts_weaker A B weaker (put w ∷ xs) s t acts = (acts.0, acts.1, acts_weaker A B weaker xs _ t acts.2)
@@ -55,35 +55,37 @@ module _ {C : Type 0} (gives : Gives C) (takes : Takings C) where
   -- reads alone, after a text and while so much was written
   acts_of_reads : (A : List ℕ → List ℕ → Type 0) (front written : List ℕ) → ((h : List ℕ) → AwaitsRequest h → A (front ++ h) written)
       → (ps : List (List ℕ)) (s t : C) (old new : List ℕ)
-      → GivesWhile gives AwaitsRequest s t old new ps
-      → ActsWhile gives takes A (record { state = s; received = front ++ old; written = written })
-      (record { state = t; received = front ++ new; written = written }) (map got ps)
+      → GivesWhile (read_rule model.source.gives AwaitsRequest) (input_moment s old) (input_moment t new) ps
+      → ActsLead model A (transcript s (front ++ old) written)
+      (transcript t (front ++ new) written) (map got ps)
   acts_of_reads A front written more [] s t old new each =
-      ap₂ (λ (x : C) (y : List ℕ). record { state = x; received = front ++ y; written = written }) each.0 each.1
+      ap₂ (λ (x : C) (y : List ℕ). transcript x (front ++ y) written) each.0 each.1
   acts_of_reads A front written more (p ∷ ps) s t old new each = (
     more old each.0,
     each.1,
     each.2,
-    subst (λ (l : List ℕ). ActsWhile gives takes A (record { state = each.1; received = l; written = written })
-        (record { state = t; received = front ++ new; written = written }) (map got ps))
+    subst (λ (l : List ℕ). ActsLead model A (transcript each.1 l written)
+        (transcript t (front ++ new) written) (map got ps))
         (sym (append_assoc front old p)) (acts_of_reads A front written more ps each.1 t (old ++ p) new each.3),
   )
 
   -- more was read for the request after them, when all were answered
-  pub read_more : (s m t : C) (opens : List Exchange) (taken held here after : List ℕ) (first : AnswersInTurn gives takes s m opens taken (responses opens))
+  pub read_more : (s m t : C) (opens : List Exchange) (taken held here after : List ℕ)
+      (first : AnswersInTurn model s opens (transcript m taken (responses opens)))
       → taken ≡ texts opens ++ held
-      → (second : ReadsWhile gives AwaitsRequest m t held here) → after ≡ texts opens ++ here
-      → (all : AnswersInTurn gives takes s t opens after (responses opens)) × (length (reads_of all.acts) ≡ length (reads_of first.acts) + length second.pieces)
+      → (second : ReadsWhile (read_rule model.source.gives AwaitsRequest) (input_moment m held) (input_moment t here)) → after ≡ texts opens ++ here
+      → (all : AnswersInTurn model s opens (transcript t after (responses opens)))
+      × (length (reads_of all.acts) ≡ length (reads_of first.acts) + length second.pieces)
   read_more s m t opens taken held here after first split second after_is =
       let said = responses opens in
       let acts = map got second.pieces in
-      let more : ActsWhile gives takes (AwaitsAnswered opens) (record { state = m; received = texts opens ++ held; written = said })
-      (record { state = t; received = texts opens ++ here; written = said }) acts =
+      let more : ActsLead model (AwaitsAnswered opens) (transcript m (texts opens ++ held) said)
+      (transcript t (texts opens ++ here) said) acts =
       acts_of_reads (AwaitsAnswered opens) (texts opens) said (after_all opens) second.pieces m t held here second.each in
-      let moved : ActsWhile gives takes (AwaitsAnswered opens) (record { state = m; received = taken; written = said })
-      (record { state = t; received = after; written = said }) acts =
-      subst₂ (λ (l r : List ℕ). ActsWhile gives takes (AwaitsAnswered opens) (record { state = m; received = l; written = said })
-      (record { state = t; received = r; written = said }) acts)
+      let moved : ActsLead model (AwaitsAnswered opens) (transcript m taken said)
+      (transcript t after said) acts =
+      subst₂ (λ (l r : List ℕ). ActsLead model (AwaitsAnswered opens) (transcript m l said)
+      (transcript t r said) acts)
       (sym split) (sym after_is) more in
       let long : length (reads_of (first.acts ++ acts)) ≡ length (reads_of first.acts) + length second.pieces =
       ap length (reads_of_join first.acts acts) ∙ length-append (reads_of first.acts) (reads_of acts)
@@ -91,8 +93,8 @@ module _ {C : Type 0} (gives : Gives C) (takes : Takings C) where
       (record { acts = first.acts ++ acts; each = acts_join (AwaitsAnswered opens) first.acts acts _ _ _ first.each moved }, long)
 
   -- some more requests are answered later
-  pub said_before : (s t : C) (opens more : List Exchange) (taken written : List ℕ) (first : AnswersInTurn gives takes s t opens taken written)
-      → (all : AnswersInTurn gives takes s t (opens ++ more) taken written) × (all.acts ≡ first.acts)
+  pub said_before : (s t : C) (opens more : List Exchange) (taken written : List ℕ) (first : AnswersInTurn model s opens (transcript t taken written))
+      → (all : AnswersInTurn model s (opens ++ more) (transcript t taken written)) × (all.acts ≡ first.acts)
   said_before s t opens more taken written first = (
     record {
       acts = first.acts;
@@ -103,31 +105,32 @@ module _ {C : Type 0} (gives : Gives C) (takes : Takings C) where
   )
 
   -- a response was written, or a part of one
-  pub said_on : (s m t : C) (opens : List Exchange) (taken written bytes after : List ℕ) (first : AnswersInTurn gives takes s m opens taken written)
-      → takes m bytes t → after ≡ written ++ bytes
-      → (all : AnswersInTurn gives takes s t opens taken after) × (length (reads_of all.acts) ≡ length (reads_of first.acts))
+  pub said_on : (s m t : C) (opens : List Exchange) (taken written bytes after : List ℕ) (first : AnswersInTurn model s opens (transcript m taken written))
+      → model.takes m bytes t → after ≡ written ++ bytes
+      → (all : AnswersInTurn model s opens (transcript t taken after)) × (length (reads_of all.acts) ≡ length (reads_of first.acts))
   said_on s m t opens taken written bytes after first wrote after_is =
-      let last : ActsWhile gives takes (AwaitsAnswered opens) (record { state = m; received = taken; written = written })
-      (record { state = t; received = taken; written = after }) (put bytes ∷ []) =
-      (t, wrote, ap (λ (l : List ℕ). record { state = t; received = taken; written = l }) (sym after_is)) in
+      let last : ActsLead model (AwaitsAnswered opens) (transcript m taken written)
+      (transcript t taken after) (put bytes ∷ []) =
+      (t, wrote, ap (λ (l : List ℕ). transcript t taken l) (sym after_is)) in
       let long : length (reads_of (first.acts ++ put bytes ∷ [])) ≡ length (reads_of first.acts) =
       ap length (reads_of_join first.acts (put bytes ∷ []) ∙ append-nil (reads_of first.acts)) in
       (record { acts = first.acts ++ put bytes ∷ []; each = acts_join (AwaitsAnswered opens) first.acts (put bytes ∷ []) _ _ _ first.each last }, long)
 
-  -- the bytes written, xs another term
-  abbrev pub said_as : (s t : C) (opens : List Exchange) (taken written same : List ℕ) → AnswersInTurn gives takes s t opens taken written → same ≡ written
-      → AnswersInTurn gives takes s t opens taken same
+  -- the bytes written, as another term
+  abbrev pub said_as : (s t : C) (opens : List Exchange) (taken written same : List ℕ) → AnswersInTurn model s opens (transcript t taken written)
+      → same ≡ written
+      → AnswersInTurn model s opens (transcript t taken same)
   said_as s t opens taken written same first e = record {
     acts = first.acts;
     each =
-        subst (λ (l : List ℕ). ActsWhile gives takes (AwaitsAnswered opens) (record { state = s; received = []; written = [] })
-        (record { state = t; received = taken; written = l }) first.acts) (sym e) first.each;
+        subst (λ (l : List ℕ). ActsLead model (AwaitsAnswered opens) (transcript s [] [])
+        (transcript t taken l) first.acts) (sym e) first.each;
   }
 
 -- reads change nothing of what was written
 pub reads_left : {C : Type 0} (gives : Gives C) (contents : C → Option (List ℕ)) (failed : C → Bool) → LeavesOther C gives contents failed
     → (A : List ℕ → Type 0) (ps : List (List ℕ)) (s t : C) (old new : List ℕ)
-    → GivesWhile gives A s t old new ps → (contents t ≡ contents s) × (failed t ≡ failed s)
+    → GivesWhile (read_rule gives A) (input_moment s old) (input_moment t new) ps → (contents t ≡ contents s) × (failed t ≡ failed s)
 reads_left gives contents failed leave A [] s t old new each = (ap contents (sym each.0), ap failed (sym each.0))
 reads_left gives contents failed leave A (p ∷ ps) s t old new each =
     let rest = reads_left gives contents failed leave A ps each.1 t (old ++ p) new each.3 in
@@ -136,30 +139,31 @@ reads_left gives contents failed leave A (p ∷ ps) s t old new each =
 
 -- ---- what all acts leave
 
-module _ {C N : Type 0} (gives : Gives C) (takes : Takings C) (name : C → N) (reads : (s t : C) (p : List ℕ) → gives s p t → name t ≡ name s)
-    (writes : (s t : C) (w : List ℕ) → takes s w t → name t ≡ name s) where
-  left_each : (A : List ℕ → List ℕ → Type 0) (xs : List Act) (s t : Transcript C) → ActsWhile gives takes A s t xs → name t.state ≡ name s.state
+module _ {C N : Type 0} (model : ConnectionModel C) (name : C → N) (reads : (s t : C) (p : List ℕ) → model.source.gives s p t → name t ≡ name s)
+    (writes : (s t : C) (w : List ℕ) → model.takes s w t → name t ≡ name s) where
+  left_each : (A : List ℕ → List ℕ → Type 0) (xs : List Act) (s t : Transcript C) → ActsLead model A s t xs → name t.state ≡ name s.state
   left_each A [] s t acts = ap (λ (x : Transcript C). name x.state) (sym acts)
   left_each A (got p ∷ xs) s t acts = left_each A xs _ t acts.3 ∙ reads s.state acts.1 p acts.2
   left_each A (put w ∷ xs) s t acts = left_each A xs _ t acts.2 ∙ writes s.state acts.0 w acts.1
 
-  pub acts_left : (s t : C) (opens : List Exchange) (taken written : List ℕ) → AnswersInTurn gives takes s t opens taken written → name t ≡ name s
+  pub acts_left : (s t : C) (opens : List Exchange) (taken written : List ℕ) → AnswersInTurn model s opens (transcript t taken written) → name t ≡ name s
   acts_left s t opens taken written answers = left_each (AwaitsAnswered opens) answers.acts _ _ answers.each
 
 -- ---- the input of a connection that was joined
 
-module _ {C R : Type 0} (gives : Gives C) (takes : Takings C) (given : Gives R) (input : C → R)
-    (reads : (s t : C) (p : List ℕ) → gives s p t → given (input s) p (input t))
-    (writes : (s t : C) (w : List ℕ) → takes s w t → input t ≡ input s) where
-  read_each : (opens : List Exchange) (xs : List Act) (s t : Transcript C) → ActsWhile gives takes (AwaitsAnswered opens) s t xs
-      → GivesWhile given (AwaitsNext opens) (input s.state) (input t.state) s.received t.received (reads_of xs)
+module _ {C R : Type 0} (model : ConnectionModel C) (given : Gives R) (input : C → R)
+    (reads : (s t : C) (p : List ℕ) → model.source.gives s p t → given (input s) p (input t))
+    (writes : (s t : C) (w : List ℕ) → model.takes s w t → input t ≡ input s) where
+  read_each : (opens : List Exchange) (xs : List Act) (s t : Transcript C) → ActsLead model (AwaitsAnswered opens) s t xs
+      → GivesWhile (read_rule given (AwaitsNext opens)) (input_moment (input s.state) s.received) (input_moment (input t.state) t.received) (reads_of xs)
   read_each opens [] s t acts = (ap (λ (x : Transcript C). input x.state) acts, ap (λ (x : Transcript C). x.received) acts)
   read_each opens (got p ∷ xs) s t acts = (acts.0.next, input acts.1, reads s.state acts.1 p acts.2, read_each opens xs _ t acts.3)
   read_each opens (put w ∷ xs) s t acts =
-      subst (λ (x : R). GivesWhile given (AwaitsNext opens) x (input t.state) s.received t.received (reads_of xs)) (writes s.state acts.0 w acts.1)
+      subst (λ (x : R). GivesWhile (read_rule given (AwaitsNext opens)) (input_moment x s.received) (input_moment (input t.state) t.received) (reads_of xs))
+      (writes s.state acts.0 w acts.1)
       (read_each opens xs _ t acts.2)
 
   -- the reads alone
-  pub reads_alone : (s t : C) (opens : List Exchange) (taken written : List ℕ) (answers : AnswersInTurn gives takes s t opens taken written)
+  pub reads_alone : (s t : C) (opens : List Exchange) (taken written : List ℕ) (answers : AnswersInTurn model s opens (transcript t taken written))
       → (turn : ReadsInTurn given (input s) (input t) opens taken) × (length turn.pieces ≡ length (reads_of answers.acts))
   reads_alone s t opens taken written answers = (record { pieces = reads_of answers.acts; each = read_each opens answers.acts _ _ answers.each }, refl)

@@ -12,13 +12,14 @@ use Rattle.http_requests.specs.Heads.{TakesHead, AwaitsHead, NeverHasHead}
 use Rattle.http_requests.specs.Requests.{HasBody, BodyBreaks, Spells, IsMalformed, BreaksAfter, IsHeadOf, AwaitsRequest}
 use Rattle.http_requests.specs.ReceivedBytes.{ReadBuffer, put_back}
 use Rattle.http_requests.specs.FramedHeads.{Frames}
-use Rattle.http_requests.specs.PartialRequests.{IsPart, Comes, AwaitsMoreBody, TakesOn}
+use Rattle.http_requests.specs.PartialRequests.{IsPart, AwaitsMoreBody, BodyPart, body_part, reader_moment, HasStepOutcome, ContinuesBody}
 use Rattle.http_requests.specs.declared.request.BodyLength.{BodyLength}
 use Rattle.http_requests.specs.declared.request.BodyLength.TheVariants.{Bytes, Chunked, Unreadable, TooLarge}
 use Rattle.http_requests.specs.declared.request.RequestFault.{RequestFault}
 use Rattle.http_requests.specs.declared.request.RequestFault.TheVariants as fault
 use Rattle.http_requests.specs.declared.request.Request.{Request}
 use Rattle.http_requests.specs.declared.body_reader.BodyReader.{BodyReader}
+use Rattle.http_requests.specs.declared.body_reader.BodyLook.{BodyLook}
 use Rattle.http_requests.specs.declared.body_reader.BodyLook.TheVariants as look
 use Rattle.http_requests.proofs.OneRequest.{head_stays}
 use Rattle.http_requests.proofs.WholeRequests.{head_cut}
@@ -55,11 +56,24 @@ batch_carries b d content follows question.Batch before judged =
     follows_joined decoded (answers b.feeder.value) (answers d.feeder.value) before content judged follows
 
 -- the same was taken, and put into another sink
-pub put_as : {S T : Type 0} (takes : Takings S) (other : Takings T) (old new : ReadBuffer) (s t : S) (x y : T) (was : BodyReader)
-    (Come : BodyLength → List ℕ → List ℕ → Type 0)
-    → ((content : List ℕ) → takes s content t → other x content y) → TakesOn takes old new s t was Come → TakesOn other old new x y was Come
-put_as takes other old new s t x y was Come puts on =
-    record { text = on.text; content = on.content; cut = on.cut; put = puts on.content on.put; come = on.come }
+pub put_as : {S T : Type 0} (takes : Takings S) (other : Takings T) (old new : ReadBuffer) (s t : S) (x y : T) (was is : BodyReader) (result : BodyLook)
+    → ((content : List ℕ) → takes s content t → other x content y)
+    → ContinuesBody takes (reader_moment was old s) (reader_moment is new t) (Some result)
+    → ContinuesBody other (reader_moment was old x) (reader_moment is new y) (Some result)
+put_as takes other old new s t x y was is result puts on = record {
+  text = on.text;
+  content = on.content;
+  cut = on.cut;
+  put = puts on.content on.put;
+  outcome =
+      λ of front fed part. other_sink of (body_part (front ++ on.text) (fed ++ on.content)) result (on.outcome of front fed part);
+}
+  where
+    other_sink : (of : BodyLength) (part : BodyPart) (look : BodyLook) → HasStepOutcome of part (reader_moment is new t) (Some look)
+        → HasStepOutcome of part (reader_moment is new y) (Some look)
+    other_sink of part look.Whole outcome = outcome
+    other_sink of part look.More outcome = outcome
+    other_sink of part (look.Fault why) outcome = outcome
 
 pub settled_decides : (v : Verdict) (q : Question) (body : List ℕ) → JudgesBy q (Settled v) body → Decides q body v
 settled_decides v (question.Settled w) body judged = judged
@@ -156,7 +170,7 @@ module _ (was is : PartialRequest) (text : List ℕ) (old new : ReadBuffer) (so 
   text_after more = ap (λ l. l ++ more) so.text_is ∙ append_assoc (print_request so.head) so.taken more
 
   pub part_more : is.closes ≡ was.closes
-      → (on : TakesOn Carries old new was.sink is.sink was.reader (λ size text content. Comes size text content new.held is.reader look.More))
+      → (on : ContinuesBody Carries (reader_moment was.reader old was.sink) (reader_moment is.reader new is.sink) (Some look.More))
       → IsPartOf is (text ++ on.text)
   part_more closes on = record {
     head = so.head;
@@ -165,20 +179,20 @@ module _ (was is : PartialRequest) (text : List ℕ) (old new : ReadBuffer) (so 
     question = so.question;
     takes = so.takes;
     text_is = text_after on.text;
-    part = on.come (body_length so.head) so.taken so.content so.part;
+    part = on.outcome (body_length so.head) so.taken so.content so.part;
     asks = so.asks;
     judged = on.put so.question so.content so.judged;
     closes_is = closes ∙ so.closes_is;
   }
 
   pub receives_more : is.closes ≡ was.closes
-      → TakesOn Carries old new was.sink is.sink was.reader (λ size text content. Comes size text content new.held is.reader look.More)
+      → ContinuesBody Carries (reader_moment was.reader old was.sink) (reader_moment is.reader new is.sink) (Some look.More)
       → ReceivesPart (put_back text old) new (Body is)
   receives_more closes on = record { text = text ++ on.text; cut = cut_after on.text on.cut; incoming = part_more closes on }
 
   -- the input ended after it
   pub receives_end_inside : is.closes ≡ was.closes
-      → TakesOn Carries old new was.sink is.sink was.reader (λ size text content. Comes size text content new.held is.reader look.More)
+      → ContinuesBody Carries (reader_moment was.reader old was.sink) (reader_moment is.reader new is.sink) (Some look.More)
       → AwaitsMoreBody is.reader new.held → new.ended ≡ true → ReceivesFault (put_back text old) new fault.Body
   unfolding ends_inside part_more
   receives_end_inside closes on awaits ended =
@@ -186,10 +200,10 @@ module _ (was is : PartialRequest) (text : List ℕ) (old new : ReadBuffer) (so 
       record { text = text ++ on.text; cut = cut_after on.text on.cut; malformed = inside.malformed }
 
   pub receives_malformed : (why : RequestFault)
-      → TakesOn Carries old new was.sink is.sink was.reader (λ size text content. Comes size text content new.held is.reader (look.Fault why))
+      → ContinuesBody Carries (reader_moment was.reader old was.sink) (reader_moment is.reader new is.sink) (Some (look.Fault why))
       → ReceivesFault (put_back text old) new why
   receives_malformed why on =
-      let breaks = on.come (body_length so.head) so.taken so.content so.part in
+      let breaks = on.outcome (body_length so.head) so.taken so.content so.part in
       let after : (so.taken ++ on.text) ++ new.held ≡ so.taken ++ (on.text ++ new.held) = append_assoc so.taken on.text new.held in
       record {
         text = text ++ on.text;
@@ -201,7 +215,7 @@ module _ (was is : PartialRequest) (text : List ℕ) (old new : ReadBuffer) (so 
       }
 
   pub receives_whole : is.closes ≡ was.closes
-      → TakesOn Carries old new was.sink is.sink was.reader (λ size text content. Comes size text content new.held is.reader look.Whole)
+      → ContinuesBody Carries (reader_moment was.reader old was.sink) (reader_moment is.reader new is.sink) (Some look.Whole)
       → ReceivesWhole (put_back text old) new is
   receives_whole closes on = record {
     text = text ++ on.text;
@@ -212,7 +226,7 @@ module _ (was is : PartialRequest) (text : List ℕ) (old new : ReadBuffer) (so 
     spells = record {
       after = so.taken ++ on.text;
       takes = subst (λ (l : List ℕ). TakesHead l so.head (so.taken ++ on.text)) (sym (text_after on.text)) (head_taken was text so (so.taken ++ on.text));
-      body_is = on.come (body_length so.head) so.taken so.content so.part;
+      body_is = on.outcome (body_length so.head) so.taken so.content so.part;
     };
     asks = so.asks;
     judged = on.put so.question so.content so.judged;

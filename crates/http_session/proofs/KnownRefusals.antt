@@ -6,9 +6,8 @@ use Rattle.trace_model.specs.declared.refusal.Refusal.{Refusal}
 use Rattle.trace_model.specs.declared.refusal.Refusal.TheVariants.{JournalFull, Stale, NoMemory, Deferred, Busy, Closed, Stranger, NoReply, Behind}
 use Rattle.trace_model.specs.declared.refusal.Refusal.TheVariants.{Conflict, Gone}
 use Rattle.trace_model.specs.StoreKnowledge.{refused, ForgetsNothing, KnowsRefusal}
-use Rattle.http_session.specs.Sessions.{Exchange, Step, Run}
+use Rattle.http_session.specs.Sessions.{Exchange, Store, Step, Run}
 use Rattle.http_session.specs.ResponseOrder.{ConnectionModel}
-use Rattle.http_session.specs.SessionRuns.{Store}
 use Rattle.http_session.specs.ResumableSessions.{shared}
 use Rattle.http_session.specs.KnownRefusals.{RefusalIsKnown, RefusalsAreKnown, RefusalsStayKnown, RefusalsStayKnownAmong}
 use Rattle.http_session.specs.declared.verdict.Verdict.{Verdict}
@@ -45,16 +44,16 @@ module _ {S : Type 0} (store : Store S) where
       (λ x one. kept_of_one s t x.verdict x.reply keeps one) xs known
 
   module _ (promises : Promises store) where
-    known_of_step : (s t : S) (v : Verdict) (reply : Reply) → Step store.submits store.reads s v reply t → RefusalIsKnown store.knows t v reply
+    known_of_step : (s t : S) (v : Verdict) (reply : Reply) → Step store s v reply t → RefusalIsKnown store.knows t v reply
     known_of_step s t (Submit b) (Refused why) step = (promises.submit_knows s b (Err why) t step).1
     known_of_step s t _ _ step = tt
 
-    run_keeps : (s t : S) (xs : List Exchange) → Run store.submits store.reads s xs t → ForgetsNothing store.limits store.knows s t
+    run_keeps : (s t : S) (xs : List Exchange) → Run store s xs t → ForgetsNothing store.limits store.knows s t
     run_keeps s t [] run = subst (λ (x : S). ForgetsNothing store.limits store.knows s x) (sym run) (keeps_all store s)
     run_keeps s t (x ∷ xs) run =
         keeps_on store s run.0 t (step_keeps store promises s run.0 x.verdict x.reply run.1) (run_keeps run.0 t xs run.2)
 
-    pub known_of_run : (s t : S) (xs : List Exchange) → Run store.submits store.reads s xs t → RefusalsAreKnown store.knows t xs
+    pub known_of_run : (s t : S) (xs : List Exchange) → Run store s xs t → RefusalsAreKnown store.knows t xs
     known_of_run s t [] run = All-nil (λ (x : Exchange). RefusalIsKnown store.knows t x.verdict x.reply)
     known_of_run s t (x ∷ xs) run =
         All-cons (λ (y : Exchange). RefusalIsKnown store.knows t y.verdict y.reply) x xs
@@ -62,11 +61,12 @@ module _ {S : Type 0} (store : Store S) where
         (known_of_run run.0 t xs run.2)
 
     pub stays_known : {C : Type 0} (model : ConnectionModel C) → RefusalsStayKnown store model
-    stays_known model c0 c1 s t session (Ok None) it = known_of_run s t _ it.so_far.run
-    stays_known model c0 c1 s t session (Ok (Some ended)) it = known_of_run s t _ it.0.0.run
-    stays_known model c0 c1 s t session (Err error) it = known_of_run s t _ it.0.0.run
+    stays_known model start now (Ok None) it = known_of_run start.store now.store _ it.so_far.run
+    stays_known model start now (Ok (Some ended)) it = known_of_run start.store now.store _ it.0.0.run
+    stays_known model start now (Err error) it = known_of_run start.store now.store _ it.0.0.run
 
 module _ {S C : Type 0} (store : Store S) (promises : Promises store) (model : ConnectionModel C) where
   pub stays_known_among : RefusalsStayKnownAmong store model
-  stays_known_among c0 c1 s t session result it =
-      kept_of_all store it.0 t _ it.2 (stays_known (shared store) (shared_promises store promises) model c0 c1 s it.0 session result it.1)
+  stays_known_among start now result it =
+      kept_of_all store it.0 now.store _ it.2
+      (stays_known (shared store) (shared_promises store promises) model start (record now { store = it.0 }) result it.1)

@@ -11,20 +11,20 @@ use Rattle.trace_model.specs.declared.refusal.Refusal.{Refusal}
 use Rattle.trace_model.specs.StoreKnowledge.{KnownList, reached, ForgetsNothing, SubmitKnows, ReadKnows}
 use Rattle.http_requests.specs.declared.read_buffer.ReadError.{ReadError}
 use Rattle.http_requests.specs.declared.request.RequestFault.{RequestFault}
-use Rattle.http_requests.specs.declared.read_buffer.ReadError.TheVariants as why
 use Rattle.http_requests.specs.Requests.{AwaitsRequest}
 use Rattle.http_requests.specs.LineLaws.{no_bytes_await}
 use Rattle.http_requests.specs.ReceivedBytes.{ReadBuffer, ReadsOn, ReadsOnWhile, IsRead, ReadFails, StopsWhile, SameUnlessReading, put_back}
+use Rattle.http_requests.specs.ReceivedBytes.{read_moment, failed_call}
 use Rattle.http_requests.proofs.Readings.{nothing_yet, read_after, stops_reading}
 use Rattle.http_session.specs.Verdicts.{BeginsWithQuery}
 use Rattle.http_session.specs.IncomingRequests.{before_a_request, HasReceived, WaitsAfter, ReceivesOne, ReceivesEnd, ReceivesFault, ReceivesPart}
-use Rattle.http_session.specs.IncomingRequests.{ReceivesNothing}
 use Rattle.http_session.specs.Replies.{closes, takes_no_memory, response_of}
-use Rattle.http_session.specs.Sessions.{Submits, Reads, Step, WritesResponse, cause_by}
+use Rattle.http_session.specs.Sessions.{Submits, Reads, Store, store_of, Step, output_state, WritesResponse, cause_by}
 use Rattle.http_session.specs.ResponseOrder.{ConnectionModel, connection_moment, IsTwoWay, EndsOver, FailsOver}
-use Rattle.http_session.specs.SessionRuns.{Store, store_of, EndsServed, FailsServed}
+use Rattle.http_session.specs.SessionRuns.{EndsServed, FailsServed}
 use Rattle.http_session.specs.ResumableSessions.{AsksOnce, AnswersSoFar, StaysUnderway, OutlastsWrites, SubmitsSome, ReadsSome, no_requests_yet}
-use Rattle.http_session.specs.ResumableSessions.{SoFar, CanContinue, AwaitsMore, shared, Underway, ComesTo, UnderwayAmong, GoesOn}
+use Rattle.http_session.specs.ResumableSessions.{between_requests, SoFar, CanContinue, AwaitsMore, shared, session_moment, Underway, ComesTo}
+use Rattle.http_session.specs.ResumableSessions.{UnderwayAmong, RunsPiece}
 use Rattle.http_session.specs.declared.resumable.Session.{Session}
 use Rattle.http_session.specs.declared.receiving.SessionStage.{SessionStage}
 use Rattle.http_session.specs.declared.verdict.Verdict.{Verdict}
@@ -37,7 +37,7 @@ use Rattle.http_session.specs.declared.whole_session.SessionErrorKind.TheVariant
 use Rattle.http_session.specs.declared.whole_session.PartialWrite.{PartialWrite}
 use Rattle.http_session.proofs.HistoryPoints.{related_all}
 use Rattle.http_session.proofs.IncomingParts.{malformed_if, waits_for_request, looked_by, looked_still}
-use Rattle.http_session.proofs.SessionTurns.{begins, reads_on, stays, ends_clean, ends_malformed, fails_reading, fails_stopped, fails_malformed, works_received}
+use Rattle.http_session.proofs.SessionTurns.{begins, reads_on, stays, ends_clean, ends_malformed, fails_none, fails_stopped, fails_malformed, works_received}
 use Rattle.http_session.proofs.AnsweredRequests.{fewer_left, answered_open, answered_last, answered_not}
 
 -- ---- what a store promises, and that it promises it also where others use it
@@ -61,8 +61,8 @@ module _ {S : Type 0} (store : Store S) where
   keeps_on s m t one two = record { same_limits = two.same_limits ∙ one.same_limits; knowledge = λ h k. two.knowledge h (one.knowledge h k) }
 
   -- a step that comes later
-  stepped : (m t u : S) (v : Verdict) (reply : Reply) → ForgetsNothing store.limits store.knows m t → Step store.submits store.reads t v reply u
-      → (n : S) × Step (shared store).submits (shared store).reads m v reply n × ForgetsNothing store.limits store.knows n u
+  stepped : (m t u : S) (v : Verdict) (reply : Reply) → ForgetsNothing store.limits store.knows m t → Step store t v reply u
+      → (n : S) × Step (shared store) m v reply n × ForgetsNothing store.limits store.knows n u
   stepped m t u (Submit b) Accepted keeps step = (u, (step.0, (t, keeps, step.1)), keeps_all u)
   stepped m t u (Submit b) (Refused r) keeps step = (u, (t, keeps, step), keeps_all u)
   stepped m t u (Ask q) (Answered a) keeps step = (u, (t, keeps, step), keeps_all u)
@@ -99,148 +99,153 @@ module _ {S : Type 0} (store : Store S) where
 
     -- its answers are those of one growing history
     pub ends_served : {C : Type 0} (model : ConnectionModel C) (c0 c1 : C) (s t : S) (ended : Ended)
-        → EndsOver store.submits store.reads model (connection_moment c0 s) (connection_moment c1 t) ended
+        → EndsOver store model (connection_moment c0 s) (connection_moment c1 t) ended
         → EndsServed store model (connection_moment c0 s) (connection_moment c1 t) ended
     ends_served model c0 c1 s t ended over =
-        (over, related_all store.limits store.knows store.submits store.reads promises.submit_knows promises.read_knows s t _ over.0.run)
+        (over, related_all store promises.submit_knows promises.read_knows s t _ over.0.run)
 
     pub fails_served : {C : Type 0} (model : ConnectionModel C) (c0 c1 : C) (s t : S) (error : SessionError)
-        → FailsOver store.submits store.reads model (connection_moment c0 s) (connection_moment c1 t) error
+        → FailsOver store model (connection_moment c0 s) (connection_moment c1 t) error
         → FailsServed store model (connection_moment c0 s) (connection_moment c1 t) error
     fails_served model c0 c1 s t error over =
-        (over, related_all store.limits store.knows store.submits store.reads promises.submit_knows promises.read_knows s t _ over.0.run)
+        (over, related_all store promises.submit_knows promises.read_knows s t _ over.0.run)
 
 -- ---- what one piece does
 
-module _ {S C : Type 0} (store : Store S) (promises : Promises store) (model : ConnectionModel C) (two : IsTwoWay model) (c1 : C) (t : S) (old new : Session) where
+module _ {S C : Type 0} (store : Store S) (promises : Promises store) (model : ConnectionModel C) (two : IsTwoWay model) (c1 : C) (t : S)
+    (old new : Session) where
   -- the store isn't asked
   unasked : (c2 : C) (result : Result (Option Ended) SessionError)
       → ((other : Store S) → Promises other → (c0 : C) (s m : S)
-      → Underway other model (connection_moment c0 s) (connection_moment c1 m) old
-      → ComesTo other model (connection_moment c0 s) (connection_moment c2 m) new result)
-      → GoesOn store model c1 c2 t t old new result
+      → Underway other model (connection_moment c0 s) (session_moment c1 m old)
+      → ComesTo other model (connection_moment c0 s) (session_moment c2 m new) result)
+      → RunsPiece store model (session_moment c1 t old) (session_moment c2 t new) result
   unasked c2 result each = record {
-    alone = λ c0 s so. each store promises c0 s t so;
-    among = λ c0 s under. (under.0, each (shared store) (shared_promises store promises) c0 s under.0 under.1, under.2);
+    alone = λ start so. each store promises start.connection start.store t so;
+    among = λ start under.
+        (under.0, each (shared store) (shared_promises store promises) start.connection start.store under.0 under.1, under.2);
   }
 
   -- the store makes a step
-  asked : (c2 : C) (u : S) (v : Verdict) (reply : Reply) (result : Result (Option Ended) SessionError) → Step store.submits store.reads t v reply u
-      → ((other : Store S) → Promises other → (c0 : C) (s m n : S) → Step other.submits other.reads m v reply n
-      → Underway other model (connection_moment c0 s) (connection_moment c1 m) old
-      → ComesTo other model (connection_moment c0 s) (connection_moment c2 n) new result)
-      → GoesOn store model c1 c2 t u old new result
+  asked : (c2 : C) (u : S) (v : Verdict) (reply : Reply) (result : Result (Option Ended) SessionError) → Step store t v reply u
+      → ((other : Store S) → Promises other → (c0 : C) (s m n : S) → Step other m v reply n
+      → Underway other model (connection_moment c0 s) (session_moment c1 m old)
+      → ComesTo other model (connection_moment c0 s) (session_moment c2 n new) result)
+      → RunsPiece store model (session_moment c1 t old) (session_moment c2 u new) result
   asked c2 u v reply result step each = record {
-    alone = λ c0 s so. each store promises c0 s t u step so;
-    among = λ c0 s under.
+    alone = λ start so. each store promises start.connection start.store t u step so;
+    among = λ start under.
         let on = stepped store under.0 t u v reply under.2 step in
-        (on.0, each (shared store) (shared_promises store promises) c0 s under.0 on.0 on.1 under.1, on.2);
+        (on.0, each (shared store) (shared_promises store promises) start.connection start.store under.0 on.0 on.1 under.1, on.2);
   }
 
   -- memory ran out for a query
   pub receives_no_query : model.in_failed c1 ≡ false → model.out_failed c1 ≡ false
       → ((text : List ℕ) → HasReceived old.stage text → BeginsWithQuery (text ++ old.received.held))
-      → GoesOn store model c1 c1 t t old new (Err (record { answered = old.answered; written = 0; cause = Memory }))
+      → RunsPiece store model (session_moment c1 t old) (session_moment c1 t new) (Err (record { answered = old.answered; written = 0; cause = Memory }))
   receives_no_query in_works out_works none =
       unasked c1 (Err (record { answered = old.answered; written = 0; cause = Memory }))
       (λ other kept c0 s m so.
-      let here = put_back so.text old.received in
-      let nothing : ReceivesNothing model.source c1 c1 (model.in_failed c1) here why.Memory =
-      inr (record { here = here; reads = nothing_yet model.source AwaitsRequest c1 here; query = none so.text so.incoming }) in
       fails_served other kept model c0 c1 s m _
-      (fails_reading other.submits other.reads model two (Unit {0})
-      c0 c1 c1 s m here old.answered false why.Memory so.so_far nothing in_works refl out_works))
+      (fails_none other model two c0 c1 c1 s m (put_back so.text old.received) old.answered Memory so.so_far
+      (inr (none so.text so.incoming)) (inl refl) (λ made sum. (in_works, out_works))))
 
   -- no more could be read
   pub receives_nothing : (A : Type 0) (c2 : C) (before : Bool) (stop : ReadError)
-      → ((text : List ℕ) → HasReceived old.stage text → StopsWhile model.source AwaitsRequest c1 c2 (model.in_failed c2) (put_back text old.received) stop)
+      → ((text : List ℕ) → HasReceived old.stage text
+      → StopsWhile model.source AwaitsRequest (read_moment c1 (put_back text old.received)) (failed_call c2 (model.in_failed c2) stop))
       → SameUnlessReading {A = A} before (model.in_failed c2) (Err stop) → before ≡ false → model.out_failed c1 ≡ false
-      → GoesOn store model c1 c2 t t old new (Err (record { answered = old.answered; written = 0; cause = cause_by stop }))
+      → RunsPiece store model (session_moment c1 t old) (session_moment c2 t new) (Err (record { answered = old.answered; written = 0; cause = cause_by stop }))
   receives_nothing A c2 before stop stops same was out =
       unasked c2 (Err (record { answered = old.answered; written = 0; cause = cause_by stop }))
       (λ other kept c0 s m so.
       fails_served other kept model c0 c2 s m _
-      (fails_stopped other.submits other.reads model two A c0 c1 c2 s m (put_back so.text old.received) old.answered before stop so.so_far
+      (fails_stopped other model two A c0 c1 c2 s m (put_back so.text old.received) old.answered before stop so.so_far
       (stops so.text so.incoming) same was out))
 
   pub receives_end : (here : ReadBuffer) → ((text : List ℕ) → HasReceived old.stage text → ReceivesEnd (put_back text old.received) here)
-      → GoesOn store model c1 c1 t t old new (Ok (Some (record { answered = old.answered; clean = true })))
+      → RunsPiece store model (session_moment c1 t old) (session_moment c1 t new) (Ok (Some (record { answered = old.answered; clean = true })))
   receives_end here found =
       unasked c1 (Ok (Some (record { answered = old.answered; clean = true })))
       (λ other kept c0 s m so.
       let end = found so.text so.incoming in
-      let here_so = subst (λ (b : ReadBuffer). SoFar other.submits other.reads model (connection_moment c0 s) (connection_moment c1 m) b old.answered)
+      let here_so = subst (λ (b : ReadBuffer). SoFar other model (connection_moment c0 s) (between_requests c1 m b old.answered))
       end.same so.so_far in
       ends_served other kept model c0 c1 s m _
-      (ends_clean other.submits other.reads model two c0 c1 s m here old.answered here_so (here_so.end end.ended, end.nothing)))
+      (ends_clean other model two c0 c1 s m here old.answered here_so (here_so.end end.ended, end.nothing)))
 
   pub parts : (c2 : C) (here : ReadBuffer) (b : RequestFault)
       → ((text : List ℕ) → HasReceived old.stage text → ReceivesFault (put_back text old.received) here b)
       → Appends (model.contents c1) (model.contents c2) (response_of (NoRequest b) true) → model.takes c1 (response_of (NoRequest b) true) c2
-      → GoesOn store model c1 c2 t t old new (Ok (Some (record { answered = old.answered + 1; clean = false })))
+      → RunsPiece store model (session_moment c1 t old) (session_moment c2 t new) (Ok (Some (record { answered = old.answered + 1; clean = false })))
   parts c2 here b found wrote took =
       unasked c2 (Ok (Some (record { answered = old.answered + 1; clean = false })))
       (λ other kept c0 s m so.
       let fault = found so.text so.incoming in
-      let here_so = subst (λ (r : ReadBuffer). SoFar other.submits other.reads model (connection_moment c0 s) (connection_moment c1 m) r old.answered)
+      let here_so = subst (λ (r : ReadBuffer). SoFar other model (connection_moment c0 s) (between_requests c1 m r old.answered))
       fault.cut so.so_far in
       ends_served other kept model c0 c2 s m _
-      (ends_malformed other.submits other.reads model two c0 c1 c2 s m _ old.answered b here_so (malformed_if _ _ b _ here_so.end fault.malformed)
+      (ends_malformed other model two c0 c1 c2 s m _ old.answered b here_so (malformed_if _ _ b _ here_so.end fault.malformed)
       wrote took))
 
   pub parts_not : (c2 : C) (here : ReadBuffer) (b : RequestFault) (partial_write : PartialWrite)
       → ((text : List ℕ) → HasReceived old.stage text → ReceivesFault (put_back text old.received) here b)
-      → WritesResponse (model.contents c1) (model.contents c2) false (model.out_failed c2) (response_of (NoRequest b) true) (Err partial_write)
+      → WritesResponse (output_state (model.contents c1) false) (output_state (model.contents c2) (model.out_failed c2)) (response_of (NoRequest b) true)
+      (Err partial_write)
       → model.takes c1 (take partial_write.written (response_of (NoRequest b) true)) c2 → model.in_failed c1 ≡ false
-      → GoesOn store model c1 c2 t t old new (Err (record { answered = old.answered; written = partial_write.written; cause = partial_write.cause }))
+      → RunsPiece store model (session_moment c1 t old) (session_moment c2 t new)
+      (Err (record { answered = old.answered; written = partial_write.written; cause = partial_write.cause }))
   parts_not c2 here b partial_write found said took works =
       unasked c2 (Err (record { answered = old.answered; written = partial_write.written; cause = partial_write.cause }))
       (λ other kept c0 s m so.
       let fault = found so.text so.incoming in
-      let here_so = subst (λ (r : ReadBuffer). SoFar other.submits other.reads model (connection_moment c0 s) (connection_moment c1 m) r old.answered)
+      let here_so = subst (λ (r : ReadBuffer). SoFar other model (connection_moment c0 s) (between_requests c1 m r old.answered))
       fault.cut so.so_far in
       fails_served other kept model c0 c2 s m _
-      (fails_malformed other.submits other.reads model two c0 c1 c2 s m _ old.answered b partial_write here_so
+      (fails_malformed other model two c0 c1 c2 s m _ old.answered b partial_write here_so
       (malformed_if _ _ b _ here_so.end fault.malformed) said took works))
 
   module _ (c2 : C) (u : S) (here : ReadBuffer) (v : Verdict) (ask : Bool) (reply : Reply) (close : Bool)
       (found : (text : List ℕ) → HasReceived old.stage text → ReceivesOne (put_back text old.received) here v ask)
-      (step : Step store.submits store.reads t v reply u) (close_is : close ≡ (ask || closes reply)) where
+      (step : Step store t v reply u) (close_is : close ≡ (ask || closes reply)) where
     pub answers_last : Appends (model.contents c1) (model.contents c2) (response_of reply close) → model.takes c1 (response_of reply close) c2 → close ≡ true
-        → GoesOn store model c1 c2 t u old new (Ok (Some (record { answered = old.answered + 1; clean = false })))
+        → RunsPiece store model (session_moment c1 t old) (session_moment c2 u new) (Ok (Some (record { answered = old.answered + 1; clean = false })))
     answers_last wrote took leaves =
         asked c2 u v reply (Ok (Some (record { answered = old.answered + 1; clean = false }))) step
         (λ other kept c0 s m n one so.
         ends_served other kept model c0 c2 s n _
-        (answered_last other.submits other.reads model two c0 c1 s m (put_back so.text old.received) here old.answered v ask so.so_far
+        (answered_last other model two c0 c1 s m (put_back so.text old.received) here old.answered v ask so.so_far
         (found so.text so.incoming) c2 n reply close one close_is wrote took leaves))
 
     pub answers_not : (partial_write : PartialWrite)
-        → WritesResponse (model.contents c1) (model.contents c2) false (model.out_failed c2) (response_of reply close) (Err partial_write)
+        → WritesResponse (output_state (model.contents c1) false) (output_state (model.contents c2) (model.out_failed c2)) (response_of reply close)
+        (Err partial_write)
         → model.takes c1 (take partial_write.written (response_of reply close)) c2 → model.in_failed c1 ≡ false
         → (takes_no_memory reply ≡ true → partial_write.cause ≢ Memory)
-        → GoesOn store model c1 c2 t u old new (Err (record { answered = old.answered; written = partial_write.written; cause = partial_write.cause }))
+        → RunsPiece store model (session_moment c1 t old) (session_moment c2 u new)
+        (Err (record { answered = old.answered; written = partial_write.written; cause = partial_write.cause }))
     answers_not partial_write said took works spared =
         asked c2 u v reply (Err (record { answered = old.answered; written = partial_write.written; cause = partial_write.cause })) step
         (λ other kept c0 s m n one so.
         fails_served other kept model c0 c2 s n _
-        (answered_not other.submits other.reads model two c0 c1 s m (put_back so.text old.received) here old.answered v ask so.so_far (found so.text so.incoming)
+        (answered_not other model two c0 c1 s m (put_back so.text old.received) here old.answered v ask so.so_far (found so.text so.incoming)
         c2 n reply close one close_is partial_write said took works spared))
 
 -- a response was written, and the session stays open
 module _ {S C : Type 0} (store : Store S) (promises : Promises store) (model : ConnectionModel C) (two : IsTwoWay model) (c1 c2 : C) (t u : S) (old : Session)
     (here : ReadBuffer) (v : Verdict) (ask : Bool) (reply : Reply)
     (close : Bool) (found : (text : List ℕ) → HasReceived old.stage text → ReceivesOne (put_back text old.received) here v ask) where
-  pub answers_open : Step store.submits store.reads t v reply u → close ≡ (ask || closes reply)
+  pub answers_open : Step store t v reply u → close ≡ (ask || closes reply)
       → Appends (model.contents c1) (model.contents c2) (response_of reply close) → model.takes c1 (response_of reply close) c2 → close ≡ false
-      → GoesOn store model c1 c2 t u old (record { received = here; stage = before_a_request; answered = old.answered + 1 }) (Ok None)
+      → RunsPiece store model (session_moment c1 t old)
+      (session_moment c2 u (record { received = here; stage = before_a_request; answered = old.answered + 1 })) (Ok None)
   answers_open step close_is wrote took stays =
       asked store promises model two c1 t old (record { received = here; stage = before_a_request; answered = old.answered + 1 }) c2 u v reply (Ok None) step
       (λ other kept c0 s m n one so. record {
         text = [];
         incoming = refl;
         so_far =
-            answered_open other.submits other.reads model two c0 c1 s m (put_back so.text old.received) here old.answered v ask so.so_far
+            answered_open other model two c0 c1 s m (put_back so.text old.received) here old.answered v ask so.so_far
             (found so.text so.incoming) c2 n reply close one close_is wrote took stays;
       })
 
@@ -259,13 +264,13 @@ module _ {S C : Type 0} (store : Store S) (promises : Promises store) (model : C
 
 -- ---- a pause inside a request
 
-module _ {S C : Type 0} (store : Store S) (promises : Promises store) (model : ConnectionModel C) (two : IsTwoWay model) (c1 : C) (t : S) (old : Session) (here : ReadBuffer)
-    (stage : SessionStage)
+module _ {S C : Type 0} (store : Store S) (promises : Promises store) (model : ConnectionModel C) (two : IsTwoWay model) (c1 : C) (t : S) (old : Session)
+    (here : ReadBuffer) (stage : SessionStage)
     (found : (text : List ℕ) → HasReceived old.stage text → ReceivesPart (put_back text old.received) here stage) where
   abbrev paused : Session
   paused = record { received = here; stage = stage; answered = old.answered }
 
-  pub pauses : GoesOn store model c1 c1 t t old paused (Ok None)
+  pub pauses : RunsPiece store model (session_moment c1 t old) (session_moment c1 t paused) (Ok None)
   pauses = unasked store promises model two c1 t old paused c1 (Ok None)
       (λ other kept c0 s m so.
       let part = found so.text so.incoming in
@@ -273,7 +278,7 @@ module _ {S C : Type 0} (store : Store S) (promises : Promises store) (model : C
         text = part.text;
         incoming = part.incoming;
         so_far =
-            subst (λ (b : ReadBuffer). SoFar other.submits other.reads model (connection_moment c0 s) (connection_moment c1 m) b old.answered)
+            subst (λ (b : ReadBuffer). SoFar other model (connection_moment c0 s) (between_requests c1 m b old.answered))
             part.cut so.so_far;
       })
 
@@ -298,22 +303,24 @@ awaits_more session waits open_still =
 
 module _ {S C : Type 0} (store : Store S) (promises : Promises store) (model : ConnectionModel C) (two : IsTwoWay model) (c1 c2 : C) (t : S) (old : Session)
     (new : ReadBuffer) (awaits : AwaitsMore old)
-    (on : ReadsOn (model.source.remaining c1) (model.source.remaining c2) old.received new) (read : IsRead model.source.gives c1 c2 old.received new) where
+    (on : ReadsOn (model.source.remaining c1) (model.source.remaining c2) old.received new)
+    (read : IsRead model.source.gives (read_moment c1 old.received) (read_moment c2 new)) where
   abbrev with_more : Session
   with_more = record old { received = new }
 
-  read_with : (text : List ℕ) → HasReceived old.stage text → ReadsOnWhile model.source AwaitsRequest c1 c2 (put_back text old.received) (put_back text new)
+  read_with : (text : List ℕ) → HasReceived old.stage text
+      → ReadsOnWhile model.source AwaitsRequest (read_moment c1 (put_back text old.received)) (read_moment c2 (put_back text new))
   read_with text incoming =
       read_after model.source AwaitsRequest c1 c1 c2 (put_back text old.received) old.received new text
       (nothing_yet model.source AwaitsRequest c1 (put_back text old.received)) (awaits.awaits text incoming) on read
 
-  pub goes_on_reading : GoesOn store model c1 c2 t t old with_more (Ok None)
+  pub goes_on_reading : RunsPiece store model (session_moment c1 t old) (session_moment c2 t with_more) (Ok None)
   goes_on_reading = unasked store promises model two c1 t old with_more c2 (Ok None)
       (λ other kept c0 s m so. record {
         text = so.text;
         incoming = so.incoming;
         so_far =
-            reads_on other.submits other.reads model two c0 c1 c2 s m (put_back so.text old.received) (put_back so.text new) old.answered so.so_far
+            reads_on other model two c0 c1 c2 s m (put_back so.text old.received) (put_back so.text new) old.answered so.so_far
             (read_with so.text so.incoming);
       })
 
@@ -336,8 +343,9 @@ module _ {S C : Type 0} (store : Store S) (promises : Promises store) (model : C
 
 -- a read that gave nothing
 pub stops_with : {C : Type 0} (model : ConnectionModel C) (c1 c2 : C) (old : Session) (stop : ReadError) → AwaitsMore old
-    → ReadFails model.source c1 c2 (model.in_failed c2) old.received stop
-    → (text : List ℕ) → HasReceived old.stage text → StopsWhile model.source AwaitsRequest c1 c2 (model.in_failed c2) (put_back text old.received) stop
+    → ReadFails model.source (read_moment c1 old.received) (failed_call c2 (model.in_failed c2) stop)
+    → (text : List ℕ) → HasReceived old.stage text
+    → StopsWhile model.source AwaitsRequest (read_moment c1 (put_back text old.received)) (failed_call c2 (model.in_failed c2) stop)
 stops_with model c1 c2 old stop awaits last text incoming =
     stops_reading model.source AwaitsRequest c1 c1 c2 (model.in_failed c2) (put_back text old.received) old.received text stop
     (nothing_yet model.source AwaitsRequest c1 (put_back text old.received)) (awaits.awaits text incoming) last
@@ -345,9 +353,11 @@ stops_with model c1 c2 old stop awaits last text incoming =
 -- one piece and then another
 pub goes_on_then : {S C : Type 0} (store : Store S) (model : ConnectionModel C) (c1 c2 c3 : C) (t u w : S) (old mid new : Session)
     (result : Result (Option Ended) SessionError)
-    → GoesOn store model c1 c2 t u old mid (Ok None) → GoesOn store model c2 c3 u w mid new result → GoesOn store model c1 c3 t w old new result
+    → RunsPiece store model (session_moment c1 t old) (session_moment c2 u mid) (Ok None)
+    → RunsPiece store model (session_moment c2 u mid) (session_moment c3 w new) result
+    → RunsPiece store model (session_moment c1 t old) (session_moment c3 w new) result
 goes_on_then store model c1 c2 c3 t u w old mid new result first second =
-    record { alone = λ c0 s so. second.alone c0 s (first.alone c0 s so); among = λ c0 s under. second.among c0 s (first.among c0 s under) }
+    record { alone = λ start so. second.alone start (first.alone start so); among = λ start under. second.among start (first.among start under) }
 
 -- ---- before the first piece
 
@@ -355,11 +365,11 @@ pub can_begin : (input : Option (List ℕ)) → CanContinue input no_requests_ye
 can_begin input = record { text = []; incoming = refl; looked = (omega arith, no_bytes_await); end = λ e. absurd (cc e); most = omega arith }
 
 module _ {S C : Type 0} (store : Store S) (model : ConnectionModel C) (two : IsTwoWay model) (c : C) (s : S) where
-  pub begins_alone : Underway store model (connection_moment c s) (connection_moment c s) no_requests_yet
-  begins_alone = record { text = []; incoming = refl; so_far = begins store.submits store.reads model two c s }
+  pub begins_alone : Underway store model (connection_moment c s) (session_moment c s no_requests_yet)
+  begins_alone = record { text = []; incoming = refl; so_far = begins store model two c s }
 
-  pub begins_among : UnderwayAmong store model c c s s no_requests_yet
-  begins_among = (s, record { text = []; incoming = refl; so_far = begins (shared store).submits (shared store).reads model two c s }, keeps_all store s)
+  pub begins_among : UnderwayAmong store model (connection_moment c s) (session_moment c s no_requests_yet)
+  begins_among = (s, record { text = []; incoming = refl; so_far = begins (shared store) model two c s }, keeps_all store s)
 
 -- ---- what a step keeps
 
@@ -372,7 +382,7 @@ module _ {S : Type 0} (store : Store S) (promises : Promises store) where
   read_keeps t u q (Ok a) step = (promises.read_knows t q (Ok a) u step).0
   read_keeps t u q (Err why) step = promises.read_knows t q (Err why) u step
 
-  pub step_keeps : (t u : S) (v : Verdict) (reply : Reply) → Step store.submits store.reads t v reply u → ForgetsNothing store.limits store.knows t u
+  pub step_keeps : (t u : S) (v : Verdict) (reply : Reply) → Step store t v reply u → ForgetsNothing store.limits store.knows t u
   step_keeps t u (Submit b) Accepted step = submit_keeps t u b (Ok step.0) step.1
   step_keeps t u (Submit b) (Refused r) step = submit_keeps t u b (Err r) step
   step_keeps t u (Ask q) (Answered a) step = read_keeps t u q (Ok a) step
@@ -384,41 +394,45 @@ module _ {S : Type 0} (store : Store S) (promises : Promises store) where
 
 module _ {S C : Type 0} (store : Store S) (promises : Promises store) (model : ConnectionModel C) where
   pub others_forget_nothing : StaysUnderway store model (ForgetsNothing store.limits store.knows)
-  others_forget_nothing c0 c1 s t u session under keeps = (under.0, under.1, keeps_on store under.0 t u under.2 keeps)
+  others_forget_nothing start now later under keeps = (under.0, under.1, keeps_on store under.0 now.store later under.2 keeps)
 
   pub others_submit : StaysUnderway store model (SubmitsSome store)
-  others_submit c0 c1 s t u session under does = others_forget_nothing c0 c1 s t u session under (submit_keeps store promises t u does.0 does.1 does.2)
+  others_submit start now later under does =
+      others_forget_nothing start now later under (submit_keeps store promises now.store later does.0 does.1 does.2)
 
   pub others_read : StaysUnderway store model (ReadsSome store)
-  others_read c0 c1 s t u session under does = others_forget_nothing c0 c1 s t u session under (read_keeps store promises t u does.0 does.1 does.2)
+  others_read start now later under does =
+      others_forget_nothing start now later under (read_keeps store promises now.store later does.0 does.1 does.2)
 
   pub others_go_on : StaysUnderway store model (AsksOnce store)
-  others_go_on c0 c1 s t u session under (inl same) = subst (λ (x : S). UnderwayAmong store model c0 c1 s x session) (sym same) under
-  others_go_on c0 c1 s t u session under (inr does) = others_forget_nothing c0 c1 s t u session under (step_keeps store promises t u does.0 does.1 does.2)
+  others_go_on start now later under (inl same) =
+      subst (λ (x : S). UnderwayAmong store model start (record now { store = x })) (sym same) under
+  others_go_on start now later under (inr does) =
+      others_forget_nothing start now later under (step_keeps store promises now.store later does.0 does.1 does.2)
 
   -- and when the connection has taken nothing
   pub outlasts_writes : IsTwoWay model → OutlastsWrites store model
-  outlasts_writes two c0 c1 c2 s t session under took kept = (
+  outlasts_writes two start now later under took kept = (
     under.0,
     record {
       text = under.1.text;
       incoming = under.1.incoming;
       so_far =
-          stays (shared store).submits (shared store).reads model two c0 c1 c2 s under.0 (put_back under.1.text session.received)
-          session.answered under.1.so_far took kept;
+          stays (shared store) model two start.connection now.connection later start.store under.0
+          (put_back under.1.text now.session.received) now.session.answered under.1.so_far took kept;
     },
     under.2,
   )
 
   pub answers_of_one_history : AnswersSoFar store model
-  answers_of_one_history c0 c1 s t session under =
+  answers_of_one_history start now under =
       let kept = shared_promises store promises in
-      related_all store.limits store.knows (shared store).submits
-      (shared store).reads kept.submit_knows kept.read_knows s under.0 under.1.so_far.opens under.1.so_far.run
+      related_all (shared store) kept.submit_knows kept.read_knows start.store under.0 under.1.so_far.opens under.1.so_far.run
 
 -- nothing was done yet
-pub goes_nowhere : {S C : Type 0} (store : Store S) (model : ConnectionModel C) (c : C) (t : S) (session : Session) → GoesOn store model c c t t session session (Ok None)
-goes_nowhere store model c t session = record { alone = λ c0 s so. so; among = λ c0 s under. under }
+pub goes_nowhere : {S C : Type 0} (store : Store S) (model : ConnectionModel C) (c : C) (t : S) (session : Session)
+    → RunsPiece store model (session_moment c t session) (session_moment c t session) (Ok None)
+goes_nowhere store model c t session = record { alone = λ start so. so; among = λ start under. under }
 
 pub asks_from : {S : Type 0} (store : Store S) (s m t : S) → m ≡ s → AsksOnce store m t → AsksOnce store s t
 asks_from {S = S} store s m t same asks = subst (λ (x : S). AsksOnce store x t) same asks

@@ -1,18 +1,15 @@
 -- What the bytes received are: a request, a part of one, or malformed.
-use Rattle.std.specs.Prelude.{◌≡◌, ℕ, ◌⊎◌, Bool, true, false, List, [], ◌++◌, length, Option, Some, None}
+use Rattle.std.specs.Prelude.{◌≡◌, ℕ, Bool, true, false, List, [], ◌++◌, length, Option, Some, None}
 use Rattle.httparse.specs.Grammar.{RequestHead, print_request}
 use Rattle.batch_codec.specs.BatchReading.{decoded}
 use Rattle.batch_feeder.specs.FeederAnswers.{answers}
 use Rattle.http_requests.specs.HeadContents.{asked_by, body_length}
 use Rattle.http_requests.specs.Heads.{TakesHead, AwaitsHead}
-use Rattle.http_requests.specs.Requests.{Spells, IsMalformed, AwaitsRequest}
-use Rattle.http_requests.specs.AwaitedReads.{Source}
-use Rattle.http_requests.specs.ReceivedBytes.{ReadBuffer, ReadsOnWhile, StopsWhile, put_back}
+use Rattle.http_requests.specs.Requests.{Spells, IsMalformed}
+use Rattle.http_requests.specs.ReceivedBytes.{ReadBuffer, put_back}
 use Rattle.http_requests.specs.PartialRequests.{HasSeen, IsPart, HasLooked, AwaitsMoreBody}
 use Rattle.http_requests.specs.declared.request.RequestFault.{RequestFault}
-use Rattle.http_requests.specs.declared.read_buffer.ReadError.{ReadError}
-use Rattle.http_requests.specs.declared.read_buffer.ReadError.TheVariants.{Reading, Memory}
-use Rattle.http_session.specs.Verdicts.{Judges, BeginsWithQuery}
+use Rattle.http_session.specs.Verdicts.{Judges}
 use Rattle.http_session.specs.Questions.{AsksQuestion, Decides}
 use Rattle.http_session.specs.BodySinks.{Follows}
 use Rattle.http_session.specs.declared.question.Question.{Question}
@@ -151,17 +148,3 @@ abbrev pub LeavesPart : ReadBuffer → PartialRequest → BodyLook → Type 0
 LeavesPart new request look.Whole = Unit {0}
 LeavesPart new request look.More = AwaitsMoreBody request.reader new.held × (new.ended ≡ false)
 LeavesPart new request (look.Fault why) = Unit {0}
-
--- ---- why nothing was received
-
--- memory ran out for the query whose head the bytes received start with; each read was made while a request was awaited
-pub record ReceivesNoQuery {R : Type 0} (source : Source R) (s t : R) (old : ReadBuffer) : Type 0 where
-  pub here : ReadBuffer
-  pub reads : ReadsOnWhile source AwaitsRequest s t old here
-  pub query : BeginsWithQuery here.held
-
--- no more of the awaited request could be read, or memory ran out for a query
-abbrev pub ReceivesNothing : {R : Type 0} → Source R → R → R → Bool → ReadBuffer → ReadError → Type 0
-ReceivesNothing source s t failed old Reading = StopsWhile source AwaitsRequest s t failed old Reading
-ReceivesNothing source s t failed old Memory =
-    StopsWhile source AwaitsRequest s t failed old Memory ⊎ ReceivesNoQuery source s t old

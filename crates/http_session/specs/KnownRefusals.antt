@@ -1,11 +1,9 @@
 -- By which lists the batches of a session were refused, and that the store still knows it later.
 use Rattle.std.specs.Prelude.{List, ◌++◌, All, Option, Some, None, Result, Ok, Err}
 use Rattle.trace_model.specs.StoreKnowledge.{KnownList, KnowsRefusal}
-use Rattle.http_session.specs.Sessions.{Exchange, last_of, exchange_due}
-use Rattle.http_session.specs.ResponseOrder.{ConnectionModel, connection_moment}
-use Rattle.http_session.specs.SessionRuns.{Store}
-use Rattle.http_session.specs.ResumableSessions.{ComesTo, ComesToAmong, shared}
-use Rattle.http_session.specs.declared.resumable.Session.{Session}
+use Rattle.http_session.specs.Sessions.{Exchange, Store, last_of, exchange_due}
+use Rattle.http_session.specs.ResponseOrder.{ConnectionModel, ConnectionMoment}
+use Rattle.http_session.specs.ResumableSessions.{SessionMoment, ComesTo, ComesToAmong, shared}
 use Rattle.http_session.specs.declared.whole_session.Ended.{Ended}
 use Rattle.http_session.specs.declared.whole_session.SessionError.{SessionError}
 use Rattle.http_session.specs.declared.verdict.Verdict.{Verdict}
@@ -23,21 +21,21 @@ abbrev pub RefusalsAreKnown : {S : Type 0} → (S → KnownList → Type 0) → 
 RefusalsAreKnown knows t xs = All (λ (x : Exchange). RefusalIsKnown knows t x.verdict x.reply) xs
 
 -- the exchanges of a session so far, or all if it has ended or failed
-abbrev pub session_exchanges : {S C : Type 0} (store : Store S) (model : ConnectionModel C) (c0 c1 : C) (s t : S) (session : Session)
-    (result : Result (Option Ended) SessionError) → ComesTo store model (connection_moment c0 s) (connection_moment c1 t) session result → List Exchange
-session_exchanges store model c0 c1 s t session (Ok None) it = it.so_far.opens
-session_exchanges store model c0 c1 s t session (Ok (Some ended)) it = it.0.0.opens ++ last_of it.0.0.ending
-session_exchanges store model c0 c1 s t session (Err error) it = it.0.0.opens ++ exchange_due it.0.0.next
+abbrev pub session_exchanges : {S C : Type 0} (store : Store S) (model : ConnectionModel C) (start : ConnectionMoment C S) (now : SessionMoment C S)
+    (result : Result (Option Ended) SessionError) → ComesTo store model start now result → List Exchange
+session_exchanges store model start now (Ok None) it = it.so_far.opens
+session_exchanges store model start now (Ok (Some ended)) it = it.0.0.opens ++ last_of it.0.0.ending
+session_exchanges store model start now (Err error) it = it.0.0.opens ++ exchange_due it.0.0.next
 
 -- the store knows the refusals of a session that it served alone
 abbrev pub RefusalsStayKnown : {S C : Type 0} → Store S → ConnectionModel C → Type 0
 RefusalsStayKnown {S = S} {C = C} store model =
-    (c0 c1 : C) (s t : S) (session : Session) (result : Result (Option Ended) SessionError)
-    (it : ComesTo store model (connection_moment c0 s) (connection_moment c1 t) session result)
-    → RefusalsAreKnown store.knows t (session_exchanges store model c0 c1 s t session result it)
+    (start : ConnectionMoment C S) (now : SessionMoment C S) (result : Result (Option Ended) SessionError) (it : ComesTo store model start now result)
+    → RefusalsAreKnown store.knows now.store (session_exchanges store model start now result it)
 
 -- the store knows the refusals of a session among others, also after what these do later
 abbrev pub RefusalsStayKnownAmong : {S C : Type 0} → Store S → ConnectionModel C → Type 0
 RefusalsStayKnownAmong {S = S} {C = C} store model =
-    (c0 c1 : C) (s t : S) (session : Session) (result : Result (Option Ended) SessionError) (it : ComesToAmong store model c0 c1 s t session result)
-    → RefusalsAreKnown store.knows t (session_exchanges (shared store) model c0 c1 s it.0 session result it.1)
+    (start : ConnectionMoment C S) (now : SessionMoment C S) (result : Result (Option Ended) SessionError)
+    (it : ComesToAmong store model start now result)
+    → RefusalsAreKnown store.knows now.store (session_exchanges (shared store) model start (record now { store = it.0 }) result it.1)

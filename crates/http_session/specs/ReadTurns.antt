@@ -1,7 +1,7 @@
 -- A session reads only while the request that it answers next is awaited.
 use Rattle.std.specs.Prelude.{◌≡◌, ℕ, ◌⊎◌, Bool, List, [], ◌++◌, length}
 use Rattle.http_requests.specs.Requests.{AwaitsRequest}
-use Rattle.http_requests.specs.AwaitedReads.{Gives, Source, ReadsWhile, FailsToRead}
+use Rattle.http_requests.specs.AwaitedReads.{Gives, Source, ReadsWhile, FailsToRead, input_moment, read_rule}
 use Rattle.http_session.specs.Sessions.{Exchange, texts}
 
 -- The bytes received are the first of these requests, and a rest in which the next one is awaited: the rest doesn't
@@ -18,12 +18,21 @@ pub record AwaitsNext (opens : List Exchange) (bytes : List ℕ) : Type 0 where
 -- awaited, given the bytes received by then. The requests before it are among these, after which the session stays
 -- open. Nothing was read after any other request, such as one that closes the session or is still due.
 abbrev pub ReadsInTurn : {R : Type 0} → Gives R → R → R → List Exchange → List ℕ → Type 0
-ReadsInTurn gives s t opens taken = ReadsWhile gives (AwaitsNext opens) s t [] taken
+ReadsInTurn gives s t opens taken = ReadsWhile (read_rule gives (AwaitsNext opens)) (input_moment s []) (input_moment t taken)
+
+-- an input before and after a session, and whether it has failed by then
+pub record InputRun (R : Type 0) : Type 0 where
+  pub start : R
+  pub end : R
+  pub failed : Bool
+
+abbrev pub input_run : {R : Type 0} → R → R → Bool → InputRun R
+input_run start end failed = record { start = start; end = end; failed = failed }
 
 -- The same relation for a session that failed. The count is of the reads that returned bytes or found the end. One
 -- more, the last one, may have failed.
-pub record ReadsInTurnUpTo {R : Type 0} (source : Source R) (s t : R) (failed : Bool) (opens : List Exchange) (taken : List ℕ) (made : ℕ) : Type 0 where
+pub record ReadsInTurnUpTo {R : Type 0} (source : Source R) (input : InputRun R) (opens : List Exchange) (taken : List ℕ) (made : ℕ) : Type 0 where
   pub before : R
-  pub reads : ReadsInTurn source.gives s before opens taken
+  pub reads : ReadsInTurn source.gives input.start before opens taken
   pub count : length reads.pieces ≡ made
-  pub last : (t ≡ before) ⊎ FailsToRead source before t failed
+  pub last : (input.end ≡ before) ⊎ FailsToRead source before input.end input.failed

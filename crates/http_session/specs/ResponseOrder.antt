@@ -2,7 +2,7 @@
 use Rattle.std.specs.Prelude.{◌≡◌, ℕ, ◌⊎◌, Bool, List, [], ◌∷◌, ◌++◌, length, take, Option}
 use Rattle.session_devices.specs.ByteTakers.{Takings, LeavesOther}
 use Rattle.http_requests.specs.AwaitedReads.{Gives, Source, source_of, FailsToRead}
-use Rattle.http_session.specs.Sessions.{Exchange, responses, Submits, Reads, EndsAs, FailsAs, last_of, malformed_response, bytes_due}
+use Rattle.http_session.specs.Sessions.{Exchange, responses, Store, BytesMoment, SessionFailure, EndsAs, FailsAs, last_of, malformed_response, bytes_due}
 use Rattle.http_session.specs.ReadTurns.{AwaitsNext}
 use Rattle.http_session.specs.declared.whole_session.Ended.{Ended}
 use Rattle.http_session.specs.declared.whole_session.SessionError.{SessionError}
@@ -15,7 +15,8 @@ pub record ConnectionModel (C : Type 0) : Type 1 where
   pub in_failed : C → Bool
   pub out_failed : C → Bool
 
-abbrev pub model_of : {C : Type 0} → (C → Option (List ℕ)) → Gives C → (C → Bool) → (C → Option (List ℕ)) → Takings C → (C → Bool) → ConnectionModel C
+abbrev pub model_of : {C : Type 0} → (C → Option (List ℕ)) → Gives C → (C → Bool) → (C → Option (List ℕ)) → Takings C → (C → Bool)
+    → ConnectionModel C
 model_of remaining gives in_failed contents takes out_failed =
     record { source = source_of remaining gives; contents = contents; takes = takes; in_failed = in_failed; out_failed = out_failed }
 
@@ -41,16 +42,19 @@ pub record Transcript (C : Type 0) : Type 0 where
   pub received : List ℕ
   pub written : List ℕ
 
--- These acts, in order, led from one transcript to another. Before each read more was awaited, given the bytes received and
--- written by then.
-abbrev pub ActsWhile : {C : Type 0} → Gives C → Takings C → (List ℕ → List ℕ → Type 0) → Transcript C → Transcript C → List Act → Type 0
-ActsWhile gives takes Awaits s t [] = s ≡ t
-ActsWhile {C = C} gives takes Awaits s t (got p ∷ acts) =
-    Awaits s.received s.written × (m : C) × gives s.state p m
-    × ActsWhile gives takes Awaits (record { state = m; received = s.received ++ p; written = s.written }) t acts
-ActsWhile {C = C} gives takes Awaits s t (put w ∷ acts) =
-    (m : C) × takes s.state w m
-    × ActsWhile gives takes Awaits (record { state = m; received = s.received; written = s.written ++ w }) t acts
+abbrev pub transcript : {C : Type 0} → C → List ℕ → List ℕ → Transcript C
+transcript state received written = record { state = state; received = received; written = written }
+
+-- These acts, in order, lead from one transcript to another. Before each read more was awaited, given the bytes received
+-- and written by then.
+abbrev pub ActsLead : {C : Type 0} → ConnectionModel C → (List ℕ → List ℕ → Type 0) → Transcript C → Transcript C → List Act → Type 0
+ActsLead model Awaits s t [] = s ≡ t
+ActsLead {C = C} model Awaits s t (got p ∷ acts) =
+    Awaits s.received s.written × (m : C) × model.source.gives s.state p m
+    × ActsLead model Awaits (transcript m (s.received ++ p) s.written) t acts
+ActsLead {C = C} model Awaits s t (put w ∷ acts) =
+    (m : C) × model.takes s.state w m
+    × ActsLead model Awaits (transcript m s.received (s.written ++ w)) t acts
 
 -- The bytes received are the first of these requests and a rest, in which the next one is awaited. Exactly the
 -- responses to those first ones are written.
@@ -58,20 +62,19 @@ pub record AwaitsAnswered (opens : List Exchange) (received written : List ℕ) 
   pub next : AwaitsNext opens received
   pub answered : written ≡ responses next.before
 
--- What was done with a connection between two of its states. Before each read the responses to all requests before the
--- awaited one were written.
-pub record AnswersInTurn {C : Type 0} (gives : Gives C) (takes : Takings C) (s t : C) (opens : List Exchange) (received written : List ℕ) : Type 0 where
+-- What was done with a connection since it was in this state, up to the end of the transcript. Before each read the
+-- responses to all requests before the awaited one were written.
+pub record AnswersInTurn {C : Type 0} (model : ConnectionModel C) (start : C) (opens : List Exchange) (end : Transcript C) : Type 0 where
   pub acts : List Act
-  pub each : ActsWhile gives takes (AwaitsAnswered opens) (record { state = s; received = []; written = [] })
-      (record { state = t; received = received; written = written }) acts
+  pub each : ActsLead model (AwaitsAnswered opens) (transcript start [] []) end acts
 
 -- Like AnswersInTurn, for a session that failed. The count is of the reads that returned bytes or found the end. One
 -- more, the last one, may have failed.
-pub record AnswersInTurnUpTo {C : Type 0} (model : ConnectionModel C) (s t : C) (opens : List Exchange) (received written : List ℕ) (made : ℕ) : Type 0 where
+pub record AnswersInTurnUpTo {C : Type 0} (model : ConnectionModel C) (start : C) (opens : List Exchange) (end : Transcript C) (made : ℕ) : Type 0 where
   pub before : C
-  pub answers : AnswersInTurn model.source.gives model.takes s before opens received written
+  pub answers : AnswersInTurn model start opens (record end { state = before })
   pub count : length (reads_of answers.acts) ≡ made
-  pub last : (t ≡ before) ⊎ FailsToRead model.source before t (model.in_failed t)
+  pub last : (end.state ≡ before) ⊎ FailsToRead model.source before end.state (model.in_failed end.state)
 
 -- ---- sessions
 
@@ -83,19 +86,26 @@ pub record ConnectionMoment (C S : Type 0) : Type 0 where
 abbrev pub connection_moment : {C S : Type 0} → C → S → ConnectionMoment C S
 connection_moment connection store = record { connection = connection; store = store }
 
+-- what is known of the bytes of a connection at one moment of a session
+abbrev pub connection_bytes : {S C : Type 0} → ConnectionModel C → ConnectionMoment C S → BytesMoment S
+connection_bytes model at =
+    record { input = model.source.remaining at.connection; output = model.contents at.connection; store = at.store }
+
+-- the error of a session, and whether the connection has failed by then
+abbrev pub connection_failure : {S C : Type 0} → ConnectionModel C → ConnectionMoment C S → SessionError → SessionFailure
+connection_failure model at error =
+    record { error = error; input_failed = model.in_failed at.connection; output_failed = model.out_failed at.connection }
+
 -- a session over a connection that ended
-abbrev pub EndsOver : {S C : Type 0} → Submits S → Reads S → ConnectionModel C → ConnectionMoment C S → ConnectionMoment C S → Ended → Type 0
-EndsOver submits reads model before after ended =
-    (ends : EndsAs submits reads (model.source.remaining before.connection) (model.source.remaining after.connection)
-    (model.contents before.connection) (model.contents after.connection) before.store after.store ended.answered ended.clean)
-    × AnswersInTurn model.source.gives model.takes before.connection after.connection ends.opens ends.taken
-    (responses (ends.opens ++ last_of ends.ending) ++ malformed_response ends.ending)
+abbrev pub EndsOver : {S C : Type 0} → Store S → ConnectionModel C → ConnectionMoment C S → ConnectionMoment C S → Ended → Type 0
+EndsOver store model before after ended =
+    (ends : EndsAs store (connection_bytes model before) (connection_bytes model after) ended)
+    × AnswersInTurn model before.connection ends.opens
+    (transcript after.connection ends.taken (responses (ends.opens ++ last_of ends.ending) ++ malformed_response ends.ending))
 
 -- a session over a connection that failed
-abbrev pub FailsOver : {S C : Type 0} → Submits S → Reads S → ConnectionModel C → ConnectionMoment C S → ConnectionMoment C S → SessionError → Type 0
-FailsOver submits reads model before after error =
-    (fails : FailsAs submits reads (model.source.remaining before.connection) (model.source.remaining after.connection)
-    (model.contents before.connection) (model.contents after.connection) before.store after.store
-    (model.in_failed after.connection) (model.out_failed after.connection) error)
-    × AnswersInTurnUpTo model before.connection after.connection fails.opens fails.taken
-    (responses fails.opens ++ take error.written (bytes_due fails.next)) fails.made
+abbrev pub FailsOver : {S C : Type 0} → Store S → ConnectionModel C → ConnectionMoment C S → ConnectionMoment C S → SessionError → Type 0
+FailsOver store model before after error =
+    (fails : FailsAs store (connection_bytes model before) (connection_bytes model after) (connection_failure model after error))
+    × AnswersInTurnUpTo model before.connection fails.opens
+    (transcript after.connection fails.taken (responses fails.opens ++ take error.written (bytes_due fails.next))) fails.made

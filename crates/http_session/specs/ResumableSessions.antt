@@ -1,6 +1,7 @@
 -- A session that can pause, and what one piece of it does: the work for at most one read. Other sessions may use the
 -- store between two pieces.
-use Rattle.std.specs.Prelude.{◌≡◌, ◌⊎◌, ℕ, ◌+◌, ◌*◌, ◌≤◌, Bool, List, [], ◌++◌, length, All, Option, Some, None, Result, Ok, Err, false}
+use Rattle.std.specs.Prelude.{◌≡◌, ◌⊎◌, ℕ, ◌+◌, ◌*◌, ◌≤◌, Bool, List, [], ◌++◌, length, All, Option, Some, None, Result, Ok, Err}
+use Rattle.std.specs.Prelude.{false}
 use Rattle.std.specs.Io.KnownBytes.{Consumes, Appends, Keeps as KeepsBytes}
 use Rattle.session_devices.specs.declared.limits.TheConstants.{MAX_READS}
 use Rattle.http_requests.specs.declared.room.TheConstants.{READ_BYTES}
@@ -10,11 +11,11 @@ use Rattle.jaeger_model.specs.declared.batch.Batch.{Batch}
 use Rattle.trace_model.specs.declared.query.Query.{Query}
 use Rattle.trace_model.specs.declared.answer.Answer.{Answer}
 use Rattle.trace_model.specs.declared.refusal.Refusal.{Refusal}
-use Rattle.trace_model.specs.StoreKnowledge.{lists_of, ForgetsNothing}
-use Rattle.http_session.specs.Sessions.{Exchange, LeavesOpen, texts, responses, Submits, Reads, Step, Run}
-use Rattle.http_session.specs.ResponseOrder.{ConnectionModel, ConnectionMoment, connection_moment, AnswersInTurn, reads_of}
-use Rattle.http_session.specs.HistoryPoints.{Related, no_points}
-use Rattle.http_session.specs.SessionRuns.{Store, EndsServed, FailsServed}
+use Rattle.trace_model.specs.StoreKnowledge.{ForgetsNothing}
+use Rattle.http_session.specs.Sessions.{Exchange, LeavesOpen, texts, responses, Submits, Reads, Store, Step, Run}
+use Rattle.http_session.specs.ResponseOrder.{ConnectionModel, ConnectionMoment, connection_moment, transcript, AnswersInTurn, reads_of}
+use Rattle.http_session.specs.HistoryPoints.{known_at, Related, no_points}
+use Rattle.http_session.specs.SessionRuns.{EndsServed, FailsServed}
 use Rattle.http_session.specs.IncomingRequests.{before_a_request, HasReceived, HasLookedBy, WaitsAfter, ReceivesOne}
 use Rattle.http_session.specs.declared.resumable.Session.{Session}
 use Rattle.http_session.specs.declared.resumable.Progress.{Progress}
@@ -87,49 +88,69 @@ shared store = record { submits = later_submits store; reads = later_reads store
 
 -- ---- sessions
 
--- The exchanges so far, from one moment of the connection and the store to another.
-pub record SoFar {S C : Type 0} (submits : Submits S) (reads : Reads S) (model : ConnectionModel C) (before after : ConnectionMoment C S)
-    (received : ReadBuffer) (answered : ℕ) : Type 0 where
+-- a moment of a session between two requests: its connection and the store, the bytes received and not yet taken, and the
+-- number of requests answered
+pub record BetweenRequests (C S : Type 0) : Type 0 where
+  pub connection : C
+  pub store : S
+  pub received : ReadBuffer
+  pub answered : ℕ
+
+abbrev pub between_requests : {C S : Type 0} → C → S → ReadBuffer → ℕ → BetweenRequests C S
+between_requests connection store received answered =
+    record { connection = connection; store = store; received = received; answered = answered }
+
+-- The exchanges of a session since it began at the first moment.
+pub record SoFar {S C : Type 0} (store : Store S) (model : ConnectionModel C) (start : ConnectionMoment C S) (now : BetweenRequests C S) : Type 0 where
   pub taken : List ℕ
   pub opens : List Exchange
-  pub read : Consumes (model.source.remaining before.connection) (model.source.remaining after.connection) taken
-  pub answers : AnswersInTurn model.source.gives model.takes before.connection after.connection opens taken (responses opens)
-  pub made : received.left + length (reads_of answers.acts) ≡ MAX_READS
-  pub split : taken ≡ texts opens ++ received.held
+  pub read : Consumes (model.source.remaining start.connection) (model.source.remaining now.connection) taken
+  pub answers : AnswersInTurn model start.connection opens (transcript now.connection taken (responses opens))
+  pub made : now.received.left + length (reads_of answers.acts) ≡ MAX_READS
+  pub split : taken ≡ texts opens ++ now.received.held
   pub each : All LeavesOpen opens
-  pub run : Run submits reads before.store opens after.store
-  pub written : Appends (model.contents before.connection) (model.contents after.connection) (responses opens)
-  pub count : answered ≡ length opens
-  pub least : MAX_READS ≤ length taken + turns received
-  pub most : answered + length received.held + READ_BYTES * received.left ≤ READ_BYTES * MAX_READS
-  pub end : KnowsItsEnd received.ended (model.source.remaining after.connection)
+  pub run : Run store start.store opens now.store
+  pub written : Appends (model.contents start.connection) (model.contents now.connection) (responses opens)
+  pub count : now.answered ≡ length opens
+  pub least : MAX_READS ≤ length taken + turns now.received
+  pub most : now.answered + length now.received.held + READ_BYTES * now.received.left ≤ READ_BYTES * MAX_READS
+  pub end : KnowsItsEnd now.received.ended (model.source.remaining now.connection)
 
--- The session began in one state of the connection and the store, and is open in another: what was read and written
+-- a session that can pause, with its connection and the store at the same moment
+pub record SessionMoment (C S : Type 0) : Type 0 where
+  pub connection : C
+  pub store : S
+  pub session : Session
+
+abbrev pub session_moment : {C S : Type 0} → C → S → Session → SessionMoment C S
+session_moment connection store session = record { connection = connection; store = store; session = session }
+
+-- The session began at one moment of the connection and the store, and is open at another: what was read and written
 -- since, which requests were answered, which steps the store made, and the text of the next request that was taken so
 -- far.
-pub record Underway {S C : Type 0} (store : Store S) (model : ConnectionModel C) (before after : ConnectionMoment C S) (session : Session) : Type 0 where
+pub record Underway {S C : Type 0} (store : Store S) (model : ConnectionModel C) (start : ConnectionMoment C S) (now : SessionMoment C S) : Type 0 where
   pub text : List ℕ
-  pub incoming : HasReceived session.stage text
-  pub so_far : SoFar store.submits store.reads model before after (put_back text session.received) session.answered
+  pub incoming : HasReceived now.session.stage text
+  pub so_far : SoFar store model start
+      (between_requests now.connection now.store (put_back text now.session.received) now.session.answered)
 
--- what became of a session that began there
-abbrev pub ComesTo : {S C : Type 0} → Store S → ConnectionModel C → ConnectionMoment C S → ConnectionMoment C S → Session → Result (Option Ended) SessionError
-    → Type 0
-ComesTo store model before after session (Ok None) = Underway store model before after session
-ComesTo store model before after session (Ok (Some ended)) = EndsServed store model before after ended
-ComesTo store model before after session (Err error) = FailsServed store model before after error
+-- what became of a session that began at the first moment: it is open, it has ended, or it has failed
+abbrev pub ComesTo : {S C : Type 0} → Store S → ConnectionModel C → ConnectionMoment C S → SessionMoment C S → Result (Option Ended) SessionError → Type 0
+ComesTo store model start now (Ok None) = Underway store model start now
+ComesTo store model start now (Ok (Some ended)) = EndsServed store model start (connection_moment now.connection now.store) ended
+ComesTo store model start now (Err error) = FailsServed store model start (connection_moment now.connection now.store) error
 
 -- A session over a store that others use too: the store still knows everything that it knew after the session's own
 -- steps.
-abbrev pub UnderwayAmong : {S C : Type 0} → Store S → ConnectionModel C → C → C → S → S → Session → Type 0
-UnderwayAmong {S = S} store model c0 c1 s t session =
-    (m : S) × Underway (shared store) model (connection_moment c0 s) (connection_moment c1 m) session × ForgetsNothing store.limits store.knows m t
+abbrev pub UnderwayAmong : {S C : Type 0} → Store S → ConnectionModel C → ConnectionMoment C S → SessionMoment C S → Type 0
+UnderwayAmong {S = S} store model start now =
+    (m : S) × Underway (shared store) model start (record now { store = m }) × ForgetsNothing store.limits store.knows m now.store
 
 -- the answers to such a session belong to one growing history
 abbrev pub AnswersSoFar : {S C : Type 0} → Store S → ConnectionModel C → Type 0
 AnswersSoFar {S = S} {C = C} store model =
-    (c0 c1 : C) (s t : S) (session : Session) (under : UnderwayAmong store model c0 c1 s t session)
-    → Related (lists_of store.knows s) (store.limits s) no_points under.1.so_far.opens
+    (start : ConnectionMoment C S) (now : SessionMoment C S) (under : UnderwayAmong store model start now)
+    → Related (known_at store start.store) no_points under.1.so_far.opens
 
 -- ---- what others do in a pause
 
@@ -143,27 +164,29 @@ ReadsSome store s t = (q : Query) × (r : Result Answer Refusal) × store.reads 
 
 -- the store was asked once, or not at all
 abbrev pub AsksOnce : {S : Type 0} → Store S → S → S → Type 0
-AsksOnce store s t = (t ≡ s) ⊎ ((v : Verdict) × (reply : Reply) × Step store.submits store.reads s v reply t)
+AsksOnce store s t = (t ≡ s) ⊎ ((v : Verdict) × (reply : Reply) × Step store s v reply t)
 
 -- a session stays underway when others do this
 abbrev pub StaysUnderway : {S C : Type 0} → Store S → ConnectionModel C → (S → S → Type 0) → Type 0
 StaysUnderway {S = S} {C = C} store model Does =
-    (c0 c1 : C) (s t u : S) (session : Session) → UnderwayAmong store model c0 c1 s t session → Does t u → UnderwayAmong store model c0 c1 s u session
+    (start : ConnectionMoment C S) (now : SessionMoment C S) (later : S) → UnderwayAmong store model start now → Does now.store later
+    → UnderwayAmong store model start (record now { store = later })
 
 -- A session stays underway when its connection takes no bytes and what was written doesn't change, such as when a
 -- connection writes the waiting part of a response.
 abbrev pub OutlastsWrites : {S C : Type 0} → Store S → ConnectionModel C → Type 0
 OutlastsWrites {S = S} {C = C} store model =
-    (c0 c1 c2 : C) (s t : S) (session : Session) → UnderwayAmong store model c0 c1 s t session → model.takes c1 [] c2
-    → KeepsBytes (model.contents c1) (model.contents c2)
-    → UnderwayAmong store model c0 c2 s t session
+    (start : ConnectionMoment C S) (now : SessionMoment C S) (later : C) → UnderwayAmong store model start now → model.takes now.connection [] later
+    → KeepsBytes (model.contents now.connection) (model.contents later)
+    → UnderwayAmong store model start (record now { connection = later })
 
 -- ---- one piece
 
 -- what became of a session over such a store
-abbrev pub ComesToAmong : {S C : Type 0} → Store S → ConnectionModel C → C → C → S → S → Session → Result (Option Ended) SessionError → Type 0
-ComesToAmong {S = S} store model c0 c1 s t session result =
-    (m : S) × ComesTo (shared store) model (connection_moment c0 s) (connection_moment c1 m) session result × ForgetsNothing store.limits store.knows m t
+abbrev pub ComesToAmong : {S C : Type 0} → Store S → ConnectionModel C → ConnectionMoment C S → SessionMoment C S → Result (Option Ended) SessionError
+    → Type 0
+ComesToAmong {S = S} store model start now result =
+    (m : S) × ComesTo (shared store) model start (record now { store = m }) result × ForgetsNothing store.limits store.knows m now.store
 
 -- a request was taken from the bytes of one session, which left the other
 pub record TakesRequest (old new : Session) (v : Verdict) (closes : Bool) : Type 0 where
@@ -171,9 +194,9 @@ pub record TakesRequest (old new : Session) (v : Verdict) (closes : Bool) : Type
   pub stage_is : new.stage ≡ before_a_request
   pub same : new.answered ≡ old.answered
 
--- What one piece does: from wherever the session began, this is what became of it.
-pub record GoesOn {S C : Type 0} (store : Store S) (model : ConnectionModel C) (c1 c2 : C) (t u : S) (old new : Session)
+-- A piece of a session ran from one moment to another, with this result: from wherever the session began, this is what
+-- became of it. It holds for a session that has the store to itself, and for one among others.
+pub record RunsPiece {S C : Type 0} (store : Store S) (model : ConnectionModel C) (old new : SessionMoment C S)
     (result : Result (Option Ended) SessionError) : Type 0 where
-  pub alone : (c0 : C) (s : S) → Underway store model (connection_moment c0 s) (connection_moment c1 t) old
-      → ComesTo store model (connection_moment c0 s) (connection_moment c2 u) new result
-  pub among : (c0 : C) (s : S) → UnderwayAmong store model c0 c1 s t old → ComesToAmong store model c0 c2 s u new result
+  pub alone : (start : ConnectionMoment C S) → Underway store model start old → ComesTo store model start new result
+  pub among : (start : ConnectionMoment C S) → UnderwayAmong store model start old → ComesToAmong store model start new result

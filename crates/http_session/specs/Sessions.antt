@@ -1,12 +1,15 @@
 -- A session: what is written for what is read.
-use Rattle.std.specs.Prelude.{◌≡◌, ◌≢◌, ℕ, ◌+◌, ◌<◌, ◌≤◌, ◌⊎◌, ◌||◌, Bool, true, false, List, [], ◌∷◌, ◌++◌, length, take, All, Option, Result, Ok, Err}
+use Rattle.std.specs.Prelude.{◌≡◌, ◌≢◌, ℕ, ◌+◌, ◌<◌, ◌≤◌, ◌⊎◌, ◌||◌, Bool, true, false, List, [], ◌∷◌, ◌++◌, length, take, All, Option, Result, Ok}
+use Rattle.std.specs.Prelude.{Err}
 use Rattle.std.specs.List.{flat_map}
 use Rattle.std.specs.Io.KnownBytes.{Consumes, Appends, IsAtEnd}
 use Rattle.httparse.specs.Grammar.{RequestHead}
 use Rattle.jaeger_model.specs.declared.batch.Batch.{Batch}
+use Rattle.trace_model.specs.declared.limits.Limits.{Limits}
 use Rattle.trace_model.specs.declared.query.Query.{Query}
 use Rattle.trace_model.specs.declared.answer.Answer.{Answer}
 use Rattle.trace_model.specs.declared.refusal.Refusal.{Refusal}
+use Rattle.trace_model.specs.StoreKnowledge.{KnownList}
 use Rattle.session_devices.specs.declared.limits.TheConstants.{MAX_READS}
 use Rattle.http_requests.specs.HeadContents.{asked_by}
 use Rattle.http_requests.specs.Requests.{Spells, IsMalformed, AwaitsRequest}
@@ -21,6 +24,7 @@ use Rattle.http_session.specs.declared.reply.Reply.{Reply}
 use Rattle.http_session.specs.declared.reply.Reply.TheVariants.{Accepted, Answered, Refused, Error, NoRequest}
 use Rattle.http_session.specs.declared.whole_session.SessionErrorKind.{SessionErrorKind}
 use Rattle.http_session.specs.declared.whole_session.SessionErrorKind.TheVariants.{Reading, Writing, Memory}
+use Rattle.http_session.specs.declared.whole_session.Ended.{Ended}
 use Rattle.http_session.specs.declared.whole_session.SessionError.{SessionError}
 use Rattle.http_session.specs.declared.whole_session.PartialWrite.{PartialWrite}
 
@@ -60,18 +64,44 @@ Submits S = S → Batch → Result ℕ Refusal → S → Type 0
 abbrev pub Reads : Type 0 → Type 1
 Reads S = S → Query → Result Answer Refusal → S → Type 0
 
--- the store goes from s to t when this verdict gets this reply
-abbrev pub Step : {S : Type 0} → Submits S → Reads S → S → Verdict → Reply → S → Type 0
-Step submits reads s (Submit b) Accepted t = (place : ℕ) × submits s b (Ok place) t
-Step submits reads s (Submit b) (Refused r) t = submits s b (Err r) t
-Step submits reads s (Ask q) (Answered a) t = reads s q (Ok a) t
-Step submits reads s (Ask q) (Refused r) t = reads s q (Err r) t
-Step submits reads s (Reject error) (Error said) t = (said ≡ error) × (t ≡ s)
-Step submits reads s _ _ t = ⊥
+-- what a store does, and what it knows in each of its states
+pub record Store (S : Type 0) : Type 1 where
+  pub submits : Submits S
+  pub reads : Reads S
+  pub knows : S → KnownList → Type 0
+  pub limits : S → Limits
 
-abbrev pub Run : {S : Type 0} → Submits S → Reads S → S → List Exchange → S → Type 0
-Run submits reads s [] t = t ≡ s
-Run {S = S} submits reads s (x ∷ xs) t = (m : S) × Step submits reads s x.verdict x.reply m × Run submits reads m xs t
+abbrev pub store_of : {S : Type 0} → Submits S → Reads S → (S → KnownList → Type 0) → (S → Limits) → Store S
+store_of submits reads knows limits = record { submits = submits; reads = reads; knows = knows; limits = limits }
+
+-- the store goes from s to t when this verdict gets this reply
+abbrev pub Step : {S : Type 0} → Store S → S → Verdict → Reply → S → Type 0
+Step store s (Submit b) Accepted t = (place : ℕ) × store.submits s b (Ok place) t
+Step store s (Submit b) (Refused r) t = store.submits s b (Err r) t
+Step store s (Ask q) (Answered a) t = store.reads s q (Ok a) t
+Step store s (Ask q) (Refused r) t = store.reads s q (Err r) t
+Step store s (Reject error) (Error said) t = (said ≡ error) × (t ≡ s)
+Step store s _ _ t = ⊥
+
+-- the store goes from s to t by one step for each exchange, in order
+abbrev pub Run : {S : Type 0} → Store S → S → List Exchange → S → Type 0
+Run store s [] t = t ≡ s
+Run {S = S} store s (x ∷ xs) t = (m : S) × Step store s x.verdict x.reply m × Run store m xs t
+
+-- ---- moments
+
+-- the states of the input, of the output and of the store at one moment of a session
+pub record Moment (R W S : Type 0) : Type 0 where
+  pub input : R
+  pub output : W
+  pub store : S
+
+abbrev pub moment : {R W S : Type 0} → R → W → S → Moment R W S
+moment input output store = record { input = input; output = output; store = store }
+
+-- the bytes that the input has left and those that the output has, if they are known, and the state of the store
+abbrev pub BytesMoment : Type 0 → Type 0
+BytesMoment S = Moment (Option (List ℕ)) (Option (List ℕ)) S
 
 -- ---- ends
 
@@ -110,20 +140,19 @@ is_clean (malformed b) = false
 
 -- A session ended. The bytes read are the requests and a rest, and the bytes written are their responses, and a last
 -- one if the rest was malformed.
-pub record EndsAs {S : Type 0} (submits : Submits S) (reads : Reads S) (in0 in1 out0 out1 : Option (List ℕ)) (s t : S) (answered : ℕ)
-    (clean : Bool) : Type 0 where
+pub record EndsAs {S : Type 0} (store : Store S) (before after : BytesMoment S) (ended : Ended) : Type 0 where
   pub taken : List ℕ
   pub opens : List Exchange
   pub ending : Ending
   pub rest : List ℕ
-  pub read : Consumes in0 in1 taken
+  pub read : Consumes before.input after.input taken
   pub split : taken ≡ texts (opens ++ last_of ending) ++ rest
   pub each : All LeavesOpen opens
-  pub ends : IsEnding (IsAtEnd in1) rest ending
-  pub run : Run submits reads s (opens ++ last_of ending) t
-  pub written : Appends out0 out1 (responses (opens ++ last_of ending) ++ malformed_response ending)
-  pub count : answered ≡ length (opens ++ last_of ending) + malformed_responses ending
-  pub clean_is : clean ≡ is_clean ending
+  pub ends : IsEnding (IsAtEnd after.input) rest ending
+  pub run : Run store before.store (opens ++ last_of ending) after.store
+  pub written : Appends before.output after.output (responses (opens ++ last_of ending) ++ malformed_response ending)
+  pub count : ended.answered ≡ length (opens ++ last_of ending) + malformed_responses ending
+  pub clean_is : ended.clean ≡ is_clean ending
 
 -- ---- errors
 
@@ -170,37 +199,50 @@ IsCause Reading in_failed out_failed taken made =
 IsCause Writing in_failed out_failed taken made = (out_failed ≡ true) × (in_failed ≡ false)
 IsCause Memory in_failed out_failed taken made = (in_failed ≡ false) × (out_failed ≡ false)
 
+-- the error of a session, and which devices have failed by then
+pub record SessionFailure : Type 0 where
+  pub error : SessionError
+  pub input_failed : Bool
+  pub output_failed : Bool
+
 -- A session failed: the earlier responses were written completely, the next one as far as is reported. A response is
 -- never written completely when a write fails. The store has made the step of the exchange that is due, so an accepted
 -- batch stays accepted. A response that needs no memory isn't held back when memory runs out.
-pub record FailsAs {S : Type 0} (submits : Submits S) (reads : Reads S) (in0 in1 out0 out1 : Option (List ℕ)) (s t : S) (in_failed out_failed : Bool)
-    (error : SessionError) : Type 0 where
+pub record FailsAs {S : Type 0} (store : Store S) (before after : BytesMoment S) (failure : SessionFailure) : Type 0 where
   pub taken : List ℕ
   pub opens : List Exchange
   pub next : Due
   pub rest : List ℕ
-  pub read : Consumes in0 in1 taken
+  pub read : Consumes before.input after.input taken
   pub split : taken ≡ texts (opens ++ exchange_due next) ++ rest
   pub each : All LeavesOpen opens
-  pub next_is : IsDue (IsAtEnd in1) error.cause rest next
-  pub run : Run submits reads s (opens ++ exchange_due next) t
-  pub within : error.cause ≡ Writing → error.written < length (bytes_due next)
-  pub written : Appends out0 out1 (responses opens ++ take error.written (bytes_due next))
-  pub count : error.answered ≡ length opens
+  pub next_is : IsDue (IsAtEnd after.input) failure.error.cause rest next
+  pub run : Run store before.store (opens ++ exchange_due next) after.store
+  pub within : failure.error.cause ≡ Writing → failure.error.written < length (bytes_due next)
+  pub written : Appends before.output after.output (responses opens ++ take failure.error.written (bytes_due next))
+  pub count : failure.error.answered ≡ length opens
   pub made : ℕ  -- how many reads gave something, or the end
-  pub cause : IsCause error.cause in_failed out_failed taken made
-  pub unwritten : error.cause ≢ Writing → error.written ≡ 0
-  pub spared : is_spared next ≡ true → error.cause ≢ Memory
+  pub cause : IsCause failure.error.cause failure.input_failed failure.output_failed taken made
+  pub unwritten : failure.error.cause ≢ Writing → failure.error.written ≡ 0
+  pub spared : is_spared next ≡ true → failure.error.cause ≢ Memory
 
 -- ---- on the way
 
+-- the bytes that an output has, if they are known, and whether it has failed
+pub record OutputState : Type 0 where
+  pub bytes : Option (List ℕ)
+  pub failed : Bool
+
+abbrev pub output_state : Option (List ℕ) → Bool → OutputState
+output_state bytes failed = record { bytes = bytes; failed = failed }
+
 -- a response was written completely, or as far as is reported; if a write failed, not all of it was written
-abbrev pub WritesResponse : Option (List ℕ) → Option (List ℕ) → Bool → Bool → List ℕ → Result (Unit {0}) PartialWrite → Type 0
-WritesResponse out0 out1 failed0 failed1 bytes (Ok _) = Appends out0 out1 bytes × (failed1 ≡ failed0)
-WritesResponse out0 out1 failed0 failed1 bytes (Err e) =
-    (e.cause ≡ Writing → e.written < length bytes) × Appends out0 out1 (take e.written bytes)
-    × (e.cause ≢ Reading) × (e.cause ≡ Writing → failed1 ≡ true)
-    × (e.cause ≡ Memory → (failed1 ≡ failed0) × (e.written ≡ 0))
+abbrev pub WritesResponse : OutputState → OutputState → List ℕ → Result (Unit {0}) PartialWrite → Type 0
+WritesResponse before after response (Ok _) = Appends before.bytes after.bytes response × (after.failed ≡ before.failed)
+WritesResponse before after response (Err e) =
+    (e.cause ≡ Writing → e.written < length response) × Appends before.bytes after.bytes (take e.written response)
+    × (e.cause ≢ Reading) × (e.cause ≡ Writing → after.failed ≡ true)
+    × (e.cause ≡ Memory → (after.failed ≡ before.failed) × (e.written ≡ 0))
 
 -- what was written of some bytes
 abbrev pub part_sent : List ℕ → Result (Unit {0}) ℕ → List ℕ

@@ -1,10 +1,10 @@
 //! Laws of sessions that run in pieces. Each function does nothing, and its contract is the law.
 
+ghost use Rattle.http_session.specs.Sessions.{store_of};
 ghost use Rattle.http_session.specs.ResponseOrder.{model_of, connection_moment};
-ghost use Rattle.http_session.specs.SessionRuns.{store_of};
 ghost use Rattle.trace_model.specs.StoreKnowledge.{ForgetsNothing};
-ghost use Rattle.http_session.specs.ResumableSessions.{no_requests_yet, CanContinue, Underway, UnderwayAmong, AnswersSoFar, StaysUnderway, OutlastsWrites, SubmitsSome};
-ghost use Rattle.http_session.specs.ResumableSessions.{ReadsSome, AsksOnce};
+ghost use Rattle.http_session.specs.ResumableSessions.{no_requests_yet, CanContinue, session_moment, Underway, UnderwayAmong};
+ghost use Rattle.http_session.specs.ResumableSessions.{AnswersSoFar, StaysUnderway, OutlastsWrites, SubmitsSome, ReadsSome, AsksOnce};
 ghost use Rattle.http_session.specs.KnownRefusals.{RefusalsStayKnown, RefusalsStayKnownAmong};
 
 use session_devices::Connection;
@@ -17,11 +17,12 @@ pub fn a_new_session_is_underway<T, C: Connection, B: Backend<T>>(connection: &C
     ensures alone { Underway (store_of B.submits B.reads B.knows B.limits)
         (model_of C.remaining C.gives C.Input.has_failed C.contents C.takes C.Output.has_failed)
         (connection_moment connection.now backend.now)
-        (connection_moment connection.now backend.now) no_requests_yet }
+        (session_moment connection.now backend.now no_requests_yet) }
 
     ensures among { UnderwayAmong (store_of B.submits B.reads B.knows B.limits)
         (model_of C.remaining C.gives C.Input.has_failed C.contents C.takes C.Output.has_failed)
-        connection.now connection.now backend.now backend.now no_requests_yet }
+        (connection_moment connection.now backend.now)
+        (session_moment connection.now backend.now no_requests_yet) }
 {}
 
 /// A session that pauses stays underway while others submit batches or query the store, while other sessions run a

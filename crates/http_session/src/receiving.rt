@@ -1,10 +1,10 @@
 //! Takes requests from the bytes received: a head, what it asks, and the body piece by piece. Nothing is read here.
 
-ghost use Rattle.std.specs.Prelude.{◌≡◌, ℕ, List, [], ◌++◌, IfOk, OnErr};
+ghost use Rattle.std.specs.Prelude.{◌≡◌, ℕ, List, [], ◌++◌, Some, IfOk, OnErr};
 ghost use Rattle.batch_codec.specs.BatchReading.{decoded};
 ghost use Rattle.batch_feeder.specs.FeederAnswers.{answers};
 ghost use Rattle.query_http.specs.Paths.{endpoint_rows};
-ghost use Rattle.http_requests.specs.PartialRequests.{IsPart, HasSeen, HasLooked, Comes, Leaves, TakesOn};
+ghost use Rattle.http_requests.specs.PartialRequests.{IsPart, HasSeen, HasLooked, Leaves, reader_moment, ContinuesBody};
 ghost use Rattle.http_requests.specs.ReceivedBytes.{put_back};
 ghost use Rattle.http_session.specs.Verdicts.{BeginsWithQuery};
 ghost use Rattle.http_session.specs.Questions.{JudgesRead, Decides};
@@ -155,10 +155,9 @@ impl PartialRequest {
     /// Takes the received part of the body. A batch is decoded piece by piece.
     fn take_from(&mut self, received: &mut ReadBuffer) -> BodyLook
         requires looked { HasLooked self.old.reader received.old.held }
-        ensures took { TakesOn Carries received.old received.new self.old.sink self.new.sink
-            self.old.reader
-            (λ size text content.
-            Comes size text content received.new.held self.new.reader result) }
+        ensures took { ContinuesBody Carries
+            (reader_moment self.old.reader received.old self.old.sink)
+            (reader_moment self.new.reader received.new self.new.sink) (Some result) }
         ensures leaves { Leaves self.new.reader received.new.held result }
         ensures closes { self.new.closes ≡ self.old.closes }
     {

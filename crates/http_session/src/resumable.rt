@@ -4,9 +4,10 @@ ghost use Rattle.std.specs.Prelude.{◌≡◌, ◌≢◌, ◌≤◌, ◌+◌, �
 ghost use Rattle.session_devices.specs.declared.limits.TheConstants.{MAX_READS};
 ghost use Rattle.http_requests.specs.declared.room.TheConstants.{READ_BYTES};
 ghost use Rattle.query_http.specs.Paths.{endpoint_rows};
+ghost use Rattle.http_session.specs.Sessions.{store_of};
 ghost use Rattle.http_session.specs.ResponseOrder.{model_of};
-ghost use Rattle.http_session.specs.SessionRuns.{store_of};
-ghost use Rattle.http_session.specs.ResumableSessions.{no_requests_yet, CanContinue, IfOpen, IfAnswered, IfPaused, AwaitsMore, piece_of, AsksOnce, GoesOn, TakesRequest};
+ghost use Rattle.http_session.specs.ResumableSessions.{no_requests_yet, CanContinue, IfOpen, IfAnswered, IfPaused, AwaitsMore, piece_of};
+ghost use Rattle.http_session.specs.ResumableSessions.{session_moment, AsksOnce, RunsPiece, TakesRequest};
 ghost use Rattle.http_session.specs.declared.resumable.Session.{Session as SessionValue};
 
 use crate::receiving::{Incoming, SessionStage, receive};
@@ -99,9 +100,10 @@ impl Session {
         requires counts { self.old.answered ≤ READ_BYTES * MAX_READS }
 
         ensures goes_on { (before : SessionValue) → TakesRequest before self.old verdict closes →
-            GoesOn (store_of B.submits B.reads B.knows B.limits)
+            RunsPiece (store_of B.submits B.reads B.knows B.limits)
             (model_of C.remaining C.gives C.Input.has_failed C.contents C.takes C.Output.has_failed)
-            connection.old connection.new backend.old backend.new before self.new result }
+            (session_moment connection.old backend.old before)
+            (session_moment connection.new backend.new self.new) result }
 
         ensures asks { AsksOnce (store_of B.submits B.reads B.knows B.limits)
             backend.old backend.new }
@@ -150,10 +152,10 @@ impl Session {
         requires output_works { C.Output.has_failed connection.old ≡ false }
         requires ready { CanContinue (C.remaining connection.old) self.old }
 
-        ensures goes_on { GoesOn (store_of B.submits B.reads B.knows B.limits)
+        ensures goes_on { RunsPiece (store_of B.submits B.reads B.knows B.limits)
             (model_of C.remaining C.gives C.Input.has_failed C.contents C.takes C.Output.has_failed)
-            connection.old connection.new backend.old backend.new self.old self.new
-            (piece_of result) }
+            (session_moment connection.old backend.old self.old)
+            (session_moment connection.new backend.new self.new) (piece_of result) }
 
         ensures asks { AsksOnce (store_of B.submits B.reads B.knows B.limits)
             backend.old backend.new }
@@ -229,10 +231,10 @@ impl Session {
         requires output_works { C.Output.has_failed connection.old ≡ false }
         requires ready { CanContinue (C.remaining connection.old) self.old }
 
-        ensures goes_on { GoesOn (store_of B.submits B.reads B.knows B.limits)
+        ensures goes_on { RunsPiece (store_of B.submits B.reads B.knows B.limits)
             (model_of C.remaining C.gives C.Input.has_failed C.contents C.takes C.Output.has_failed)
-            connection.old connection.new backend.old backend.new self.old self.new
-            (piece_of result) }
+            (session_moment connection.old backend.old self.old)
+            (session_moment connection.new backend.new self.new) (piece_of result) }
 
         ensures asks { AsksOnce (store_of B.submits B.reads B.knows B.limits)
             backend.old backend.new }
@@ -294,9 +296,10 @@ impl Session {
         requires output_works { C.Output.has_failed connection.old ≡ false }
         requires ready { CanContinue (C.remaining connection.old) self.old }
 
-        ensures goes_on { GoesOn (store_of B.submits B.reads B.knows B.limits)
+        ensures goes_on { RunsPiece (store_of B.submits B.reads B.knows B.limits)
             (model_of C.remaining C.gives C.Input.has_failed C.contents C.takes C.Output.has_failed)
-            connection.old connection.new backend.old backend.new self.old self.new result }
+            (session_moment connection.old backend.old self.old)
+            (session_moment connection.new backend.new self.new) result }
 
         ensures asks { AsksOnce (store_of B.submits B.reads B.knows B.limits)
             backend.old backend.new }

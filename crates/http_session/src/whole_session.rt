@@ -3,9 +3,9 @@ ghost use Rattle.query_http.specs.Paths.{endpoint_rows};
 ghost use Rattle.query_json.specs.Parts.{to_come};
 ghost use Rattle.http_session.specs.Replies.{response_of, closes, takes_no_memory};
 ghost use Rattle.http_session.specs.declared.whole_session.SessionErrorKind.TheVariants.{Writing, Memory};
-ghost use Rattle.http_session.specs.Sessions.{Step, WritesResponse, part_written, cause_by};
+ghost use Rattle.http_session.specs.Sessions.{store_of, moment, Step, output_state, WritesResponse, part_written, cause_by};
 ghost use Rattle.http_session.specs.ResponseOrder.{model_of, connection_moment};
-ghost use Rattle.http_session.specs.SessionRuns.{store_of, devices_of, moment, EndsBetween, FailsBetween, EndsServed, FailsServed};
+ghost use Rattle.http_session.specs.SessionRuns.{devices_of, EndsBetween, FailsBetween, EndsServed, FailsServed};
 
 use crate::reply::Reply;
 use crate::respond::Respond;
@@ -86,7 +86,8 @@ pub(crate) fn answer<T, B: Backend<T>>(
     backend: &mut B,
     verdict: Verdict,
 ) -> Reply
-    ensures { Step B.submits B.reads backend.old verdict result backend.new }
+    ensures { Step (store_of B.submits B.reads B.knows B.limits)
+        backend.old verdict result backend.new }
 {
     match verdict {
         Verdict::Submit(batch) => match backend.submit(rt, alloc, batch) {
@@ -111,8 +112,8 @@ pub(crate) fn closes_after(asks: bool, reply: &Reply) -> bool
 /// Writes the bytes of a response. Allocates nothing itself. A connection that can't take all of them may keep a copy, and
 /// fails if there is no memory for it.
 fn write_fixed<W: Output>(output: &mut W, response: &[u8]) -> Result<(), PartialWrite>
-    ensures wrote { WritesResponse (W.contents output.old) (W.contents output.new)
-        (W.has_failed output.old) (W.has_failed output.new) response.now result }
+    ensures wrote { WritesResponse (output_state (W.contents output.old) (W.has_failed output.old))
+        (output_state (W.contents output.new) (W.has_failed output.new)) response.now result }
     ensures took { W.takes output.old (part_written response.now result) output.new }
     ensures writing { IfErr result (λ e. e.cause ≡ Writing) }
 {
@@ -127,8 +128,9 @@ fn write_fixed<W: Output>(output: &mut W, response: &[u8]) -> Result<(), Partial
 
 /// Writes a response, or hands it over to be written later.
 fn write_response<C: Respond>(connection: &mut C, response: Response) -> Result<(), PartialWrite>
-    ensures wrote { WritesResponse (C.contents connection.old) (C.contents connection.new)
-        (C.Output.has_failed connection.old) (C.Output.has_failed connection.new)
+    ensures wrote { WritesResponse
+        (output_state (C.contents connection.old) (C.Output.has_failed connection.old))
+        (output_state (C.contents connection.new) (C.Output.has_failed connection.new))
         (to_come response) result }
     ensures took { C.takes connection.old (part_written (to_come response) result) connection.new }
     ensures writing { IfErr result (λ e. e.cause ≡ Writing) }
@@ -149,8 +151,9 @@ pub(crate) fn write_reply<C: Respond>(
     reply: Reply,
     close: bool,
 ) -> Result<(), PartialWrite>
-    ensures wrote { WritesResponse (C.contents connection.old) (C.contents connection.new)
-        (C.Output.has_failed connection.old) (C.Output.has_failed connection.new)
+    ensures wrote { WritesResponse
+        (output_state (C.contents connection.old) (C.Output.has_failed connection.old))
+        (output_state (C.contents connection.new) (C.Output.has_failed connection.new))
         (response_of reply close) result }
     ensures took { C.takes connection.old (part_written (response_of reply close) result)
         connection.new }

@@ -90,7 +90,9 @@ fn kept_at<'a>(
         return Ok(AnsweredTrace::lone(one));
     }
     let trace = kept_trace(alloc, spans, max_skew, classes)?;
-    Ok(AnsweredTrace::kept(trace))
+    // For the prover: the binding lets the clause of `kept` be used for the result.
+    let kept = AnsweredTrace::kept(alloc, trace)?;
+    Ok(kept)
 }
 
 /// Returns the keys that are in several of the traces at the indices.

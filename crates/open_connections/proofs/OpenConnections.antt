@@ -4,9 +4,11 @@ use Rattle.std.proofs.lemmas.Bool.Decides.{eqb_tells}
 use Rattle.slab.specs.Slab.{Slab, get, Updates}
 use Rattle.std.specs.Io.KnownBytes.{append_known}
 use Rattle.http_session.specs.ResponseOrder.{ConnectionModel, connection_moment, IsTwoWay}
-use Rattle.http_session.specs.SessionRuns.{Store, EndsServed, FailsServed}
+use Rattle.http_session.specs.Sessions.{Store}
+use Rattle.http_session.specs.SessionRuns.{EndsServed, FailsServed}
 use Rattle.trace_model.specs.StoreKnowledge.{ForgetsNothing}
-use Rattle.http_session.specs.ResumableSessions.{AsksOnce, CanContinue, GoesOn, UnderwayAmong, OutlastsWrites, IfOpen, no_requests_yet, piece_of, shared}
+use Rattle.http_session.specs.ResumableSessions.{AsksOnce, CanContinue, session_moment, RunsPiece, UnderwayAmong, OutlastsWrites, IfOpen, no_requests_yet}
+use Rattle.http_session.specs.ResumableSessions.{piece_of, shared}
 use Rattle.http_session.specs.declared.resumable.Progress.{Progress as Piece}
 use Rattle.http_session.specs.declared.resumable.Progress.TheVariants.{Ended as EndedBy}
 use Rattle.http_session.specs.declared.resumable.Session.{Session}
@@ -27,7 +29,7 @@ module _ {S C : Type 0} (store : Store S) (promises : Promises store) (model : C
   pub open_still : (t u : S) (it : OpenConnection C) → AsksOnce store t u → IsOpen store model t it → IsOpen store model u it
   open_still t u it asks is = record {
     then = is.then;
-    underway = others_go_on store promises model it.began.value it.connection is.then t u it.session is.underway asks;
+    underway = others_go_on store promises model (connection_moment it.began.value is.then) (session_moment it.connection t it.session) u is.underway asks;
     ready = is.ready;
     input_works = is.input_works;
     output_works = is.output_works;
@@ -43,7 +45,8 @@ module _ {S C : Type 0} (store : Store S) (promises : Promises store) (model : C
       let is = all key it e in
       record {
         then = is.then;
-        underway = others_forget_nothing store promises model it.began.value it.connection is.then t u it.session is.underway keeps;
+        underway = others_forget_nothing store promises model (connection_moment it.began.value is.then) (session_moment it.connection t it.session) u
+            is.underway keeps;
         ready = is.ready;
         input_works = is.input_works;
         output_works = is.output_works;
@@ -100,9 +103,12 @@ module _ {S C : Type 0} (store : Store S) (model : ConnectionModel (BufferedConn
       → IsOpen store model now old → IsOpen store model now new
   moved_open old new connection session began is = record {
     then = is.then;
-    underway = subst (λ (b : BufferedConnection C). UnderwayAmong store model b new.connection is.then now new.session) (sym began)
-        (subst (λ (d : BufferedConnection C). UnderwayAmong store model old.began.value d is.then now new.session) (sym connection)
-        (subst (λ (x : Session). UnderwayAmong store model old.began.value old.connection is.then now x) (sym session) is.underway));
+    underway = subst (λ (b : BufferedConnection C). UnderwayAmong store model (connection_moment b is.then) (session_moment new.connection now new.session))
+        (sym began)
+        (subst (λ (d : BufferedConnection C). UnderwayAmong store model (connection_moment old.began.value is.then) (session_moment d now new.session))
+        (sym connection)
+        (subst (λ (x : Session). UnderwayAmong store model (connection_moment old.began.value is.then) (session_moment old.connection now x))
+        (sym session) is.underway));
     ready = subst (λ (x : Session). CanContinue (model.source.remaining new.connection) x) (sym session)
         (subst (λ (d : BufferedConnection C). CanContinue (model.source.remaining d) old.session) (sym connection) is.ready);
     input_works = subst (λ (d : BufferedConnection C). model.in_failed d ≡ false) (sym connection) is.input_works;
@@ -111,13 +117,14 @@ module _ {S C : Type 0} (store : Store S) (model : ConnectionModel (BufferedConn
 
   -- nothing was read of it yet
   pub new_open : (it : OpenConnection C) (box : BufferedConnection C) → it.connection ≡ box → it.session ≡ no_requests_yet → it.began.value ≡ box
-      → UnderwayAmong store model box box now now no_requests_yet
+      → UnderwayAmong store model (connection_moment box now) (session_moment box now no_requests_yet)
       → CanContinue (model.source.remaining box) no_requests_yet → model.in_failed box ≡ false → model.out_failed box ≡ false → IsOpen store model now it
   new_open it box connection session began under can reads writes = record {
     then = now;
-    underway = subst (λ (b : BufferedConnection C). UnderwayAmong store model b it.connection now now it.session) (sym began)
-        (subst (λ (d : BufferedConnection C). UnderwayAmong store model box d now now it.session) (sym connection)
-        (subst (λ (x : Session). UnderwayAmong store model box box now now x) (sym session) under));
+    underway = subst (λ (b : BufferedConnection C). UnderwayAmong store model (connection_moment b now) (session_moment it.connection now it.session))
+        (sym began)
+        (subst (λ (d : BufferedConnection C). UnderwayAmong store model (connection_moment box now) (session_moment d now it.session)) (sym connection)
+        (subst (λ (x : Session). UnderwayAmong store model (connection_moment box now) (session_moment box now x)) (sym session) under));
     ready = subst (λ (x : Session). CanContinue (model.source.remaining it.connection) x) (sym session)
         (subst (λ (d : BufferedConnection C). CanContinue (model.source.remaining d) no_requests_yet) (sym connection) can);
     input_works = subst (λ (d : BufferedConnection C). model.in_failed d ≡ false) (sym connection) reads;
@@ -145,11 +152,14 @@ module _ {S C : Type 0} (store : Store S) (now : S) (remaining : C → Option (L
   abbrev model : ConnectionModel (BufferedConnection C)
   model = buffered_model remaining gives failed contents
 
-  still_underway : UnderwayAmong store model new.began.value new.connection is.then now new.session
+  still_underway : UnderwayAmong store model (connection_moment new.began.value is.then) (session_moment new.connection now new.session)
   still_underway =
-      subst (λ (b : BufferedConnection C). UnderwayAmong store model b new.connection is.then now new.session) (sym delivers.began)
-      (subst (λ (x : Session). UnderwayAmong store model old.began.value new.connection is.then now x) (sym delivers.session)
-      (lasts old.began.value old.connection new.connection is.then now old.session is.underway delivers.nothing_new delivers.kept))
+      subst (λ (b : BufferedConnection C). UnderwayAmong store model (connection_moment b is.then) (session_moment new.connection now new.session))
+      (sym delivers.began)
+      (subst (λ (x : Session). UnderwayAmong store model (connection_moment old.began.value is.then) (session_moment new.connection now x))
+      (sym delivers.session)
+      (lasts (connection_moment old.began.value is.then) (session_moment old.connection now old.session) new.connection is.underway
+      delivers.nothing_new delivers.kept))
 
   pub delivered : HasCome store model now new p
   delivered = elim delivers.comes_to [
@@ -169,25 +179,31 @@ module _ {S C : Type 0} (store : Store S) (now : S) (remaining : C → Option (L
 module _ {S C : Type 0} (store : Store S) (model : ConnectionModel (BufferedConnection C)) (t u : S) (old new : OpenConnection C) (before after : Session)
     (before_is : before ≡ old.session) (after_is : new.session ≡ after)
     (began : new.began.value ≡ old.began.value) (is : IsOpen store model t old) where
-  under_before : UnderwayAmong store model old.began.value old.connection is.then t before
-  under_before = subst (λ (x : Session). UnderwayAmong store model old.began.value old.connection is.then t x) (sym before_is) is.underway
+  under_before : UnderwayAmong store model (connection_moment old.began.value is.then) (session_moment old.connection t before)
+  under_before = subst (λ (x : Session). UnderwayAmong store model (connection_moment old.began.value is.then) (session_moment old.connection t x))
+      (sym before_is) is.underway
 
-  pub came_open : GoesOn store model old.connection new.connection t u before after (Ok None) → CanContinue (model.source.remaining new.connection) after
+  pub came_open : RunsPiece store model (session_moment old.connection t before) (session_moment new.connection u after) (Ok None)
+      → CanContinue (model.source.remaining new.connection) after
       → (model.in_failed new.connection ≡ false) × (model.out_failed new.connection ≡ false) → IsOpen store model u new
   came_open goes can works =
-      let came = goes.among old.began.value is.then under_before in
+      let came = goes.among (connection_moment old.began.value is.then) under_before in
       record {
         then = is.then;
-        underway = subst (λ (b : BufferedConnection C). UnderwayAmong store model b new.connection is.then u new.session) (sym began)
-            (subst (λ (x : Session). UnderwayAmong store model old.began.value new.connection is.then u x) (sym after_is) came);
+        underway = subst (λ (b : BufferedConnection C). UnderwayAmong store model (connection_moment b is.then) (session_moment new.connection u new.session))
+            (sym began)
+            (subst (λ (x : Session). UnderwayAmong store model (connection_moment old.began.value is.then) (session_moment new.connection u x))
+            (sym after_is) came);
         ready = subst (CanContinue (model.source.remaining new.connection)) (sym after_is) can;
         input_works = works.0;
         output_works = works.1;
       }
 
-  pub came_ended : (ended : EndedSession) → GoesOn store model old.connection new.connection t u before after (Ok (Some ended)) → SessionEnded store model u new
+  pub came_ended : (ended : EndedSession)
+      → RunsPiece store model (session_moment old.connection t before) (session_moment new.connection u after) (Ok (Some ended))
+      → SessionEnded store model u new
   came_ended ended goes =
-      let came = goes.among old.began.value is.then under_before in
+      let came = goes.among (connection_moment old.began.value is.then) under_before in
       record {
         then = is.then;
         last = came.0;
@@ -198,9 +214,10 @@ module _ {S C : Type 0} (store : Store S) (model : ConnectionModel (BufferedConn
         keeps = came.2;
       }
 
-  pub came_failed : (error : SessionError) → GoesOn store model old.connection new.connection t u before after (Err error) → HasFailed store model u new
+  pub came_failed : (error : SessionError)
+      → RunsPiece store model (session_moment old.connection t before) (session_moment new.connection u after) (Err error) → HasFailed store model u new
   came_failed error goes =
-      let came = goes.among old.began.value is.then under_before in
+      let came = goes.among (connection_moment old.began.value is.then) under_before in
       record {
         then = is.then;
         last = came.0;
@@ -212,18 +229,22 @@ module _ {S C : Type 0} (store : Store S) (model : ConnectionModel (BufferedConn
       }
 
   -- the same by the piece that its session has made
-  pub came_on : (p q : Piece) → p ≡ q → piece_of (Ok q) ≡ Ok None → GoesOn store model old.connection new.connection t u before after (piece_of (Ok p))
+  pub came_on : (p q : Piece) → p ≡ q → piece_of (Ok q) ≡ Ok None
+      → RunsPiece store model (session_moment old.connection t before) (session_moment new.connection u after) (piece_of (Ok p))
       → IfOpen (piece_of (Ok p)) (CanContinue (model.source.remaining new.connection) after)
       → (model.in_failed new.connection ≡ false) × (model.out_failed new.connection ≡ false) → IsOpen store model u new
   came_on p q same open_still goes can works =
       let is = ap (λ (x : Piece). piece_of (Ok x)) same ∙ open_still in
       came_open
-      (subst (λ (r : Result (Option EndedSession) SessionError). GoesOn store model old.connection new.connection t u before after r) is goes)
+      (subst (λ (r : Result (Option EndedSession) SessionError).
+      RunsPiece store model (session_moment old.connection t before) (session_moment new.connection u after) r) is goes)
       (subst (λ (r : Result (Option EndedSession) SessionError). IfOpen r (CanContinue (model.source.remaining new.connection) after)) is can)
       works
 
-  pub came_to_end : (p : Piece) (ended : EndedSession) → p ≡ EndedBy ended → GoesOn store model old.connection new.connection t u before after (piece_of (Ok p))
+  pub came_to_end : (p : Piece) (ended : EndedSession) → p ≡ EndedBy ended
+      → RunsPiece store model (session_moment old.connection t before) (session_moment new.connection u after) (piece_of (Ok p))
       → SessionEnded store model u new
   came_to_end p ended same goes =
-      came_ended ended (subst (λ (r : Result (Option EndedSession) SessionError). GoesOn store model old.connection new.connection t u before after r)
+      came_ended ended (subst (λ (r : Result (Option EndedSession) SessionError).
+      RunsPiece store model (session_moment old.connection t before) (session_moment new.connection u after) r)
       (ap (λ (x : Piece). piece_of (Ok x)) same) goes)

@@ -1,9 +1,8 @@
 -- By which lists the batches of a connection were refused, and that the store still knows it later.
 use Rattle.std.specs.Prelude.{List, ◌++◌}
 use Rattle.trace_model.specs.StoreKnowledge.{ForgetsNothing}
-use Rattle.http_session.specs.Sessions.{Exchange, last_of, exchange_due}
+use Rattle.http_session.specs.Sessions.{Exchange, Store, last_of, exchange_due}
 use Rattle.http_session.specs.ResponseOrder.{ConnectionModel}
-use Rattle.http_session.specs.SessionRuns.{Store}
 use Rattle.http_session.specs.KnownRefusals.{RefusalsAreKnown}
 use Rattle.open_connections.specs.OpenConnections.{HasCome}
 use Rattle.open_connections.specs.declared.open.OpenConnection.{OpenConnection}

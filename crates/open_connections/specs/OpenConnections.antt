@@ -5,8 +5,9 @@ use Rattle.std.specs.Option.{option_map}
 use Rattle.slab.specs.Slab.{Slab, get}
 use Rattle.trace_model.specs.StoreKnowledge.{ForgetsNothing}
 use Rattle.http_session.specs.ResponseOrder.{ConnectionModel, connection_moment}
-use Rattle.http_session.specs.SessionRuns.{Store, EndsServed, FailsServed}
-use Rattle.http_session.specs.ResumableSessions.{CanContinue, UnderwayAmong, shared}
+use Rattle.http_session.specs.Sessions.{Store}
+use Rattle.http_session.specs.SessionRuns.{EndsServed, FailsServed}
+use Rattle.http_session.specs.ResumableSessions.{CanContinue, session_moment, UnderwayAmong, shared}
 use Rattle.http_session.specs.declared.whole_session.Ended.{Ended as EndedSession}
 use Rattle.http_session.specs.declared.whole_session.SessionError.{SessionError}
 use Rattle.open_connections.specs.BufferedConnections.{buffered_model, buffered_takes, handed_over}
@@ -22,7 +23,7 @@ use Rattle.open_connections.specs.declared.open.ConnectionProgress.TheVariants.{
 -- then, and the connection hasn't failed.
 pub record IsOpen {S C : Type 0} (store : Store S) (model : ConnectionModel (BufferedConnection C)) (now : S) (it : OpenConnection C) : Type 0 where
   pub then : S
-  pub underway : UnderwayAmong store model it.began.value it.connection then now it.session
+  pub underway : UnderwayAmong store model (connection_moment it.began.value then) (session_moment it.connection now it.session)
   pub ready : CanContinue (model.source.remaining it.connection) it.session
   pub input_works : model.in_failed it.connection ≡ false
   pub output_works : model.out_failed it.connection ≡ false
@@ -46,7 +47,7 @@ pub record HasFailed {S C : Type 0} (store : Store S) (model : ConnectionModel (
 -- its session is underway, and the connection failed before the client took the last response
 pub record HasBroken {S C : Type 0} (store : Store S) (model : ConnectionModel (BufferedConnection C)) (now : S) (it : OpenConnection C) : Type 0 where
   pub then : S
-  pub underway : UnderwayAmong store model it.began.value it.connection then now it.session
+  pub underway : UnderwayAmong store model (connection_moment it.began.value then) (session_moment it.connection now it.session)
   pub output_failed : model.out_failed it.connection ≡ true
 
 -- what became of a connection in one more turn

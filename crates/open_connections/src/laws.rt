@@ -1,6 +1,6 @@
 //! Laws of open connections. Each function does nothing, and its contract is the law.
 
-ghost use Rattle.http_session.specs.SessionRuns.{store_of};
+ghost use Rattle.http_session.specs.Sessions.{store_of};
 ghost use Rattle.open_connections.specs.BufferedConnections.{buffered_model};
 ghost use Rattle.open_connections.specs.ConnectionRefusals.{ConnectionRefusalsStayKnown};
 

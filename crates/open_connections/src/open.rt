@@ -2,8 +2,8 @@
 
 ghost use Rattle.std.specs.Prelude.{◌≡◌, true, false, OnOk};
 ghost use Rattle.query_http.specs.Paths.{endpoint_rows};
-ghost use Rattle.http_session.specs.SessionRuns.{store_of};
-ghost use Rattle.http_session.specs.ResumableSessions.{AsksOnce, CanContinue, GoesOn, IfOpen, no_requests_yet, piece_of};
+ghost use Rattle.http_session.specs.Sessions.{store_of};
+ghost use Rattle.http_session.specs.ResumableSessions.{AsksOnce, CanContinue, session_moment, RunsPiece, IfOpen, no_requests_yet, piece_of};
 ghost use Rattle.open_connections.specs.BufferedConnections.{buffered_model};
 ghost use Rattle.open_connections.specs.OpenConnections.{IsOpen, HasCome, Delivers, stays_open};
 
@@ -114,10 +114,10 @@ impl<C: TryConnection> OpenConnection<C> {
         requires output_works { self.old.connection.failed ≡ false }
         requires ready { CanContinue (C.remaining self.old.connection.connection) self.old.session }
 
-        ensures goes_on { GoesOn (store_of B.submits B.reads B.knows B.limits)
+        ensures goes_on { RunsPiece (store_of B.submits B.reads B.knows B.limits)
             (buffered_model C.remaining C.gives C.has_failed C.contents)
-            self.old.connection self.new.connection backend.old backend.new
-            self.old.session self.new.session (piece_of result) }
+            (session_moment self.old.connection backend.old self.old.session)
+            (session_moment self.new.connection backend.new self.new.session) (piece_of result) }
 
         ensures asks { AsksOnce (store_of B.submits B.reads B.knows B.limits)
             backend.old backend.new }

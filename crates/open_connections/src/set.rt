@@ -1,7 +1,7 @@
 //! The connections of a thread, with their sessions.
 
 ghost use Rattle.std.specs.Prelude.{◌≡◌, false, IfOk};
-ghost use Rattle.http_session.specs.SessionRuns.{store_of};
+ghost use Rattle.http_session.specs.Sessions.{store_of};
 ghost use Rattle.http_session.specs.ResumableSessions.{AsksOnce};
 ghost use Rattle.open_connections.specs.BufferedConnections.{buffered_model};
 ghost use Rattle.open_connections.specs.OpenConnections.{AllOpen, IsEmpty, IsRest, TurnsTo};

@@ -1,15 +1,17 @@
 -- The contract of a session's call implies the premises of the laws on sessions.
 use Rattle.std.proofs.Common.{◌≡◌, ℕ, Bool, List, ◌++◌, take, Option, Some, None, refl, ap}
 use Rattle.trace_model.specs.LimitedHistories.{LimitedHistory}
-use Rattle.pipe_session.specs.DirectCalls.{DirectSubmits, DirectReads}
-use Rattle.http_session.specs.Sessions.{EndsAs, FailsAs, last_of, responses, exchange_due, bytes_due}
+use Rattle.pipe_session.specs.DirectCalls.{direct_store}
+use Rattle.http_session.specs.Sessions.{moment, EndsAs, FailsAs, last_of, responses, exchange_due, bytes_due}
 use Rattle.http_session.specs.declared.whole_session.SessionError.{SessionError}
 use Rattle.pipe_session.specs.OneFunction.{NeverWants, Finished, Failed}
 use Rattle.pipe_session.proofs.Prefixes.{spoken}
 
 pub finished : (bytes before : List ℕ) (left out : Option (List ℕ)) (s t : LimitedHistory) (n : ℕ) (c : Bool)
-    (ends : EndsAs DirectSubmits DirectReads (Some bytes) left (Some before) out s t n c)
-    → NeverWants (ends.opens ++ last_of ends.ending) → (written : List ℕ) × (out ≡ Some (before ++ written)) × Finished bytes s written t n c
+    (ends : EndsAs direct_store (moment (Some bytes) (Some before) s) (moment left out t) (record { answered = n; clean = c }))
+    → NeverWants (ends.opens ++ last_of ends.ending)
+    → (written : List ℕ) × (out ≡ Some (before ++ written))
+    × Finished bytes s (record { written = written; held = t; ended = record { answered = n; clean = c } })
 finished bytes before left None s t n c ends memory = absurd ends.written
 finished bytes before left (Some after) s t n c ends memory = (
   spoken ends.opens ends.ending,
@@ -36,7 +38,8 @@ finished bytes before left (Some after) s t n c ends memory = (
 )
 
 pub failed : (bytes before : List ℕ) (left out : Option (List ℕ)) (s t : LimitedHistory) (i o : Bool) (error : SessionError)
-    (fails : FailsAs DirectSubmits DirectReads (Some bytes) left (Some before) out s t i o error)
+    (fails : FailsAs direct_store (moment (Some bytes) (Some before) s) (moment left out t)
+    (record { error = error; input_failed = i; output_failed = o }))
     → NeverWants (fails.opens ++ exchange_due fails.next) → (written : List ℕ) × (out ≡ Some (before ++ written)) × Failed bytes s written
 failed bytes before left None s t i o error fails memory = absurd fails.written
 failed bytes before left (Some after) s t i o error fails memory = (

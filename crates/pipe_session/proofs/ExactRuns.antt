@@ -11,7 +11,7 @@ use Rattle.trace_model.specs.LimitedHistories.{LimitedHistory}
 use Rattle.trace_model.specs.Refusals.{with_admitted}
 use Rattle.arrival_journal.specs.Journals.{admission_by, turned_away_by}
 use Rattle.span_store.specs.NextEntry.{next_entry}
-use Rattle.pipe_session.specs.DirectCalls.{DirectSubmits, DirectReads}
+use Rattle.pipe_session.specs.DirectCalls.{DirectSubmits, direct_store}
 use Rattle.http_session.specs.Sessions.{Exchange, Step, Run}
 use Rattle.http_session.specs.declared.verdict.Verdict.{Verdict}
 use Rattle.http_session.specs.declared.verdict.Verdict.TheVariants.{Submit, Ask, Reject}
@@ -37,7 +37,7 @@ refused_by (Err own) s t b why is memory same (inr reported) =
     let reason : why ≡ own = reported ∙ ap (λ r. unwrap_or (result_err r) NoMemory) is in
     (ap Refused reason ∙ sym (ap answered is), same ∙ sym (ap (with_admitted s (next_entry s b)) is))
 
-one : (s t : LimitedHistory) (v : Verdict) (reply : Reply) → reply ≢ Refused NoMemory → Step DirectSubmits DirectReads s v reply t → Exactly s v reply t
+one : (s t : LimitedHistory) (v : Verdict) (reply : Reply) → reply ≢ Refused NoMemory → Step direct_store s v reply t → Exactly s v reply t
 one s t (Submit b) Accepted m step = taken s t b step.0 step.1
 one s t (Submit b) (Refused why) m step = refused_by (admission_by s (next_entry s b)) s t b why refl (λ e. m (ap Refused e)) step.0 step.1
 one s t (Ask q) (Answered a) m step = (ap Answered step.1, step.0)
@@ -45,7 +45,7 @@ one s t (Ask q) (Refused why) m step = absurd (m (ap Refused step.1))
 one s t (Reject error) (Error said) m step = (ap Error step.0, step.1)
 one s t _ _ m step = absurd step
 
-pub exact : (s t : LimitedHistory) (xs : List Exchange) → Run DirectSubmits DirectReads s xs t → IsExact s xs t
+pub exact : (s t : LimitedHistory) (xs : List Exchange) → Run direct_store s xs t → IsExact s xs t
 exact s t [] run m = (refl, run)
 exact s t (x ∷ xs) run m =
     let now = one s run.0 x.verdict x.reply (All-head (λ (x : Exchange). x.reply ≢ Refused NoMemory) x xs m) run.1 in

@@ -6,8 +6,8 @@ use Rattle.std.proofs.lemmas.Bool.{false≢true}
 use Rattle.std.proofs.lemmas.List.Elements.{All-head, All-tail, All-cons, All-nil}
 use Rattle.std.proofs.lemmas.Grind.{flat_map-append}
 use Rattle.trace_model.specs.LimitedHistories.{LimitedHistory}
-use Rattle.pipe_session.specs.DirectCalls.{DirectSubmits, DirectReads}
-use Rattle.http_session.specs.Sessions.{Exchange, LeavesOpen, texts, Submits, Reads, Run, EndsAs, FailsAs, Ending, Ending.{clean, closing, malformed}, last_of}
+use Rattle.pipe_session.specs.DirectCalls.{direct_store}
+use Rattle.http_session.specs.Sessions.{Exchange, LeavesOpen, texts, Store, moment, Run, EndsAs, FailsAs, Ending, Ending.{clean, closing, malformed}, last_of}
 use Rattle.http_session.specs.Sessions.{malformed_response, response_to, responses, Due, Due.{none_yet, due, due_malformed}, exchange_due, bytes_due}
 use Rattle.http_requests.specs.LineLaws.{no_bytes_await}
 use Rattle.http_session.specs.declared.whole_session.SessionErrorKind.TheVariants.{Reading}
@@ -16,11 +16,11 @@ use Rattle.pipe_session.specs.OneFunction.{NeverWants, Failed, WroteFirst}
 use Rattle.std.specs.Prelude.{take}
 
 -- a run in two parts
-run_parts : {S : Type 0} (submits : Submits S) (reads : Reads S) (s : S) (xs ys : List Exchange) (t : S) → Run submits reads s (xs ++ ys) t → (m : S)
-    × Run submits reads s xs m × Run submits reads m ys t
-run_parts submits reads s [] ys t run = (s, refl, run)
-run_parts submits reads s (x ∷ xs) ys t run =
-    let later = run_parts submits reads run.0 xs ys t run.2 in
+run_parts : {S : Type 0} (store : Store S) (s : S) (xs ys : List Exchange) (t : S) → Run store s (xs ++ ys) t → (m : S)
+    × Run store s xs m × Run store m ys t
+run_parts store s [] ys t run = (s, refl, run)
+run_parts store s (x ∷ xs) ys t run =
+    let later = run_parts store run.0 xs ys t run.2 in
     (later.0, (run.0, run.1, later.1), later.2)
 
 all_front : {X : Type 0} (P : X → Type 0) (xs ys : List X) → All P (xs ++ ys) → All P xs
@@ -61,9 +61,9 @@ left_after bytes front behind taken (Some left) read split = (behind ++ left, re
 -- a session up to some exchange is one whose input failed there, and had written the responses before
 stopped_there : (bytes before taken rest : List ℕ) (left : Option (List ℕ)) (s t : LimitedHistory) (ys zs : List Exchange) → Consumes (Some bytes) left taken
     → taken ≡ texts (ys ++ zs) ++ rest → All LeavesOpen ys
-    → Run DirectSubmits DirectReads s (ys ++ zs) t → NeverWants ys → Failed bytes s (responses ys)
+    → Run direct_store s (ys ++ zs) t → NeverWants ys → Failed bytes s (responses ys)
 stopped_there bytes before taken rest left s t ys zs read split opens run memory =
-    let parts = run_parts DirectSubmits DirectReads s ys zs t run in
+    let parts = run_parts direct_store s ys zs t run in
     let alone : ys ≡ ys ++ [] = sym (append-nil ys) in
     let cut : taken ≡ texts ys ++ (texts zs ++ rest) =
     split ∙ ap (λ (l : List ℕ). l ++ rest) (flat_map-append (λ (x : Exchange). x.text) ys zs) ∙ append_assoc (texts ys) (texts zs) rest in
@@ -84,7 +84,7 @@ stopped_there bytes before taken rest left s t ys zs read split opens run memory
         split = ap texts alone ∙ sym (append-nil (texts (ys ++ [])));
         each = opens;
         next_is = inl no_bytes_await;
-        run = subst (λ (l : List Exchange). Run DirectSubmits DirectReads s l parts.0) alone parts.1;
+        run = subst (λ (l : List Exchange). Run direct_store s l parts.0) alone parts.1;
         within = λ e. absurd (cc e);
         written = ap (λ (l : List ℕ). before ++ l) (sym (append-nil (responses ys)));
         count = refl;
@@ -99,7 +99,7 @@ stopped_there bytes before taken rest left s t ys zs read split opens run memory
 -- what was answered before some exchange was written first, whatever was written after
 written_first : (bytes before taken rest tail : List ℕ) (left out : Option (List ℕ)) (s t : LimitedHistory) (opens last ys zs : List Exchange) (z : Exchange)
     → length last ≤ 1 → All LeavesOpen opens → opens ++ last ≡ ys ++ z ∷ zs → NeverWants ys
-    → Consumes (Some bytes) left taken → taken ≡ texts (opens ++ last) ++ rest → Run DirectSubmits DirectReads s (opens ++ last) t
+    → Consumes (Some bytes) left taken → taken ≡ texts (opens ++ last) ++ rest → Run direct_store s (opens ++ last) t
     → Appends (Some before) out (responses opens ++ tail) → WroteFirst bytes before out s (responses ys)
 written_first bytes before taken rest tail left None s t opens last ys zs z few each e memory read split run written = absurd written
 written_first bytes before taken rest tail left (Some o) s t opens last ys zs z few each e memory read split run written =
@@ -111,11 +111,11 @@ written_first bytes before taken rest tail left (Some o) s t opens last ys zs z 
           ∙ ap (λ (l : List ℕ). l ++ tail) (responses_parts ys mid.0)
           ∙ append_assoc (responses ys) (responses mid.0) tail));
       failed = stopped_there bytes before taken rest left s t ys (z ∷ zs) read (split ∙ ap (λ (l : List Exchange). texts l ++ rest) e)
-          (all_front LeavesOpen ys mid.0 (subst (All LeavesOpen) mid.1 each)) (subst (λ (l : List Exchange). Run DirectSubmits DirectReads s l t) e run) memory;
+          (all_front LeavesOpen ys mid.0 (subst (All LeavesOpen) mid.1 each)) (subst (λ (l : List Exchange). Run direct_store s l t) e run) memory;
     }
 
 pub ended_before : (bytes before : List ℕ) (left out : Option (List ℕ)) (s t : LimitedHistory) (n : ℕ) (c : Bool)
-    (ends : EndsAs DirectSubmits DirectReads (Some bytes) left (Some before) out s t n c)
+    (ends : EndsAs direct_store (moment (Some bytes) (Some before) s) (moment left out t) (record { answered = n; clean = c }))
     (ys zs : List Exchange) (z : Exchange) → ends.opens ++ last_of ends.ending ≡ ys ++ z ∷ zs → NeverWants ys → WroteFirst bytes before out s (responses ys)
 ended_before bytes before left out s t n c ends ys zs z e memory =
     let last = last_of ends.ending in
@@ -126,7 +126,8 @@ ended_before bytes before left out s t n c ends ys zs z e memory =
     (subst (λ (w : List ℕ). Appends (Some before) out w) parts ends.written)
 
 pub failed_before : (bytes before : List ℕ) (left out : Option (List ℕ)) (s t : LimitedHistory) (i o : Bool) (error : SessionError)
-    (fails : FailsAs DirectSubmits DirectReads (Some bytes) left (Some before) out s t i o error)
+    (fails : FailsAs direct_store (moment (Some bytes) (Some before) s) (moment left out t)
+    (record { error = error; input_failed = i; output_failed = o }))
     (ys zs : List Exchange) (z : Exchange) → fails.opens ++ exchange_due fails.next ≡ ys ++ z ∷ zs → NeverWants ys
     → WroteFirst bytes before out s (responses ys)
 failed_before bytes before left out s t i o error fails ys zs z e memory =

@@ -13,6 +13,7 @@ use Rattle.trace_model.specs.Answers.{answer}
 use Rattle.arrival_journal.specs.Journals.{admission_by, turned_away_by}
 use Rattle.span_store.specs.NextEntry.{next_entry}
 use Rattle.trace_model.specs.StoreKnowledge.{KnownList, reached, refused, IsPrefixOf, RefusesBatch}
+use Rattle.http_session.specs.Sessions.{Store, store_of}
 
 -- prefixes of the entries, and which of them refuse a batch
 abbrev pub DirectKnows : LimitedHistory → KnownList → Type 0
@@ -29,3 +30,7 @@ DirectSubmits s b (Err why) t = (t ≡ s) × ((why ≡ NoMemory) ⊎ (why ≡ tu
 abbrev pub DirectReads : LimitedHistory → Query → Result Answer Refusal → LimitedHistory → Type 0
 DirectReads s q (Ok a) t = (t ≡ s) × (a ≡ answer s.limits s.entries q) × IsLegal s.limits s.entries
 DirectReads s q (Err why) t = (t ≡ s) × (why ≡ NoMemory)
+
+-- a store with one owner, as a session sees it
+abbrev pub direct_store : Store LimitedHistory
+direct_store = store_of DirectSubmits DirectReads DirectKnows (λ s. s.limits)

@@ -2,9 +2,8 @@
 use Rattle.std.specs.Prelude.{◌≡◌, ◌≢◌, ℕ, ◌⊎◌, Bool, List, ◌∷◌, ◌++◌, All, Option, Some}
 use mathlib.Core.List.{IsPrefix}
 use Rattle.trace_model.specs.LimitedHistories.{LimitedHistory}
-use Rattle.pipe_session.specs.DirectCalls.{DirectSubmits, DirectReads}
-use Rattle.http_session.specs.SessionRuns.{Moment}
-use Rattle.http_session.specs.Sessions.{Exchange, EndsAs, FailsAs, last_of, exchange_due}
+use Rattle.pipe_session.specs.DirectCalls.{direct_store}
+use Rattle.http_session.specs.Sessions.{Exchange, Moment, moment, BytesMoment, SessionFailure, EndsAs, FailsAs, last_of, exchange_due}
 use Rattle.http_session.specs.declared.whole_session.Ended.{Ended}
 use Rattle.http_session.specs.declared.whole_session.SessionError.{SessionError}
 use Rattle.http_session.specs.declared.verdict.ErrorReply.TheVariants.{NoMemory}
@@ -17,31 +16,35 @@ KnownStart = Moment (List ℕ) (List ℕ) LimitedHistory
 
 -- the end of a session, after which the bytes of the devices need not be known
 abbrev pub SessionEnd : Type 0
-SessionEnd = Moment (Option (List ℕ)) (Option (List ℕ)) LimitedHistory
+SessionEnd = BytesMoment LimitedHistory
 
 -- a session ended whose input had these bytes; its output follows what was written before
 abbrev pub EndsOf : KnownStart → SessionEnd → Ended → Type 0
 EndsOf before after ended =
-    EndsAs DirectSubmits DirectReads (Some before.input) after.input (Some before.output) after.output
-    before.store after.store ended.answered ended.clean
+    EndsAs direct_store (moment (Some before.input) (Some before.output) before.store) after ended
 
 -- like EndsOf, for a session that failed
-abbrev pub FailsOf : KnownStart → SessionEnd → Bool → Bool → SessionError → Type 0
-FailsOf before after in_failed out_failed error =
-    FailsAs DirectSubmits DirectReads (Some before.input) after.input (Some before.output) after.output
-    before.store after.store in_failed out_failed error
+abbrev pub FailsOf : KnownStart → SessionEnd → SessionFailure → Type 0
+FailsOf before after failure =
+    FailsAs direct_store (moment (Some before.input) (Some before.output) before.store) after failure
 
 -- memory ran out neither for a request nor for an answer of the store
 pub record NeverWants (xs : List Exchange) : Type 0 where
   pub asked : All (λ (x : Exchange). x.verdict ≢ Reject NoMemory) xs
   pub answered : HasMemory xs
 
--- A session with these input bytes over the store s ended: what it wrote, what the store holds then, how many requests
--- it answered, and whether the input ended between two of them.
-pub record Finished (bytes : List ℕ) (s : LimitedHistory) (written : List ℕ) (t : LimitedHistory) (answered : ℕ) (clean : Bool) : Type 0 where
+-- the result of a session that ended: what it wrote, what the store holds then, how many requests it answered, and
+-- whether the input ended between two of them
+pub record SessionResult : Type 0 where
+  pub written : List ℕ
+  pub held : LimitedHistory
+  pub ended : Ended
+
+-- a session with these input bytes over the store s ended with this result
+pub record Finished (bytes : List ℕ) (s : LimitedHistory) (result : SessionResult) : Type 0 where
   pub before : List ℕ
   pub left : Option (List ℕ)
-  pub ends : EndsAs DirectSubmits DirectReads (Some bytes) left (Some before) (Some (before ++ written)) s t answered clean
+  pub ends : EndsAs direct_store (moment (Some bytes) (Some before) s) (moment left (Some (before ++ result.written)) result.held) result.ended
   pub memory : NeverWants (ends.opens ++ last_of ends.ending)
 
 -- A session with these input bytes over the store s failed: what it wrote.
@@ -52,7 +55,8 @@ pub record Failed (bytes : List ℕ) (s : LimitedHistory) (written : List ℕ) :
   pub in_failed : Bool
   pub out_failed : Bool
   pub error : SessionError
-  pub fails : FailsAs DirectSubmits DirectReads (Some bytes) left (Some before) (Some (before ++ written)) s held in_failed out_failed error
+  pub fails : FailsAs direct_store (moment (Some bytes) (Some before) s) (moment left (Some (before ++ written)) held)
+      (record { error = error; input_failed = in_failed; output_failed = out_failed })
   pub memory : NeverWants (fails.opens ++ exchange_due fails.next)
 
 -- one of the two is a prefix of the other
@@ -70,7 +74,7 @@ pub record WroteFirst (bytes before : List ℕ) (out : Option (List ℕ)) (s : L
 abbrev pub WroteFinished : KnownStart → SessionEnd → Ended → Type 0
 WroteFinished before after ended =
     (written : List ℕ) × (after.output ≡ Some (before.output ++ written))
-    × Finished before.input before.store written after.store ended.answered ended.clean
+    × Finished before.input before.store (record { written = written; held = after.store; ended = ended })
 
 -- what was written is the output of a session that failed
 abbrev pub WroteFailed : KnownStart → SessionEnd → Type 0

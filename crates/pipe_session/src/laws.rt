@@ -1,17 +1,16 @@
 //! Laws of sessions over a store with one owner. Each function does nothing, and its contract is the law.
 
-ghost use Rattle.std.specs.Prelude.{◌≡◌, ◌≢◌, ℕ, Bool, List, ◌++◌};
+ghost use Rattle.std.specs.Prelude.{◌≡◌, ◌≢◌, ℕ, List, ◌++◌};
 ghost use mathlib.Core.List.{IsPrefix};
 ghost use Rattle.trace_model.specs.LimitedHistories.{LimitedHistory};
 ghost use Rattle.http_requests.specs.HeadContents.{Asked};
-ghost use Rattle.http_session.specs.Sessions.{Exchange as ExchangeValue, last_of, exchange_due, responses};
+ghost use Rattle.http_session.specs.Sessions.{Exchange as ExchangeValue, SessionFailure, last_of, exchange_due, responses};
 ghost use Rattle.http_session.specs.declared.whole_session.Ended.{Ended as EndedValue};
-ghost use Rattle.http_session.specs.declared.whole_session.SessionError.{SessionError as SessionErrorValue};
 ghost use Rattle.http_session.specs.Verdicts.{Judges};
 ghost use Rattle.http_session.specs.declared.verdict.ErrorReply.TheVariants.{NoMemory};
 ghost use Rattle.http_session.specs.declared.verdict.Verdict.{Verdict as VerdictValue};
 ghost use Rattle.http_session.specs.declared.verdict.Verdict.TheVariants.{Reject};
-ghost use Rattle.pipe_session.specs.OneFunction.{KnownStart, SessionEnd, EndsOf, FailsOf, NeverWants, Finished, Failed};
+ghost use Rattle.pipe_session.specs.OneFunction.{KnownStart, SessionEnd, EndsOf, FailsOf, NeverWants, SessionResult, Finished, Failed};
 ghost use Rattle.pipe_session.specs.OneFunction.{HadMemoryFirst, OneTextBegins, WroteFailed, WroteFinished, WroteFirst};
 
 /// A request determines its verdict, unless memory ran out.
@@ -31,8 +30,8 @@ pub fn a_session_that_ended_is_finished()
 /// If the bytes of the devices are known and memory ran out for no exchange, a session that failed as `pipe` promises
 /// meets the premises of the laws below.
 pub fn a_session_that_failed_is_failed()
-    ensures { (before : KnownStart) (after : SessionEnd) (in_failed out_failed : Bool)
-        (error : SessionErrorValue) (fails : FailsOf before after in_failed out_failed error) →
+    ensures { (before : KnownStart) (after : SessionEnd) (failure : SessionFailure)
+        (fails : FailsOf before after failure) →
         NeverWants (fails.opens ++ exchange_due fails.next) → WroteFailed before after }
 {}
 
@@ -40,18 +39,14 @@ pub fn a_session_that_failed_is_failed()
 /// the start, however the bytes are read and written. So are the entries at the end, the number of responses, and
 /// whether the input ended between two requests.
 pub fn bytes_written_are_one_function()
-    ensures { (bytes : List ℕ) (s : LimitedHistory) (one other : List ℕ) (t u : LimitedHistory)
-        (one_answered other_answered : ℕ) (one_clean other_clean : Bool) →
-        Finished bytes s one t one_answered one_clean →
-        Finished bytes s other u other_answered other_clean →
-        (one ≡ other) × (t ≡ u) × (one_answered ≡ other_answered) × (one_clean ≡ other_clean) }
+    ensures { (bytes : List ℕ) (s : LimitedHistory) (one other : SessionResult) →
+        Finished bytes s one → Finished bytes s other → one ≡ other }
 {}
 
 /// A session that fails, by a device or because memory ran out elsewhere, wrote a prefix of what one that ends writes.
 pub fn a_failed_session_wrote_a_prefix()
-    ensures { (bytes : List ℕ) (s : LimitedHistory) (short long : List ℕ) (t : LimitedHistory)
-        (answered : ℕ) (clean : Bool) →
-        Failed bytes s short → Finished bytes s long t answered clean → IsPrefix short long }
+    ensures { (bytes : List ℕ) (s : LimitedHistory) (short : List ℕ) (long : SessionResult) →
+        Failed bytes s short → Finished bytes s long → IsPrefix short long.written }
 {}
 
 /// Of two sessions that failed over one input, one wrote a prefix of what the other wrote.
@@ -72,8 +67,8 @@ pub fn what_an_ended_session_wrote_before_memory_ran_out()
 /// The exchanges of a session that failed, before the first one for which memory ran out, were written first, and are
 /// those of a session that failed there.
 pub fn what_a_failed_session_wrote_before_memory_ran_out()
-    ensures { (before : KnownStart) (after : SessionEnd) (in_failed out_failed : Bool)
-        (error : SessionErrorValue) (fails : FailsOf before after in_failed out_failed error)
+    ensures { (before : KnownStart) (after : SessionEnd) (failure : SessionFailure)
+        (fails : FailsOf before after failure)
         (xs : List ExchangeValue) → HadMemoryFirst xs (fails.opens ++ exchange_due fails.next) →
         WroteFirst before.input before.output after.output before.store (responses xs) }
 {}

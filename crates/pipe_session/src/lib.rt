@@ -9,7 +9,8 @@
 #![tactic(auto)]
 
 ghost use Rattle.std.specs.Prelude.{◌≡◌, false, IfOk, IfErr, OnOk};
-ghost use Rattle.http_session.specs.SessionRuns.{devices_of, moment};
+ghost use Rattle.http_session.specs.Sessions.{moment};
+ghost use Rattle.http_session.specs.SessionRuns.{devices_of};
 ghost use Rattle.pipe_session.specs.ExactAnswers.{EndsExactly, FailsExactly};
 
 mod direct;

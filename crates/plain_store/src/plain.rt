@@ -114,10 +114,10 @@ pub fn get_trace(
 }
 
 /// Makes a trace of an answer of these spans.
-fn made(alloc: Global, spans: Seq<Shown>) -> AnsweredTrace
-    ensures { result ≡ spans }
+fn made(alloc: Global, spans: Seq<Shown>) -> Result<AnsweredTrace, AllocError>
+    ensures { IfOk result (λ t. t ≡ spans) }
 {
-    AnsweredTrace::made(ShownTrace::without_keys(alloc, spans))
+    AnsweredTrace::made(alloc, ShownTrace::without_keys(alloc, spans))
 }
 
 /// Returns the spans of a trace as they are shown: as reported if `raw` is set, else adjusted.
@@ -138,7 +138,7 @@ pub fn trace_shown(
     } else {
         adjusted_trace(alloc, Seq::from_vec(spans), limits.max_skew)?
     };
-    Ok(made(alloc, shown))
+    made(alloc, shown)
 }
 
 /// Adjusts each of the traces.
@@ -153,7 +153,8 @@ fn all_adjusted(
     let mut shown = Vec::new(alloc);
     for trace in traces {
         let adjusted = adjusted_trace(alloc, trace, limits.max_skew)?;
-        shown.push(made(alloc, adjusted))?;
+        let trace = made(alloc, adjusted)?;
+        shown.push(trace)?;
     }
     Ok(shown)
 }

@@ -1,18 +1,9 @@
 -- The ranges of a server's options.
 use Rattle.std.specs.Prelude.{ℕ, ◌<◌, ◌≤◌, ◌^◌}
-
--- the numbers among a server's options
-pub record OptionNumbers : Type 0 where
-  pub port : ℕ
-  pub workers : ℕ
-  pub queue : ℕ
-  pub sessions : ℕ
-  pub connections : ℕ
-  pub idle : ℕ
-  pub report : ℕ
+use Rattle.serve_options.specs.declared.options.RequestedOptions.{RequestedOptions}
 
 -- A port and a number of sessions may have any value of their types.
-abbrev pub AreOptionsWithin : OptionNumbers → Type 0
-AreOptionsWithin n =
-    (n.port < 2 ^ 16) × (1 ≤ n.workers) × (n.workers ≤ 64) × (1 ≤ n.queue) × (n.queue ≤ 4096)
-    × (n.sessions < 2 ^ 32) × (1 ≤ n.connections) × (n.connections ≤ 65536) × (n.idle ≤ 86400) × (n.report ≤ 86400)
+abbrev pub AreOptionsWithin : RequestedOptions → Type 0
+AreOptionsWithin o =
+    (o.port < 2 ^ 16) × (1 ≤ o.workers) × (o.workers ≤ 64) × (1 ≤ o.queue) × (o.queue ≤ 4096)
+    × (o.sessions < 2 ^ 32) × (1 ≤ o.connections) × (o.connections ≤ 65536) × (o.idle ≤ 86400) × (o.report ≤ 86400)

@@ -8,4 +8,6 @@ mod host;
 mod options;
 
 pub use host::Host;
-pub use options::{MAX_CONNECTIONS, MAX_QUEUE, MAX_SECONDS, MAX_WORKERS, ServeOptions};
+pub use options::{
+    MAX_CONNECTIONS, MAX_QUEUE, MAX_SECONDS, MAX_WORKERS, RequestedOptions, ServeOptions,
+};

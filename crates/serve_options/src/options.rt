@@ -16,6 +16,20 @@ pub const MAX_CONNECTIONS: u32 = 65_536;
 /// The greatest number of seconds of an option: a day.
 pub const MAX_SECONDS: u32 = 86_400;
 
+/// The options that are asked for: those of [`ServeOptions`], of which some may be out of their ranges.
+#[derive(Clone, Copy, Debug)]
+pub struct RequestedOptions {
+    pub limits: Limits,
+    pub host: Host,
+    pub port: u16,
+    pub workers: u16,
+    pub queue: u16,
+    pub sessions: u32,
+    pub connections: u32,
+    pub idle: u32,
+    pub report: u32,
+}
+
 /// The options of a server. Each value is within its range.
 #[derive(Clone, Copy, Debug)]
 pub struct ServeOptions {
@@ -39,6 +53,8 @@ pub struct ServeOptions {
     /// The number of seconds between two reports of its counts on standard error, up to 86,400; 0 for none.
     pub report: u32,
     ghost within: { AreOptionsWithin (record {
+      limits = limits;
+      host = host;
       port = port;
       workers = workers;
       queue = queue;
@@ -51,33 +67,29 @@ pub struct ServeOptions {
 
 impl ServeOptions {
     /// Returns the options, or `None` if one is out of its range.
-    pub fn new(
-        limits: Limits,
-        host: Host,
-        port: u16,
-        workers: u16,
-        queue: u16,
-        sessions: u32,
-        connections: u32,
-        idle: u32,
-        report: u32,
-    ) -> Option<ServeOptions>
-        ensures within { IsSome result ↔ AreOptionsWithin (record {
-          port = port;
-          workers = workers;
-          queue = queue;
-          sessions = sessions;
-          connections = connections;
-          idle = idle;
-          report = report;
-        }) }
-        ensures keeps { IfSome result (λ o. o.limits ≡ limits) }
-        ensures listens { IfSome result (λ o. (o.host ≡ host) × (o.port ≡ port)) }
-        ensures holds { IfSome result (λ o. (o.workers ≡ workers) × (o.queue ≡ queue)) }
-        ensures admits { IfSome result (λ o. o.connections ≡ connections) }
-        ensures ends { IfSome result (λ o. (o.sessions ≡ sessions) × (o.idle ≡ idle)) }
-        ensures reports { IfSome result (λ o. o.report ≡ report) }
+    pub fn new(requested: RequestedOptions) -> Option<ServeOptions>
+        ensures within { IsSome result ↔ AreOptionsWithin requested }
+        ensures keeps { IfSome result (λ o. o.limits ≡ requested.limits) }
+        ensures listens { IfSome result (λ o. (o.host ≡ requested.host)
+            × (o.port ≡ requested.port)) }
+        ensures holds { IfSome result (λ o. (o.workers ≡ requested.workers)
+            × (o.queue ≡ requested.queue)) }
+        ensures admits { IfSome result (λ o. o.connections ≡ requested.connections) }
+        ensures ends { IfSome result (λ o. (o.sessions ≡ requested.sessions)
+            × (o.idle ≡ requested.idle)) }
+        ensures reports { IfSome result (λ o. o.report ≡ requested.report) }
     {
+        let RequestedOptions {
+            limits,
+            host,
+            port,
+            workers,
+            queue,
+            sessions,
+            connections,
+            idle,
+            report,
+        } = requested;
         if workers < 1
             || workers > MAX_WORKERS
             || queue < 1

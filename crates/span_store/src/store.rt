@@ -459,6 +459,7 @@ impl SpanStore {
         let _legal = self.journal.len();
         let max_skew = self.limits().max_skew;
         let trace = gather(self.alloc, &self.journal, spots, max_skew, raw)?;
-        Ok(Answer::Trace(Some(AnsweredTrace::kept(trace))))
+        let kept = AnsweredTrace::kept(self.alloc, trace)?;
+        Ok(Answer::Trace(Some(kept)))
     }
 }

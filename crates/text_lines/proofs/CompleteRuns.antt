@@ -5,8 +5,8 @@ use Rattle.std.proofs.KnownBytes.{Appends-nil, Appends-trans, Consumes-nil}
 use Rattle.text_lines.specs.declared.exit_status.ExitStatus.TheVariants.{OutOfMemory}
 use Rattle.text_lines.specs.declared.run_error.RunError.{RunError}
 use Rattle.text_lines.specs.declared.run_error.RunError.TheVariants.{Device, Memory}
-use Rattle.text_lines.specs.RunErrors.{IsWhy, IsWhyOf, StopsShort, WritesSome, status_by}
-use Rattle.text_lines.specs.HandledLines.{AllAnswered, SomeAnswered, HandlesLine}
+use Rattle.text_lines.specs.RunErrors.{Expected, IsWhy, IsWhyOf, RunsUpTo, WritesSome, status_by}
+use Rattle.text_lines.specs.HandledLines.{AnswersAll, AnswersSome, LineRun}
 use Rattle.text_lines.proofs.HandledLines.{holds_all, holds_nothing_read, nothing_read}
 
 -- a prefix of a text is a prefix of each longer text
@@ -24,26 +24,25 @@ why_by Device i o Met e ie = inr (inl e)
 why_by Memory i o Met e ie = (ie, e)
 
 -- all lines were taken, and then something stopped the run
-pub stops_all : {S : Type 0} (takes : HandlesLine S) (in0 in1 out0 out1 out2 : Option (List ℕ)) (s t : S) (faulty i o : Bool) (h : RunError)
-    (output_of : List ℕ → List ℕ)
-    → (a : AllAnswered takes in0 in1 out0 out1 s t faulty) → WritesSome out0 out2 (output_of a.all.input) → IsWhyOf h o → i ≡ false
-    → StopsShort in0 in1 out0 out2 i o output_of (status_by h)
-stops_all takes in0 in1 out0 out1 out2 s t faulty i o h output_of a some why ie = record {
+pub stops_all : {S : Type 0} (run : LineRun S) (out2 : Option (List ℕ)) (faulty o2 : Bool) (h : RunError) (expected : Expected)
+    → (a : AnswersAll run faulty) → WritesSome run.output.before out2 (expected.output a.all.bytes) → IsWhyOf h o2 → run.input.failed ≡ false
+    → RunsUpTo run.input (record { before = run.output.before; after = out2; failed = o2 }) expected (status_by h)
+stops_all run out2 faulty o2 h expected a some why works = record {
   error = h;
-  taken = a.all.input;
+  taken = a.all.bytes;
   rest = [];
   read = a.all.read;
-  held = holds_all in0 in1 a.all.input a.all.read a.all.whole;
-  written = subst (λ x. WritesSome out0 out2 (output_of x)) (sym (append-nil a.all.input)) some;
-  why = why_by h i o _ why ie;
+  held = holds_all run.input.before run.input.after a.all.bytes a.all.read a.all.whole;
+  written = subst (λ x. WritesSome run.output.before out2 (expected.output x)) (sym (append-nil a.all.bytes)) some;
+  why = why_by h run.input.failed o2 _ why works;
   status_is = refl;
 }
 
 -- not all lines were taken
-pub stops_some : {S : Type 0} (takes : HandlesLine S) (in0 in1 out0 out1 : Option (List ℕ)) (s : S) (i o : Bool) (h : RunError) (output_of : List ℕ → List ℕ)
-    → (a : SomeAnswered takes in0 in1 out0 out1 s i o h) → WritesSome out0 out1 (output_of (a.first.taken ++ a.first.rest))
-    → StopsShort in0 in1 out0 out1 i o output_of (status_by h)
-stops_some takes in0 in1 out0 out1 s i o h output_of a some = record {
+pub stops_some : {S : Type 0} (run : LineRun S) (h : RunError) (expected : Expected) → (a : AnswersSome run h)
+    → WritesSome run.output.before run.output.after (expected.output (a.first.taken ++ a.first.rest))
+    → RunsUpTo run.input run.output expected (status_by h)
+stops_some run h expected a some = record {
   error = h;
   taken = a.first.taken;
   rest = a.first.rest;
@@ -55,15 +54,15 @@ stops_some takes in0 in1 out0 out1 s i o h output_of a some = record {
 }
 
 -- memory ran out before anything was read
-pub stops_at_once : (in0 out0 : Option (List ℕ)) (i o : Bool) (output_of : List ℕ → List ℕ) → i ≡ false → o ≡ false
-    → StopsShort in0 in0 out0 out0 i o output_of OutOfMemory
-stops_at_once in0 out0 i o output_of ie oe = record {
+pub stops_at_once : (in0 out0 : Option (List ℕ)) (i o : Bool) (expected : Expected) → i ≡ false → o ≡ false
+    → RunsUpTo (record { before = in0; after = in0; failed = i }) (record { before = out0; after = out0; failed = o }) expected OutOfMemory
+stops_at_once in0 out0 i o expected ie oe = record {
   error = Memory;
   taken = [];
   rest = nothing_read in0;
   read = Consumes-nil in0;
   held = holds_nothing_read in0;
-  written = ([], Appends-nil out0, (output_of (nothing_read in0), refl));
+  written = ([], Appends-nil out0, (expected.output (nothing_read in0), refl));
   why = (ie, oe);
   status_is = refl;
 }

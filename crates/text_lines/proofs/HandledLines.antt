@@ -8,13 +8,22 @@ use Rattle.text_lines.specs.declared.run_error.RunError.{RunError}
 use Rattle.text_lines.specs.declared.run_error.RunError.TheVariants.{Device, Memory}
 use Rattle.session_devices.specs.declared.limits.TheConstants.{MAX_READS}
 use Rattle.text_lines.specs.Lines.{lines_of}
-use Rattle.text_lines.specs.LineReads.{Feed, StopsReading, TakesLine, TakesNone}
+use Rattle.text_lines.specs.LineReads.{Feed, StopsReading, TakesLine, TakesNone, feed_moment}
 use Rattle.text_lines.specs.RunErrors.{Holds, IsWhy, Moves}
-use Rattle.text_lines.specs.HandledLines.{AllAnswered, SomeAnswered, LineReply, SoFar, HandlesLine, TakesEach, AllTaken, SomeTaken, joined, nothing_said}
+use Rattle.session_devices.specs.Traffic.{Traffic}
+use Rattle.text_lines.specs.HandledLines.{Handling, HandlesLine, LineReply, LineResult, LineRun, NumberedLine}
+use Rattle.text_lines.specs.HandledLines.{handling_of, joined, nothing_said, numbered, run_of}
+use Rattle.text_lines.specs.HandledLines.{AnswersAll, AnswersSome, SoFar, TakesEach, TookAll, TookSome}
 use Rattle.text_lines.proofs.Buffers.{moves_nothing, moves_more, moves_then, some_written}
 
 abbrev said_of : List ℕ → Bool → LineReply
 said_of text faulty = record { text = text; faulty = faulty }
+
+abbrev result_at : {S : Type 0} → S → LineReply → LineResult S
+result_at held reply = record { reply = reply; held = held }
+
+abbrev moved : Option (List ℕ) → Option (List ℕ) → Bool → Traffic
+moved before after failed = record { before = before; after = after; failed = failed }
 
 said_is : (a b : List ℕ) (f g : Bool) → a ≡ b → f ≡ g → said_of a f ≡ said_of b g
 said_is a b f g e h = ap (λ t. said_of t f) e ∙ ap (said_of b) h
@@ -25,25 +34,36 @@ joined_last x = said_is x.text (x.text ++ []) x.faulty (x.faulty || false) (sym 
 joined_assoc : (a b c : LineReply) → joined (joined a b) c ≡ joined a (joined b c)
 joined_assoc a b c = said_is _ _ _ _ (append_assoc a.text b.text c.text) (or_assoc a.faulty b.faulty c.faulty)
 
-pub each_more : {S : Type 0} (takes : HandlesLine S) (s m t : S) (n : ℕ) (lines : List (List ℕ)) (line : List ℕ) (reply x : LineReply)
-    → TakesEach takes s n lines reply m → takes m (n + length lines) line x t → TakesEach takes s n (lines ++ line ∷ []) (joined reply x) t
-each_more takes s m t n [] line reply x e k =
-    let same : n + 0 ≡ n = omega arith in
-    let here : takes s n line x t = subst (λ i. takes s i line x t) same (subst (λ a. takes a (n + 0) line x t) e.0 k) in
-    (t, x, nothing_said, here, (refl, refl), ap (λ a. joined a x) e.1 ∙ joined_last x)
-each_more takes s m t n (l ∷ lines) line reply x e k =
-    let same : n + length (l ∷ lines) ≡ (n + 1) + length lines = omega arith in (
-      e.0,
-      e.1,
-      joined e.2 x,
-      e.3,
-      each_more takes e.0 m t (n + 1) lines line e.2 x e.4 (subst (λ i. takes m i line x t) same k),
-      ap (λ a. joined a x) e.5 ∙ joined_assoc e.1 e.2 x,
-    )
+-- the line after these has the next number
+numbered_snoc : (n : ℕ) (lines : List (List ℕ)) (line : List ℕ)
+    → numbered n (lines ++ line ∷ []) ≡ numbered n lines ++ record { number = n + length lines; line = line } ∷ []
+numbered_snoc n [] line = let same : n ≡ n + 0 = omega arith in ap (λ i. record { number = i; line = line } ∷ []) same
+numbered_snoc n (l ∷ lines) line =
+    let same : (n + 1) + length lines ≡ n + length (l ∷ lines) = omega arith in
+    let first : NumberedLine = record { number = n; line = l } in
+    ap (λ ls. first ∷ ls) (numbered_snoc (n + 1) lines line ∙ ap (λ i. numbered (n + 1) lines ++ record { number = i; line = line } ∷ []) same)
 
-pub begins : {S : Type 0} (takes : HandlesLine S) (in0 out0 : Option (List ℕ)) (s : S) (feed : Feed) (buffer : List ℕ)
-    → feed ≡ record { waiting = []; left = MAX_READS; ended = false } → buffer ≡ [] → SoFar takes in0 in0 out0 out0 s s feed buffer 0 false
-begins takes in0 out0 s feed buffer is none = rw (is, none) record {
+-- one more line was handled
+each_more : {S : Type 0} (takes : HandlesLine S) (s u : S) (lines : List NumberedLine) (here : NumberedLine) (result : LineResult S) (reply : LineReply)
+    → TakesEach takes s lines result → takes result.held here.number here.line reply u
+    → TakesEach takes s (lines ++ here ∷ []) (record { reply = joined result.reply reply; held = u })
+each_more {S = S} takes s u [] here result reply e k =
+    let first : LineResult S = record { reply = reply; held = u } in
+    let others : LineResult S = record { reply = nothing_said; held = u } in
+    let none : result.reply ≡ nothing_said = ap (λ (r : LineResult S). r.reply) e in
+    let whole : joined result.reply reply ≡ joined reply nothing_said = ap (λ a. joined a reply) none ∙ joined_last reply in
+    (first, others, subst (λ a. takes a here.number here.line reply u) (ap (λ (r : LineResult S). r.held) e) k, refl, ap (result_at u) whole)
+each_more {S = S} takes s u (l ∷ lines) here result reply e k =
+    let last : takes e.1.held here.number here.line reply u =
+    subst (λ a. takes a here.number here.line reply u) (ap (λ (r : LineResult S). r.held) e.4) k in
+    let said : joined result.reply reply ≡ joined e.0.reply (joined e.1.reply reply) =
+    ap (λ (r : LineResult S). joined r.reply reply) e.4 ∙ joined_assoc e.0.reply e.1.reply reply in
+    (e.0, result_at u (joined e.1.reply reply), e.2, each_more takes e.0.held u lines here e.1 reply e.3 last, ap (result_at u) said)
+
+pub begins : {S : Type 0} (takes : HandlesLine S) (in0 out0 : Option (List ℕ)) (i o : Bool) (s : S) (feed : Feed) (buffer : List ℕ)
+    → feed ≡ record { waiting = []; left = MAX_READS; ended = false } → buffer ≡ []
+    → SoFar (run_of (handling_of takes s s) (moved in0 in0 i) (moved out0 out0 o)) (record { feed = feed; waits = buffer; number = 0; faulty = false })
+begins takes in0 out0 i o s feed buffer is none = rw (is, none) record {
   taken = [];
   lines = [];
   reply = nothing_said;
@@ -53,22 +73,27 @@ begins takes in0 out0 s feed buffer is none = rw (is, none) record {
   count = refl;
   few = omega arith;
   least = λ goes. omega arith;
-  each = (refl, refl);
+  each = refl;
   wrote = moves_nothing out0 [];
   faulty_is = refl;
 }
 
-module _ {S : Type 0} (takes : HandlesLine S) (in0 in1 in2 out0 out1 out2 out3 : Option (List ℕ)) (s t u : S) (feed feed2 : Feed) (w1 w2 w3 w4 : List ℕ) (n : ℕ)
-    (faulty here : Bool) (line text : List ℕ) where
-  pub goes_on : SoFar takes in0 in1 out0 out1 s t feed w1 n faulty → TakesLine in1 in2 feed feed2 line → Moves out1 out2 w1 w2
+module _ {S : Type 0} (takes : HandlesLine S) (in0 in1 in2 out0 out1 out2 out3 : Option (List ℕ)) (i1 i2 o1 o3 : Bool) (s t u : S) (feed feed2 : Feed)
+    (w1 w2 w3 w4 : List ℕ) (n : ℕ) (faulty here : Bool) (line text : List ℕ) where
+  pub goes_on : SoFar (run_of (handling_of takes s t) (moved in0 in1 i1) (moved out0 out1 o1)) (record { feed = feed; waits = w1; number = n; faulty = faulty })
+      → TakesLine (feed_moment in1 feed) (feed_moment in2 feed2) line → Moves out1 out2 w1 w2
       → takes t (n + 1) line (record { text = text; faulty = here }) u → w3 ≡ w2 ++ text → Moves out2 out3 w3 w4
-      → SoFar takes in0 in2 out0 out3 s u feed2 w4 (n + 1) (faulty || here)
+      → SoFar (run_of (handling_of takes s u) (moved in0 in2 i2) (moved out0 out3 o3))
+      (record { feed = feed2; waits = w4; number = n + 1; faulty = faulty || here })
   goes_on f l first k says last =
       let x : LineReply = record { text = text; faulty = here } in
+      let next : NumberedLine = record { number = 1 + length f.lines; line = line } in
       let size : n + 1 ≡ 1 + length f.lines = omega (arith, f.count) in
       let before : Moves out0 out2 f.reply.text w2 = moves_then out0 out1 out2 f.reply.text w1 w2 f.wrote first in
       let more : Moves out0 out2 (f.reply.text ++ text) w3 =
       subst (Moves out0 out2 (f.reply.text ++ text)) (sym says) (moves_more out0 out2 f.reply.text w2 text before) in
+      let each : TakesEach takes s (numbered 1 f.lines ++ next ∷ []) (result_at u (joined f.reply x)) =
+      each_more takes s u (numbered 1 f.lines) next (result_at t f.reply) x f.each (subst (λ i. takes t i line x u) size k) in
       record {
         taken = f.taken ++ l.taken;
         lines = f.lines ++ line ∷ [];
@@ -82,7 +107,7 @@ module _ {S : Type 0} (takes : HandlesLine S) (in0 in1 in2 out0 out1 out2 out3 :
         count = rw (length-append f.lines (line ∷ [])) (omega (arith, f.count));
         few = omega (arith, f.few, l.shorter);
         least = λ goes. at_least goes (goes_before goes);
-        each = each_more takes s t u 1 f.lines line f.reply x f.each (subst (λ i. takes t i line x u) size k);
+        each = subst (λ ls. TakesEach takes s ls (result_at u (joined f.reply x))) (sym (numbered_snoc 1 f.lines line)) each;
         wrote = moves_then out0 out2 out3 (f.reply.text ++ text) w3 w4 more last;
         faulty_is = ap (λ b. b || here) f.faulty_is;
       }
@@ -101,19 +126,21 @@ none_after : (xs ys : List ℕ) → xs ++ ys ≡ [] → ys ≡ []
 none_after [] ys e = e
 none_after (x ∷ xs) ys e = absurd cc
 
-pub ends : {S : Type 0} (takes : HandlesLine S) (in0 in1 in2 out0 out1 out2 : Option (List ℕ)) (s t : S) (feed feed2 : Feed) (w1 w2 : List ℕ) (n : ℕ)
-    (faulty : Bool)
-    → SoFar takes in0 in1 out0 out1 s t feed w1 n faulty → TakesNone in1 in2 feed feed2 → Moves out1 out2 w1 w2 → AllTaken takes in0 in2 out0 out2 s t w2 faulty
-ends takes in0 in1 in2 out0 out1 out2 s t feed feed2 w1 w2 n faulty f l last =
+pub ends : {S : Type 0} (takes : HandlesLine S) (in0 in1 in2 out0 out1 out2 : Option (List ℕ)) (i1 i2 o1 o2 : Bool) (s t : S) (feed feed2 : Feed)
+    (w1 w2 : List ℕ) (n : ℕ) (faulty : Bool)
+    → SoFar (run_of (handling_of takes s t) (moved in0 in1 i1) (moved out0 out1 o1)) (record { feed = feed; waits = w1; number = n; faulty = faulty })
+    → TakesNone (feed_moment in1 feed) (feed_moment in2 feed2) → Moves out1 out2 w1 w2
+    → TookAll (run_of (handling_of takes s t) (moved in0 in2 i2) (moved out0 out2 o2)) w2 faulty
+ends takes in0 in1 in2 out0 out1 out2 i1 i2 o1 o2 s t feed feed2 w1 w2 n faulty f l last =
     let none : l.taken ≡ [] = none_after feed.waiting l.taken l.nothing in
     let all : lines_of (f.taken ++ l.taken) ≡ f.lines = f.split l.taken (λ e. none) ∙ ap (λ x. f.lines ++ lines_of x) l.nothing ∙ append-nil f.lines in
     record {
       all = record {
-        input = f.taken ++ l.taken;
+        bytes = f.taken ++ l.taken;
         reply = f.reply;
         read = Consumes-trans in0 in1 in2 f.taken l.taken f.read l.read;
         whole = l.end f.end;
-        each = subst (λ ls. TakesEach takes s 1 ls f.reply t) (sym all) f.each;
+        each = subst (λ ls. TakesEach takes s (numbered 1 ls) (result_at t f.reply)) (sym all) f.each;
         faulty_is = f.faulty_is;
       };
       wrote = moves_then out0 out1 out2 f.reply.text w1 w2 f.wrote last;
@@ -153,11 +180,12 @@ why_weaker Device i o A B f (inr (inl e)) = inr (inl e)
 why_weaker Device i o A B f (inr (inr a)) = inr (inr (f a))
 why_weaker Memory i o A B f e = e
 
-pub stops : {S : Type 0} (takes : HandlesLine S) (in0 in1 in2 out0 out1 out2 : Option (List ℕ)) (s t : S) (feed : Feed) (w1 w2 : List ℕ) (n : ℕ)
-    (faulty i o : Bool) (h : RunError)
-    → SoFar takes in0 in1 out0 out1 s t feed w1 n faulty → StopsReading in1 in2 feed i o h → Moves out1 out2 w1 w2
-    → SomeTaken takes in0 in2 out0 out2 s w2 i o h
-stops takes in0 in1 in2 out0 out1 out2 s t feed w1 w2 n faulty i o h f l last =
+pub stops : {S : Type 0} (takes : HandlesLine S) (in0 in1 in2 out0 out1 out2 : Option (List ℕ)) (i1 i2 o1 o2 : Bool) (s t u : S) (feed : Feed)
+    (w1 w2 : List ℕ) (n : ℕ) (faulty : Bool) (h : RunError)
+    → SoFar (run_of (handling_of takes s t) (moved in0 in1 i1) (moved out0 out1 o1)) (record { feed = feed; waits = w1; number = n; faulty = faulty })
+    → StopsReading feed (moved in1 in2 i2) o2 h → Moves out1 out2 w1 w2
+    → TookSome (run_of (handling_of takes s u) (moved in0 in2 i2) (moved out0 out2 o2)) w2 h
+stops takes in0 in1 in2 out0 out1 out2 i1 i2 o1 o2 s t u feed w1 w2 n faulty h f l last =
     let rest = rest_after in0 in2 in
     let read = Consumes-trans in0 in1 in2 f.taken l.taken f.read l.read in
     record {
@@ -173,13 +201,13 @@ stops takes in0 in1 in2 out0 out1 out2 s t feed w1 w2 n faulty i o h f l last =
         split = ap lines_of (append_assoc f.taken l.taken rest) ∙ f.split (l.taken ++ rest)
             (λ e. ap (λ x. x ++ rest) (l.stays e) ∙ none_at_end in0 in1 in2 f.taken l.taken f.read l.read (f.end e));
         each = f.each;
-        why = why_weaker h i o _ _ (λ met. omega (arith, f.least met.0, met.1, length-append f.taken l.taken)) l.why;
+        why = why_weaker h i2 o2 _ _ (λ met. omega (arith, f.least met.0, met.1, length-append f.taken l.taken)) l.why;
       };
       wrote = moves_then out0 out1 out2 f.reply.text w1 w2 f.wrote last;
     }
 
 -- nothing was read any more
-pub stays : (in1 : Option (List ℕ)) (feed : Feed) (i o : Bool) (h : RunError) → IsWhy h i o ⊥ → StopsReading in1 in1 feed i o h
+pub stays : (in1 : Option (List ℕ)) (feed : Feed) (i o : Bool) (h : RunError) → IsWhy h i o ⊥ → StopsReading feed (moved in1 in1 i) o h
 stays in1 feed i o h why = record {
   taken = [];
   read = Consumes-nil in1;
@@ -188,8 +216,9 @@ stays in1 feed i o h why = record {
 }
 
 -- a line was read and not handled because memory ran out
-pub line_lost : (in1 in2 : Option (List ℕ)) (feed feed2 : Feed) (line : List ℕ) (i o : Bool) → TakesLine in1 in2 feed feed2 line → i ≡ false → o ≡ false
-    → StopsReading in1 in2 feed i o Memory
+pub line_lost : (in1 in2 : Option (List ℕ)) (feed feed2 : Feed) (line : List ℕ) (i o : Bool)
+    → TakesLine (feed_moment in1 feed) (feed_moment in2 feed2) line → i ≡ false → o ≡ false
+    → StopsReading feed (moved in1 in2 i) o Memory
 line_lost in1 in2 feed feed2 line i o l ie oe = record {
   taken = l.taken;
   read = l.read;
@@ -199,9 +228,10 @@ line_lost in1 in2 feed feed2 line i o l ie oe = record {
 
 -- ---- the whole
 
-pub all_answered : {S : Type 0} (takes : HandlesLine S) (in0 in1 out0 out1 out2 : Option (List ℕ)) (s t : S) (w : List ℕ) (faulty : Bool)
-    → AllTaken takes in0 in1 out0 out1 s t w faulty → Moves out1 out2 w [] → AllAnswered takes in0 in1 out0 out2 s t faulty
-all_answered takes in0 in1 out0 out1 out2 s t w faulty a last =
+pub all_answered : {S : Type 0} (handling : Handling S) (input : Traffic) (out0 out1 out2 : Option (List ℕ)) (o1 o2 : Bool) (w : List ℕ) (faulty : Bool)
+    → TookAll (run_of handling input (moved out0 out1 o1)) w faulty → Moves out1 out2 w []
+    → AnswersAll (run_of handling input (moved out0 out2 o2)) faulty
+all_answered handling input out0 out1 out2 o1 o2 w faulty a last =
     let whole = moves_then out0 out1 out2 a.all.reply.text w [] a.wrote last in
     record {
       all = a.all;
@@ -213,29 +243,32 @@ holds_all None in1 taken c e = tt
 holds_all (Some x) None taken c e = absurd c
 holds_all (Some x) (Some y) taken c e = c ∙ ap (λ z. taken ++ z) e
 
-pub all_lost : {S : Type 0} (takes : HandlesLine S) (in0 in1 out0 out1 out2 : Option (List ℕ)) (s t : S) (w w2 : List ℕ) (faulty i o : Bool) (h : RunError)
-    → AllTaken takes in0 in1 out0 out1 s t w faulty → Moves out1 out2 w w2 → h ≡ Device → o ≡ true → SomeAnswered takes in0 in1 out0 out2 s i o h
-all_lost takes in0 in1 out0 out1 out2 s t w w2 faulty i o h a last is failed = rw is record {
+pub all_lost : {S : Type 0} (handling : Handling S) (input : Traffic) (out0 out1 out2 : Option (List ℕ)) (o1 o2 : Bool) (w w2 : List ℕ) (faulty : Bool)
+    (h : RunError)
+    → TookAll (run_of handling input (moved out0 out1 o1)) w faulty → Moves out1 out2 w w2 → h ≡ Device → o2 ≡ true
+    → AnswersSome (run_of handling input (moved out0 out2 o2)) h
+all_lost handling input out0 out1 out2 o1 o2 w w2 faulty h a last is failed = rw is record {
   first = record {
-    taken = a.all.input;
+    taken = a.all.bytes;
     rest = [];
-    lines = lines_of a.all.input;
+    lines = lines_of a.all.bytes;
     others = [];
     reply = a.all.reply;
-    last = t;
+    last = handling.after;
     read = a.all.read;
-    held = holds_all in0 in1 a.all.input a.all.read a.all.whole;
-    split = ap lines_of (append-nil a.all.input) ∙ sym (append-nil (lines_of a.all.input));
+    held = holds_all input.before input.after a.all.bytes a.all.read a.all.whole;
+    split = ap lines_of (append-nil a.all.bytes) ∙ sym (append-nil (lines_of a.all.bytes));
     each = a.all.each;
     why = inr (inl failed);
   };
   written = some_written out0 out2 a.all.reply.text w2 (moves_then out0 out1 out2 a.all.reply.text w w2 a.wrote last);
 }
 
-pub some_answered : {S : Type 0} (takes : HandlesLine S) (in0 in1 out0 out1 out2 : Option (List ℕ)) (s : S) (w w2 : List ℕ) (i o o2 : Bool) (h h2 : RunError)
-    → (a : SomeTaken takes in0 in1 out0 out1 s w i o h) → Moves out1 out2 w w2
-    → (IsWhy h i o (MAX_READS ≤ length a.first.taken) → IsWhy h2 i o2 (MAX_READS ≤ length a.first.taken)) → SomeAnswered takes in0 in1 out0 out2 s i o2 h2
-some_answered takes in0 in1 out0 out1 out2 s w w2 i o o2 h h2 a last why = record {
+pub some_answered : {S : Type 0} (handling : Handling S) (input : Traffic) (out0 out1 out2 : Option (List ℕ)) (o1 o2 : Bool) (w w2 : List ℕ) (h h2 : RunError)
+    → (a : TookSome (run_of handling input (moved out0 out1 o1)) w h) → Moves out1 out2 w w2
+    → (IsWhy h input.failed o1 (MAX_READS ≤ length a.first.taken) → IsWhy h2 input.failed o2 (MAX_READS ≤ length a.first.taken))
+    → AnswersSome (run_of handling input (moved out0 out2 o2)) h2
+some_answered handling input out0 out1 out2 o1 o2 w w2 h h2 a last why = record {
   first = record {
     taken = a.first.taken;
     rest = a.first.rest;
@@ -253,9 +286,8 @@ some_answered takes in0 in1 out0 out1 out2 s w w2 i o o2 h h2 a last why = recor
 }
 
 -- what waits to be written is left
-pub some_left : {S : Type 0} (takes : HandlesLine S) (in0 in1 out0 out1 : Option (List ℕ)) (s : S) (w : List ℕ) (i o : Bool) (h h2 : RunError)
-    → h ≡ h2 → SomeTaken takes in0 in1 out0 out1 s w i o h → SomeAnswered takes in0 in1 out0 out1 s i o h2
-some_left takes in0 in1 out0 out1 s w i o h h2 is a = rw (sym is) record {
+pub some_left : {S : Type 0} (run : LineRun S) (w : List ℕ) (h h2 : RunError) → h ≡ h2 → TookSome run w h → AnswersSome run h2
+some_left run w h h2 is a = rw (sym is) record {
   first = a.first;
-  written = some_written out0 out1 a.first.reply.text w a.wrote;
+  written = some_written run.output.before run.output.after a.first.reply.text w a.wrote;
 }

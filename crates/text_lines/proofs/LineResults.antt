@@ -1,7 +1,7 @@
 -- Lines that are handled one after the other have the result of their function.
 use Rattle.std.proofs.Common.{◌≡◌, ℕ, ◌+◌, List, [], ◌∷◌, ◌++◌, refl, sym, ap, ◌∙◌, subst, append_assoc}
-use Rattle.text_lines.specs.HandledLines.{LineReply, HandlesLine, TakesEach, joined}
-use Rattle.text_lines.specs.LineResults.{LineResult, result_of_lines}
+use Rattle.text_lines.specs.HandledLines.{LineReply, LineResult, HandlesLine, TakesEach, joined, numbered}
+use Rattle.text_lines.specs.LineResults.{result_of_lines}
 
 module _ {S : Type 0} (of_line : ℕ → S → List ℕ → LineResult S) where
   -- the reply to lines starts with the reply to the first of them
@@ -17,10 +17,14 @@ module _ {S : Type 0} (of_line : ℕ → S → List ℕ → LineResult S) where
   module _ {W : Type 0} (StandsFor : W → S → Type 0) (takes : HandlesLine W)
       (each : (w : W) (n : ℕ) (line : List ℕ) (reply : LineReply) (v : W) → takes w n line reply v → (s : S) → StandsFor w s
       → StandsFor v (of_line n s line).held × (reply ≡ (of_line n s line).reply)) where
-    pub lines_come_to : (w : W) (s : S) (n : ℕ) (lines : List (List ℕ)) (reply : LineReply) (v : W) → StandsFor w s → TakesEach takes w n lines reply v
-        → StandsFor v (result_of_lines of_line n s lines).held × (reply ≡ (result_of_lines of_line n s lines).reply)
-    lines_come_to w s n [] reply v stands e = (subst (λ x. StandsFor x s) (sym e.0) stands, e.1)
-    lines_come_to w s n (line ∷ lines) reply v stands e =
-        let here = each w n line e.1 e.0 e.3 s stands in
-        let r = lines_come_to e.0 (of_line n s line).held (n + 1) lines e.2 v here.0 e.4 in
-        (r.0, e.5 ∙ (λ i. joined (here.1 i) (r.1 i)))
+    pub lines_come_to : (w : W) (s : S) (n : ℕ) (lines : List (List ℕ)) (result : LineResult W) → StandsFor w s → TakesEach takes w (numbered n lines) result
+        → StandsFor result.held (result_of_lines of_line n s lines).held × (result.reply ≡ (result_of_lines of_line n s lines).reply)
+    lines_come_to w s n [] result stands e =
+        (subst (λ x. StandsFor x s) (sym (ap (λ (r : LineResult W). r.held) e)) stands, ap (λ (r : LineResult W). r.reply) e)
+    lines_come_to w s n (line ∷ lines) result stands e =
+        let here = each w n line e.0.reply e.0.held e.2 s stands in
+        let others = lines_come_to e.0.held (of_line n s line).held (n + 1) lines e.1 here.0 e.3 in
+        let last : S = (result_of_lines of_line n s (line ∷ lines)).held in (
+          subst (λ x. StandsFor x last) (sym (ap (λ (r : LineResult W). r.held) e.4)) others.0,
+          ap (λ (r : LineResult W). r.reply) e.4 ∙ (λ i. joined (here.1 i) (others.1 i)),
+        )

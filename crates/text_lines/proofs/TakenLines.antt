@@ -5,7 +5,7 @@ use Rattle.std.proofs.Math.Seq.{take-length}
 use Rattle.std.proofs.lemmas.Bool.{false_from_ne_true}
 use Rattle.std.proofs.KnownBytes.{Consumes-nil, Consumes-trans}
 use Rattle.text_lines.specs.Lines.{lines_of, without_return, HasNoFeed}
-use Rattle.text_lines.specs.LineReads.{Feed, Fills, Gathers, TakesLine, TakesNone}
+use Rattle.text_lines.specs.LineReads.{Feed, Fills, Gathers, TakesLine, TakesNone, feed_moment}
 use Rattle.text_lines.proofs.LineEnds.{HasNoFeed-append, line_first, line_last}
 
 pub no_feed_below : (hay : List ℕ) (k : ℕ) → ((j : ℕ) → 0 ≤ j → j < k → (slice_index hay j == 10) ≡ true → ⊥) → HasNoFeed (take k hay)
@@ -22,7 +22,7 @@ feed_at [] k below is = absurd (omega arith)
 feed_at (c ∷ hay) zero below is = let e : c ≡ 10 = search arith in ap (λ x. x ∷ hay) e
 feed_at (c ∷ hay) (suc k) below is = ap (λ l. c ∷ l) (feed_at hay k (omega arith) is)
 
-pub starts : (in0 : Option (List ℕ)) (old : Feed) → Gathers in0 in0 old old []
+pub starts : (in0 : Option (List ℕ)) (old : Feed) → Gathers (feed_moment in0 old) (feed_moment in0 old) []
 starts in0 old = record {
   taken = [];
   read = Consumes-nil in0;
@@ -34,8 +34,9 @@ starts in0 old = record {
   least = λ goes. omega arith;
 }
 
-pub gathers_more : (in0 in1 in2 : Option (List ℕ)) (old now new : Feed) (line : List ℕ) → Gathers in0 in1 old now line → HasNoFeed now.waiting
-    → now.ended ≡ false → Fills in1 in2 (record now { waiting = [] }) new → Gathers in0 in2 old new (line ++ now.waiting)
+pub gathers_more : (in0 in1 in2 : Option (List ℕ)) (old now new : Feed) (line : List ℕ) → Gathers (feed_moment in0 old) (feed_moment in1 now) line
+    → HasNoFeed now.waiting → now.ended ≡ false → Fills (feed_moment in1 (record now { waiting = [] })) (feed_moment in2 new)
+    → Gathers (feed_moment in0 old) (feed_moment in2 new) (line ++ now.waiting)
 gathers_more in0 in1 in2 old now new line g plain goes f = record {
   taken = g.taken ++ new.waiting;
   read = Consumes-trans in0 in1 in2 g.taken new.waiting g.read f.read;
@@ -47,10 +48,10 @@ gathers_more in0 in1 in2 old now new line g plain goes f = record {
   least = λ on. omega (arith, g.least goes, f.least on, length-append g.taken new.waiting);
 }
 
-pub takes_line : (in0 in1 : Option (List ℕ)) (old now : Feed) (line : List ℕ) (k : ℕ) → Gathers in0 in1 old now line
+pub takes_line : (in0 in1 : Option (List ℕ)) (old now : Feed) (line : List ℕ) (k : ℕ) → Gathers (feed_moment in0 old) (feed_moment in1 now) line
     → k < length now.waiting → (slice_index now.waiting k == 10) ≡ true
     → ((j : ℕ) → 0 ≤ j → j < k → (slice_index now.waiting j == 10) ≡ true → ⊥)
-    → TakesLine in0 in1 old (record now { waiting = drop (k + 1) now.waiting }) (without_return (line ++ take k now.waiting))
+    → TakesLine (feed_moment in0 old) (feed_moment in1 (record now { waiting = drop (k + 1) now.waiting })) (without_return (line ++ take k now.waiting))
 takes_line in0 in1 old now line k g below is none =
     let w = take k now.waiting in
     let rest = drop (suc k) now.waiting in
@@ -69,9 +70,10 @@ takes_line in0 in1 old now line k g below is none =
       least = g.least;
     }
 
-ends_line : (in0 in1 : Option (List ℕ)) (old now : Feed) (line all : List ℕ) → line ++ now.waiting ≡ all → Gathers in0 in1 old now line → HasNoFeed now.waiting
-    → now.ended ≡ true
-    → MatchBool (not (length all == 0)) (TakesLine in0 in1 old (record now { waiting = [] }) all) (TakesNone in0 in1 old (record now { waiting = [] }))
+ends_line : (in0 in1 : Option (List ℕ)) (old now : Feed) (line all : List ℕ) → line ++ now.waiting ≡ all
+    → Gathers (feed_moment in0 old) (feed_moment in1 now) line → HasNoFeed now.waiting → now.ended ≡ true
+    → MatchBool (not (length all == 0)) (TakesLine (feed_moment in0 old) (feed_moment in1 (record now { waiting = [] })) all)
+    (TakesNone (feed_moment in0 old) (feed_moment in1 (record now { waiting = [] })))
 ends_line in0 in1 old now line [] e g plain done = record {
   taken = g.taken;
   read = g.read;
@@ -93,7 +95,9 @@ ends_line in0 in1 old now line (c ∷ all) e g plain done =
       least = g.least;
     }
 
-pub ends : (in0 in1 : Option (List ℕ)) (old now : Feed) (line : List ℕ) → Gathers in0 in1 old now line → HasNoFeed now.waiting → now.ended ≡ true
-    → MatchBool (not (length (line ++ now.waiting) == 0)) (TakesLine in0 in1 old (record now { waiting = [] }) (line ++ now.waiting))
-    (TakesNone in0 in1 old (record now { waiting = [] }))
+pub ends : (in0 in1 : Option (List ℕ)) (old now : Feed) (line : List ℕ) → Gathers (feed_moment in0 old) (feed_moment in1 now) line → HasNoFeed now.waiting
+    → now.ended ≡ true
+    → MatchBool (not (length (line ++ now.waiting) == 0)) (TakesLine (feed_moment in0 old)
+    (feed_moment in1 (record now { waiting = [] })) (line ++ now.waiting))
+    (TakesNone (feed_moment in0 old) (feed_moment in1 (record now { waiting = [] })))
 ends in0 in1 old now line g plain done = ends_line in0 in1 old now line (line ++ now.waiting) refl g plain done

@@ -1,5 +1,5 @@
 -- Lines that are handled one after the other, and the replies to them.
-use Rattle.std.specs.Prelude.{◌≡◌, ℕ, ◌+◌, ◌*◌, ◌≤◌, ◌||◌, Bool, false, List, [], ◌∷◌, ◌++◌, length, Option}
+use Rattle.std.specs.Prelude.{◌≡◌, ℕ, ◌+◌, ◌*◌, ◌≤◌, ◌||◌, Bool, false, List, [], ◌∷◌, ◌++◌, length}
 use Rattle.std.specs.Io.KnownBytes.{Appends, Consumes, IsAtEnd}
 use Rattle.session_devices.specs.Traffic.{Traffic}
 use Rattle.text_lines.specs.Lines.{lines_of}
@@ -19,80 +19,31 @@ nothing_said = record { text = []; faulty = false }
 abbrev pub joined : LineReply → LineReply → LineReply
 joined a b = record { text = a.text ++ b.text; faulty = a.faulty || b.faulty }
 
+-- the reply to one or more lines, and the state after them
+pub record LineResult (S : Type 0) : Type 0 where
+  pub reply : LineReply
+  pub held : S
+
 -- relates the states before and after handling a line with its number, and the reply
 abbrev pub HandlesLine : Type 0 → Type 1
 HandlesLine S = S → ℕ → List ℕ → LineReply → S → Type 0
 
--- handles lines of which the first has the number n
-abbrev pub TakesEach : {S : Type 0} → HandlesLine S → S → ℕ → List (List ℕ) → LineReply → S → Type 0
-TakesEach takes s n [] all t = (t ≡ s) × (all ≡ nothing_said)
-TakesEach {S = S} takes s n (line ∷ lines) all t =
-    (m : S) × (reply : LineReply) × (more : LineReply) × takes s n line reply m × TakesEach takes m (n + 1) lines more t × (all ≡ joined reply more)
+-- a line of an input, and its number
+pub record NumberedLine : Type 0 where
+  pub number : ℕ
+  pub line : List ℕ
 
--- all lines of the input were handled
-pub record AllLines {S : Type 0} (takes : HandlesLine S) (in0 in1 : Option (List ℕ)) (s t : S) (faulty : Bool) : Type 0 where
-  pub input : List ℕ
-  pub reply : LineReply
-  pub read : Consumes in0 in1 input
-  pub whole : IsAtEnd in1
-  pub each : TakesEach takes s 1 (lines_of input) reply t
-  pub faulty_is : faulty ≡ reply.faulty
+-- the lines with their numbers, of which the first is n
+abbrev pub numbered : ℕ → List (List ℕ) → List NumberedLine
+numbered n [] = []
+numbered n (line ∷ lines) = record { number = n; line = line } ∷ numbered (n + 1) lines
 
--- all lines of the input were handled, and the replies were written
-pub record AllAnswered {S : Type 0} (takes : HandlesLine S) (in0 in1 out0 out1 : Option (List ℕ)) (s t : S) (faulty : Bool) : Type 0 where
-  pub all : AllLines takes in0 in1 s t faulty
-  pub written : Appends out0 out1 all.reply.text
-
--- the first lines of the input were handled, and no more for this reason
-pub record FirstLines {S : Type 0} (takes : HandlesLine S) (in0 in1 : Option (List ℕ)) (s : S) (in_failed out_failed : Bool) (error : RunError) : Type 0 where
-  pub taken : List ℕ
-  pub rest : List ℕ
-  pub lines : List (List ℕ)
-  pub others : List (List ℕ)
-  pub reply : LineReply
-  pub last : S
-  pub read : Consumes in0 in1 taken
-  pub held : Holds in0 (taken ++ rest)
-  pub split : lines_of (taken ++ rest) ≡ lines ++ others
-  pub each : TakesEach takes s 1 lines reply last
-  pub why : IsWhy error in_failed out_failed (MAX_READS ≤ length taken)
-
--- the first lines of the input were handled, and a prefix of the replies was written
-pub record SomeAnswered {S : Type 0} (takes : HandlesLine S) (in0 in1 out0 out1 : Option (List ℕ)) (s : S) (in_failed out_failed : Bool)
-    (error : RunError) : Type 0 where
-  pub first : FirstLines takes in0 in1 s in_failed out_failed error
-  pub written : WritesSome out0 out1 first.reply.text
-
--- ---- on the way, with a buffer of text that waits to be written
-
--- these lines were removed from the bytes read, and the replies were written or wait
-pub record SoFar {S : Type 0} (takes : HandlesLine S) (in0 in1 out0 out1 : Option (List ℕ)) (s t : S) (feed : Feed) (waits : List ℕ) (number : ℕ)
-    (faulty : Bool) : Type 0 where
-  pub taken : List ℕ
-  pub lines : List (List ℕ)
-  pub reply : LineReply
-  pub read : Consumes in0 in1 taken
-  pub end : KnowsEnd in1 feed
-  pub split : (more : List ℕ) → MayCome feed more → lines_of (taken ++ more) ≡ lines ++ lines_of (feed.waiting ++ more)
-  pub count : number ≡ length lines
-  pub few : number + most_left feed ≤ 65536 * MAX_READS
-  pub least : feed.ended ≡ false → MAX_READS ≤ length taken + feed.left
-  pub each : TakesEach takes s 1 lines reply t
-  pub wrote : Moves out0 out1 reply.text waits
-  pub faulty_is : faulty ≡ reply.faulty
-
--- all lines of the input were handled, and the replies were written or wait
-pub record AllTaken {S : Type 0} (takes : HandlesLine S) (in0 in1 out0 out1 : Option (List ℕ)) (s t : S) (waits : List ℕ) (faulty : Bool) : Type 0 where
-  pub all : AllLines takes in0 in1 s t faulty
-  pub wrote : Moves out0 out1 all.reply.text waits
-
--- the first lines of the input were handled, and a prefix of the replies was written or waits
-pub record SomeTaken {S : Type 0} (takes : HandlesLine S) (in0 in1 out0 out1 : Option (List ℕ)) (s : S) (waits : List ℕ) (in_failed out_failed : Bool)
-    (error : RunError) : Type 0 where
-  pub first : FirstLines takes in0 in1 s in_failed out_failed error
-  pub wrote : Moves out0 out1 first.reply.text waits
-
--- ---- the same of calls, by the states of the handler and what was read and written
+-- the lines were handled one after the other, from the state s to this result
+abbrev pub TakesEach : {S : Type 0} → HandlesLine S → S → List NumberedLine → LineResult S → Type 0
+TakesEach takes s [] result = result ≡ record { reply = nothing_said; held = s }
+TakesEach {S = S} takes s (here ∷ lines) result =
+    (first : LineResult S) × (others : LineResult S) × takes s here.number here.line first.reply first.held
+    × TakesEach takes first.held lines others × (result ≡ record { reply = joined first.reply others.reply; held = others.held })
 
 -- what handling a line does, and the states of a handler before and after a call
 pub record Handling (S : Type 0) : Type 1 where
@@ -103,20 +54,78 @@ pub record Handling (S : Type 0) : Type 1 where
 abbrev pub handling_of : {S : Type 0} → HandlesLine S → S → S → Handling S
 handling_of takes before after = record { takes = takes; before = before; after = after }
 
-abbrev pub AnswersAll : {S : Type 0} → Handling S → Traffic → Traffic → Bool → Type 0
-AnswersAll handling input output faulty =
-    AllAnswered handling.takes input.before input.after output.before output.after handling.before handling.after faulty
+-- what a call that handles lines did with its handler, its input and its output
+pub record LineRun (S : Type 0) : Type 1 where
+  pub handling : Handling S
+  pub input : Traffic
+  pub output : Traffic
 
--- the state after the call may be any
-abbrev pub AnswersSome : {S : Type 0} → Handling S → Traffic → Traffic → RunError → Type 0
-AnswersSome handling input output error =
-    SomeAnswered handling.takes input.before input.after output.before output.after handling.before input.failed output.failed error
+abbrev pub run_of : {S : Type 0} → Handling S → Traffic → Traffic → LineRun S
+run_of handling input output = record { handling = handling; input = input; output = output }
 
--- with the text that still waits
-abbrev pub TookAll : {S : Type 0} → Handling S → Traffic → Traffic → List ℕ → Bool → Type 0
-TookAll handling input output waits faulty =
-    AllTaken handling.takes input.before input.after output.before output.after handling.before handling.after waits faulty
+-- all lines of the input were handled
+pub record AllLines {S : Type 0} (handling : Handling S) (input : Traffic) (faulty : Bool) : Type 0 where
+  pub bytes : List ℕ
+  pub reply : LineReply
+  pub read : Consumes input.before input.after bytes
+  pub whole : IsAtEnd input.after
+  pub each : TakesEach handling.takes handling.before (numbered 1 (lines_of bytes)) (record { reply = reply; held = handling.after })
+  pub faulty_is : faulty ≡ reply.faulty
 
-abbrev pub TookSome : {S : Type 0} → Handling S → Traffic → Traffic → List ℕ → RunError → Type 0
-TookSome handling input output waits error =
-    SomeTaken handling.takes input.before input.after output.before output.after handling.before waits input.failed output.failed error
+-- all lines of the input were handled, and the replies were written
+pub record AnswersAll {S : Type 0} (run : LineRun S) (faulty : Bool) : Type 0 where
+  pub all : AllLines run.handling run.input faulty
+  pub written : Appends run.output.before run.output.after all.reply.text
+
+-- The first lines of the input were handled, and no more for this reason. The state after the call may be any.
+pub record FirstLines {S : Type 0} (run : LineRun S) (error : RunError) : Type 0 where
+  pub taken : List ℕ
+  pub rest : List ℕ
+  pub lines : List (List ℕ)
+  pub others : List (List ℕ)
+  pub reply : LineReply
+  pub last : S
+  pub read : Consumes run.input.before run.input.after taken
+  pub held : Holds run.input.before (taken ++ rest)
+  pub split : lines_of (taken ++ rest) ≡ lines ++ others
+  pub each : TakesEach run.handling.takes run.handling.before (numbered 1 lines) (record { reply = reply; held = last })
+  pub why : IsWhy error run.input.failed run.output.failed (MAX_READS ≤ length taken)
+
+-- the first lines of the input were handled, and a prefix of the replies was written
+pub record AnswersSome {S : Type 0} (run : LineRun S) (error : RunError) : Type 0 where
+  pub first : FirstLines run error
+  pub written : WritesSome run.output.before run.output.after first.reply.text
+
+-- ---- on the way, with a buffer of text that waits to be written
+
+-- a loop that handles lines: the bytes not yet handled, the text not yet written, the number of lines, and whether one was a fault
+pub record LoopState : Type 0 where
+  pub feed : Feed
+  pub waits : List ℕ
+  pub number : ℕ
+  pub faulty : Bool
+
+-- these lines were removed from the bytes read, and the replies were written or wait
+pub record SoFar {S : Type 0} (run : LineRun S) (now : LoopState) : Type 0 where
+  pub taken : List ℕ
+  pub lines : List (List ℕ)
+  pub reply : LineReply
+  pub read : Consumes run.input.before run.input.after taken
+  pub end : KnowsEnd run.input.after now.feed
+  pub split : (more : List ℕ) → MayCome now.feed more → lines_of (taken ++ more) ≡ lines ++ lines_of (now.feed.waiting ++ more)
+  pub count : now.number ≡ length lines
+  pub few : now.number + most_left now.feed ≤ 65536 * MAX_READS
+  pub least : now.feed.ended ≡ false → MAX_READS ≤ length taken + now.feed.left
+  pub each : TakesEach run.handling.takes run.handling.before (numbered 1 lines) (record { reply = reply; held = run.handling.after })
+  pub wrote : Moves run.output.before run.output.after reply.text now.waits
+  pub faulty_is : now.faulty ≡ reply.faulty
+
+-- all lines of the input were handled, and the replies were written or wait
+pub record TookAll {S : Type 0} (run : LineRun S) (waits : List ℕ) (faulty : Bool) : Type 0 where
+  pub all : AllLines run.handling run.input faulty
+  pub wrote : Moves run.output.before run.output.after all.reply.text waits
+
+-- the first lines of the input were handled, and a prefix of the replies was written or waits
+pub record TookSome {S : Type 0} (run : LineRun S) (waits : List ℕ) (error : RunError) : Type 0 where
+  pub first : FirstLines run error
+  pub wrote : Moves run.output.before run.output.after first.reply.text waits

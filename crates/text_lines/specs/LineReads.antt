@@ -1,6 +1,7 @@
 -- What a call that reads lines of an input leaves.
 use Rattle.std.specs.Prelude.{◌≡◌, ℕ, ◌+◌, ◌*◌, ◌≤◌, ◌<◌, Bool, true, false, List, [], ◌∷◌, ◌++◌, length, Option}
 use Rattle.std.specs.Io.KnownBytes.{Consumes, IsAtEnd}
+use Rattle.session_devices.specs.Traffic.{Traffic}
 use Rattle.text_lines.specs.Lines.{lines_of, HasNoFeed}
 use Rattle.text_lines.specs.RunErrors.{IsWhy}
 use Rattle.text_lines.specs.declared.run_error.RunError.{RunError}
@@ -23,46 +24,55 @@ most_left f = length f.waiting + 65536 * f.left
 abbrev pub KnowsEnd : Option (List ℕ) → Feed → Type 0
 KnowsEnd remaining f = f.ended ≡ true → IsAtEnd remaining
 
+-- an input, by the bytes that it has left if they are known, and the feed that reads it, at one moment
+pub record FeedMoment : Type 0 where
+  pub input : Option (List ℕ)
+  pub feed : Feed
+
+abbrev pub feed_moment : Option (List ℕ) → Feed → FeedMoment
+feed_moment input feed = record { input = input; feed = feed }
+
 -- one read while no bytes were waiting
-pub record Fills (in0 in1 : Option (List ℕ)) (old new : Feed) : Type 0 where
-  pub read : Consumes in0 in1 new.waiting
-  pub end : KnowsEnd in1 new
-  pub empty : new.ended ≡ true → new.waiting ≡ []
-  pub fewer : new.left < old.left
-  pub few : length new.waiting ≤ 65536
-  pub least : new.ended ≡ false → old.left ≤ length new.waiting + new.left
+pub record Fills (before after : FeedMoment) : Type 0 where
+  pub read : Consumes before.input after.input after.feed.waiting
+  pub end : KnowsEnd after.input after.feed
+  pub empty : after.feed.ended ≡ true → after.feed.waiting ≡ []
+  pub fewer : after.feed.left < before.feed.left
+  pub few : length after.feed.waiting ≤ 65536
+  pub least : after.feed.ended ≡ false → before.feed.left ≤ length after.feed.waiting + after.feed.left
 
 -- some bytes were read, and then the line was removed from those that were there
-pub record TakesLine (in0 in1 : Option (List ℕ)) (old new : Feed) (line : List ℕ) : Type 0 where
+pub record TakesLine (before after : FeedMoment) (line : List ℕ) : Type 0 where
   pub taken : List ℕ
-  pub read : Consumes in0 in1 taken
-  pub end : KnowsEnd in0 old → KnowsEnd in1 new
-  pub first : (more : List ℕ) → MayCome new more → lines_of (old.waiting ++ taken ++ more) ≡ line ∷ lines_of (new.waiting ++ more)
-  pub stays : old.ended ≡ true → (taken ≡ []) × (new.ended ≡ true)
-  pub shorter : most_left new < most_left old
-  pub least : new.ended ≡ false → old.left ≤ length taken + new.left
+  pub read : Consumes before.input after.input taken
+  pub end : KnowsEnd before.input before.feed → KnowsEnd after.input after.feed
+  pub first : (more : List ℕ) → MayCome after.feed more
+      → lines_of (before.feed.waiting ++ taken ++ more) ≡ line ∷ lines_of (after.feed.waiting ++ more)
+  pub stays : before.feed.ended ≡ true → (taken ≡ []) × (after.feed.ended ≡ true)
+  pub shorter : most_left after.feed < most_left before.feed
+  pub least : after.feed.ended ≡ false → before.feed.left ≤ length taken + after.feed.left
 
 -- there is no further line
-pub record TakesNone (in0 in1 : Option (List ℕ)) (old new : Feed) : Type 0 where
+pub record TakesNone (before after : FeedMoment) : Type 0 where
   pub taken : List ℕ
-  pub read : Consumes in0 in1 taken
-  pub end : KnowsEnd in0 old → IsAtEnd in1
-  pub nothing : old.waiting ++ taken ≡ []
+  pub read : Consumes before.input after.input taken
+  pub end : KnowsEnd before.input before.feed → IsAtEnd after.input
+  pub nothing : before.feed.waiting ++ taken ≡ []
 
 -- the bytes before the waiting ones were moved into the line, which has no line feed
-pub record Gathers (in0 in1 : Option (List ℕ)) (old now : Feed) (line : List ℕ) : Type 0 where
+pub record Gathers (before after : FeedMoment) (line : List ℕ) : Type 0 where
   pub taken : List ℕ
-  pub read : Consumes in0 in1 taken
-  pub joined : old.waiting ++ taken ≡ line ++ now.waiting
+  pub read : Consumes before.input after.input taken
+  pub joined : before.feed.waiting ++ taken ≡ line ++ after.feed.waiting
   pub plain : HasNoFeed line
-  pub end : KnowsEnd in0 old → KnowsEnd in1 now
-  pub stays : old.ended ≡ true → (taken ≡ []) × (now.ended ≡ true)
-  pub shorter : length line + most_left now ≤ most_left old
-  pub least : now.ended ≡ false → old.left ≤ length taken + now.left
+  pub end : KnowsEnd before.input before.feed → KnowsEnd after.input after.feed
+  pub stays : before.feed.ended ≡ true → (taken ≡ []) × (after.feed.ended ≡ true)
+  pub shorter : length line + most_left after.feed ≤ most_left before.feed
+  pub least : after.feed.ended ≡ false → before.feed.left ≤ length taken + after.feed.left
 
 -- some bytes were read, and no further line can be read; the limit is reached if no read is left
-pub record StopsReading (in0 in1 : Option (List ℕ)) (old : Feed) (in_failed out_failed : Bool) (error : RunError) : Type 0 where
+pub record StopsReading (old : Feed) (input : Traffic) (out_failed : Bool) (error : RunError) : Type 0 where
   pub taken : List ℕ
-  pub read : Consumes in0 in1 taken
+  pub read : Consumes input.before input.after taken
   pub stays : old.ended ≡ true → taken ≡ []
-  pub why : IsWhy error in_failed out_failed ((old.ended ≡ false) × (old.left ≤ length taken))
+  pub why : IsWhy error input.failed out_failed ((old.ended ≡ false) × (old.left ≤ length taken))

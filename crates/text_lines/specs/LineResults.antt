@@ -1,11 +1,6 @@
 -- The result of several lines, if the result of each is a function of the state before it.
 use Rattle.std.specs.Prelude.{ℕ, ◌+◌, List, [], ◌∷◌}
-use Rattle.text_lines.specs.HandledLines.{LineReply, nothing_said, joined}
-
--- the reply to one or more lines, and the state after them
-pub record LineResult (S : Type 0) : Type 0 where
-  pub reply : LineReply
-  pub held : S
+use Rattle.text_lines.specs.HandledLines.{LineResult, nothing_said, joined}
 
 -- the result of lines of which the first has the number n
 abbrev pub result_of_lines : {S : Type 0} → (ℕ → S → List ℕ → LineResult S) → ℕ → S → List (List ℕ) → LineResult S

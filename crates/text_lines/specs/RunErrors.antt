@@ -47,30 +47,6 @@ Holds (Some known) bytes = known ≡ bytes
 
 -- ---- complete runs, whose output is a function of their input
 
--- all of the input was read, and exactly its output was written
-pub record Finishes (in0 in1 out0 out1 : Option (List ℕ)) (in_failed out_failed : Bool) (output_of : List ℕ → List ℕ)
-    (status_of : List ℕ → ExitStatus) (status : ExitStatus) : Type 0 where
-  pub input : List ℕ
-  pub read : Consumes in0 in1 input
-  pub whole : IsAtEnd in1
-  pub written : Appends out0 out1 (output_of input)
-  pub status_is : status ≡ status_of input
-  pub input_works : in_failed ≡ false
-  pub output_works : out_failed ≡ false
-
--- a device failed, the limit of reads was reached, or memory ran out, as the status says; some of the input was read, and
--- a prefix of the output of all of it was written
-pub record StopsShort (in0 in1 out0 out1 : Option (List ℕ)) (in_failed out_failed : Bool) (output_of : List ℕ → List ℕ)
-    (status : ExitStatus) : Type 0 where
-  pub error : RunError
-  pub taken : List ℕ
-  pub rest : List ℕ
-  pub read : Consumes in0 in1 taken
-  pub held : Holds in0 (taken ++ rest)
-  pub written : WritesSome out0 out1 (output_of (taken ++ rest))
-  pub why : IsWhy error in_failed out_failed (MAX_READS ≤ length taken)
-  pub status_is : status ≡ status_by error
-
 -- what a run writes that reads all of its input, and its exit status, by that input
 pub record Expected : Type 0 where
   pub output : List ℕ → List ℕ
@@ -79,15 +55,27 @@ pub record Expected : Type 0 where
 abbrev pub expected_of : (List ℕ → List ℕ) → (List ℕ → ExitStatus) → Expected
 expected_of output status = record { output = output; status = status }
 
--- a run read all of its input
-abbrev pub RunsToTheEnd : Traffic → Traffic → Expected → ExitStatus → Type 0
-RunsToTheEnd input output expected status =
-    Finishes input.before input.after output.before output.after input.failed output.failed expected.output expected.status status
+-- a run read all of its input, and exactly its output was written
+pub record RunsToTheEnd (input output : Traffic) (expected : Expected) (status : ExitStatus) : Type 0 where
+  pub bytes : List ℕ
+  pub read : Consumes input.before input.after bytes
+  pub whole : IsAtEnd input.after
+  pub written : Appends output.before output.after (expected.output bytes)
+  pub status_is : status ≡ expected.status bytes
+  pub input_works : input.failed ≡ false
+  pub output_works : output.failed ≡ false
 
--- a run stopped before the end of its input
-abbrev pub RunsUpTo : Traffic → Traffic → Expected → ExitStatus → Type 0
-RunsUpTo input output expected status =
-    StopsShort input.before input.after output.before output.after input.failed output.failed expected.output status
+-- A run stopped before the end of its input: a device failed, the limit of reads was reached, or memory ran out, as the status
+-- says. Some of the input was read, and a prefix of the output of all of it was written.
+pub record RunsUpTo (input output : Traffic) (expected : Expected) (status : ExitStatus) : Type 0 where
+  pub error : RunError
+  pub taken : List ℕ
+  pub rest : List ℕ
+  pub read : Consumes input.before input.after taken
+  pub held : Holds input.before (taken ++ rest)
+  pub written : WritesSome output.before output.after (expected.output (taken ++ rest))
+  pub why : IsWhy error input.failed output.failed (MAX_READS ≤ length taken)
+  pub status_is : status ≡ status_by error
 
 abbrev pub RunsAs : Traffic → Traffic → Expected → ExitStatus → Type 0
 RunsAs input output expected status = RunsToTheEnd input output expected status ⊎ RunsUpTo input output expected status

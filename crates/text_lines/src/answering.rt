@@ -2,7 +2,7 @@ ghost use Rattle.std.specs.Prelude.{◌≡◌, [], false, IfErr, IfOk, OnOk};
 ghost use Rattle.session_devices.specs.Traffic.{traffic_of};
 ghost use Rattle.text_lines.specs.ReadCounts.{LimitIsReads, reads_of};
 ghost use Rattle.text_lines.specs.RunErrors.{BothWork};
-ghost use Rattle.text_lines.specs.HandledLines.{AnswersAll, AnswersSome, TookAll, TookSome, handling_of};
+ghost use Rattle.text_lines.specs.HandledLines.{AnswersAll, AnswersSome, TookAll, TookSome, handling_of, run_of};
 
 use crate::handler::LineHandler;
 use crate::line_buffer::LineBuffer;
@@ -22,15 +22,15 @@ fn take_lines<R: Input, W: Output, T: LineHandler>(
     requires input_works { R.has_failed input.old ≡ false }
     requires output_works { W.has_failed output.old ≡ false }
     requires empty { buffer.old ≡ [] }
-    ensures all { IfOk result (TookAll (handling_of T.takes handler.old handler.new)
+    ensures all { IfOk result (TookAll (run_of (handling_of T.takes handler.old handler.new)
         (traffic_of R.remaining R.has_failed input.old input.new)
-        (traffic_of W.contents W.has_failed output.old output.new) buffer.new) }
+        (traffic_of W.contents W.has_failed output.old output.new)) buffer.new) }
     ensures works { OnOk result (BothWork (R.has_failed input.new) (W.has_failed output.new)) }
-    ensures some { IfErr result (TookSome (handling_of T.takes handler.old handler.new)
+    ensures some { IfErr result (TookSome (run_of (handling_of T.takes handler.old handler.new)
         (traffic_of R.remaining R.has_failed input.old input.new)
-        (traffic_of W.contents W.has_failed output.old output.new) buffer.new) }
+        (traffic_of W.contents W.has_failed output.old output.new)) buffer.new) }
     ensures limit { IfErr result (LimitIsReads (reads_of R.gives input.old input.new)
-        (R.has_failed input.new) (W.has_failed output.new)) }
+        (BothWork (R.has_failed input.new) (W.has_failed output.new))) }
 {
     let mut lines = LineBuffer::new(alloc)?;
     let mut line = Vec::new(alloc);
@@ -62,15 +62,15 @@ pub fn answer_lines<R: Input, W: Output, T: LineHandler>(
 ) -> Result<bool, RunError>
     requires input_works { R.has_failed input.old ≡ false }
     requires output_works { W.has_failed output.old ≡ false }
-    ensures all { IfOk result (AnswersAll (handling_of T.takes handler.old handler.new)
+    ensures all { IfOk result (AnswersAll (run_of (handling_of T.takes handler.old handler.new)
         (traffic_of R.remaining R.has_failed input.old input.new)
-        (traffic_of W.contents W.has_failed output.old output.new)) }
+        (traffic_of W.contents W.has_failed output.old output.new))) }
     ensures works { OnOk result (BothWork (R.has_failed input.new) (W.has_failed output.new)) }
-    ensures some { IfErr result (AnswersSome (handling_of T.takes handler.old handler.new)
+    ensures some { IfErr result (AnswersSome (run_of (handling_of T.takes handler.old handler.new)
         (traffic_of R.remaining R.has_failed input.old input.new)
-        (traffic_of W.contents W.has_failed output.old output.new)) }
+        (traffic_of W.contents W.has_failed output.old output.new))) }
     ensures limit { IfErr result (LimitIsReads (reads_of R.gives input.old input.new)
-        (R.has_failed input.new) (W.has_failed output.new)) }
+        (BothWork (R.has_failed input.new) (W.has_failed output.new))) }
 {
     let mut buffer = OutputBuffer::new(alloc);
     match take_lines(alloc, input, output, &mut buffer, handler) {

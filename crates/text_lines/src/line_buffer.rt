@@ -1,9 +1,10 @@
 //! Reads the lines of an input one at a time.
-ghost use Rattle.std.specs.Prelude.{◌≡◌, ℕ, ◌≤◌, ◌<◌, ◌+◌, ◌*◌, ◌⊎◌, true, false, List, [], ◌∷◌, ◌++◌, IfErr, IfOk, OnOk, drop, take, vec_len, MatchBool};
-ghost use Rattle.std.specs.Prelude.{length};
+ghost use Rattle.std.specs.Prelude.{◌≡◌, ◌≤◌, ◌⊎◌, true, false, [], length, drop, take};
+ghost use Rattle.std.specs.Prelude.{IfErr, IfOk, OnOk, vec_len, MatchBool};
 ghost use Rattle.std.specs.Io.KnownBytes.{Keeps};
+ghost use Rattle.session_devices.specs.Traffic.{traffic_of};
 ghost use Rattle.text_lines.specs.Lines.{without_return};
-ghost use Rattle.text_lines.specs.LineReads.{Feed, Fills, StopsReading, TakesLine, TakesNone};
+ghost use Rattle.text_lines.specs.LineReads.{Feed, Fills, StopsReading, TakesLine, TakesNone, feed_moment};
 ghost use Rattle.text_lines.specs.ReadCounts.{CountsReads, reads_of};
 ghost use Rattle.text_lines.specs.RunErrors.{BothWork, Moves};
 
@@ -84,8 +85,8 @@ impl LineBuffer {
     fn fill<R: Input>(&mut self, input: &mut R) -> Result<(), RunError>
         requires none { self.old.waiting ≡ [] }
         requires works { R.has_failed input.old ≡ false }
-        ensures read { OnOk result (Fills (R.remaining input.old) (R.remaining input.new)
-            self.old self.new) }
+        ensures read { OnOk result (Fills (feed_moment (R.remaining input.old) self.old)
+            (feed_moment (R.remaining input.new) self.new)) }
         ensures made { CountsReads (reads_of R.gives input.old input.new)
             self.old.left self.new.left }
         ensures works { OnOk result (R.has_failed input.new ≡ false) }
@@ -124,17 +125,17 @@ impl LineBuffer {
         requires input_works { R.has_failed input.old ≡ false }
         requires output_works { W.has_failed output.old ≡ false }
         ensures line { IfOk result (λ found. MatchBool found
-            (TakesLine (R.remaining input.old) (R.remaining input.new)
-            self.old self.new line.new.items)
-            (TakesNone (R.remaining input.old) (R.remaining input.new)
-            self.old self.new)) }
+            (TakesLine (feed_moment (R.remaining input.old) self.old)
+            (feed_moment (R.remaining input.new) self.new) line.new.items)
+            (TakesNone (feed_moment (R.remaining input.old) self.old)
+            (feed_moment (R.remaining input.new) self.new))) }
         ensures made { CountsReads (reads_of R.gives input.old input.new)
             self.old.left self.new.left }
         ensures buffer { Moves (W.contents output.old) (W.contents output.new)
             buffer.old buffer.new }
         ensures works { OnOk result (BothWork (R.has_failed input.new) (W.has_failed output.new)) }
-        ensures err { IfErr result (StopsReading (R.remaining input.old) (R.remaining input.new)
-            self.old (R.has_failed input.new) (W.has_failed output.new)) }
+        ensures err { IfErr result (StopsReading self.old
+            (traffic_of R.remaining R.has_failed input.old input.new) (W.has_failed output.new)) }
         ensures limit { IfErr result (λ h. h ≡ RunError.Device → R.has_failed input.new ≡ false
             → W.has_failed output.new ≡ false → self.new.left ≡ 0) }
     {

@@ -82,7 +82,7 @@ pub fn shown(alloc: Global, trace: AnsweredTrace) -> Result<ShownTrace, AllocErr
     ensures { IfOk result (λ t. t ≡ trace) }
 {
     match trace.into_form() {
-        TraceForm::Ready(made) => Ok(made),
+        TraceForm::Ready(made) => Ok(Box::into_inner(made)),
         TraceForm::Lone(span) => show_lone(alloc, &span),
         TraceForm::Kept(kept) => show(alloc, &kept),
     }

@@ -21,11 +21,11 @@ abbrev pub KeptShares : KeptTrace → Type 0
 KeptShares t = ShareProcesses (placed_taken t.spans.items) (numbers_taken t.spans.items)
 
 abbrev pub form_value : TraceForm → List Shown
-form_value (Ready shown) = shown
+form_value (Ready shown) = shown.value
 form_value (Lone t) = lone_value t
-form_value (Kept t) = kept_value t
+form_value (Kept t) = kept_value t.value
 
 abbrev pub FormShares : TraceForm → Type 0
 FormShares (Ready shown) = Unit {0}
 FormShares (Lone t) = Unit {0}
-FormShares (Kept t) = KeptShares t
+FormShares (Kept t) = KeptShares t.value

@@ -1,12 +1,13 @@
 //! A trace of an answer: either copied, or as references to the entries that have its spans.
 
-ghost use Rattle.std.specs.Prelude.{◌≡◌, ℕ, [], ◌∷◌};
+ghost use Rattle.std.specs.Prelude.{◌≡◌, ℕ, [], ◌∷◌, IfOk};
 ghost use Rattle.trace_model.specs.Adjusting.{adjusted};
 ghost use Rattle.trace_model.specs.KeptTraces.{lone_value, kept_value, KeptShares, form_value, FormShares};
 ghost use Rattle.trace_model.specs.TakenSpans.{placed_taken};
 
 use crate::shown_trace::ShownTrace;
 use crate::taken_span::TakenSpan;
+use std::alloc::{AllocError, Global};
 use std::marker::Model;
 
 /// A trace whose spans are in their entries, and how to show it.
@@ -20,17 +21,18 @@ pub struct KeptTrace {
     pub raw: bool,
 }
 
-/// The forms of a trace of an answer.
+/// The forms of a trace of an answer. Two are boxed, since many answers consist of traces of the third.
 #[derive(Debug, Drop)]
 pub enum TraceForm {
     /// Its spans are copied and adjusted.
-    Ready(ShownTrace),
-    /// Its only span is in its entry, and is shown adjusted. No list is allocated for it, since many answers consist of
-    /// such traces.
+    Ready(Box<ShownTrace>),
+    /// Its only span is in its entry, and is shown adjusted. Nothing is allocated for it.
     Lone(TakenSpan),
     /// Its spans are in their entries.
-    Kept(KeptTrace),
+    Kept(Box<KeptTrace>),
 }
+
+const _: () = prove!(size_of::<AnsweredTrace>() == 24);
 
 /// A trace of an answer. Contracts see the list of its spans as they are shown, in each form.
 #[derive(Debug, Drop)]
@@ -51,13 +53,18 @@ impl Model for AnsweredTrace {
 }
 
 impl AnsweredTrace {
-    /// Makes an answer of a trace that is copied already, as a plain store and tests have it. Allocates nothing.
-    pub fn made(trace: ShownTrace) -> AnsweredTrace
-        ensures { result ≡ trace }
+    /// Makes an answer of a trace that is copied already, as a plain store and tests have it.
+    ///
+    /// # Errors
+    ///
+    /// Out of memory, and nothing else.
+    pub fn made(alloc: Global, trace: ShownTrace) -> Result<AnsweredTrace, AllocError>
+        ensures { IfOk result (λ t. t ≡ trace) }
     {
-        AnsweredTrace {
+        let trace = Box::new(alloc, trace)?;
+        Ok(AnsweredTrace {
             form: TraceForm::Ready(trace),
-        }
+        })
     }
 
     /// Makes an answer of a trace with one span, to be shown adjusted. Its clock has no other to be compared with, so it
@@ -72,14 +79,19 @@ impl AnsweredTrace {
         }
     }
 
-    /// Makes an answer of a trace whose spans are in their entries. Allocates nothing.
-    pub fn kept(trace: KeptTrace) -> AnsweredTrace
+    /// Makes an answer of a trace whose spans are in their entries.
+    ///
+    /// # Errors
+    ///
+    /// Out of memory, and nothing else.
+    pub fn kept(alloc: Global, trace: KeptTrace) -> Result<AnsweredTrace, AllocError>
         requires { KeptShares trace }
-        ensures { result ≡ kept_value trace }
+        ensures { IfOk result (λ t. t ≡ kept_value trace) }
     {
-        AnsweredTrace {
+        let trace = Box::new(alloc, trace)?;
+        Ok(AnsweredTrace {
             form: TraceForm::Kept(trace),
-        }
+        })
     }
 
     /// Returns the form.

@@ -1,7 +1,6 @@
 -- How a server ends, from how its lines were written.
-use Rattle.std.proofs.Common.{◌≡◌, ℕ, ◌++◌, ◌⊎◌, inl, inr, ⊎_elim, Bool, true, false, List, [], Option, Result, Ok, Err, refl, sym, ◌∙◌, append_assoc, subst}
+use Rattle.std.proofs.Common.{◌≡◌, ℕ, ◌++◌, inl, inr, Bool, false, List, [], Option, Result, Ok, Err, refl}
 use Rattle.std.proofs.lemmas.List.{append-nil}
-use mathlib.Core.List.{IsPrefix}
 use Rattle.std.specs.Io.KnownBytes.{Appends}
 use Rattle.std.proofs.KnownBytes.{Appends-trans}
 use Rattle.atomic_table.specs.Seated.{TableId}
@@ -12,11 +11,11 @@ use Rattle.text_lines.specs.RunErrors.{WritesSome, IsWhyOf, WritesText, status_b
 use Rattle.text_lines.specs.declared.exit_status.ExitStatus.{ExitStatus}
 use Rattle.text_lines.specs.declared.exit_status.ExitStatus.TheVariants.{OutOfMemory}
 use Rattle.text_lines.specs.declared.run_error.RunError.{RunError}
-use Rattle.text_lines.specs.declared.run_error.RunError.TheVariants.{Device, Memory}
+use Rattle.text_lines.specs.declared.run_error.RunError.TheVariants.{Memory}
 use Rattle.text_lines.proofs.Buffers.{moves_nothing, some_written}
 use Rattle.text_lines.proofs.CompleteRuns.{some_after, some_more}
 use Rattle.trace_server.specs.WorkerSeats.{AreNew}
-use Rattle.trace_server.specs.ServerRuns.{StopsIn, Ends, StopsEarly, Completes, Serving, Reports, RunsServer, listening_line, served_line, last_lines}
+use Rattle.trace_server.specs.ServerRuns.{StopsIn, Ends, StopsEarly, Serving, Reports, RunsServer, listening_line, served_line, last_lines}
 
 none_written : (a : Option (List ℕ)) (text : List ℕ) → WritesSome a a text
 none_written a text = some_written a a text text (moves_nothing a text)
@@ -90,16 +89,15 @@ reported serving desk opened a b c failed port status new said (inr closes) = in
   closes = record {
     served = closes.served;
     failed = closes.failed;
-    acknowledged = closes.acknowledged;
-    refused = closes.refused;
-    left = closes.left;
+    counts = closes.counts;
     lists = closes.lists;
     seats = closes.seats;
     gone_on = closes.gone_on;
     one_for_each = closes.one_for_each;
     books = closes.books;
     ends =
-        ended_after a b c failed (listening_line serving.host port) (last_lines closes.served closes.acknowledged closes.refused closes.left)
+        ended_after a b c failed (listening_line serving.host port)
+        (last_lines closes.served closes.counts.acknowledged closes.counts.refused closes.counts.left)
         closes.failed status said closes.ends;
   };
 }))

@@ -11,12 +11,12 @@ use Rattle.http_session.specs.declared.verdict.Verdict.{Verdict}
 use Rattle.http_session.specs.declared.verdict.Verdict.TheVariants.{Submit, Ask, Reject}
 use Rattle.http_session.specs.declared.reply.Reply.{Reply}
 use Rattle.http_session.specs.declared.reply.Reply.TheVariants.{Accepted, Answered, Refused, Error, NoRequest}
-use Rattle.intake.specs.LiveStores.{LiveValue, SeatGoesOn, LiveSubmits, LiveReads}
+use Rattle.intake.specs.LiveStores.{LiveValue, SeatGoesOn}
 use Rattle.intake.specs.LiveLaws.{keeps}
 use Rattle.intake.proofs.LiveSeats.{stays_same, submit_goes_on, read_goes_on}
 use Rattle.trace_server.specs.WorkerConnections.{live_store}
 
-step_goes_on : (limits : Limits) (s : LiveValue) (v : Verdict) (r : Reply) (t : LiveValue) → Step (LiveSubmits limits) (LiveReads limits) s v r t
+step_goes_on : (limits : Limits) (s : LiveValue) (v : Verdict) (r : Reply) (t : LiveValue) → Step (live_store limits) s v r t
     → SeatGoesOn s.seat t.seat
 step_goes_on limits s (Submit b) Accepted t d = submit_goes_on limits s b (Ok d.0) t d.1
 step_goes_on limits s (Submit b) (Refused why) t d = submit_goes_on limits s b (Err why) t d

@@ -13,7 +13,7 @@ use Rattle.intake.specs.declared.queue.EndedSeat.{EndedSeat}
 use Rattle.intake.specs.Seats.{SeatValue}
 use Rattle.intake.specs.Books.{AllTaken, HasEnded, MovesFor, StillEnded, StaysTaken}
 use Rattle.intake.specs.LiveStores.{SeatGoesOn}
-use Rattle.trace_server.specs.ServerRuns.{ClosesBooks}
+use Rattle.trace_server.specs.ServerRuns.{ClosesBooks, counts_of}
 use Rattle.trace_server.specs.WorkerSeats.{AreNew, AreOpen, HasJudged, MovesJobs, AreSeatsTaken}
 
 -- ---- their work
@@ -110,7 +110,7 @@ new_open desk seats each = λ k d lt. let n = each k d lt in (n.0, n.1)
 pub books_closed : {N : Type 0} (limits : Limits) (books : Books N) (seats : List SeatValue) (before taken left : List Entry) (a r l : ℕ)
     → HasJudged limits books → a ≡ books.acknowledged → r ≡ books.refused → before ≡ [] → MovesJobs books.inbox.taken before taken left
     → AreSeatsTaken taken seats → l ≡ length left
-    → ClosesBooks limits books.keeper seats a r l
+    → ClosesBooks limits books.keeper seats (counts_of a r l)
 books_closed limits books seats before taken left a r l h aa rr none moves whole ls = record {
   judged_jobs = books.inbox.taken;
   accounts = books.accounts;

@@ -49,17 +49,26 @@ last_lines served acknowledged refused left =
 
 -- ---- what became of the batches
 
+-- how many batches were acknowledged, how many were refused, and how many are left, which are neither
+pub record BatchCounts : Type 0 where
+  pub acknowledged : ℕ
+  pub refused : ℕ
+  pub left : ℕ
+
+abbrev pub counts_of : ℕ → ℕ → ℕ → BatchCounts
+counts_of acknowledged refused left = record { acknowledged = acknowledged; refused = refused; left = left }
+
 -- A clerk of an empty store judged some jobs, which led to these lists, and some jobs are left. All jobs of these seats
 -- are among them, for each seat complete and in order. The counts are those of the answers, and of the jobs left.
-pub record ClosesBooks (limits : Limits) (lists : Lists) (seats : List SeatValue) (acknowledged refused left : ℕ) : Type 0 where
+pub record ClosesBooks (limits : Limits) (lists : Lists) (seats : List SeatValue) (counts : BatchCounts) : Type 0 where
   pub judged_jobs : List Entry
   pub accounts : List Account
   pub unjudged_jobs : List Entry
   pub ran : Ran limits [] [] no_entries judged_jobs accounts lists
   pub whole : All (λ (s : SeatValue). AllTaken s.seat s.jobs (judged_jobs ++ unjudged_jobs)) seats
-  pub acknowledged_is : acknowledged ≡ acknowledged_of accounts
-  pub refused_is : refused ≡ refused_of accounts
-  pub left_is : left ≡ length unjudged_jobs
+  pub acknowledged_is : counts.acknowledged ≡ acknowledged_of accounts
+  pub refused_is : counts.refused ≡ refused_of accounts
+  pub left_is : counts.left ≡ length unjudged_jobs
 
 -- each worker has one of these seats, the one with its number
 abbrev pub OneForEach : ℕ → List SeatValue → Type 0
@@ -92,25 +101,29 @@ pub record StopsEarly (host : Host) (output : Traffic) (status : ExitStatus) : T
   pub served : ℕ
   pub stops : StopsIn output (listening_line host port ++ served_line served) status
 
--- it closed the books of the seats that these have become, and wrote the number of connections and the totals of the
--- batches after this text
-pub record Closes (serving : Serving) (opened : List SeatValue) (front : List ℕ) (output : Traffic) (status : ExitStatus) : Type 0 where
+-- the start of a server: what its output depends on, the seats of its workers, and the text that it wrote first
+pub record ServerStart : Type 0 where
+  pub serving : Serving
+  pub opened : List SeatValue
+  pub written : List ℕ
+
+-- it closed the books of the seats that the opened ones have become, and wrote the number of connections and the totals
+-- of the batches after its first text
+pub record Closes (start : ServerStart) (output : Traffic) (status : ExitStatus) : Type 0 where
   pub served : ℕ
   pub failed : Bool
-  pub acknowledged : ℕ
-  pub refused : ℕ
-  pub left : ℕ
+  pub counts : BatchCounts
   pub lists : Lists
   pub seats : List SeatValue
-  pub gone_on : AllZip SeatGoesOn opened seats
-  pub one_for_each : OneForEach serving.workers seats
-  pub books : ClosesBooks serving.limits lists seats acknowledged refused left
-  pub ends : Ends output (front ++ last_lines served acknowledged refused left) failed status
+  pub gone_on : AllZip SeatGoesOn start.opened seats
+  pub one_for_each : OneForEach start.serving.workers seats
+  pub books : ClosesBooks start.serving.limits lists seats counts
+  pub ends : Ends output (start.written ++ last_lines served counts.acknowledged counts.refused counts.left) failed status
 
 -- after the first line: it stopped before its books were closed, or it closed those of the seats that these have become
 abbrev pub Reports : Serving → List SeatValue → Traffic → ExitStatus → Type 0
 Reports serving opened output status =
-    ((served : ℕ) × StopsIn output (served_line served) status) ⊎ Closes serving opened [] output status
+    ((served : ℕ) × StopsIn output (served_line served) status) ⊎ Closes (record { serving = serving; opened = opened; written = [] }) output status
 
 -- it closed its books: its output is the listening line, and at the end the number of connections and the totals of the
 -- batches that were submitted by the seats of one desk, which were new at the start
@@ -119,7 +132,7 @@ pub record Completes (serving : Serving) (output : Traffic) (status : ExitStatus
   pub desk : TableId
   pub opened : List SeatValue
   pub new : AreNew desk opened
-  pub closes : Closes serving opened (listening_line serving.host port) output status
+  pub closes : Closes (record { serving = serving; opened = opened; written = listening_line serving.host port }) output status
 
 abbrev pub RunsServer : Serving → Traffic → ExitStatus → Type 0
 RunsServer serving output status = IsSilent output status ⊎ StopsEarly serving.host output status ⊎ Completes serving output status

@@ -2,7 +2,7 @@
 use mathlib.Core.List.{IsPrefix}
 use Rattle.slab.specs.Slab.{Slab}
 use Rattle.trace_model.specs.declared.limits.Limits.{Limits}
-use Rattle.http_session.specs.SessionRuns.{Store, store_of}
+use Rattle.http_session.specs.Sessions.{Store, store_of}
 use Rattle.http_session.specs.KnownRefusals.{RefusalsAreKnown}
 use Rattle.intake.specs.LiveStores.{LiveValue, LiveKnows, LiveSubmits, LiveReads}
 use Rattle.open_connections.specs.OpenConnections.{AllOpen, HasCome, socket_model}

@@ -3,7 +3,7 @@
 ghost use Rattle.std.specs.Prelude.{◌≡◌, [], map, IfOk, OnOk};
 ghost use Rattle.std.specs.Arc.{arc_value};
 ghost use Rattle.intake.specs.Books.{Balances};
-ghost use Rattle.trace_server.specs.ServerRuns.{ClosesBooks};
+ghost use Rattle.trace_server.specs.ServerRuns.{ClosesBooks, counts_of};
 ghost use Rattle.trace_server.specs.WorkerSeats.{AreOpen, AreSeatsTaken, HasJudged, MovesJobs};
 
 use crate::worker::EndedWorker;
@@ -60,7 +60,8 @@ pub(crate) fn close_books<N: StoreName, R: Wait>(
     requires judged { HasJudged N.limits books }
     requires left { books.left.items ≡ [] }
     ensures { IfOk result (λ t. ClosesBooks N.limits books.keeper
-        (map (λ w. w.live.seat) workers.items) t.acknowledged t.refused t.left) }
+        (map (λ w. w.live.seat) workers.items)
+        (counts_of t.acknowledged t.refused t.left)) }
 {
     let mut books = books;
     let taken_in = take_all_in(rt, &mut books, workers);

@@ -5,7 +5,7 @@ ghost use Rattle.trace_model.specs.declared.refusal.Refusal.TheVariants.{NoMemor
 ghost use Rattle.schedule_core.specs.declared.outcome.Outcome.TheVariants.{Refused};
 ghost use Rattle.schedule_core.specs.Machine.{new_machine};
 ghost use Rattle.step_lines.specs.OutcomeLines.{outcome_line};
-ghost use Rattle.commands.specs.PlayRuns.{IsMade, MakesStep, step_fault_line};
+ghost use Rattle.commands.specs.PlayRuns.{IsMade, MakesStep, play_moment, step_fault_line};
 
 use matchit::Router;
 use query_http::{Endpoint, endpoints};
@@ -66,7 +66,8 @@ fn play_step(
     reply: &mut Vec<u8>,
     step: Step,
 ) -> Result<(), AllocError>
-    ensures { OnOk result (MakesStep reply.old.items reply.new.items world.old world.new step) }
+    ensures { OnOk result (MakesStep (play_moment reply.old.items world.old)
+        (play_moment reply.new.items world.new) step) }
 {
     let outcome = make(world, step)?;
     write_outcome(alloc, reply, &outcome)

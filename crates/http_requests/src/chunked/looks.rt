@@ -1,4 +1,4 @@
-ghost use Rattle.http_requests.specs.ChunkLooks.{LooksBy};
+ghost use Rattle.http_requests.specs.ChunkLooks.{FoundByParser};
 
 use httparse::Status;
 
@@ -16,7 +16,7 @@ pub enum Look<T> {
 /// Returns what `count` bytes start with, given what a parser returned for the first `most` of them. A text that is
 /// still incomplete after `most` bytes never comes.
 pub fn look_by<T, E: Drop>(parsed: Result<Status<T>, E>, count: usize, most: usize) -> Look<T>
-    ensures { LooksBy parsed count most result }
+    ensures { FoundByParser parsed count most result }
 {
     match parsed {
         Ok(Status::Complete(found)) => Look::Whole(found),

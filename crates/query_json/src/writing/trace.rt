@@ -303,7 +303,7 @@ impl TraceItem {
     {
         match trace.into_form() {
             TraceForm::Lone(span) => Ok(TraceItem::One(LentSpans::lone(span))),
-            TraceForm::Kept(kept) => lent_item(alloc, kept),
+            TraceForm::Kept(kept) => lent_item(alloc, Box::into_inner(kept)),
             TraceForm::Ready(made) => Ok(TraceItem::Made(MadeTrace::new(alloc, &made)?)),
         }
     }

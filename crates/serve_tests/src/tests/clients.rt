@@ -1,7 +1,7 @@
 //! Runs a server in a thread of its own beside its clients.
 
 use crate::tests::guests::Guests;
-use serve_options::{Host, ServeOptions};
+use serve_options::{Host, RequestedOptions, ServeOptions};
 use session_devices::MemoryOutput;
 use std::alloc::Global;
 use std::hash::RandomState;
@@ -28,17 +28,17 @@ pub fn config<R: Abort + RandomSource>(
     batches: u32,
 ) -> ServerConfig {
     let limits = Limits::new(batches, 1000, 0, 0).expect(rt, "limits");
-    let options = ServeOptions::new(
+    let options = ServeOptions::new(RequestedOptions {
         limits,
-        Host::LoopbackIpv4,
-        0,
+        host: Host::LoopbackIpv4,
+        port: 0,
         workers,
-        4,
+        queue: 4,
         sessions,
-        1024,
+        connections: 1024,
         idle,
-        0,
-    );
+        report: 0,
+    });
     ServerConfig {
         options: options.expect(rt, "options"),
         keys: RandomState::new(rt).expect(rt, "keys"),

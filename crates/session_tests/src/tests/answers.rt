@@ -1,9 +1,12 @@
+//! The memory for the JSON of an answer and of an error, as text and as a tree.
+
 use jaeger_model::{Seq, Span};
 use query_json::{AnswerParts, answer_json, error_json};
 use std::alloc::{AllocError, Global};
+use std::mem::drop;
 use std::test::*;
 use trace_model::{Answer, AnsweredTrace, Shown, ShownTrace};
-use trace_samples::{list_of, placed, retry};
+use trace_samples::{kept, list_of, placed, retry};
 
 /// The span of the sample batch: trace 1, span 2, operation `op`, from 1000 for 50 microseconds.
 fn span(alloc: Global) -> Result<Span, AllocError> {
@@ -20,22 +23,25 @@ fn shown(alloc: Global, service: &str, span: Span) -> Result<Shown, AllocError> 
 fn found(alloc: Global, span: Shown) -> Result<Answer, AllocError> {
     let spans = list_of(alloc, span)?;
     let shown = ShownTrace::without_keys(alloc, spans);
-    Ok(Answer::Trace(Some(AnsweredTrace::made(shown))))
+    Ok(Answer::Trace(Some(AnsweredTrace::made(alloc, shown)?)))
 }
 
-/// Joins the parts.
-fn text_in(alloc: Global, mut parts: AnswerParts) -> Result<Vec<u8>, AllocError> {
-    let mut text = Vec::new(alloc);
+/// Appends the parts to the text.
+fn add_parts(text: &mut Vec<u8>, parts: &mut AnswerParts) -> Result<(), AllocError> {
     for _ in 0..1_000u16 {
         text.extend_from_slice(parts.part())?;
         parts.advance();
     }
-    Ok(text)
+    Ok(())
 }
 
 /// Returns the text of the answer in parts, joined.
 fn text_of(alloc: Global, answer: Answer) -> Result<Vec<u8>, AllocError> {
-    text_in(alloc, AnswerParts::new(alloc, answer)?)
+    let mut parts = AnswerParts::new(alloc, answer)?;
+    let mut text = Vec::new(alloc);
+    let added = add_parts(&mut text, &mut parts);
+    drop(parts);
+    kept(text, added)
 }
 
 fn sample(alloc: Global) -> Result<Answer, AllocError> {
@@ -44,7 +50,11 @@ fn sample(alloc: Global) -> Result<Answer, AllocError> {
 
 /// The text of the sample's trace.
 const SAMPLE_TEXT: &str =
-    r#"{"data":[{"processes":{"p1":{"serviceName":"a","tags":[]}},"spans":[{"duration":50,"flags":1,"logs":[],"operationName":"op","processID":"p1","references":[],"spanID":"0000000000000002","startTime":1000,"tags":[],"traceID":"0000000000000001","warnings":null}],"traceID":"0000000000000001","warnings":null}],"errors":null,"limit":0,"offset":0,"total":1}"#;
+    "{\"data\":[{\"processes\":{\"p1\":{\"serviceName\":\"a\",\"tags\":[]}},\"spans\":[{\"duration\":50,\
+    \"flags\":1,\"logs\":[],\"operationName\":\"op\",\"processID\":\"p1\",\"references\":[],\
+    \"spanID\":\"0000000000000002\",\"startTime\":1000,\"tags\":[],\"traceID\":\"0000000000000001\",\
+    \"warnings\":null}],\"traceID\":\"0000000000000001\",\"warnings\":null}],\"errors\":null,\
+    \"limit\":0,\"offset\":0,\"total\":1}";
 
 /// The text of an error.
 const ERROR_TEXT: &str =
@@ -52,7 +62,26 @@ const ERROR_TEXT: &str =
 
 /// Returns the text of an error's tree.
 fn error_text(alloc: Global) -> Result<String, AllocError> {
-    retry(AllocError, || error_json(alloc, 404, "trace not found"))?.to_string(alloc)
+    let tree = retry(AllocError, || error_json(alloc, 404, "trace not found"))?;
+    let text = tree.to_string(alloc);
+    drop(tree);
+    text
+}
+
+/// Returns the text of the answer's tree.
+pub(crate) fn tree_text(alloc: Global, answer: &Answer) -> Result<String, AllocError> {
+    let tree = retry(AllocError, || answer_json(alloc, answer))?;
+    let text = tree.to_string(alloc);
+    drop(tree);
+    text
+}
+
+/// Returns the text of the tree of the sample's answer.
+fn sample_text(alloc: Global) -> Result<String, AllocError> {
+    let answer = sample(alloc)?;
+    let text = tree_text(alloc, &answer);
+    drop(answer);
+    text
 }
 
 /// If memory runs out once, the call reports it, and the same call afterwards returns the tree or its text. The check
@@ -62,14 +91,12 @@ fn memory_for_a_tree(rt: HostRuntime) -> Result<(), Fail> {
     let alloc = rt.alloc();
     let text = error_text(alloc)?;
     assert!(rt; text.as_str() == ERROR_TEXT, "{text}");
-    let answer = sample(alloc)?;
-    let tree = retry(AllocError, || answer_json(alloc, &answer));
+    let tree = retry(AllocError, || sample_text(alloc));
     let text = retry(AllocError, || text_of(alloc, sample(alloc)?));
     let (Ok(tree), Ok(text)) = (tree, text) else {
         panic!(rt; "an answer has no tree or no text");
     };
     assert!(rt; text.as_slice() == SAMPLE_TEXT.as_bytes(), "{text:?}");
-    let text = tree.to_string(alloc)?;
-    assert!(rt; text.as_str() == SAMPLE_TEXT, "{text}");
+    assert!(rt; tree.as_str() == SAMPLE_TEXT, "{tree}");
     Ok(())
 }

@@ -1,7 +1,8 @@
 //! Answers of more than 1 MB, in parts.
 
+use crate::tests::answers::tree_text;
 use jaeger_model::{Batch, Seq, SharedProcess, Text, TraceId};
-use query_json::{AnswerParts, answer_json};
+use query_json::AnswerParts;
 use span_store::SpanStore;
 use std::alloc::{AllocError, Global};
 use std::hash::RandomState;
@@ -180,11 +181,6 @@ fn taken_from<'t>(text: &'t [u8], mut parts: AnswerParts) -> (Option<&'t [u8]>, 
     (None, 1_000)
 }
 
-/// Returns the text of the answer's tree.
-fn tree_text(alloc: Global, answer: &Answer) -> Result<String, AllocError> {
-    retry(AllocError, || answer_json(alloc, answer))?.to_string(alloc)
-}
-
 /// Whether the answer's parts make up its text.
 fn is_parted(alloc: Global, answer: Answer) -> Result<bool, AllocError> {
     let text = tree_text(alloc, &answer)?;
@@ -224,7 +220,7 @@ fn are_made(store: &SpanStore, alloc: Global, taken: bool) -> Result<bool, Alloc
     Ok(same && left.is_empty() == taken)
 }
 
-/// The same of the only trace of a store.
+/// Does the same with a store's only trace.
 fn are_made_of(alloc: Global, keys: RandomState, taken: bool) -> Result<bool, Fail> {
     let store = stored(alloc, keys, &[2], VERY_MANY)?;
     let made = are_made(&store, alloc, taken);

@@ -53,7 +53,9 @@ fn kind_asked(alloc: Global, target: &str) -> Result<Option<Kind>, QueryFault> {
     let Ok(router) = endpoints(alloc) else {
         return Err(QueryFault::NoMemory);
     };
-    let query = parse_query(alloc, &router, target)?;
+    let query = parse_query(alloc, &router, target);
+    drop(router);
+    let query = query?;
     let kind = kind_of(&query);
     drop(query);
     Ok(kind)

@@ -7,4 +7,4 @@ pub returns-in-Ok-clause-limit : goal.returns-in-Ok-clause-limit
 returns-in-Ok-clause-limit g c = λ lost. absurd (get_never_failed _ _ (sym c.in-Ok.ensures.runs.status_is ∙ lost))
 
 pub returns-in-Err-clause-limit : goal.returns-in-Err-clause-limit
-returns-in-Err-clause-limit g c = status_is_reads g.R.Input.gives _ _ _ _ c.in-Err.error _ c.in-Err.ensures.limit c.status.ensures
+returns-in-Err-clause-limit g c = status_is_reads g.R.Input.gives _ _ _ c.in-Err.error _ c.in-Err.ensures.limit c.status.ensures

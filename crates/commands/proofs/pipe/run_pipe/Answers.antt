@@ -44,7 +44,7 @@ returns-in-Ok-pipe-clause-pipes g c =
         answered = _;
         clean = _;
         last = _;
-        ends = both.0;
+        ends = both.0.0;
         exact = both.1;
         input_works = works.0;
         output_works = works.1;
@@ -54,7 +54,7 @@ returns-in-Ok-pipe-clause-pipes g c =
 pub returns-in-Err-clause-pipes : goal.returns-in-Err-clause-pipes
 returns-in-Err-clause-pipes g c =
     let both = rw (c.new-store.ensures, c.in-Ok.ensures) at c.in-Err.ensures.error in
-    inr (record { error = _; status_is = c.status_of.ensures; last = _; fails = both.0; exact = both.1 })
+    inr (record { error = _; status_is = c.status_of.ensures; last = _; fails = both.0.0; exact = both.1 })
 
 pub returns-in_default-clause-limit : goal.returns-in_default-clause-limit
 returns-in_default-clause-limit g c = λ lost. absurd cc
@@ -66,4 +66,4 @@ pub returns-in-Err-clause-limit : goal.returns-in-Err-clause-limit
 returns-in-Err-clause-limit g c =
     let failed = c.in-Err.ensures.error in
     let source = source_of g.R.Input.remaining g.R.Input.gives in
-    session_limit source _ _ _ _ _ _ _ _ _ failed.0.cause failed.2 c.status_of.ensures
+    session_limit source _ _ _ _ _ _ _ _ _ failed.0.0.cause failed.0.1 c.status_of.ensures

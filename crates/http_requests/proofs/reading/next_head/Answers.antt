@@ -1,10 +1,11 @@
 use Rattle.std.proofs.Common.{◌∙◌, ℕ, ◌≤◌, length, take, refl, sym, subst, arith}
+use Rattle.std.proofs.lemmas.Result.{err_from_is_err_and}
 use Rattle.http_requests.specs.Heads.{AwaitsHead}
 use Rattle.http_requests.specs.PartialRequests.{HasSeen}
 use Rattle.http_requests.specs.LineLaws.{no_bytes_await}
 use Rattle.http_requests.specs.AwaitedReads.{source_of}
 use Rattle.http_requests.specs.declared.reading.HeadWait.{HeadWait}
-use Rattle.http_requests.proofs.Readings.{nothing_yet, reads_more, seen_stays, fits_still}
+use Rattle.http_requests.proofs.Readings.{nothing_yet, reads_more, stops_there, seen_stays, fits_still}
 use Rattle.http_requests.proofs.WholeRequests.{finds_head}
 use Rattle.http_requests.proofs.reading.next_head.Goals as goal
 
@@ -33,3 +34,9 @@ reads-preserved g c =
         subst (λ (n : ℕ). AwaitsHead (take n c.read_more.new.self.held)) (sym seen) (seen_stays AwaitsHead _ _ _ read.0 c.as_slice.ensures read.2 awaits),
       ),
     )
+
+pub returns-in_err-read_more-in-More-clause-err : goal.returns-in_err-read_more-in-More-clause-err
+returns-in_err-read_more-in-More-clause-err g c =
+    let p = err_from_is_err_and c.from_residual.result c.from_residual.ensures.1 in
+    rw (p.1, p.2) (stops_there (source_of g.R.Input.remaining g.R.Input.gives) AwaitsHead _ _ _ _ _ _ _ _
+    c.reads.invariant.0 c.as_slice.ensures c.in-More.ensures.found c.in_err-read_more-in-More.ensures.err)

@@ -1,4 +1,4 @@
-use Rattle.http_session.specs.SessionRuns.{store_of}
+use Rattle.http_session.specs.Sessions.{store_of}
 use Rattle.http_session.proofs.SessionTurns.{two_way}
 use Rattle.http_session.proofs.SessionPieces.{can_begin, begins_alone, begins_among}
 use Rattle.http_session.proofs.laws.a_new_session_is_underway.Goals as goal

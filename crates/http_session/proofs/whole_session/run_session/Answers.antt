@@ -1,4 +1,4 @@
-use Rattle.http_session.specs.SessionRuns.{store_of}
+use Rattle.http_session.specs.Sessions.{store_of}
 use Rattle.http_session.proofs.SessionTurns.{two_way}
 use Rattle.http_session.proofs.SessionPieces.{begins_alone, can_begin}
 use Rattle.http_session.proofs.whole_session.run_session.Goals as goal
@@ -14,9 +14,9 @@ requests-init g c =
     )
 
 pub returns-in-Err-clause-error : goal.returns-in-Err-clause-error
-returns-in-Err-clause-error g c = c.in-Err.ensures.goes_on.alone _ _ c.requests.invariant.0
+returns-in-Err-clause-error g c = c.in-Err.ensures.goes_on.alone _ c.requests.invariant.0
 
 pub returns-in-Ok-Some-clause-ended : goal.returns-in-Ok-Some-clause-ended
 returns-in-Ok-Some-clause-ended g c =
     let goes = rw c.in-Ok-Some.field-0-is at c.in-Ok-Some.ensures.goes_on in
-    goes.alone _ _ c.requests.invariant.0
+    goes.alone _ c.requests.invariant.0

@@ -1,5 +1,6 @@
 use Rattle.std.proofs.Common.{◌≡◌, rules, subst₂}
-use Rattle.http_session.specs.SessionRuns.{store_of, devices_of, moment, EndsBetween, FailsBetween}
+use Rattle.http_session.specs.Sessions.{store_of, moment}
+use Rattle.http_session.specs.SessionRuns.{devices_of, EndsBetween, FailsBetween}
 use Rattle.http_session.proofs.whole_session.session.Goals as goal
 
 -- the connection began with the devices, and they are what it ended with

@@ -51,14 +51,27 @@ fn operations_text(alloc: Global, operations: &[Operation]) -> Result<String, Al
     Ok(text)
 }
 
+/// What an answer shows of which no trace is a part, as text; of one with a trace nothing.
+fn text_without_spans(alloc: Global, answer: &Answer) -> Result<String, AllocError> {
+    match answer {
+        Answer::Names(names) => names_text(alloc, names.as_slice()),
+        Answer::Operations(operations) => operations_text(alloc, operations.as_slice()),
+        Answer::Links(links) => links_text(alloc, links.as_slice()),
+        Answer::Ids(ids) => Ok(format!(in alloc; "{:?}", ids.as_slice())?),
+        Answer::Trace(None) => String::from_str(alloc, "no trace"),
+        Answer::Trace(Some(_)) | Answer::Traces(_) => Ok(String::new(alloc)),
+    }
+}
+
 /// What an answer shows, as text: two stores with the same entries show the same.
 pub fn shown(alloc: Global, answer: Answer) -> Result<String, AllocError> {
     match answer {
         Answer::Trace(Some(trace)) => trace_text(alloc, trace),
         Answer::Traces(traces) => traces_text(alloc, traces),
-        Answer::Names(names) => names_text(alloc, names.as_slice()),
-        Answer::Operations(operations) => operations_text(alloc, operations.as_slice()),
-        Answer::Links(links) => links_text(alloc, links.as_slice()),
-        other => Ok(format!(in alloc; "{other:?}")?),
+        other => {
+            let text = text_without_spans(alloc, &other);
+            drop(other);
+            text
+        }
     }
 }

@@ -1,5 +1,5 @@
 use Rattle.std.proofs.Common.{◌∙◌, inl, inr, map}
-use Rattle.trace_server.specs.ServerRuns.{served_line}
+use Rattle.trace_server.specs.ServerRuns.{counts_of, served_line}
 use Rattle.trace_server.proofs.ServerEnds.{broken_off}
 use Rattle.trace_server.proofs.Workers.{new_open, open_at, open_still, numbers_stay}
 use Rattle.trace_server.proofs.serving.serve_store.Goals as goal
@@ -22,9 +22,7 @@ returns-in-Ok-close_books g c =
     inr (record {
       served = c.total_outcome-all.result.served;
       failed = c.total_outcome-all.result.failed;
-      acknowledged = totals.acknowledged;
-      refused = totals.refused;
-      left = totals.left;
+      counts = counts_of totals.acknowledged totals.refused totals.left;
       lists = c.serve_sessions-books.result.books.keeper;
       seats = map (λ w. w.live.seat) c.in-Ok.workers.items;
       gone_on = on;

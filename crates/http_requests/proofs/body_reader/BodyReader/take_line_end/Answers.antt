@@ -4,10 +4,10 @@ use Rattle.http_requests.proofs.body_reader.BodyReader.take_line_end.Goals as go
 pub returns-in-Whole-clause-took : goal.returns-in-Whole-clause-took
 returns-in-Whole-clause-took c =
     let begins = rw c.as_slice.ensures at c.in-Whole.ensures in
-    text_taken _ _ _ _ c.in-Whole.length c.take.ensures
+    text_taken _ _ _ _ _ c.in-Whole.length c.take.ensures
     (λ of front fed part. end_then_line of front fed _ _ (at_stage of front fed c.args.self.now _ c.requires.stage part) begins.0)
 
 pub returns-in-Never-clause-took : goal.returns-in-Never-clause-took
 returns-in-Never-clause-took c =
     let never = rw c.as_slice.ensures at c.in-Never.ensures in
-    none_taken _ _ _ (λ of front fed part. no_end_comes of front fed _ _ (at_stage of front fed c.args.self.now _ c.requires.stage part) never)
+    none_taken _ _ _ _ (λ of front fed part. no_end_comes of front fed _ _ (at_stage of front fed c.args.self.now _ c.requires.stage part) never)

@@ -1,4 +1,4 @@
-use Rattle.std.proofs.Common.{◌<◌, ◌≤◌, ◌≡◌, ℕ, take, sym, subst, arith}
+use Rattle.std.proofs.Common.{◌<◌, ◌≤◌, ℕ, take, subst, arith}
 use Rattle.http_requests.specs.Chunks.{IsSizeLine, IsSomeSizeLine}
 use Rattle.http_requests.specs.LineLaws.{no_line_yet}
 use Rattle.http_requests.proofs.Parts.{text_taken, none_taken, at_stage, fewer_held, line_passes, line_then_data, line_then_trailer, no_line_comes}
@@ -7,7 +7,7 @@ use Rattle.http_requests.proofs.body_reader.BodyReader.take_size_line.Goals as g
 pub returns-then-size-self-clause-took : goal.returns-then-size-self-clause-took
 returns-then-size-self-clause-took c =
     let line = rw c.as_slice.ensures at c.in-Whole.ensures in
-    text_taken _ _ _ _ c.in-Whole.length c.take.ensures
+    text_taken _ _ _ _ _ c.in-Whole.length c.take.ensures
     (λ of front fed part. line_passes of front fed _ _ c.args.self.now.left c.in-Whole.size (at_stage of front fed c.args.self.now _ c.requires.stage part)
     line.0 c.if-size-self.true)
 
@@ -15,7 +15,7 @@ pub returns-then-size-eq0-clause-took : goal.returns-then-size-eq0-clause-took
 returns-then-size-eq0-clause-took c =
     let line = rw c.as_slice.ensures at c.in-Whole.ensures in
     let last = subst (λ (n : ℕ). IsSizeLine (take c.in-Whole.length c.args.received.now.held) n) c.if-size-eq0.true line.0 in
-    text_taken _ _ _ _ c.in-Whole.length c.take.ensures
+    text_taken _ _ _ _ _ c.in-Whole.length c.take.ensures
     (λ of front fed part. line_then_trailer of front fed _ _ (at_stage of front fed c.args.self.now _ c.requires.stage part) last)
 
 pub returns-else-size-eq0-clause-took : goal.returns-else-size-eq0-clause-took
@@ -23,13 +23,13 @@ returns-else-size-eq0-clause-took c =
     let line = rw c.as_slice.ensures at c.in-Whole.ensures in
     let some : 0 < c.in-Whole.size = omega (arith, c.if-size-eq0.false) in
     let fits : c.in-Whole.size ≤ c.args.self.now.left = omega (arith, c.if-size-self.false) in
-    text_taken _ _ _ _ c.in-Whole.length c.take.ensures
+    text_taken _ _ _ _ _ c.in-Whole.length c.take.ensures
     (λ of front fed part. line_then_data of front fed _ _ c.in-Whole.size (at_stage of front fed c.args.self.now _ c.requires.stage part) line.0 some fits)
 
 pub returns-in-Never-clause-took : goal.returns-in-Never-clause-took
 returns-in-Never-clause-took c =
     let never = rw c.as_slice.ensures at c.in-Never.ensures in
-    none_taken _ _ _ (λ of front fed part. no_line_comes of front fed _ _ (at_stage of front fed c.args.self.now _ c.requires.stage part) never)
+    none_taken _ _ _ _ (λ of front fed part. no_line_comes of front fed _ _ (at_stage of front fed c.args.self.now _ c.requires.stage part) never)
 
 pub returns-then-size-eq0-clause-fewer : goal.returns-then-size-eq0-clause-fewer
 returns-then-size-eq0-clause-fewer c =

@@ -8,6 +8,6 @@ use Rattle.http_session.proofs.receiving.PartialRequest.take_from.Goals as goal
 pub returns-in-Batch-clause-took : goal.returns-in-Batch-clause-took
 returns-in-Batch-clause-took c =
     let after = c.take_from-in-Batch.new.sink in
-    put_as _ Carries _ _ _ _ _ _ _ _
+    put_as _ Carries _ _ _ _ _ _ _ _ _
     (λ content follows. subst (λ (s : BodySink). Carries s content (Batch after)) (sym c.in-Batch.is) (batch_carries c.in-Batch.body after content follows))
     c.take_from-in-Batch.ensures.took

@@ -1,5 +1,5 @@
 use Rattle.std.proofs.Common.{◌∙◌, refl}
-use Rattle.http_session.specs.SessionRuns.{store_of}
+use Rattle.http_session.specs.Sessions.{store_of}
 use Rattle.http_session.proofs.SessionPieces.{goes_nowhere, goes_on_then, asks_from}
 use Rattle.http_session.proofs.resumable.Session.answer_next.Goals as goal
 

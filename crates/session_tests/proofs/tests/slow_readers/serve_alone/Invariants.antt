@@ -1,5 +1,5 @@
 use Rattle.std.proofs.Common.{◌≡◌, ◌++◌, false, Some}
-use Rattle.http_session.specs.SessionRuns.{store_of}
+use Rattle.http_session.specs.Sessions.{store_of}
 use Rattle.http_session.specs.ResponseOrder.{ConnectionModel}
 use Rattle.open_connections.specs.BufferedConnections.{buffered_model}
 use Rattle.open_connections.specs.OpenConnections.{AllOpen}

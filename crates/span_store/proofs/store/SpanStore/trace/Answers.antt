@@ -32,13 +32,13 @@ returns c =
     c.args.id spots c.self.invariant.follows c.spots-spots.ensures in
     let there = placed_taken c.in_ok-trace.trace.spans.items in
     let form = c.in_ok-trace.ensures.form in
-    let shown : c.kept.result ≡ shown_as held.limits.max_skew c.args.raw there =
-    c.kept.ensures ∙ (λ i. shown_as (form.0 i) (form.1 i) there)
+    let shown : c.in_ok-kept.kept ≡ shown_as held.limits.max_skew c.args.raw there =
+    c.in_ok-kept.ensures ∙ (λ i. shown_as (form.0 i) (form.1 i) there)
     ∙ ap (λ (l : Limits). shown_as l.max_skew c.args.raw there) (c.limits-max_skew.ensures ∙ ap (λ (v : LimitedHistory). v.limits) (sym c.self.view_is)) in
-    subst (λ (v : LimitedHistory). Trace (Some c.kept.result)
+    subst (λ (v : LimitedHistory). Trace (Some c.in_ok-kept.kept)
     ≡ Trace (option_map (shown_as v.limits.max_skew c.args.raw) (trace_found v.limits.traces (events v.entries) c.args.id))) c.self.view_is
     (ap Trace (some_found (shown_as held.limits.max_skew c.args.raw) held.entries spots (spans_of_trace held.limits.traces (events held.entries) c.args.id)
-    there c.kept.result named c.in_ok-trace.ensures.spans some shown))
+    there c.in_ok-kept.kept named c.in_ok-trace.ensures.spans some shown))
 
 pub gather-requires : goal.gather-requires
 gather-requires c = omega (arith, c.self.invariant.placed.batches, c.self.invariant.placed.kept.fits, c.len-legal.ensures.legal.batches)

@@ -1,6 +1,6 @@
 use Rattle.std.proofs.Common.{rules, ◌≡◌, ◌==◌, length, true, false, Ok, Err, sym, ap, ◌∙◌, subst}
 use Rattle.step_lines.specs.Steps.{step_in}
-use Rattle.commands.specs.PlayRuns.{MakesStep}
+use Rattle.commands.specs.PlayRuns.{MakesStep, play_moment}
 use Rattle.commands.proofs.PlayLines.{line_faulty, line_played, line_skipped}
 use Rattle.commands.proofs.play.script.ScriptLineHandler.handle_line.Goals as goal
 
@@ -15,7 +15,7 @@ returns-in_ok-play_step-in-Ok c =
     let is : Ok c.in-Ok.step ≡ step_in c.args.line.now.items = sym c.in-Ok.is ∙ c.in_ok-step.ensures ∙ ap step_in c.as_slice.ensures.value in
     line_played c.args.self.now c.play_step.new.world c.args.number c.args.line.now.items c.args.reply.now.items c.play_step.new.reply.items c.in-Ok.step
     c.requires
-    some is (subst (λ w. MakesStep c.args.reply.now.items c.play_step.new.reply.items w c.play_step.new.world c.in-Ok.step)
+    some is (subst (λ w. MakesStep (play_moment c.args.reply.now.items w) (play_moment c.play_step.new.reply.items c.play_step.new.world) c.in-Ok.step)
     c.self.view_is c.in_ok-play_step-in-Ok.ensures)
 
 pub returns-in_ok-write_fault-in-Err : goal.returns-in_ok-write_fault-in-Err
