@@ -15,7 +15,7 @@ A row is over its bound if the memory or, with `--count`, the instructions grow 
 parts on the average of both steps (4.84 times from a quarter to the whole), or by more than 2.64 times in one of them,
 or if the whole takes more than 10 bytes of memory for each byte sent. One step may have more, since a table that doubles
 its room does so in one of them. Seconds aren't judged: they vary too much. If the bytes in and out together more than
-double in a step, 1.1 times their growth stands in place of 2.2, and the line says so. The last line is
+double in a step, the bar is 1.1 times their growth instead of 2.2, and the line says so. The last line is
 `0 over their bounds`, or the number of such rows after a line for each; the exit status is 1 then. Fixed costs count
 too, so with a few parts the memory for each byte is above its bar.
 """
