@@ -643,7 +643,7 @@ def memory_quotes(found):
     chunked, coming_chunked = (megabytes(bodies * 4_194_304 * IN_CHUNKS / 1e6) for bodies in (1000, 1024))
     yield page, f"cut at the head of each list may take up to {IN_CHUNKS} (calculated, not tried)"
     yield page, f"is {large} stored and {megabytes(1024 * 4_194_304 * worst / 1e6)} of bodies, or {chunked} and {coming_chunked} if bodies come in chunks"
-    yield "docs/serve.md", (f"for 1,000 batches expect [up to {small}](operating.md#what-else-takes-memory-and-the-most) with bodies of at most 1 MB, and up to {large} at "
+    yield "docs/serve.md", (f"For 1,000 batches expect [up to {small}](operating.md#what-else-takes-memory-and-the-most) stored with bodies of at most 1 MB, and up to {large} at "
                             f"the server's own limit ({chunked} in chunks, by calculation)")
     yield "README.md", f"take [{found.of('memory', 100_000, 1)[1]} MB (one tag) to {found.of('memory', 100_000, 10)[1]} MB (ten tags)]"
     start = at_start()
@@ -698,7 +698,7 @@ def gate_quotes(found):
     edits, processor, _ = found.of("gate", "the wrong bodies, the same")
     yield "docs/MAINTAINING.md", f"the crates without tests {code} minutes of a processor, the test crates {tests}, the {edits} wrong bodies"
     yield "README.md", f"tries {len(glob.glob('crates/*/must-fail/*.edit', root_dir=results.ROOT))} wrong bodies"
-    yield "README.md", f"with {re.search(r'commit [0-9a-f]+', whole)[0]} {by_clock} minutes on four cores of 2.5 GHz, beside other jobs"
+    yield "README.md", f"{by_clock} minutes, of {re.search(r'commit [0-9a-f]+', whole)[0]} on four cores of 2.5 GHz beside other jobs"
     least, most = found.of("proofs", "a test crate before its first test")
     once, often = found.of("proofs", "a public function whose contract names much, once a crate")
     yield "docs/MAINTAINING.md", f"{least} to {most} seconds of a processor to read what it stands on, and {once} to {often} once for each public function"

@@ -17,17 +17,17 @@ abbrev pub text_hash : List ℕ → ℕ
 text_hash w = length w % 128 + 3 * get_or w 0 0 + 5 * get_or w (length w / 2) 0 + 7 * get_or w (length w - 1) 0
 
 -- 0 to 9, a to f, t and -
-abbrev pub begins_no_text : ℕ → Bool
-begins_no_text c = (nat_le 48 c && nat_le c 57) || (nat_le 97 c && nat_le c 102) || (c == 116) || (c == 45)
+abbrev pub may_begin_non_string : ℕ → Bool
+may_begin_non_string c = (nat_le 48 c && nat_le c 57) || (nat_le 97 c && nat_le c 102) || (c == 116) || (c == 45)
 
--- the text may be that of a value that is no text: a number, a flag, or bytes
-abbrev pub may_be_no_text : List ℕ → Bool
-may_be_no_text [] = true
-may_be_no_text (c ∷ w) = begins_no_text c
+-- the text may be that of a value that isn't a string: a number, a flag, or bytes
+abbrev pub may_be_non_string : List ℕ → Bool
+may_be_non_string [] = true
+may_be_non_string (c ∷ w) = may_begin_non_string c
 
--- 0 for each text that may be that of a value that is no text
+-- 0 for each text that may be that of a value that isn't a string
 abbrev pub text_part : List ℕ → ℕ
-text_part w = if may_be_no_text w then 0 else 41 + 11 * text_hash w
+text_part w = if may_be_non_string w then 0 else 41 + 11 * text_hash w
 
 -- which of 512 bits represents the tags with this key and this text
 abbrev pub tag_place : List ℕ → List ℕ → ℕ

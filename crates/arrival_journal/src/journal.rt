@@ -159,18 +159,18 @@ impl Journal {
         ensures { option_map arc_value (option_copied result) ≡
             entry_at self.now.held.entries place }
     {
-        let before = usize::try_from(place.checked_sub(1)?).ok()?;
-        self.entries.get(before)
+        let entry_index = usize::try_from(place.checked_sub(1)?).ok()?;
+        self.entries.get(entry_index)
     }
 
     /// Returns the outline of the entry at a place. If outlines are kept, no span is read.
     pub fn outline(&self, place: u64) -> Option<Outline>
         ensures { result ≡ option_map outline_in (entry_at self.now.held.entries place) }
     {
-        let before = usize::try_from(place.checked_sub(1)?).ok()?;
-        match self.outlines.get(before) {
+        let entry_index = usize::try_from(place.checked_sub(1)?).ok()?;
+        match self.outlines.get(entry_index) {
             Some(outline) => Some(*outline),
-            None => Some(Outline::of(&self.entries.get(before)?.work)),
+            None => Some(Outline::of(&self.entries.get(entry_index)?.work)),
         }
     }
 
@@ -191,14 +191,14 @@ impl Journal {
         Record::new(self.sent.keys(), entry)
     }
 
-    /// Judges an entry whose batch was sent before, with `before` entries before that one: that entry answers for
-    /// it, unless it has other spans.
-    fn judge_resent(&self, entry: &Entry, before: u32) -> Result<Admission, Refusal>
-        requires { before < length self.now.held.entries }
-        ensures { result ≡ repeated self.now.held.entries entry.now before }
+    /// Judges an entry whose batch was sent before, by the entry at an index, which counts from 0: that entry answers
+    /// for it, unless it has other spans.
+    fn judge_resent(&self, entry: &Entry, entry_index: u32) -> Result<Admission, Refusal>
+        requires { entry_index < length self.now.held.entries }
+        ensures { result ≡ repeated self.now.held.entries entry.now entry_index }
     {
-        let place = u64::from(before) + 1;
-        if entry.work == self.entries[before as usize].work {
+        let place = u64::from(entry_index) + 1;
+        if entry.work == self.entries[entry_index as usize].work {
             Ok(Admission::Resent { place })
         } else {
             Err(Refusal::Conflict { place })
@@ -229,31 +229,31 @@ impl Journal {
     ///
     /// # Errors
     ///
-    /// First [`Refusal::Conflict`], with the place of an earlier entry, if that has the batch's number and process
+    /// First [`Refusal::Conflict`], with the place of an earlier entry, if that has the batch's `seqNo` and process
     /// but other spans; then [`Refusal::Stale`], if the entry's number is not above the last one of its seat; then
     /// [`Refusal::JournalFull`], with the current counts, if the entry or its spans would pass the limits. Nothing
     /// else.
-    pub fn judge(&self, entry: &Record) -> Result<Admission, Refusal>
-        ensures answer { result ≡ admission_by self.now.held entry.now }
+    pub fn judge(&self, recorded: &Record) -> Result<Admission, Refusal>
+        ensures answer { result ≡ admission_by self.now.held recorded.now }
         ensures legal { IsLegal self.now.held.limits self.now.held.entries }
     {
-        let hash = entry.hash(self.sent.keys());
-        let entry = entry.entry();
+        let hash = recorded.hash(self.sent.keys());
+        let entry = recorded.entry();
         match self.sent.find(&self.entries, entry, hash) {
-            Some(before) => self.judge_resent(entry, before),
+            Some(entry_index) => self.judge_resent(entry, entry_index),
             None => self.judge_new(entry),
         }
     }
 
     /// Appends an entry that was judged to be added.
-    pub fn append(&mut self, entry: Record)
-        requires { admission_by self.old.held entry ≡ Ok Added }
-        ensures appended { self.new.held ≡ followed_by self.old.held entry }
+    pub fn append(&mut self, recorded: Record)
+        requires { admission_by self.old.held recorded ≡ Ok Added }
+        ensures appended { self.new.held ≡ followed_by self.old.held recorded }
         ensures legal { IsLegal self.new.held.limits self.new.held.entries }
     {
-        let hash = entry.hash(self.sent.keys());
-        let outline = entry.outline();
-        let entry = entry.into_entry();
+        let hash = recorded.hash(self.sent.keys());
+        let outline = recorded.outline();
+        let entry = recorded.into_entry();
         self.spans += entry.work.spans().len() as u64;
         set_last_number(&mut self.last_numbers, entry.seat, entry.number);
         push_outline(&mut self.outlines, self.keeps_outlines, outline);
@@ -262,7 +262,8 @@ impl Journal {
     }
 
     /// Adds an entry at the end and returns its place; the first one is 1. If its batch was sent before with the
-    /// same spans, nothing is added, and the place is that of the entry that has it.
+    /// same spans, nothing is added, and the place is that of the entry that has it. Only tests call it: a store calls
+    /// [`judge`](Self::judge) and [`append`](Self::append).
     ///
     /// # Errors
     ///
@@ -273,10 +274,10 @@ impl Journal {
             (admission_by self.old.held (arc_value entry)) }
         ensures legal { IsLegal self.new.held.limits self.new.held.entries }
     {
-        let entry = self.recorded(entry);
-        match self.judge(&entry)? {
+        let recorded = self.recorded(entry);
+        match self.judge(&recorded)? {
             Admission::Added => {
-                self.append(entry);
+                self.append(recorded);
                 Ok(self.len())
             }
             Admission::Resent { place } => Ok(place),

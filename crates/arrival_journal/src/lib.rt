@@ -1,10 +1,10 @@
 //! The journal of one store: the accepted batches, in the order of their arrival.
 //!
-//! The list of entries is always legal: each entry's number is above every earlier number of its seat, and the
-//! counts of entries and of spans are within the limits. An entry that would break this is refused, and changes
-//! nothing. All memory is allocated when a journal is made, so adding an entry never fails because memory ran
-//! out. To judge and add an entry, no more of the list is read than the entries with its number, its seat's last
-//! number and the counts. No contract speaks of that cost.
+//! The list of entries is always legal: each entry's number is above every earlier number of its seat, no batch
+//! with a `seqNo` is in it twice, and the counts of entries and of spans are within the limits. An entry that
+//! would break this is refused, and changes nothing. All memory is allocated when a journal is made, so adding an
+//! entry never fails because memory ran out. To judge and add an entry, no more of the list is read than the
+//! entries with its number, its seat's last number and the counts. No contract speaks of that cost.
 //!
 //! * `journal`: the [`Journal`].
 //! * `outline`: what is known of an entry without reading its spans, its [`Outline`]. `kind`, `span_kinds`: the

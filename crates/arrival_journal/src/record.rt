@@ -2,7 +2,7 @@
 
 ghost use Rattle.std.specs.Prelude.{◌≡◌, true, IfOk};
 ghost use Rattle.std.specs.Arc.{arc_value};
-ghost use Rattle.sent_batches.specs.SentIndex.{has_number, work_hash};
+ghost use Rattle.sent_batches.specs.SentIndex.{has_seq_no, work_hash};
 ghost use Rattle.arrival_journal.specs.KindTexts.{kinds_in};
 ghost use Rattle.arrival_journal.specs.Outlines.{outline_in};
 
@@ -32,7 +32,7 @@ impl Model for Record {
     ghost use Rattle.std.specs.Prelude.{◌≡◌, true};
     ghost use Rattle.std.specs.Arc.{arc_value};
     ghost use Rattle.trace_model.specs.declared.entry.Entry.{Entry};
-    ghost use Rattle.sent_batches.specs.SentIndex.{has_number, work_hash};
+    ghost use Rattle.sent_batches.specs.SentIndex.{has_seq_no, work_hash};
     ghost use Rattle.arrival_journal.specs.KindTexts.{kinds_in};
     ghost use Rattle.arrival_journal.specs.Outlines.{outline_in};
 
@@ -40,7 +40,7 @@ impl Model for Record {
 
     ghost view = { λ r. arc_value r.entry };
 
-    ghost invariant = { λ r. (has_number (arc_value r.entry).work ≡ true →
+    ghost invariant = { λ r. (has_seq_no (arc_value r.entry).work ≡ true →
         r.hash ≡ work_hash r.keys (arc_value r.entry).work)
         × (r.outline ≡ outline_in (arc_value r.entry))
         × (r.kinds ≡ kinds_in (arc_value r.entry)) };
@@ -80,7 +80,7 @@ impl Record {
     /// Returns the hash of the entry's batch under these keys. It is computed anew only if the record was made under
     /// others.
     pub fn hash(&self, keys: BatchKeys) -> u64
-        ensures { has_number self.now.work ≡ true → result ≡ work_hash keys self.now.work }
+        ensures { has_seq_no self.now.work ≡ true → result ≡ work_hash keys self.now.work }
     {
         if self.keys == keys {
             self.hash

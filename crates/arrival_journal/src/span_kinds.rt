@@ -61,7 +61,7 @@ impl SpanKinds {
         kinds
     }
 
-    /// Returns a copy.
+    /// Returns a copy. `Copy` can't be derived for a type whose `Model` has no inverse.
     pub fn again(&self) -> Self
         ensures { result ≡ self.now }
     {

@@ -3,7 +3,8 @@
 ghost use Rattle.std.specs.Prelude.{◌≡◌, ◌<◌, get_or, flat_map};
 ghost use Rattle.std.specs.List.{fold};
 ghost use Rattle.jaeger_model.specs.Tags.{tag_text, hex_text};
-ghost use Rattle.arrival_journal.specs.TagBits.{text_hash, begins_no_text, may_be_no_text, text_part, tag_place, no_bits, with_bit, place_of, with_tag};
+ghost use Rattle.arrival_journal.specs.TagBits.{text_hash, may_begin_non_string, may_be_non_string, text_part, tag_place};
+ghost use Rattle.arrival_journal.specs.TagBits.{no_bits, with_bit, place_of, with_tag};
 ghost use Rattle.arrival_journal.specs.TagBits.{fields_of, own_tags, bits_of, bits_brought};
 
 use jaeger_model::{Batch, Log, Span, Tag, TagValue, ValueRef};
@@ -29,29 +30,29 @@ fn text_hash(text: &str) -> u32
     (length % 128) as u32 + 3 * first + 5 * middle + 7 * last
 }
 
-/// Whether the text of a value that is no text (a number, a flag, bytes) may begin with this byte.
-fn begins_no_text(byte: u8) -> bool
-    ensures { result ≡ begins_no_text byte }
+/// Whether the text of a value that isn't a string (a number, a flag, bytes) may begin with this byte.
+fn may_begin_non_string(byte: u8) -> bool
+    ensures { result ≡ may_begin_non_string byte }
 {
     (b'0' <= byte && byte <= b'9') || (b'a' <= byte && byte <= b'f') || byte == b't' || byte == b'-'
 }
 
-/// Whether the text may be that of a value that is no text.
-fn may_be_no_text(text: &str) -> bool
-    ensures { result ≡ may_be_no_text text.now }
+/// Whether the text may be that of a value that isn't a string.
+fn may_be_non_string(text: &str) -> bool
+    ensures { result ≡ may_be_non_string text.now }
 {
     match text.as_bytes() {
-        [first, ..] => begins_no_text(*first),
+        [first, ..] => may_begin_non_string(*first),
         _ => true,
     }
 }
 
-/// Returns what a tag's text adds to its place: 0 if it may be that of a value that is no text.
+/// Returns what a tag's text adds to its place: 0 if it may be that of a value that isn't a string.
 fn text_part(text: &str) -> u32
     ensures exact { result ≡ text_part text.now }
     ensures within { result < 65536 }
 {
-    if may_be_no_text(text) {
+    if may_be_non_string(text) {
         0
     } else {
         41 + 11 * text_hash(text)

@@ -11,9 +11,8 @@ use Rattle.batch_codec.specs.declared.fault.DecodeError.TheVariants.{Memory, Wir
 use Rattle.batch_codec.specs.declared.fault.Part.TheVariants as parts
 use Rattle.batch_codec.specs.declared.batch.BatchSlots.{BatchSlots}
 use Rattle.batch_codec.specs.Decoding.{Gives}
-use Rattle.batch_codec.specs.EmptySlots.{no_batch}
 use Rattle.batch_codec.specs.BatchReading.{take_batch, batch_from, batch_at, at_end, decoded}
-use Rattle.batch_codec.specs.Batches.{BatchField, whole_batch, IsBatch, Answers}
+use Rattle.batch_codec.specs.Batches.{BatchField, whole_batch, batch_rule, IsBatch, Answers}
 use Rattle.batch_codec.specs.SpelledBatches.{DecodesWhatIsSpelled}
 use Rattle.batch_codec.proofs.ValuesSpelled.{Agrees, is_i64}
 use Rattle.batch_codec.proofs.Structs.{known_is, skipped_is, struct_is, required_found, is_list}
@@ -47,7 +46,7 @@ makes s x m = rw m refl
 
 pub is_batch : Agrees batch_at IsBatch
 unfolding batch_at IsBatch
-is_batch = struct_is take_batch BatchField no_batch batch_from (λ s x. s ≡ whole_batch x) batch_field_is made makes
+is_batch = struct_is take_batch batch_rule batch_from batch_field_is made makes
 
 -- ---- all of the bytes
 

@@ -14,6 +14,7 @@ use Rattle.batch_codec.specs.declared.span.SpanSlots.{SpanSlots}
 use Rattle.batch_codec.specs.declared.batch.BatchSlots.{BatchSlots}
 use Rattle.batch_codec.specs.declared.fault.DecodeError.{DecodeError}
 use Rattle.batch_codec.specs.Decoding.{Reading}
+use Rattle.batch_codec.specs.StructRules.{StructRule, KnownFields}
 use Rattle.batch_codec.specs.Batches.{Gathers, IsStruct, TagField, LogField, ReferenceField, ProcessField, SpanField, BatchField, IsTag, IsLog, IsReference}
 use Rattle.batch_codec.specs.Batches.{IsProcess, IsSpan, IsBatch}
 use Rattle.batch_codec.specs.LastCounts.{is_known, OthersAreValues, LastCounts, IsByLast, known_of_tag, known_of_log, known_of_reference, known_of_process}
@@ -93,39 +94,39 @@ gathers_back Does known LastOf none step (f ∷ fs) s t l o =
 
 -- ---- a struct: what its last fields leave is what it has
 
-module _ {S X : Type 0} {read : Reading X} {Does : S → Field → S → Type 0} {none : S} {Makes : S → X → Type 0} {known : List (ℕ × ℤ)} {LastOf : S → List Field
-    → S → Type 0} (take : Take S DecodeError) where
-  pub by_last : Agrees read (IsStruct Does none Makes)
-      → ((s : S) (c : ℕ) (i : ℤ) → Agrees (take s c i) (λ v t. Does s (field c i v) t))
-      → ((s : S) (f : Field) (t : S) → Does s f t → is_known known f ≡ false → IsValue 64 f.code f.text)
-      → ((s : S) → LastOf s [] s)
-      → ((s t : S) → LastOf s [] t → t ≡ s)
-      → ((s u t : S) (f : Field) (fs : List Field) → Does s f u → LastOf u fs t → LastOf s (f ∷ fs) t)
-      → ((s t : S) (c : ℕ) (i : ℤ) (v : List ℕ) (fs : List Field) → LastOf s (field c i v ∷ fs) t → (is_known known (field c i v) ≡ false → IsValue 64 c v)
-      → (u : S) × Does s (field c i v) u × LastOf u fs t)
-      → IsByLast (IsStruct Does none Makes) none known LastOf Makes
+module _ {S X : Type 0} {read : Reading X} {rule : StructRule S X} {known : KnownFields S} (take : Take S DecodeError) where
+  pub by_last : Agrees read (IsStruct rule)
+      → ((s : S) (c : ℕ) (i : ℤ) → Agrees (take s c i) (λ v t. rule.changes s (field c i v) t))
+      → ((s : S) (f : Field) (t : S) → rule.changes s f t → is_known known.types f ≡ false → IsValue 64 f.code f.text)
+      → ((s : S) → known.last s [] s)
+      → ((s t : S) → known.last s [] t → t ≡ s)
+      → ((s u t : S) (f : Field) (fs : List Field) → rule.changes s f u → known.last u fs t → known.last s (f ∷ fs) t)
+      → ((s t : S) (c : ℕ) (i : ℤ) (v : List ℕ) (fs : List Field) → known.last s (field c i v ∷ fs) t
+      → (is_known known.types (field c i v) ≡ false → IsValue 64 c v)
+      → (u : S) × rule.changes s (field c i v) u × known.last u fs t)
+      → IsByLast (IsStruct rule) rule known
   by_last agrees field_is other kept nothing first step = record { same = λ w x. (forth w x, back w x); one = one }
     where
-      forth : (w : List ℕ) (x : X) → IsStruct Does none Makes w x → LastCounts none known LastOf Makes w x
+      forth : (w : List ℕ) (x : X) → IsStruct rule w x → LastCounts rule known w x
       forth w x is = record {
         fields = is.fields;
         spelled = is.spelled;
         left = is.gathered;
-        last = gathers_on Does LastOf kept first is.fields none is.gathered is.gathers;
+        last = gathers_on rule.changes known.last kept first is.fields rule.none is.gathered is.gathers;
         makes = is.makes;
-        others = others_of Does known other is.fields none is.gathered is.gathers;
+        others = others_of rule.changes known.types other is.fields rule.none is.gathered is.gathers;
       }
 
-      gathers : (w : List ℕ) (x : X) (a : LastCounts none known LastOf Makes w x) → Gathers Does none a.fields a.left
-      gathers w x a = gathers_back Does known LastOf nothing step a.fields none a.left a.last a.others
+      gathers : (w : List ℕ) (x : X) (a : LastCounts rule known w x) → Gathers rule.changes rule.none a.fields a.left
+      gathers w x a = gathers_back rule.changes known.types known.last nothing step a.fields rule.none a.left a.last a.others
 
-      back : (w : List ℕ) (x : X) → LastCounts none known LastOf Makes w x → IsStruct Does none Makes w x
+      back : (w : List ℕ) (x : X) → LastCounts rule known w x → IsStruct rule w x
       back w x a = record { fields = a.fields; spelled = a.spelled; gathered = a.left; gathers = gathers w x a; makes = a.makes }
 
-      one : (w : List ℕ) (x y : X) (a : LastCounts none known LastOf Makes w x) (b : LastCounts none known LastOf Makes w y) → (a.fields ≡ b.fields) × (x ≡ y)
+      one : (w : List ℕ) (x y : X) (a : LastCounts rule known w x) (b : LastCounts rule known w y) → (a.fields ≡ b.fields) × (x ≡ y)
       one w x y a b = (
-        one_division take Does (λ s f u v d. (field_is s f.code f.id).again f.text v u d) a.fields b.fields w none a.left b.left a.spelled b.spelled
-            (gathers w x a) (gathers w y b),
+        one_division take rule.changes (λ s f u v d. (field_is s f.code f.id).again f.text v u d) a.fields b.fields w rule.none a.left b.left a.spelled
+            b.spelled (gathers w x a) (gathers w y b),
         one_value agrees w x y (back w x a) (back w y b),
       )
 

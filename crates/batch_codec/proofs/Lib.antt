@@ -16,7 +16,7 @@ pub mod CutLaws
 pub mod OneDivision
 pub mod LastOf
 pub mod Rows
-pub mod CanonTexts
+pub mod TextParts
 pub mod CanonSpelled
 pub mod FailsWhole
 pub mod StoredFields

@@ -5,9 +5,8 @@ use Rattle.jaeger_model.specs.declared.span.Log.{Log}
 use Rattle.thrift_binary.proofs.ReadBytesSpell.{ok_is}
 use Rattle.batch_codec.specs.declared.fault.Part.TheVariants as parts
 use Rattle.batch_codec.specs.declared.log.LogSlots.{LogSlots}
-use Rattle.batch_codec.specs.EmptySlots.{no_log}
 use Rattle.batch_codec.specs.LogReading.{take_log, log_from, log_at}
-use Rattle.batch_codec.specs.Batches.{LogField, whole_log, IsLog}
+use Rattle.batch_codec.specs.Batches.{LogField, whole_log, log_rule, IsLog}
 use Rattle.batch_codec.proofs.ValuesSpelled.{Agrees, is_i64}
 use Rattle.batch_codec.proofs.Structs.{known_is, skipped_is, struct_is, required_found, is_list}
 use Rattle.batch_codec.proofs.TagSpelled.{is_tag}
@@ -38,4 +37,4 @@ makes s x m = rw m refl
 
 pub is_log : Agrees log_at IsLog
 unfolding log_at IsLog
-is_log = struct_is take_log LogField no_log log_from (λ s x. s ≡ whole_log x) log_field_is made makes
+is_log = struct_is take_log log_rule log_from log_field_is made makes

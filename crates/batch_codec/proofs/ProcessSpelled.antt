@@ -5,9 +5,8 @@ use Rattle.jaeger_model.specs.declared.batch.Process.{Process}
 use Rattle.thrift_binary.proofs.ReadBytesSpell.{ok_is}
 use Rattle.batch_codec.specs.declared.fault.Part.TheVariants as parts
 use Rattle.batch_codec.specs.declared.process.ProcessSlots.{ProcessSlots}
-use Rattle.batch_codec.specs.EmptySlots.{no_process}
 use Rattle.batch_codec.specs.ProcessReading.{take_process, process_from, process_at}
-use Rattle.batch_codec.specs.Batches.{ProcessField, whole_process, IsProcess}
+use Rattle.batch_codec.specs.Batches.{ProcessField, whole_process, process_rule, IsProcess}
 use Rattle.batch_codec.proofs.ValuesSpelled.{Agrees, is_text}
 use Rattle.batch_codec.proofs.Structs.{known_is, skipped_is, struct_is, required_found, is_list}
 use Rattle.batch_codec.proofs.TagSpelled.{is_tag}
@@ -37,4 +36,4 @@ makes s x m = rw m refl
 
 pub is_process : Agrees process_at IsProcess
 unfolding process_at IsProcess
-is_process = struct_is take_process ProcessField no_process process_from (λ s x. s ≡ whole_process x) process_field_is made makes
+is_process = struct_is take_process process_rule process_from process_field_is made makes

@@ -5,9 +5,8 @@ use Rattle.jaeger_model.specs.declared.span.SpanRef.{SpanRef}
 use Rattle.thrift_binary.proofs.ReadBytesSpell.{ok_is}
 use Rattle.batch_codec.specs.declared.fault.Part.TheVariants as parts
 use Rattle.batch_codec.specs.declared.reference.ReferenceSlots.{ReferenceSlots}
-use Rattle.batch_codec.specs.EmptySlots.{no_reference}
 use Rattle.batch_codec.specs.ReferenceReading.{take_reference, reference_from, reference_at}
-use Rattle.batch_codec.specs.Batches.{ReferenceField, whole_reference, IsReference}
+use Rattle.batch_codec.specs.Batches.{ReferenceField, whole_reference, reference_rule, IsReference}
 use Rattle.batch_codec.proofs.ValuesSpelled.{Agrees, is_kind, is_id}
 use Rattle.batch_codec.proofs.Structs.{known_is, skipped_is, struct_is, required_found}
 
@@ -43,4 +42,4 @@ makes s x m = rw m refl
 
 pub is_reference : Agrees reference_at IsReference
 unfolding reference_at IsReference
-is_reference = struct_is take_reference ReferenceField no_reference reference_from (λ s x. s ≡ whole_reference x) reference_field_is made makes
+is_reference = struct_is take_reference reference_rule reference_from reference_field_is made makes

@@ -5,9 +5,8 @@ use Rattle.jaeger_model.specs.declared.span.Span.{Span}
 use Rattle.thrift_binary.proofs.ReadBytesSpell.{ok_is}
 use Rattle.batch_codec.specs.declared.fault.Part.TheVariants as parts
 use Rattle.batch_codec.specs.declared.span.SpanSlots.{SpanSlots}
-use Rattle.batch_codec.specs.EmptySlots.{no_span}
 use Rattle.batch_codec.specs.SpanReading.{take_span, span_from, span_at}
-use Rattle.batch_codec.specs.Batches.{SpanField, whole_span, IsSpan}
+use Rattle.batch_codec.specs.Batches.{SpanField, whole_span, span_rule, IsSpan}
 use Rattle.batch_codec.proofs.ValuesSpelled.{Agrees, is_text, is_id, is_i32, is_i64}
 use Rattle.batch_codec.proofs.Structs.{known_is, skipped_is, struct_is, required_found, is_list}
 use Rattle.batch_codec.proofs.TagSpelled.{is_tag}
@@ -69,4 +68,4 @@ makes s x m = rw m refl
 
 pub is_span : Agrees span_at IsSpan
 unfolding span_at IsSpan
-is_span = struct_is take_span SpanField no_span span_from (λ s x. s ≡ whole_span x) span_field_is made makes
+is_span = struct_is take_span span_rule span_from span_field_is made makes

@@ -14,6 +14,7 @@ use Rattle.thrift_binary.proofs.Lists.{list_found, list_again}
 use Rattle.batch_codec.specs.declared.fault.DecodeError.{DecodeError}
 use Rattle.batch_codec.specs.declared.fault.Part.{Part}
 use Rattle.batch_codec.specs.Decoding.{Reading, wire, skipped, required}
+use Rattle.batch_codec.specs.StructRules.{StructRule}
 use Rattle.batch_codec.specs.Batches.{Gathers, IsStruct, IsStructList}
 use Rattle.batch_codec.proofs.ValuesSpelled.{Found, Again, Agrees, made_found, mapped}
 
@@ -57,29 +58,31 @@ path_gathers : {S : Type 0} (Does : S → Field → S → Type 0) (fs : List Fie
 path_gathers Does [] s t p = p
 path_gathers Does (f ∷ fs) s t (u, d, p) = (u, d, path_gathers Does fs u t p)
 
-module _ {S X : Type 0} (take : Take S DecodeError) (Does : S → Field → S → Type 0) (none : S) (from : S → Result X DecodeError) (Makes : S → X → Type 0) where
+module _ {S X : Type 0} (take : Take S DecodeError) (rule : StructRule S X) (from : S → Result X DecodeError) where
   abbrev pub struct_at : Reading X
-  struct_at w = fields_at wire take none w >>= λ y. from y.0 >>= λ z. Ok (z, y.1)
+  struct_at w = fields_at wire take rule.none w >>= λ y. from y.0 >>= λ z. Ok (z, y.1)
 
   -- fields that lead from the first state to these slots
   abbrev LeadsTo : List ℕ → S → Type 0
-  LeadsTo v s = (fs : List Field) × IsFields fs v × Path Does none fs s
+  LeadsTo v s = (fs : List Field) × IsFields fs v × Path rule.changes rule.none fs s
 
-  pub struct_is : ((s : S) (c : ℕ) (i : ℤ) → Agrees (take s c i) (λ v t. Does s (record { code = c; id = i; text = v }) t))
-      → ((s : S) (x : X) → from s ≡ Ok x → Makes s x)
-      → ((s : S) (x : X) → Makes s x → from s ≡ Ok x)
-      → Agrees struct_at (IsStruct Does none Makes)
+  pub struct_is : ((s : S) (c : ℕ) (i : ℤ) → Agrees (take s c i) (λ v t. rule.changes s (record { code = c; id = i; text = v }) t))
+      → ((s : S) (x : X) → from s ≡ Ok x → rule.makes s x)
+      → ((s : S) (x : X) → rule.makes s x → from s ≡ Ok x)
+      → Agrees struct_at (IsStruct rule)
   struct_is field_is made makes = record { found = found; again = again }
     where
-      took : (s : S) (c : ℕ) (i : ℤ) (w : List ℕ) (t : S) (r : List ℕ) → take s c i w ≡ Ok (t, r) → Took Does s c i w t r
+      took : (s : S) (c : ℕ) (i : ℤ) (w : List ℕ) (t : S) (r : List ℕ) → take s c i w ≡ Ok (t, r) → Took rule.changes s c i w t r
       took s c i w t r e = let m = (field_is s c i).found w t r e in record { text = m.text; parts = m.parts; does = m.spells }
 
-      leads : Found (fields_at wire take none) LeadsTo
-      leads w s r e = let f = fields_found wire take Does took none w s r e in record { text = f.text; parts = f.parts; spells = (f.fields, f.spells, f.path) }
+      leads : Found (fields_at wire take rule.none) LeadsTo
+      leads w s r e =
+          let f = fields_found wire take rule.changes took rule.none w s r e in
+          record { text = f.text; parts = f.parts; spells = (f.fields, f.spells, f.path) }
 
-      found : Found struct_at (IsStruct Does none Makes)
+      found : Found struct_at (IsStruct rule)
       found w x r e =
-          let b = made_found (fields_at wire take none) LeadsTo leads from w x r e in
+          let b = made_found (fields_at wire take rule.none) LeadsTo leads from w x r e in
           record {
             text = b.text;
             parts = b.parts;
@@ -87,16 +90,16 @@ module _ {S X : Type 0} (take : Take S DecodeError) (Does : S → Field → S �
               fields = b.spells.1.0;
               spelled = b.spells.1.1;
               gathered = b.spells.0;
-              gathers = gathers_path Does b.spells.1.0 none b.spells.0 b.spells.1.2;
+              gathers = gathers_path rule.changes b.spells.1.0 rule.none b.spells.0 b.spells.1.2;
               makes = made b.spells.0 x b.spells.2;
             };
           }
 
-      again : Again struct_at (IsStruct Does none Makes)
+      again : Again struct_at (IsStruct rule)
       again t r x is =
-          let fields = fields_again wire take Does
-          (λ s f u v d. (field_is s f.code f.id).again f.text v u d) is.fields none is.gathered t r is.spelled
-          (path_gathers Does is.fields none is.gathered is.gathers) in
+          let fields = fields_again wire take rule.changes
+          (λ s f u v d. (field_is s f.code f.id).again f.text v u d) is.fields rule.none is.gathered t r is.spelled
+          (path_gathers rule.changes is.fields rule.none is.gathered is.gathers) in
           let whole = makes is.gathered x is.makes in
           rw (fields, whole) refl
 

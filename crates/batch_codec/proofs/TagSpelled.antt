@@ -6,9 +6,9 @@ use Rattle.jaeger_model.specs.declared.tag.Value.{Value}
 use Rattle.thrift_binary.proofs.ReadBytesSpell.{ok_is}
 use Rattle.batch_codec.specs.declared.fault.Part.TheVariants as parts
 use Rattle.batch_codec.specs.declared.tag.TagSlots.{TagSlots}
-use Rattle.batch_codec.specs.EmptySlots.{no_tag, value_named}
+use Rattle.batch_codec.specs.EmptySlots.{value_named}
 use Rattle.batch_codec.specs.TagReading.{take_tag, tag_from, tag_at}
-use Rattle.batch_codec.specs.Batches.{TagField, MakesTag, IsTag}
+use Rattle.batch_codec.specs.Batches.{TagField, MakesTag, tag_rule, IsTag}
 use Rattle.batch_codec.proofs.ValuesSpelled.{Agrees, is_text, is_type, is_double, is_bool, is_i64, is_binary}
 use Rattle.batch_codec.proofs.Structs.{known_is, skipped_is, struct_is, required_found}
 
@@ -46,4 +46,4 @@ makes s x m =
 
 pub is_tag : Agrees tag_at IsTag
 unfolding tag_at IsTag
-is_tag = struct_is take_tag TagField no_tag tag_from MakesTag tag_field_is made makes
+is_tag = struct_is take_tag tag_rule tag_from tag_field_is made makes

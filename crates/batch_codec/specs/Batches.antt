@@ -26,6 +26,7 @@ use Rattle.batch_codec.specs.declared.reference.ReferenceSlots.{ReferenceSlots}
 use Rattle.batch_codec.specs.declared.process.ProcessSlots.{ProcessSlots}
 use Rattle.batch_codec.specs.declared.span.SpanSlots.{SpanSlots}
 use Rattle.batch_codec.specs.declared.batch.BatchSlots.{BatchSlots}
+use Rattle.batch_codec.specs.StructRules.{StructRule}
 use Rattle.batch_codec.specs.EmptySlots.{no_tag, no_log, no_reference, no_process, no_span, no_batch, value_named}
 
 -- ---- values
@@ -73,12 +74,12 @@ Gathers Does s [] t = t ≡ s
 Gathers {S = S} Does s (f ∷ fs) t = (u : S) × Does s f u × Gathers Does u fs t
 
 -- fields and a stop byte, which turn the state before them into the value
-pub record IsStruct {S X : Type 0} (Does : S → Field → S → Type 0) (none : S) (Makes : S → X → Type 0) (w : List ℕ) (x : X) : Type 0 where
+pub record IsStruct {S X : Type 0} (rule : StructRule S X) (w : List ℕ) (x : X) : Type 0 where
   pub fields : List Field
   pub spelled : IsFields fields w
   pub gathered : S
-  pub gathers : Gathers Does none fields gathered
-  pub makes : Makes gathered x
+  pub gathers : Gathers rule.changes rule.none fields gathered
+  pub makes : rule.makes gathered x
 
 -- a list of structs
 abbrev pub IsStructList : {X : Type 0} → (List ℕ → X → Type 0) → List ℕ → List X → Type 0
@@ -104,8 +105,11 @@ pub record MakesTag (s : TagSlots) (x : Tag) : Type 0 where
   pub named : s.kind ≡ Some kind
   pub value : x.value ≡ value_named kind s
 
+abbrev pub tag_rule : StructRule TagSlots Tag
+tag_rule = record { none = no_tag; changes = TagField; makes = MakesTag }
+
 unfoldable pub IsTag : List ℕ → Tag → Type 0
-IsTag w x = IsStruct TagField no_tag MakesTag w x
+IsTag w x = IsStruct tag_rule w x
 
 -- ---- Log: 1 timestamp (i64), 2 fields (list of Tag)
 
@@ -119,8 +123,11 @@ LogField s f t =
 abbrev pub whole_log : Log → LogSlots
 whole_log x = record { at = Some x.at; fields = Some x.fields }
 
+abbrev pub log_rule : StructRule LogSlots Log
+log_rule = record { none = no_log; changes = LogField; makes = λ s y. s ≡ whole_log y }
+
 unfoldable pub IsLog : List ℕ → Log → Type 0
-IsLog w x = IsStruct LogField no_log (λ s y. s ≡ whole_log y) w x
+IsLog w x = IsStruct log_rule w x
 
 -- ---- SpanRef: 1 refType (enum SpanRefType), 2 traceIdLow, 3 traceIdHigh, 4 spanId (i64)
 
@@ -135,8 +142,11 @@ ReferenceField s f t =
 abbrev pub whole_reference : SpanRef → ReferenceSlots
 whole_reference x = record { kind = Some x.kind; trace_low = Some x.trace.low; trace_high = Some x.trace.high; id = Some x.id.0 }
 
+abbrev pub reference_rule : StructRule ReferenceSlots SpanRef
+reference_rule = record { none = no_reference; changes = ReferenceField; makes = λ s y. s ≡ whole_reference y }
+
 unfoldable pub IsReference : List ℕ → SpanRef → Type 0
-IsReference w x = IsStruct ReferenceField no_reference (λ s y. s ≡ whole_reference y) w x
+IsReference w x = IsStruct reference_rule w x
 
 -- ---- Process: 1 serviceName (string), 2 tags (list of Tag)
 
@@ -149,8 +159,11 @@ ProcessField s f t =
 abbrev pub whole_process : Process → ProcessSlots
 whole_process x = record { service = Some x.service; tags = x.tags }
 
+abbrev pub process_rule : StructRule ProcessSlots Process
+process_rule = record { none = no_process; changes = ProcessField; makes = λ s y. s ≡ whole_process y }
+
 unfoldable pub IsProcess : List ℕ → Process → Type 0
-IsProcess w x = IsStruct ProcessField no_process (λ s y. s ≡ whole_process y) w x
+IsProcess w x = IsStruct process_rule w x
 
 -- ---- Span: 1 traceIdLow, 2 traceIdHigh, 3 spanId, 4 parentSpanId (i64), 5 operationName (string), 6 references (list of SpanRef),
 -- 7 flags (i32), 8 startTime, 9 duration (i64), 10 tags (list of Tag), 11 logs (list of Log)
@@ -185,8 +198,11 @@ whole_span x = record {
   logs = x.logs;
 }
 
+abbrev pub span_rule : StructRule SpanSlots Span
+span_rule = record { none = no_span; changes = SpanField; makes = λ s y. s ≡ whole_span y }
+
 unfoldable pub IsSpan : List ℕ → Span → Type 0
-IsSpan w x = IsStruct SpanField no_span (λ s y. s ≡ whole_span y) w x
+IsSpan w x = IsStruct span_rule w x
 
 -- ---- Batch: 1 process (Process), 2 spans (list of Span), 3 seqNo (i64); 4 stats is skipped
 
@@ -200,9 +216,12 @@ BatchField s f t =
 abbrev pub whole_batch : Batch → BatchSlots
 whole_batch x = record { process = Some x.process; spans = Some x.spans; seq_no = x.seq_no }
 
+abbrev pub batch_rule : StructRule BatchSlots Batch
+batch_rule = record { none = no_batch; changes = BatchField; makes = λ s y. s ≡ whole_batch y }
+
 -- all of the bytes spell the batch
 unfoldable pub IsBatch : List ℕ → Batch → Type 0
-IsBatch w x = IsStruct BatchField no_batch (λ s y. s ≡ whole_batch y) w x
+IsBatch w x = IsStruct batch_rule w x
 
 -- ---- the result of decoding
 

@@ -18,6 +18,7 @@ use Rattle.thrift_binary.specs.declared.out.WriteError.{WriteError}
 use Rattle.thrift_binary.specs.declared.out.WriteError.TheVariants.{BadLength, Memory}
 use Rattle.batch_codec.specs.declared.tag.TagType.{TagType}
 use Rattle.batch_codec.specs.declared.tag.TagType.TheVariants as types
+use Rattle.batch_codec.specs.Changes.{Change}
 use Rattle.batch_codec.specs.Batches.{type_number, kind_number}
 
 -- ---- fields
@@ -156,7 +157,7 @@ batch_fits b = process_fits b.process && list_fits span_fits b.spans
 -- ---- what writing does
 
 -- The text is appended if every length in it fits; a length that doesn't is the only error unless memory runs out.
-abbrev pub Encodes : List ℕ → Bool → List ℕ → Result (Unit {0}) WriteError → List ℕ → Type 0
-Encodes text fits old (Ok x) new = (fits ≡ true) × (new ≡ old ++ text)
-Encodes text fits old (Err BadLength) new = fits ≡ false
-Encodes text fits old (Err Memory) new = Unit {0}
+abbrev pub Encodes : List ℕ → Bool → Change (List ℕ) → Result (Unit {0}) WriteError → Type 0
+Encodes text fits out (Ok x) = (fits ≡ true) × (out.after ≡ out.before ++ text)
+Encodes text fits out (Err BadLength) = fits ≡ false
+Encodes text fits out (Err Memory) = Unit {0}

@@ -11,6 +11,7 @@ use Rattle.thrift_binary.specs.Fields.{Take}
 use Rattle.batch_codec.specs.declared.fault.DecodeError.{DecodeError}
 use Rattle.batch_codec.specs.declared.fault.DecodeError.TheVariants.{Wire, Missing, BadEnum, Trailing, Memory}
 use Rattle.batch_codec.specs.declared.fault.Part.{Part}
+use Rattle.batch_codec.specs.Changes.{Change, FieldChange}
 
 -- the value and the bytes after it, or the first fault
 abbrev pub Reading : Type 0 → Type 0
@@ -66,20 +67,20 @@ Fails (Missing p i) r = r ≡ Err (Missing p i)
 Fails BadEnum r = r ≡ Err BadEnum
 Fails Trailing r = r ≡ Err Trailing
 
--- A call on a cursor over `old` returned what the reading yields, and left the bytes after it.
-abbrev pub Decodes : {X Y : Type 0} → (X → Y) → Reading Y → List ℕ → Result X DecodeError → List ℕ → Type 0
-Decodes view read old (Ok x) new = read old ≡ Ok (view x, new)
-Decodes view read old (Err e) new = Fails e (read old)
+-- A call on a cursor returned what the reading of its bytes yields, and left the bytes after it.
+abbrev pub Decodes : {X Y : Type 0} → (X → Y) → Reading Y → Change (List ℕ) → Result X DecodeError → Type 0
+Decodes view read cursor (Ok x) = read cursor.before ≡ Ok (view x, cursor.after)
+Decodes view read cursor (Err e) = Fails e (read cursor.before)
 
 -- After a fault of the bytes the cursor has none left; after want of memory nothing is said of it.
 abbrev pub Spends : {A : Type 0} → Result A DecodeError → List ℕ → Type 0
 Spends (Ok x) new = Unit {0}
 Spends (Err e) new = (e ≡ Memory → ⊥) → new ≡ []
 
--- like `Decodes`, for one field, which changes the state so far
-abbrev pub Takes : {S : Type 0} → Take S DecodeError → S → ℕ → ℤ → List ℕ → Result (Unit {0}) DecodeError → S → List ℕ → Type 0
-Takes take s c i old (Ok x) t new = take s c i old ≡ Ok (t, new)
-Takes take s c i old (Err e) t new = Fails e (take s c i old)
+-- like `Decodes`, for one field, which changes the slots of its struct
+abbrev pub Takes : {S : Type 0} → Take S DecodeError → FieldChange S → Result (Unit {0}) DecodeError → Type 0
+Takes take field (Ok x) = take field.slots.before field.code field.id field.cursor.before ≡ Ok (field.slots.after, field.cursor.after)
+Takes take field (Err e) = Fails e (take field.slots.before field.code field.id field.cursor.before)
 
 -- A call returned what the reading yields, unless memory ran out.
 abbrev pub Gives : {A : Type 0} → Result A DecodeError → Result A DecodeError → Type 0

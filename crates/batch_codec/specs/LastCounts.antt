@@ -9,9 +9,9 @@ use Rattle.batch_codec.specs.declared.reference.ReferenceSlots.{ReferenceSlots}
 use Rattle.batch_codec.specs.declared.process.ProcessSlots.{ProcessSlots}
 use Rattle.batch_codec.specs.declared.span.SpanSlots.{SpanSlots}
 use Rattle.batch_codec.specs.declared.batch.BatchSlots.{BatchSlots}
-use Rattle.batch_codec.specs.EmptySlots.{no_tag, no_log, no_reference, no_process, no_span, no_batch}
-use Rattle.batch_codec.specs.Batches.{IsText, IsId, IsTagType, IsRefKind, IsStructList, MakesTag, whole_log, whole_reference, whole_process, whole_span}
-use Rattle.batch_codec.specs.Batches.{whole_batch, IsTag, IsLog, IsReference, IsProcess, IsSpan, IsBatch}
+use Rattle.batch_codec.specs.StructRules.{StructRule, KnownFields}
+use Rattle.batch_codec.specs.Batches.{IsText, IsId, IsTagType, IsRefKind, IsStructList, IsTag, IsLog, IsReference, IsProcess, IsSpan, IsBatch}
+use Rattle.batch_codec.specs.Batches.{tag_rule, log_rule, reference_rule, process_rule, span_rule, batch_rule}
 
 -- the field has one of these types and ids
 abbrev pub is_known : List (ℕ × ℤ) → Field → Bool
@@ -23,20 +23,18 @@ abbrev pub OthersAreValues : List (ℕ × ℤ) → List Field → Type 0
 OthersAreValues known fs = AllByRecursion (λ f. is_known known f ≡ false → IsValue 64 f.code f.text) fs
 
 -- w divides into fields: the last ones of each known type and id yield x, and the others are values
-pub record LastCounts {S X : Type 0} (none : S) (known : List (ℕ × ℤ)) (LastOf : S → List Field → S → Type 0) (Makes : S → X → Type 0) (w : List ℕ)
-    (x : X) : Type 0 where
+pub record LastCounts {S X : Type 0} (rule : StructRule S X) (known : KnownFields S) (w : List ℕ) (x : X) : Type 0 where
   pub fields : List Field
   pub spelled : IsFields fields w
   pub left : S
-  pub last : LastOf none fields left
-  pub makes : Makes left x
-  pub others : OthersAreValues known fields
+  pub last : known.last rule.none fields left
+  pub makes : rule.makes left x
+  pub others : OthersAreValues known.types fields
 
 -- The bytes that spell a value are exactly those that divide so; they do in one way, with one value.
-pub record IsByLast {S X : Type 0} (Spells : List ℕ → X → Type 0) (none : S) (known : List (ℕ × ℤ)) (LastOf : S → List Field → S → Type 0)
-    (Makes : S → X → Type 0) : Type 0 where
-  pub same : (w : List ℕ) (x : X) → Spells w x ↔ LastCounts none known LastOf Makes w x
-  pub one : (w : List ℕ) (x y : X) (a : LastCounts none known LastOf Makes w x) (b : LastCounts none known LastOf Makes w y) → (a.fields ≡ b.fields) × (x ≡ y)
+pub record IsByLast {S X : Type 0} (Spells : List ℕ → X → Type 0) (rule : StructRule S X) (known : KnownFields S) : Type 0 where
+  pub same : (w : List ℕ) (x : X) → Spells w x ↔ LastCounts rule known w x
+  pub one : (w : List ℕ) (x y : X) (a : LastCounts rule known w x) (b : LastCounts rule known w y) → (a.fields ≡ b.fields) × (x ≡ y)
 
 -- ---- the types and the ids of the known fields
 
@@ -112,22 +110,42 @@ LastOfBatch s fs t =
     × IsLast 15 (pos 2) (IsStructList IsSpan) s.spans fs t.spans
     × IsLast 10 (pos 3) IsI64 s.seq_no fs t.seq_no
 
+-- ---- the known fields of each struct
+
+abbrev pub fields_of_tag : KnownFields TagSlots
+fields_of_tag = record { types = known_of_tag; last = LastOfTag }
+
+abbrev pub fields_of_log : KnownFields LogSlots
+fields_of_log = record { types = known_of_log; last = LastOfLog }
+
+abbrev pub fields_of_reference : KnownFields ReferenceSlots
+fields_of_reference = record { types = known_of_reference; last = LastOfReference }
+
+abbrev pub fields_of_process : KnownFields ProcessSlots
+fields_of_process = record { types = known_of_process; last = LastOfProcess }
+
+abbrev pub fields_of_span : KnownFields SpanSlots
+fields_of_span = record { types = known_of_span; last = LastOfSpan }
+
+abbrev pub fields_of_batch : KnownFields BatchSlots
+fields_of_batch = record { types = known_of_batch; last = LastOfBatch }
+
 -- ---- the facts, each of a struct that is read from its first field on
 
 abbrev pub TagLast : Type 0
-TagLast = IsByLast IsTag no_tag known_of_tag LastOfTag MakesTag
+TagLast = IsByLast IsTag tag_rule fields_of_tag
 
 abbrev pub LogLast : Type 0
-LogLast = IsByLast IsLog no_log known_of_log LastOfLog (λ s x. s ≡ whole_log x)
+LogLast = IsByLast IsLog log_rule fields_of_log
 
 abbrev pub ReferenceLast : Type 0
-ReferenceLast = IsByLast IsReference no_reference known_of_reference LastOfReference (λ s x. s ≡ whole_reference x)
+ReferenceLast = IsByLast IsReference reference_rule fields_of_reference
 
 abbrev pub ProcessLast : Type 0
-ProcessLast = IsByLast IsProcess no_process known_of_process LastOfProcess (λ s x. s ≡ whole_process x)
+ProcessLast = IsByLast IsProcess process_rule fields_of_process
 
 abbrev pub SpanLast : Type 0
-SpanLast = IsByLast IsSpan no_span known_of_span LastOfSpan (λ s x. s ≡ whole_span x)
+SpanLast = IsByLast IsSpan span_rule fields_of_span
 
 abbrev pub BatchLast : Type 0
-BatchLast = IsByLast IsBatch no_batch known_of_batch LastOfBatch (λ s x. s ≡ whole_batch x)
+BatchLast = IsByLast IsBatch batch_rule fields_of_batch

@@ -1,4 +1,5 @@
 pub mod Faults
+pub mod Changes
 pub mod Decoding
 pub mod EmptySlots
 pub mod TagReading
@@ -7,6 +8,7 @@ pub mod ReferenceReading
 pub mod ProcessReading
 pub mod SpanReading
 pub mod BatchReading
+pub mod StructRules
 pub mod Batches
 pub mod SpelledBatches
 pub mod Cuts

@@ -3,6 +3,7 @@ ghost use Rattle.batch_codec.specs.Batches.{Answers, IsBatch};
 ghost use Rattle.batch_codec.specs.BatchReading.{batch_from, batch_at, decoded};
 ghost use Rattle.batch_codec.specs.Decoding.{Decodes, Gives};
 ghost use Rattle.batch_codec.specs.ProcessReading.{process_at};
+ghost use Rattle.batch_codec.specs.Changes.{change};
 
 use crate::fault::{DecodeError, Decoded, Part};
 use crate::field_ids::batch::{PROCESS, SEQ_NO, SPANS};
@@ -61,7 +62,7 @@ impl BatchSlots {
 /// Reads the process, which the spans of the batch share.
 #[tactic(auto, unfolding(crate::specs::ProcessReading::process_at))]
 fn read_shared(alloc: Global, cursor: &mut Cursor<'_>) -> Decoded<SharedProcess>
-    ensures exact { Decodes (λ p. p) process_at cursor.old result cursor.new }
+    ensures exact { Decodes (λ p. p) process_at (change cursor.old cursor.new) result }
     ensures no_longer { OnOk result (length cursor.new ≤ length cursor.old) }
 {
     let process = read_process(alloc, cursor)?;
@@ -87,7 +88,7 @@ impl<'a> Slots<'a> for BatchSlots {
 
 #[tactic(auto, unfolding(crate::specs::BatchReading::batch_at))]
 fn read_batch(alloc: Global, cursor: &mut Cursor<'_>) -> Decoded<Batch>
-    ensures exact { Decodes (λ b. b) batch_at cursor.old result cursor.new }
+    ensures exact { Decodes (λ b. b) batch_at (change cursor.old cursor.new) result }
 {
     let slots = read_fields(alloc, BatchSlots::new(), cursor)?;
     slots.whole()

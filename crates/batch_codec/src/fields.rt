@@ -2,6 +2,7 @@ ghost use Rattle.std.specs.Prelude.{◌≡◌, ◌≤◌, ◌<◌, ℕ, ℤ, Lis
 ghost use Rattle.batch_codec.specs.declared.fault.DecodeError.{DecodeError};
 ghost use Rattle.batch_codec.specs.Decoding.{Takes, Decodes, required, wire};
 ghost use Rattle.thrift_binary.specs.Fields.{fields_at};
+ghost use Rattle.batch_codec.specs.Changes.{change};
 
 use crate::fault::{DecodeError, Decoded, Part};
 use std::alloc::Global;
@@ -13,7 +14,14 @@ pub(crate) trait Slots<'a>: Drop {
 
     /// Reads the value of a field of this type and id.
     fn put(&mut self, alloc: Global, code: u8, id: i16, cursor: &mut Cursor<'a>) -> Decoded<()>
-        ensures exact { Takes puts self.old code id cursor.old result self.new cursor.new }
+        ensures exact { Takes puts
+            (record {
+              code = code;
+              id = id;
+              slots = change self.old self.new;
+              cursor = change cursor.old cursor.new;
+            })
+            result }
         ensures no_longer { OnOk result (length cursor.new ≤ length cursor.old) };
 }
 
@@ -23,7 +31,8 @@ pub(crate) fn read_fields<'a, S: Slots<'a>>(
     slots: S,
     cursor: &mut Cursor<'a>,
 ) -> Decoded<S>
-    ensures exact { Decodes (λ s. s) (fields_at wire S.puts slots) cursor.old result cursor.new }
+    ensures exact { Decodes (λ s. s) (fields_at wire S.puts slots)
+        (change cursor.old cursor.new) result }
     ensures shorter { OnOk result (length cursor.new < length cursor.old) }
 {
     let mut slots = slots;

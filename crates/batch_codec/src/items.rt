@@ -2,6 +2,7 @@ ghost use Rattle.std.specs.Prelude.{◌≡◌, ◌≤◌, ◌<◌, ◌/◌, ℕ,
 ghost use Rattle.batch_codec.specs.declared.fault.DecodeError.{DecodeError};
 ghost use Rattle.batch_codec.specs.Decoding.{Decodes, wire};
 ghost use Rattle.thrift_binary.specs.Lists.{items_at, list_of};
+ghost use Rattle.batch_codec.specs.Changes.{change};
 
 use crate::fault::{DecodeError, Decoded};
 use jaeger_model::Seq;
@@ -17,7 +18,7 @@ pub(crate) trait Element: Drop + Sized {
     fn min_bytes() -> usize;
 
     fn read(alloc: Global, cursor: &mut Cursor<'_>) -> Decoded<Self>
-        ensures exact { Decodes (λ s. s) reads cursor.old result cursor.new }
+        ensures exact { Decodes (λ s. s) reads (change cursor.old cursor.new) result }
         ensures shorter { OnOk result (length cursor.new < length cursor.old) };
 }
 
@@ -33,7 +34,8 @@ pub fn room(size: u32, left: usize, least: usize) -> usize
 }
 
 fn read_items<T: Element>(alloc: Global, size: u32, cursor: &mut Cursor<'_>) -> Decoded<Vec<T>>
-    ensures exact { Decodes (λ v. v.items) (items_at T.reads size) cursor.old result cursor.new }
+    ensures exact { Decodes (λ v. v.items) (items_at T.reads size)
+        (change cursor.old cursor.new) result }
     ensures no_longer { OnOk result (length cursor.new ≤ length cursor.old) }
 {
     let mut items = Vec::with_capacity(alloc, room(size, cursor.rest().len(), T::min_bytes()))?;
@@ -47,7 +49,8 @@ fn read_items<T: Element>(alloc: Global, size: u32, cursor: &mut Cursor<'_>) -> 
 /// Reads a list of structs. It never allocates by the claimed size alone.
 #[tactic(auto, unfolding(thrift_binary::specs::Lists::list_of))]
 pub(crate) fn read_list<T: Element>(alloc: Global, cursor: &mut Cursor<'_>) -> Decoded<Seq<T>>
-    ensures exact { Decodes (λ v. v) (list_of wire STRUCT T.reads) cursor.old result cursor.new }
+    ensures exact { Decodes (λ v. v) (list_of wire STRUCT T.reads)
+        (change cursor.old cursor.new) result }
     ensures no_longer { OnOk result (length cursor.new ≤ length cursor.old) }
 {
     let (found, size) = cursor.list_head()?;

@@ -1,6 +1,7 @@
 ghost use Rattle.std.specs.Prelude.{◌≡◌, ◌≤◌, ◌<◌, length, OnOk};
 ghost use Rattle.batch_codec.specs.Decoding.{Decodes, Gives};
 ghost use Rattle.batch_codec.specs.ProcessReading.{process_at, process_from};
+ghost use Rattle.batch_codec.specs.Changes.{change};
 
 use crate::fault::{Decoded, Part};
 use crate::field_ids::process::{SERVICE_NAME, TAGS};
@@ -48,7 +49,7 @@ fn process_of(alloc: Global, slots: ProcessSlots<'_>) -> Decoded<Process>
 
 #[tactic(auto, unfolding(crate::specs::ProcessReading::process_at))]
 pub(crate) fn read_process(alloc: Global, cursor: &mut Cursor<'_>) -> Decoded<Process>
-    ensures exact { Decodes (λ p. p) process_at cursor.old result cursor.new }
+    ensures exact { Decodes (λ p. p) process_at (change cursor.old cursor.new) result }
     ensures no_longer { OnOk result (length cursor.new ≤ length cursor.old) }
 {
     let none = ProcessSlots {

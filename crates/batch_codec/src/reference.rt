@@ -2,6 +2,7 @@ ghost use Rattle.std.specs.Prelude.{◌≡◌, ◌≤◌, length, OnOk, IfErr};
 ghost use Rattle.batch_codec.specs.declared.fault.DecodeError.TheVariants.{BadEnum};
 ghost use Rattle.batch_codec.specs.Decoding.{Decodes, Spends};
 ghost use Rattle.batch_codec.specs.ReferenceReading.{reference_at, reference_from, kind_at, kind_of_number};
+ghost use Rattle.batch_codec.specs.Changes.{change};
 
 use crate::fault::{DecodeError, Decoded, Part};
 use crate::field_ids::reference::{REF_TYPE, SPAN_ID, TRACE_ID_HIGH, TRACE_ID_LOW};
@@ -108,7 +109,7 @@ pub fn kind_of_number(number: i32) -> Decoded<RefKind>
 #[tactic(auto, unfolding(crate::specs::ReferenceReading::kind_at))]
 #[inline]
 pub fn read_kind(cursor: &mut Cursor<'_>) -> Decoded<RefKind>
-    ensures exact { Decodes (λ k. k) kind_at cursor.old result cursor.new }
+    ensures exact { Decodes (λ k. k) kind_at (change cursor.old cursor.new) result }
     ensures no_longer { OnOk result (length cursor.new ≤ length cursor.old) }
     ensures spent { Spends result cursor.new }
 {

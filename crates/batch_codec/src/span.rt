@@ -1,6 +1,7 @@
 ghost use Rattle.std.specs.Prelude.{◌≡◌, ◌≤◌, ◌==◌, false, length, OnOk, OnErr};
 ghost use Rattle.batch_codec.specs.Decoding.{Decodes, Spends, Takes};
 ghost use Rattle.batch_codec.specs.SpanReading.{span_at, span_from, take_span};
+ghost use Rattle.batch_codec.specs.Changes.{change};
 
 use crate::fault::{Decoded, Part};
 use crate::field_ids::span::{
@@ -73,7 +74,14 @@ impl SpanSlots {
         cursor: &mut Cursor<'_>,
     ) -> Decoded<()>
         requires no_list { (code == LIST) ≡ false }
-        ensures exact { Takes take_span self.old code id cursor.old result self.new cursor.new }
+        ensures exact { Takes take_span
+            (record {
+              code = code;
+              id = id;
+              slots = change self.old self.new;
+              cursor = change cursor.old cursor.new;
+            })
+            result }
         ensures unchanged { OnErr result (self.new ≡ self.old) }
         ensures spent { Spends result cursor.new }
         ensures no_longer { OnOk result (length cursor.new ≤ length cursor.old) }
@@ -160,7 +168,7 @@ impl Element for Span {
 /// The first fault of its bytes, or out of memory. The cursor then has no bytes left.
 #[inline(never)]
 pub fn read_span(alloc: Global, cursor: &mut Cursor<'_>) -> Decoded<Span>
-    ensures exact { Decodes (λ s. s) span_at cursor.old result cursor.new }
+    ensures exact { Decodes (λ s. s) span_at (change cursor.old cursor.new) result }
     ensures no_longer { OnOk result (length cursor.new ≤ length cursor.old) }
     ensures spent { Spends result cursor.new }
 {

@@ -2,6 +2,7 @@ ghost use Rattle.std.specs.Prelude.{◌≡◌, ◌≤◌, ◌<◌, length, OnOk,
 ghost use Rattle.batch_codec.specs.declared.fault.DecodeError.TheVariants.{BadEnum};
 ghost use Rattle.batch_codec.specs.Decoding.{Decodes, Gives, Spends};
 ghost use Rattle.batch_codec.specs.TagReading.{tag_at, tag_from, type_at, type_of_number};
+ghost use Rattle.batch_codec.specs.Changes.{change};
 
 use crate::fault::{DecodeError, Decoded, Part};
 use crate::field_ids::tag::{KEY, V_BINARY, V_BOOL, V_DOUBLE, V_LONG, V_STR, V_TYPE};
@@ -110,7 +111,7 @@ pub fn type_of_number(number: i32) -> Decoded<TagType>
 #[tactic(auto, unfolding(crate::specs::TagReading::type_at))]
 #[inline]
 pub fn read_type(cursor: &mut Cursor<'_>) -> Decoded<TagType>
-    ensures exact { Decodes (λ t. t) type_at cursor.old result cursor.new }
+    ensures exact { Decodes (λ t. t) type_at (change cursor.old cursor.new) result }
     ensures no_longer { OnOk result (length cursor.new ≤ length cursor.old) }
     ensures spent { Spends result cursor.new }
 {

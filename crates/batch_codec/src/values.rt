@@ -1,6 +1,7 @@
 ghost use Rattle.std.specs.Prelude.{◌≡◌, ◌≤◌, ◌<◌, List, [], ℕ, length, Err, OnOk, IfOk};
 ghost use Rattle.std.specs.Int.{w64};
 ghost use Rattle.batch_codec.specs.Decoding.{Decodes, Spends, bool_at, double_at, i32_at, i64_at, id_at, text_at, binary_at};
+ghost use Rattle.batch_codec.specs.Changes.{change};
 
 use crate::fault::{DecodeError, Decoded};
 use jaeger_model::{Seq, Text};
@@ -78,7 +79,7 @@ pub(crate) fn refuse<T>(cursor: &mut Cursor<'_>, error: DecodeError) -> Decoded<
 #[tactic(auto, unfolding(crate::specs::Decoding::bool_at))]
 #[inline]
 pub fn read_bool(cursor: &mut Cursor<'_>) -> Decoded<bool>
-    ensures exact { Decodes (λ b. b) bool_at cursor.old result cursor.new }
+    ensures exact { Decodes (λ b. b) bool_at (change cursor.old cursor.new) result }
     ensures no_longer { OnOk result (length cursor.new ≤ length cursor.old) }
     ensures spent { Spends result cursor.new }
 {
@@ -93,7 +94,7 @@ pub fn read_bool(cursor: &mut Cursor<'_>) -> Decoded<bool>
 #[tactic(auto, unfolding(crate::specs::Decoding::double_at))]
 #[inline]
 pub fn read_double(cursor: &mut Cursor<'_>) -> Decoded<[u8; 8]>
-    ensures exact { Decodes (λ b. b) double_at cursor.old result cursor.new }
+    ensures exact { Decodes (λ b. b) double_at (change cursor.old cursor.new) result }
     ensures no_longer { OnOk result (length cursor.new ≤ length cursor.old) }
     ensures spent { Spends result cursor.new }
 {
@@ -108,7 +109,7 @@ pub fn read_double(cursor: &mut Cursor<'_>) -> Decoded<[u8; 8]>
 #[tactic(auto, unfolding(crate::specs::Decoding::i32_at))]
 #[inline]
 pub fn read_i32(cursor: &mut Cursor<'_>) -> Decoded<i32>
-    ensures exact { Decodes (λ z. z) i32_at cursor.old result cursor.new }
+    ensures exact { Decodes (λ z. z) i32_at (change cursor.old cursor.new) result }
     ensures no_longer { OnOk result (length cursor.new ≤ length cursor.old) }
     ensures spent { Spends result cursor.new }
 {
@@ -123,7 +124,7 @@ pub fn read_i32(cursor: &mut Cursor<'_>) -> Decoded<i32>
 #[tactic(auto, unfolding(crate::specs::Decoding::i64_at))]
 #[inline]
 pub fn read_i64(cursor: &mut Cursor<'_>) -> Decoded<i64>
-    ensures exact { Decodes (λ z. z) i64_at cursor.old result cursor.new }
+    ensures exact { Decodes (λ z. z) i64_at (change cursor.old cursor.new) result }
     ensures no_longer { OnOk result (length cursor.new ≤ length cursor.old) }
     ensures spent { Spends result cursor.new }
 {
@@ -138,7 +139,7 @@ pub fn read_i64(cursor: &mut Cursor<'_>) -> Decoded<i64>
 #[tactic(auto, unfolding(crate::specs::Decoding::id_at, crate::specs::Decoding::i64_at))]
 #[inline]
 pub fn read_id(cursor: &mut Cursor<'_>) -> Decoded<u64>
-    ensures exact { Decodes (λ n. n) id_at cursor.old result cursor.new }
+    ensures exact { Decodes (λ n. n) id_at (change cursor.old cursor.new) result }
     ensures no_longer { OnOk result (length cursor.new ≤ length cursor.old) }
     ensures spent { Spends result cursor.new }
 {
@@ -148,7 +149,7 @@ pub fn read_id(cursor: &mut Cursor<'_>) -> Decoded<u64>
 /// Reads a string, which must be UTF-8.
 #[tactic(auto, unfolding(crate::specs::Decoding::text_at))]
 pub(crate) fn read_text<'a>(cursor: &mut Cursor<'a>) -> Decoded<TextSlice<'a>>
-    ensures exact { Decodes (λ t. t) text_at cursor.old result cursor.new }
+    ensures exact { Decodes (λ t. t) text_at (change cursor.old cursor.new) result }
     ensures no_longer { OnOk result (length cursor.new ≤ length cursor.old) }
     ensures spent { Spends result cursor.new }
 {
@@ -162,7 +163,7 @@ pub(crate) fn read_text<'a>(cursor: &mut Cursor<'a>) -> Decoded<TextSlice<'a>>
 /// Reads a binary: any bytes.
 #[tactic(auto, unfolding(crate::specs::Decoding::binary_at))]
 pub(crate) fn read_binary<'a>(cursor: &mut Cursor<'a>) -> Decoded<ByteSlice<'a>>
-    ensures exact { Decodes (λ b. b) binary_at cursor.old result cursor.new }
+    ensures exact { Decodes (λ b. b) binary_at (change cursor.old cursor.new) result }
     ensures no_longer { OnOk result (length cursor.new ≤ length cursor.old) }
     ensures spent { Spends result cursor.new }
 {
@@ -176,7 +177,7 @@ pub(crate) fn read_binary<'a>(cursor: &mut Cursor<'a>) -> Decoded<ByteSlice<'a>>
 /// Too few bytes, bytes that aren't UTF-8, or out of memory.
 #[inline]
 pub fn read_owned_text(alloc: Global, cursor: &mut Cursor<'_>) -> Decoded<Text>
-    ensures exact { Decodes (λ t. t) text_at cursor.old result cursor.new }
+    ensures exact { Decodes (λ t. t) text_at (change cursor.old cursor.new) result }
     ensures no_longer { OnOk result (length cursor.new ≤ length cursor.old) }
     ensures spent { Spends result cursor.new }
 {
@@ -190,7 +191,7 @@ pub fn read_owned_text(alloc: Global, cursor: &mut Cursor<'_>) -> Decoded<Text>
 /// Too few bytes, or out of memory.
 #[inline]
 pub fn read_owned_binary(alloc: Global, cursor: &mut Cursor<'_>) -> Decoded<Seq<u8>>
-    ensures exact { Decodes (λ b. b) binary_at cursor.old result cursor.new }
+    ensures exact { Decodes (λ b. b) binary_at (change cursor.old cursor.new) result }
     ensures no_longer { OnOk result (length cursor.new ≤ length cursor.old) }
     ensures spent { Spends result cursor.new }
 {

@@ -11,6 +11,7 @@ ghost use Rattle.batch_codec.specs.CanonicalTexts.{span_front, span_middle, span
 ghost use Rattle.batch_codec.specs.CanonicalTexts.{process_fits, number_if_any, canon, batch_fits};
 ghost use Rattle.batch_codec.specs.EncodableBatches.{AreProper, IsProperValue, IsProperFront, IsProperMiddle, IsProperSpan};
 ghost use Rattle.batch_codec.specs.EncodableBatches.{IsProperProcess, IsProperNumber, IsProper};
+ghost use Rattle.batch_codec.specs.Changes.{change};
 
 use crate::fault::{DecodeError, Decoded};
 use crate::field_ids::{batch, log, process, reference, span, tag};
@@ -21,7 +22,7 @@ use thrift_binary::{Out, WireError, WriteError, types};
 /// Writes a field that is a text or binary.
 fn write_text(out: &mut Out, id: i16, text: &[u8]) -> Result<(), WriteError>
     ensures writes { Encodes (front_text (text_field id text.now ∷ []))
-        (fits_length (length text.now)) out.old result out.new }
+        (fits_length (length text.now)) (change out.old out.new) result }
     ensures proper { OnOk result (length text.now < 2 ^ 31) }
 {
     out.field(types::STRING, id)?;
@@ -30,7 +31,8 @@ fn write_text(out: &mut Out, id: i16, text: &[u8]) -> Result<(), WriteError>
 
 /// Writes a field that is a number of 32 bits.
 fn write_i32(out: &mut Out, id: i16, number: i32) -> Result<(), WriteError>
-    ensures writes { Encodes (front_text (i32_field id number ∷ [])) true out.old result out.new }
+    ensures writes { Encodes (front_text (i32_field id number ∷ [])) true
+        (change out.old out.new) result }
     ensures proper { OnOk result (SFits w32 number) }
 {
     out.field(types::I32, id)?;
@@ -39,7 +41,8 @@ fn write_i32(out: &mut Out, id: i16, number: i32) -> Result<(), WriteError>
 
 /// Writes a field that is a number of 64 bits.
 fn write_i64(out: &mut Out, id: i16, number: i64) -> Result<(), WriteError>
-    ensures writes { Encodes (front_text (i64_field id number ∷ [])) true out.old result out.new }
+    ensures writes { Encodes (front_text (i64_field id number ∷ [])) true
+        (change out.old out.new) result }
     ensures proper { OnOk result (SFits w64 number) }
 {
     out.field(types::I64, id)?;
@@ -48,7 +51,8 @@ fn write_i64(out: &mut Out, id: i16, number: i64) -> Result<(), WriteError>
 
 /// Writes a field that is an id, whose bits are a signed number on the wire.
 fn write_id(out: &mut Out, id: i16, bits: u64) -> Result<(), WriteError>
-    ensures writes { Encodes (front_text (id_field id bits ∷ [])) true out.old result out.new }
+    ensures writes { Encodes (front_text (id_field id bits ∷ [])) true
+        (change out.old out.new) result }
     ensures proper { OnOk result (bits < 2 ^ 64) }
 {
     write_i64(out, id, bits.cast_signed())
@@ -56,7 +60,8 @@ fn write_id(out: &mut Out, id: i16, bits: u64) -> Result<(), WriteError>
 
 /// Writes a field that is a double.
 fn write_double(out: &mut Out, id: i16, bytes: [u8; 8]) -> Result<(), WriteError>
-    ensures writes { Encodes (front_text (double_field id bytes ∷ [])) true out.old result out.new }
+    ensures writes { Encodes (front_text (double_field id bytes ∷ [])) true
+        (change out.old out.new) result }
     ensures proper { OnOk result (length bytes ≡ 8) }
 {
     out.field(types::DOUBLE, id)?;
@@ -73,14 +78,15 @@ trait Spelled {
     ghost proper: { Self → Type 0 };
 
     fn write(&self, out: &mut Out) -> Result<(), WriteError>
-        ensures writes { Encodes (spelling self.now) (fits self.now) out.old result out.new }
+        ensures writes { Encodes (spelling self.now) (fits self.now)
+            (change out.old out.new) result }
         ensures proper { OnOk result (proper self.now) };
 }
 
 /// Writes the elements in order.
 fn write_items<T: Spelled>(out: &mut Out, items: &[T]) -> Result<(), WriteError>
-    ensures writes { Encodes (flat_map T.spelling items.now) (list_all T.fits items.now) out.old
-        result out.new }
+    ensures writes { Encodes (flat_map T.spelling items.now) (list_all T.fits items.now)
+        (change out.old out.new) result }
     ensures proper { OnOk result (AllByRecursion T.proper items.now) }
 {
     for item in items {
@@ -92,7 +98,7 @@ fn write_items<T: Spelled>(out: &mut Out, items: &[T]) -> Result<(), WriteError>
 /// Writes a field that is a list of structs.
 fn write_list<T: Spelled>(out: &mut Out, id: i16, items: &[T]) -> Result<(), WriteError>
     ensures writes { Encodes (front_text (list_field id T.spelling items.now ∷ []))
-        (list_fits T.fits items.now) out.old result out.new }
+        (list_fits T.fits items.now) (change out.old out.new) result }
     ensures proper { OnOk result (AreProper T.proper items.now) }
 {
     out.field(types::LIST, id)?;
@@ -103,7 +109,7 @@ fn write_list<T: Spelled>(out: &mut Out, id: i16, items: &[T]) -> Result<(), Wri
 /// Writes a field that is a list of structs, or nothing if the list is empty.
 fn write_if_any<T: Spelled>(out: &mut Out, id: i16, items: &[T]) -> Result<(), WriteError>
     ensures writes { Encodes (front_text (list_if_any id T.spelling items.now))
-        (list_fits T.fits items.now) out.old result out.new }
+        (list_fits T.fits items.now) (change out.old out.new) result }
     ensures proper { OnOk result (AreProper T.proper items.now) }
 {
     if items.is_empty() {
@@ -128,7 +134,7 @@ fn type_number(value: &TagValue) -> i32
 /// Writes the value of a tag.
 fn write_value(out: &mut Out, value: &TagValue) -> Result<(), WriteError>
     ensures writes { Encodes (front_text (value_field value.now ∷ [])) (value_fits value.now)
-        out.old result out.new }
+        (change out.old out.new) result }
     ensures proper { OnOk result (IsProperValue value.now) }
 {
     match value.get() {
@@ -213,7 +219,7 @@ impl Spelled for SpanRef {
 /// Writes the ids and the operation of a span.
 fn write_front(out: &mut Out, span: &Span) -> Result<(), WriteError>
     ensures writes { Encodes (front_text (span_front span.now))
-        (fits_length (length span.now.operation)) out.old result out.new }
+        (fits_length (length span.now.operation)) (change out.old out.new) result }
     ensures proper { OnOk result (IsProperFront span.now) }
 {
     write_id(out, span::TRACE_ID_LOW, span.trace.low)?;
@@ -229,7 +235,8 @@ fn write_front(out: &mut Out, span: &Span) -> Result<(), WriteError>
 
 /// Writes the flags and the times of a span.
 fn write_middle(out: &mut Out, span: &Span) -> Result<(), WriteError>
-    ensures writes { Encodes (front_text (span_middle span.now)) true out.old result out.new }
+    ensures writes { Encodes (front_text (span_middle span.now)) true
+        (change out.old out.new) result }
     ensures proper { OnOk result (IsProperMiddle span.now) }
 {
     write_i32(out, span::FLAGS, span.flags)?;
@@ -238,10 +245,10 @@ fn write_middle(out: &mut Out, span: &Span) -> Result<(), WriteError>
 }
 
 /// Writes all fields of a span.
-#[tactic(auto, unfolding(crate::specs::CanonicalTexts::span_fits), using(crate::proofs::CanonTexts::span_front_parts))]
+#[tactic(auto, unfolding(crate::specs::CanonicalTexts::span_fits), using(crate::proofs::TextParts::span_front_parts))]
 fn write_fields(out: &mut Out, span: &Span) -> Result<(), WriteError>
-    ensures writes { Encodes (front_text (span_fields span.now)) (span_fits span.now) out.old result
-        out.new }
+    ensures writes { Encodes (front_text (span_fields span.now)) (span_fits span.now)
+        (change out.old out.new) result }
     ensures proper { OnOk result (IsProperSpan span.now) }
 {
     write_front(out, span)?;
@@ -263,7 +270,7 @@ impl Spelled for Span {
 
     ghost proper = { IsProperSpan };
 
-    #[tactic(auto, unfolding(crate::specs::CanonicalTexts::canon_span), using(crate::proofs::CanonTexts::span_stop))]
+    #[tactic(auto, unfolding(crate::specs::CanonicalTexts::canon_span), using(crate::proofs::TextParts::span_stop))]
     fn write(&self, out: &mut Out) -> Result<(), WriteError> {
         write_fields(out, self)?;
         out.stop()
@@ -271,10 +278,10 @@ impl Spelled for Span {
 }
 
 /// Writes a process.
-#[tactic(auto, unfolding(crate::specs::CanonicalTexts::canon_process, crate::specs::CanonicalTexts::process_fits), using(crate::proofs::CanonTexts::process_text_parts))]
+#[tactic(auto, unfolding(crate::specs::CanonicalTexts::canon_process, crate::specs::CanonicalTexts::process_fits), using(crate::proofs::TextParts::process_is))]
 fn write_process(out: &mut Out, process: &Process) -> Result<(), WriteError>
-    ensures writes { Encodes (canon_process process.now) (process_fits process.now) out.old result
-        out.new }
+    ensures writes { Encodes (canon_process process.now) (process_fits process.now)
+        (change out.old out.new) result }
     ensures proper { OnOk result (IsProperProcess process.now) }
 {
     write_text(
@@ -288,7 +295,8 @@ fn write_process(out: &mut Out, process: &Process) -> Result<(), WriteError>
 
 /// Writes a field that is a number of 64 bits, or nothing if there is none.
 fn write_number_if_any(out: &mut Out, id: i16, number: Option<i64>) -> Result<(), WriteError>
-    ensures writes { Encodes (front_text (number_if_any id number)) true out.old result out.new }
+    ensures writes { Encodes (front_text (number_if_any id number)) true
+        (change out.old out.new) result }
     ensures proper { OnOk result (IsProperNumber number) }
 {
     match number {
@@ -298,9 +306,10 @@ fn write_number_if_any(out: &mut Out, id: i16, number: Option<i64>) -> Result<()
 }
 
 /// Writes a batch.
-#[tactic(auto, unfolding(crate::specs::CanonicalTexts::canon, crate::specs::CanonicalTexts::batch_fits), using(crate::proofs::CanonTexts::batch_text_parts))]
+#[tactic(auto, unfolding(crate::specs::CanonicalTexts::canon, crate::specs::CanonicalTexts::batch_fits), using(crate::proofs::TextParts::batch_is))]
 fn write_batch(out: &mut Out, batch: &Batch) -> Result<(), WriteError>
-    ensures writes { Encodes (canon batch.now) (batch_fits batch.now) out.old result out.new }
+    ensures writes { Encodes (canon batch.now) (batch_fits batch.now)
+        (change out.old out.new) result }
     ensures proper { OnOk result (IsProper batch.now) }
 {
     out.field(types::STRUCT, batch::PROCESS)?;

@@ -4,7 +4,7 @@ use Rattle.std.proofs.lemmas.Bool.{ne_eqb, false_from_ne_true}
 use Rattle.thrift_binary.specs.declared.fault.WireError.TheVariants.{Truncated, BadLength, BadType, TooDeep, BadBool, BadText}
 use Rattle.thrift_binary.specs.Reading.{◌>>=◌}
 use Rattle.thrift_binary.specs.Fields.{fields_in, fields_at}
-use Rattle.wire_pieces.specs.Pieces.{Comes, NeedsMore}
+use Rattle.wire_pieces.specs.Pieces.{Comes, NeedsMore, moment}
 use Rattle.wire_pieces.proofs.Steps.{comes-inside, waits-inside}
 use Rattle.jaeger_model.specs.declared.batch.Batch.{Batch}
 use Rattle.batch_codec.specs.declared.batch.BatchSlots.{BatchSlots}
@@ -19,14 +19,14 @@ use Rattle.batch_feeder.specs.declared.feeder.State.{State}
 use Rattle.batch_feeder.specs.declared.feeder.State.TheVariants as state
 use Rattle.batch_feeder.specs.ContinuedCalls.{Faults}
 use Rattle.batch_feeder.specs.Fields.{struct_at, struct_from}
-use Rattle.batch_feeder.specs.Batches.{batch_continues}
+use Rattle.batch_feeder.specs.Batches.{batch_struct}
 use Rattle.batch_feeder.specs.FeederResults.{answers_of, is_truncated, is_short, settled, IsSettled, HasNoFault, HasRefused, Repeats, Taken, Ends, Advances}
 use Rattle.batch_feeder.proofs.CallSteps.{faults-inside}
 use Rattle.thrift_binary.proofs.ReadBytesSpell.{err_is}
 
 -- a state of a struct as a reading
 abbrev pub reads : BatchSlots → Step PartialBatchField → Reading Batch
-reads s step = struct_from take_batch batch_continues batch_from s step
+reads s step = struct_from batch_struct s step
 
 -- ---- faults
 
@@ -98,21 +98,23 @@ module _ (now : State) (s : BatchSlots) (step : Step PartialBatchField) (is : no
   reading-faults h p e g =
       (reading-inside p e g, faults-apart (reads s step) p e g, none-repeats (answers_of now) [] e (short-sound (answers_of now []) (reading-ends h)))
 
-  pub reading-waits : (t : BatchSlots) (next : Step PartialBatchField) (p v : List ℕ) → NeedsMore (Wire Truncated) (reads s step) (reads t next) p v
+  pub reading-waits : (t : BatchSlots) (next : Step PartialBatchField) (p v : List ℕ)
+      → NeedsMore (Wire Truncated) (moment (reads s step) p) (moment (reads t next) v)
       → Taken (answers_of now) (answers_of (state.Reading (record { slots = t; step = next }))) p
       × IsSettled (state.Reading (record { slots = t; step = next }))
   unfolding answers_of settled
   reading-waits t next p v g =
-      let k : NeedsMore (Wire Truncated) (λ w. reads s step w >>= at_end) (λ w. reads t next w >>= at_end) p v = waits-inside at_end g in
+      let k : NeedsMore (Wire Truncated) (moment (λ w. reads s step w >>= at_end) p) (moment (λ w. reads t next w >>= at_end) v) = waits-inside at_end g in
       let each : (rest : List ℕ) → (reads s step (p ++ rest) >>= at_end) ≡ (reads t next rest >>= at_end) = λ rest. rw k.spent at (k.comes.same rest) in
       let here : (reads s step p >>= at_end) ≡ Err (Wire Truncated) = (rw append-nil at (each [])) ∙ k.want in
       rw is (record { same = each; sound = rw here refl }, ap is_short g.want)
 
-  pub reading-whole : (b : Batch) (p v : List ℕ) → Comes (reads s step) (λ w. Ok (b, w)) p v → Comes (answers_of now) (λ w. at_end (b, w)) p v
+  pub reading-whole : (b : Batch) (p v : List ℕ) → Comes (moment (reads s step) p) (moment (λ w. Ok (b, w)) v)
+      → Comes (moment (answers_of now) p) (moment (λ w. at_end (b, w)) v)
   unfolding answers_of
   reading-whole b p v g = rw is (comes-inside at_end g)
 
-pub whole-comes : (now : State) (b : Batch) (p : List ℕ) → now ≡ state.Whole b → Comes (answers_of now) (λ w. at_end (b, w)) p p
+pub whole-comes : (now : State) (b : Batch) (p : List ℕ) → now ≡ state.Whole b → Comes (moment (answers_of now) p) (moment (λ w. at_end (b, w)) p)
 unfolding answers_of
 whole-comes now b p is = rw is (record { same = λ rest. refl })
 
@@ -124,7 +126,7 @@ some_left (c ∷ w) n rest b =
 
 -- after the batch
 pub ends : (now next : State) (b : Batch) (p v : List ℕ) (r : Result (Unit {0}) DecodeError) → next ≡ state.Whole b
-    → Comes (answers_of now) (λ w. at_end (b, w)) p v → Ends v r → Advances now next p r
+    → Comes (moment (answers_of now) p) (moment (λ w. at_end (b, w)) v) → Ends v r → Advances now next p r
 unfolding answers_of settled
 ends now next b p v (Ok x) is g none =
     rw is (record { same = λ rest. rw none at (g.same rest); sound = whole (rw append-nil at (rw none at (g.same []))) }, refl)

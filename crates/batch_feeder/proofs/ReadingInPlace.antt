@@ -13,7 +13,7 @@ use Rattle.thrift_binary.proofs.CutReadings.{field_cut}
 use Rattle.thrift_binary.proofs.CutFields.{fields_step}
 use Rattle.wire_pieces.specs.declared.heads.FieldHead.{FieldHead}
 use Rattle.wire_pieces.specs.declared.heads.Head.{Head}
-use Rattle.wire_pieces.specs.Pieces.{Comes, NeedsMore, Refuses, Reaches}
+use Rattle.wire_pieces.specs.Pieces.{Comes, NeedsMore, Refuses, Reaches, moment, viewed}
 use Rattle.wire_pieces.specs.Heads.{head_from, head_of, fields_value}
 use Rattle.wire_pieces.proofs.Steps.{comes-is, comes-trans, comes-inside, refuses-inside, comes-lift, refuses-lift, comes-refuses}
 use Rattle.batch_codec.specs.declared.fault.DecodeError.{DecodeError}
@@ -24,13 +24,13 @@ use Rattle.batch_feeder.proofs.CallSteps.{one_wire}
 
 module _ {A E : Type 0} (short : E) (read : List ℕ → Result (A × List ℕ) E) (safe : IsCutSafe short read) where
   -- a complete value
-  pub whole-comes : (w v : List ℕ) (x : A) → read w ≡ Ok (x, v) → Comes read (λ u. Ok (x, u)) w v
+  pub whole-comes : (w v : List ℕ) (x : A) → read w ≡ Ok (x, v) → Comes (moment read w) (moment (λ u. Ok (x, u)) v)
   whole-comes w v x is =
       let (text, parts, before, same) = values_have_ends short read safe w x v is in
       record { same = λ rest. ap (λ (u : List ℕ). read (u ++ rest)) parts ∙ ap read (append_assoc text v rest) ∙ same (v ++ rest) }
 
   -- a fault other than too few bytes
-  pub fault-refuses : (w : List ℕ) (e : E) → read w ≡ Err e → (e ≡ short → ⊥) → Refuses short read w e
+  pub fault-refuses : (w : List ℕ) (e : E) → read w ≡ Err e → (e ≡ short → ⊥) → Refuses short (moment read w) e
   fault-refuses w e is apart =
       let (n, within, before, same) = faults_have_places short read safe w e is apart in
       record {
@@ -54,16 +54,16 @@ module _ {S : Type 0} (take : Take S DecodeError) (safe : (s : S) (c : ℕ) (i :
   abbrev headed : S → List ℕ → Result (S × List ℕ) DecodeError
   headed s u = lift wire (field_at u) >>= behind s
 
-  at_head : (s : S) (w : List ℕ) → Comes (fields_at wire take s) (headed s) w w
+  at_head : (s : S) (w : List ℕ) → Comes (moment (fields_at wire take s) w) (moment (headed s) w)
   at_head s w = comes-is (fields_at wire take s) (headed s) w (λ u. fields_step wire take safe s u)
 
   -- the stop byte
-  pub reads-stop : (s : S) (w v : List ℕ) → field_at w ≡ Ok (None, v) → Comes (fields_at wire take s) (λ u. Ok (s, u)) w v
+  pub reads-stop : (s : S) (w v : List ℕ) → field_at w ≡ Ok (None, v) → Comes (moment (fields_at wire take s) w) (moment (λ u. Ok (s, u)) v)
   reads-stop s w v is = comes-trans (at_head s w) (comes-inside (behind s) (comes-lift wire (whole-comes Truncated field_at field_cut w v None is)))
 
   -- a head, before its value
   pub reads-head : (s : S) (c : ℕ) (i : ℤ) (w v : List ℕ) → field_at w ≡ Ok (Some (c, i), v)
-      → Comes (fields_at wire take s) (fields_value wire take (take s c i)) w v
+      → Comes (moment (fields_at wire take s) w) (moment (fields_value wire take (take s c i)) v)
   reads-head s c i w v is =
       comes-trans (at_head s w) (comes-inside (behind s) (comes-lift wire (whole-comes Truncated field_at field_cut w v (Some (c, i)) is)))
 
@@ -75,7 +75,7 @@ module _ {S : Type 0} (take : Take S DecodeError) (safe : (s : S) (c : ℕ) (i :
 
   -- a complete value, after its head
   pub reads-value : (s t : S) (c : ℕ) (i : ℤ) (w v : List ℕ) → take s c i w ≡ Ok (t, v)
-      → Comes (fields_value wire take (take s c i)) (fields_at wire take t) w v
+      → Comes (moment (fields_value wire take (take s c i)) w) (moment (fields_at wire take t) v)
   reads-value s t c i w v is = comes-inside (λ x. fields_at wire take x.0 x.1) (whole-comes (Wire Truncated) (take s c i) (safe s c i) w v t is)
 
   -- a fault of a value
@@ -118,7 +118,8 @@ field-code (b ∷ u) v c i is = at (eqb b 0) is
 
 -- a head that the bytes are too few for
 pub head-short : (h k : FieldHead) (w v : List ℕ) (o : Option Head) → ((u : List ℕ) → head_from h u ≡ field_at u) → field_at w ≡ Err Truncated
-    → Reaches Truncated head_of (head_from h) (head_from k) w v o → NeedsMore Truncated (head_from h) (head_from k) w v
+    → Reaches Truncated (moment (head_from h) w) (moment (head_from k) v) (viewed head_of o)
+    → NeedsMore Truncated (moment (head_from h) w) (moment (head_from k) v)
 head-short h k w v None fresh few g = g
 head-short h k w v (Some x) fresh few g =
     absurd (let e : ◌≡◌ {A = Result (Option (ℕ × ℤ) × List ℕ) WireError} (Ok (head_of x, v ++ [])) (Err Truncated) = sym (g.same []) ∙ fresh (w ++ [])

@@ -5,7 +5,7 @@ use Rattle.std.proofs.lemmas.Str.{IsUtf8-from_is_utf8}
 use Rattle.std.proofs.lemmas.Bool.{false_from_ne_true}
 use Rattle.thrift_binary.specs.declared.fault.WireError.TheVariants.{Truncated, BadText}
 use Rattle.thrift_binary.specs.Reading.{◌>>=◌, Read, lift}
-use Rattle.wire_pieces.specs.Pieces.{Comes}
+use Rattle.wire_pieces.specs.Pieces.{Comes, moment}
 use Rattle.wire_pieces.proofs.Steps.{comes-lift}
 use Rattle.batch_codec.specs.declared.fault.DecodeError.TheVariants.{Wire}
 use Rattle.batch_codec.specs.Decoding.{wire}
@@ -13,11 +13,11 @@ use Rattle.batch_feeder.specs.ContinuedCalls.{Faults}
 use Rattle.batch_feeder.specs.Values.{checked_text}
 use Rattle.batch_feeder.proofs.CallSteps.{ends-comes, ends-faults}
 
-pub text-whole : (a : List ℕ → Read (List ℕ)) (t p q : List ℕ) → is_utf8 t ≡ true → Comes a (λ w. Ok (t, w)) p q
-    → Comes (λ w. lift wire (a w) >>= checked_text) (λ w. Ok (t, w)) p q
+pub text-whole : (a : List ℕ → Read (List ℕ)) (t p q : List ℕ) → is_utf8 t ≡ true → Comes (moment a p) (moment (λ w. Ok (t, w)) q)
+    → Comes (moment (λ w. lift wire (a w) >>= checked_text) p) (moment (λ w. Ok (t, w)) q)
 text-whole a t p q is g = ends-comes (λ w. lift wire (a w)) checked_text t t p q (λ rest. rw is refl) (comes-lift wire g)
 
-pub text-bad : (a : List ℕ → Read (List ℕ)) (t p q : List ℕ) → is_utf8 t ≡ false → Comes a (λ w. Ok (t, w)) p q
+pub text-bad : (a : List ℕ → Read (List ℕ)) (t p q : List ℕ) → is_utf8 t ≡ false → Comes (moment a p) (moment (λ w. Ok (t, w)) q)
     → Faults (λ w. lift wire (a w) >>= checked_text) p (Wire BadText)
 text-bad a t p q isnt g =
     ends-faults (λ w. lift wire (a w)) checked_text t p q (Wire BadText) (λ h. absurd (let k : Wire BadText ≡ Wire Truncated = h in cc))

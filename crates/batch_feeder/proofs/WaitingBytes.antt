@@ -10,11 +10,10 @@ use Rattle.jaeger_model.specs.declared.batch.Batch.{Batch}
 use Rattle.batch_codec.specs.declared.fault.DecodeError.{DecodeError}
 use Rattle.batch_codec.specs.declared.fault.DecodeError.TheVariants.{Wire, Memory}
 use Rattle.batch_codec.specs.declared.batch.BatchSlots.{BatchSlots}
-use Rattle.batch_codec.specs.BatchReading.{take_batch, batch_from}
 use Rattle.batch_feeder.specs.declared.batch.PartialBatchField.{PartialBatchField}
 use Rattle.batch_feeder.specs.declared.fields.Step.{Step}
 use Rattle.batch_feeder.specs.Fields.{struct_from}
-use Rattle.batch_feeder.specs.Batches.{batch_continues}
+use Rattle.batch_feeder.specs.Batches.{batch_struct}
 use Rattle.batch_feeder.specs.declared.feeder.State.{State}
 use Rattle.batch_feeder.specs.declared.feeder.State.TheVariants as state
 use Rattle.batch_feeder.specs.LeastBytes.{least, least_bytes, behind_head, IsPart, AreQuiet}
@@ -177,7 +176,7 @@ gave-up old new p sound stays = record {
 }
 
 pub reading-between_fields : (now : State) (s : BatchSlots) (step : Step PartialBatchField) → now ≡ state.Reading (record { slots = s; step = step })
-    → (w : List ℕ) → struct_from take_batch batch_continues batch_from s step w ≡ Err (Wire Truncated) → answers_of now w ≡ Err (Wire Truncated)
+    → (w : List ℕ) → struct_from batch_struct s step w ≡ Err (Wire Truncated) → answers_of now w ≡ Err (Wire Truncated)
 unfolding answers_of
 reading-between_fields now s step is w h = rw is (rw h refl)
 

@@ -5,17 +5,17 @@ use Rattle.thrift_binary.specs.Reading.{◌>>=◌}
 use Rattle.jaeger_model.specs.declared.batch.Batch.{Batch}
 use Rattle.batch_codec.specs.declared.fault.DecodeError.{DecodeError}
 use Rattle.batch_codec.specs.declared.fault.DecodeError.TheVariants.{Wire, Missing, BadEnum, Trailing, Memory}
-use Rattle.batch_codec.specs.BatchReading.{take_batch, batch_from, at_end}
+use Rattle.batch_codec.specs.BatchReading.{at_end}
 use Rattle.batch_feeder.specs.declared.feeder.State.{State}
 use Rattle.batch_feeder.specs.declared.feeder.State.TheVariants as state
 use Rattle.batch_feeder.specs.ContinuedCalls.{Faults}
 use Rattle.batch_feeder.specs.Fields.{struct_from}
 use Rattle.batch_feeder.specs.LeastBytes.{IsPart, AreQuiet}
-use Rattle.batch_feeder.specs.Batches.{batch_continues}
+use Rattle.batch_feeder.specs.Batches.{batch_struct}
 
 -- what it returns if exactly these bytes are still to come
 unfoldable pub answers_of : State → List ℕ → Result Batch DecodeError
-answers_of (state.Reading r) w = struct_from take_batch batch_continues batch_from r.slots r.step w >>= at_end
+answers_of (state.Reading r) w = struct_from batch_struct r.slots r.step w >>= at_end
 answers_of (state.Whole b) w = at_end (b, w)
 answers_of (state.Failed e) w = Err e
 
@@ -38,7 +38,7 @@ is_short (Err e) = is_truncated e
 
 -- while it reads, no bytes are too few bytes, and its error is never too few bytes
 unfoldable pub settled : State → Bool
-settled (state.Reading r) = is_short (struct_from take_batch batch_continues batch_from r.slots r.step [])
+settled (state.Reading r) = is_short (struct_from batch_struct r.slots r.step [])
 settled (state.Whole b) = true
 settled (state.Failed e) = not (is_truncated e)
 

@@ -7,9 +7,25 @@ use Rattle.batch_codec.specs.declared.fault.DecodeError.{DecodeError}
 use Rattle.batch_codec.specs.Decoding.{Reading, wire}
 use Rattle.wire_pieces.specs.declared.heads.ListHead.{ListHead}
 
-abbrev pub list_from : {A P : Type 0} → Reading A → (P → Reading A) → List A → ℕ → ListHead → Option P → Reading (List A)
-list_from one resumes items left head None w = list_head_from wire 12 one head w
-list_from one resumes items left head (Some p) w = items_from one items left (resumes p) w
+-- What has arrived of a list: its complete items, the number of those after the next one, its head, and what has arrived
+-- of the next item.
+pub record ListState (A P : Type 0) : Type 0 where
+  pub items : List A
+  pub left : ℕ
+  pub head : ListHead
+  pub one : Option P
+
+abbrev pub list_state : {A P : Type 0} → List A → ℕ → ListHead → Option P → ListState A P
+list_state items left head one = record { items = items; left = left; head = head; one = one }
+
+-- a list while no item has begun, and after that
+abbrev pub list_part : {A P : Type 0} → Reading A → (P → Reading A) → Option P → Reading A
+list_part head item None w = head w
+list_part head item (Some p) w = item p w
+
+abbrev pub list_from : {A P : Type 0} → Reading A → (P → Reading A) → ListState A P → Reading (List A)
+list_from one resumes list w =
+    list_part (list_head_from wire 12 one list.head) (λ p. items_from one list.items list.left (resumes p)) list.one w
 
 -- n items after those that have arrived
 abbrev pub items_behind : {A : Type 0} → Reading A → List A → ℕ → Reading (List A)

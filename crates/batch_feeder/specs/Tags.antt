@@ -3,7 +3,9 @@ use Rattle.std.specs.Prelude.{◌++◌, Some, Ok}
 use Rattle.thrift_binary.specs.Reading.{◌>>=◌}
 use Rattle.batch_codec.specs.declared.tag.TagSlots.{TagSlots}
 use Rattle.batch_codec.specs.Decoding.{Reading, double_at, i64_at}
-use Rattle.batch_codec.specs.TagReading.{type_at}
+use Rattle.batch_codec.specs.TagReading.{type_at, take_tag, tag_from}
+use Rattle.jaeger_model.specs.declared.tag.Tag.{Tag}
+use Rattle.batch_feeder.specs.Fields.{StructReading, struct_reading}
 use Rattle.batch_feeder.specs.declared.tag.PartialTagField.{PartialTagField}
 use Rattle.batch_feeder.specs.declared.tag.PartialTagField.TheVariants as held
 use Rattle.batch_feeder.specs.Values.{bool_from, partial_text, partial_binary, partial_skipped}
@@ -18,3 +20,7 @@ tag_continues s (held.Boolean p) w = bool_from p w >>= λ x. Ok (record s { bool
 tag_continues s (held.Long p) w = i64_at (p.bytes ++ w) >>= λ x. Ok (record s { long = x.0 }, x.1)
 tag_continues s (held.Binary p) w = partial_binary p w >>= λ x. Ok (record s { binary = x.0 }, x.1)
 tag_continues s (held.Skip p) w = partial_skipped s p w
+
+-- how a tag is read that has begun
+abbrev pub tag_struct : StructReading TagSlots PartialTagField Tag
+tag_struct = struct_reading take_tag tag_continues tag_from

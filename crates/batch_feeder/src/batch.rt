@@ -89,7 +89,7 @@ impl PieceSlots for BatchSlots {
         Ok(InPlace::Read)
     }
 
-    #[tactic(auto, unfolding(batch_codec::specs::BatchReading::take_batch, batch_codec::specs::ProcessReading::process_at, batch_codec::specs::SpanReading::span_at))]
+    #[tactic(auto, unfolding(batch_codec::specs::BatchReading::take_batch))]
     fn begin(&self, code: u8, id: i16, alloc: Global) -> PartialBatchField {
         match (code, id) {
             (STRUCT, PROCESS) => PartialBatchField::Process(PartialSharedProcess {

@@ -4,6 +4,8 @@ ghost use Rattle.thrift_binary.specs.Reading.{field_at, is_code};
 ghost use Rattle.thrift_binary.specs.Fields.{fields_at};
 ghost use Rattle.thrift_binary.specs.Cuts.{IsCutSafe};
 ghost use Rattle.wire_pieces.specs.Heads.{fields_value};
+ghost use Rattle.wire_pieces.specs.Pieces.{moment};
+ghost use Rattle.batch_codec.specs.Changes.{change};
 ghost use Rattle.batch_codec.specs.declared.fault.DecodeError.{DecodeError};
 ghost use Rattle.batch_codec.specs.declared.fault.DecodeError.TheVariants.{Wire};
 ghost use Rattle.batch_codec.specs.Decoding.{wire};
@@ -56,8 +58,8 @@ pub(crate) trait PieceSlots: Drop + Sized {
 
     /// Reads or skips the value of a field if it is complete. It defers lists of structs, and the process of a batch.
     fn put(&mut self, code: u8, id: i16, alloc: Global, cursor: &mut Cursor<'_>) -> Decoded<InPlace>
-        ensures tries { Tries (takes self.old code id) self.old self.new
-            cursor.old cursor.new result }
+        ensures tries { Tries (takes self.old code id) (change self.old self.new)
+            (change cursor.old cursor.new) result }
         ensures no_longer { OnOk result (length cursor.new ≤ length cursor.old) };
 
     /// Returns the state before the first byte of a field's value.
@@ -72,8 +74,8 @@ pub(crate) trait PieceSlots: Drop + Sized {
         alloc: Global,
         piece: &mut Cursor<'_>,
     ) -> Decoded<Arrival>
-        ensures continues { ContinuesTo self.new (resumes self.old held.old)
-            (resumes self.new held.new) piece.old piece.new result }
+        ensures continues { ContinuesTo self.new (moment (resumes self.old held.old) piece.old)
+            (moment (resumes self.new held.new) piece.new) result }
         ensures no_longer { OnOk result (length piece.new ≤ length piece.old) };
 
     /// Whether the value is between two fields of the innermost struct that has begun in it.
@@ -106,8 +108,8 @@ pub(crate) trait Fields: PieceSlots {
         piece: &mut Cursor<'_>,
     ) -> Decoded<Arrival>
         requires { is_code code ≡ true }
-        ensures continues { Opens (Self.takes self.old code id) (Self.resumes self.new)
-            self.new next.new piece.old piece.new result }
+        ensures continues { Opens self.new (moment (Self.takes self.old code id) piece.old)
+            (record { resumes = Self.resumes self.new; next = next.new; left = piece.new }) result }
         ensures no_longer { OnOk result (length piece.new ≤ length piece.old) }
     {
         enter_in_pieces(self, next, code, id, alloc, piece)
@@ -154,7 +156,8 @@ fn read_fields<S: PieceSlots>(
     alloc: Global,
     piece: &mut Cursor<'_>,
 ) -> Decoded<FieldsEnd>
-    ensures reads { ReadsFields S.takes slots.old slots.new piece.old piece.new result }
+    ensures reads { ReadsFields S.takes (change slots.old slots.new) (change piece.old piece.new)
+        result }
     ensures no_longer { OnOk result (length piece.new ≤ length piece.old) }
 {
     let mut cursor = Cursor::new(piece.rest());
@@ -203,8 +206,8 @@ pub(crate) fn enter_in_pieces<S: PieceSlots>(
     piece: &mut Cursor<'_>,
 ) -> Decoded<Arrival>
     requires { is_code code ≡ true }
-    ensures continues { Opens (S.takes slots.old code id) (S.resumes slots.new) slots.new next.new
-        piece.old piece.new result }
+    ensures continues { Opens slots.new (moment (S.takes slots.old code id) piece.old)
+        (record { resumes = S.resumes slots.new; next = next.new; left = piece.new }) result }
     ensures no_longer { OnOk result (length piece.new ≤ length piece.old) }
 {
     let mut value = slots.begin(code, id, alloc);
@@ -225,8 +228,13 @@ fn enter_head<S: PieceSlots>(
     piece: &mut Cursor<'_>,
 ) -> Decoded<Arrival>
     requires { field_at piece.old ≡ Err Truncated }
-    ensures continues { Enters (fields_at wire S.takes _slots.now)
-        (fields_from S.takes S.resumes _slots.now) _slots.now next.new piece.old piece.new result }
+    ensures continues { Enters _slots.now (moment (fields_at wire S.takes _slots.now) piece.old)
+        (record {
+          resumes = fields_from S.takes S.resumes _slots.now;
+          part = next.new;
+          left = piece.new;
+        })
+        result }
     ensures no_longer { OnOk result (length piece.new ≤ length piece.old) }
 {
     let mut head = FieldHead::new();
@@ -247,8 +255,13 @@ pub(crate) fn enter_fields<S: Fields>(
     alloc: Global,
     piece: &mut Cursor<'_>,
 ) -> Decoded<Arrival>
-    ensures continues { Enters (fields_at wire S.takes slots.old)
-        (fields_from S.takes S.resumes slots.new) slots.new next.new piece.old piece.new result }
+    ensures continues { Enters slots.new (moment (fields_at wire S.takes slots.old) piece.old)
+        (record {
+          resumes = fields_from S.takes S.resumes slots.new;
+          part = next.new;
+          left = piece.new;
+        })
+        result }
     ensures no_longer { OnOk result (length piece.new ≤ length piece.old) }
 {
     loop {
@@ -293,9 +306,8 @@ fn hold_fields<S: Fields>(
     alloc: Global,
     piece: &mut Cursor<'_>,
 ) -> Decoded<Arrival>
-    ensures continues { ContinuesTo slots.new (fields_at wire S.takes slots.old)
-        (fields_from S.takes S.resumes slots.new step.new)
-        piece.old piece.new result }
+    ensures continues { ContinuesTo slots.new (moment (fields_at wire S.takes slots.old) piece.old)
+        (moment (fields_from S.takes S.resumes slots.new step.new) piece.new) result }
     ensures no_longer { OnOk result (length piece.new ≤ length piece.old) }
 {
     let mut next = None;
@@ -316,9 +328,8 @@ fn hold_field<S: Fields>(
 ) -> Decoded<Arrival>
     requires { is_code code ≡ true }
     ensures continues { ContinuesTo slots.new
-        (fields_value wire S.takes (S.takes slots.old code id))
-        (fields_from S.takes S.resumes slots.new step.new)
-        piece.old piece.new result }
+        (moment (fields_value wire S.takes (S.takes slots.old code id)) piece.old)
+        (moment (fields_from S.takes S.resumes slots.new step.new) piece.new) result }
     ensures no_longer { OnOk result (length piece.new ≤ length piece.old) }
 {
     let mut next = None;
@@ -340,9 +351,8 @@ fn read_on<S: Fields>(
     piece: &mut Cursor<'_>,
 ) -> Decoded<Arrival>
     requires { IsFresh S.takes S.resumes step.old }
-    ensures continues { ContinuesTo slots.new (fields_at wire S.takes slots.old)
-        (fields_from S.takes S.resumes slots.new step.new)
-        piece.old piece.new result }
+    ensures continues { ContinuesTo slots.new (moment (fields_at wire S.takes slots.old) piece.old)
+        (moment (fields_from S.takes S.resumes slots.new step.new) piece.new) result }
     ensures no_longer { OnOk result (length piece.new ≤ length piece.old) }
 {
     // For the prover: the match takes the cases of the clause `reads` apart.
@@ -367,8 +377,9 @@ pub(crate) fn more_fields<S: Fields>(
     alloc: Global,
     piece: &mut Cursor<'_>,
 ) -> Decoded<Arrival>
-    ensures continues { ContinuesTo slots.new (fields_from S.takes S.resumes slots.old step.old)
-        (fields_from S.takes S.resumes slots.new step.new) piece.old piece.new result }
+    ensures continues { ContinuesTo slots.new
+        (moment (fields_from S.takes S.resumes slots.old step.old) piece.old)
+        (moment (fields_from S.takes S.resumes slots.new step.new) piece.new) result }
     ensures no_longer { OnOk result (length piece.new ≤ length piece.old) }
 {
     match step {

@@ -2,11 +2,12 @@ ghost use Rattle.std.specs.Prelude.{◌≡◌, ◌≤◌, ℕ, List, Err, true, 
 ghost use Rattle.thrift_binary.specs.declared.fault.WireError.TheVariants.{Truncated};
 ghost use Rattle.thrift_binary.specs.Lists.{list_of};
 ghost use Rattle.wire_pieces.specs.Lists.{behind_head, items_from};
+ghost use Rattle.wire_pieces.specs.Pieces.{moment};
 ghost use Rattle.batch_codec.specs.declared.fault.DecodeError.TheVariants.{Wire};
 ghost use Rattle.batch_codec.specs.Decoding.{wire};
-ghost use Rattle.batch_feeder.specs.ContinuedCalls.{Enters, ContinuesTo, Lays, Places};
+ghost use Rattle.batch_feeder.specs.ContinuedCalls.{Enters, ContinuesTo, Lays, Places, slot_moment};
 ghost use Rattle.batch_feeder.specs.NewLists.{Enlists};
-ghost use Rattle.batch_feeder.specs.Lists.{items_behind, items_ended, list_from};
+ghost use Rattle.batch_feeder.specs.Lists.{items_behind, items_ended, list_from, list_state};
 ghost use Rattle.batch_feeder.specs.LeastBytes.{IsPart};
 
 use crate::fields::{Step, hold_next};
@@ -27,9 +28,14 @@ fn begin_items<P: Item>(
     alloc: Global,
     piece: &mut Cursor<'_>,
 ) -> Decoded<Arrival>
-    ensures continues { Enters (items_behind P.reads items.old.items left.old)
-        (λ p. items_from P.reads items.new.items left.new (P.Partial.resumes p))
-        items.new.items one.new piece.old piece.new result }
+    ensures continues { Enters items.new.items
+        (moment (items_behind P.reads items.old.items left.old) piece.old)
+        (record {
+          resumes = λ p. items_from P.reads items.new.items left.new (P.Partial.resumes p);
+          part = one.new;
+          left = piece.new;
+        })
+        result }
     ensures no_longer { OnOk result (length piece.new ≤ length piece.old) }
 {
     while *left > 0 {
@@ -54,9 +60,9 @@ fn next_items<P: Item>(
     piece: &mut Cursor<'_>,
 ) -> Decoded<Arrival>
     ensures continues { ContinuesTo items.new.items
-        (items_ended P.reads items.old.items left.old (P.ends one.old))
-        (items_from P.reads items.new.items left.new (P.Partial.resumes one.new))
-        piece.old piece.new result }
+        (moment (items_ended P.reads items.old.items left.old (P.ends one.old)) piece.old)
+        (moment (items_from P.reads items.new.items left.new (P.Partial.resumes one.new)) piece.new)
+        result }
     ensures no_longer { OnOk result (length piece.new ≤ length piece.old) }
 {
     loop {
@@ -89,7 +95,7 @@ impl<P: Item> PartialList<P> {
     #[inline(always)]
     pub(crate) fn new(alloc: Global) -> Self
         ensures fresh { (w : List ℕ) → list_from P.reads P.Partial.resumes
-            result.items.items result.left result.head result.one w
+            (list_state result.items.items result.left result.head result.one) w
             ≡ list_of wire STRUCT P.reads w }
     {
         // For the prover: the binding lets the clause `fresh` of `new` be used for the result.
@@ -105,8 +111,9 @@ impl<P: Item> PartialList<P> {
     /// Whether it is between two fields of the innermost struct that has begun in it.
     pub(crate) fn is_between_fields(&self) -> bool
         ensures wants { result ≡ true → (w : List ℕ) → IsPart w →
-            list_from P.reads P.Partial.resumes self.now.items.items self.now.left self.now.head
-            self.now.one w ≡ Err (Wire Truncated) }
+            list_from P.reads P.Partial.resumes
+            (list_state self.now.items.items self.now.left self.now.head self.now.one)
+            w ≡ Err (Wire Truncated) }
     {
         match &self.one {
             None => false,
@@ -124,9 +131,10 @@ impl<P: Item> PartialList<P> {
         piece: &mut Cursor<'_>,
     ) -> Decoded<Arrival>
         ensures continues { ContinuesTo self.new.items.items
-            (behind_head wire STRUCT P.reads (code, size))
-            (list_from P.reads P.Partial.resumes self.new.items.items self.new.left self.new.head
-            self.new.one) piece.old piece.new result }
+            (moment (behind_head wire STRUCT P.reads (code, size)) piece.old)
+            (moment (list_from P.reads P.Partial.resumes
+            (list_state self.new.items.items self.new.left self.new.head self.new.one))
+            piece.new) result }
         ensures no_longer { OnOk result (length piece.new ≤ length piece.old) }
     {
         if size == 0 {
@@ -145,10 +153,11 @@ impl<P: Item> PartialList<P> {
     #[inline(always)]
     fn resume(&mut self, alloc: Global, piece: &mut Cursor<'_>) -> Decoded<Arrival>
         ensures continues { ContinuesTo self.new.items.items
-            (list_from P.reads P.Partial.resumes self.old.items.items self.old.left self.old.head
-            self.old.one)
-            (list_from P.reads P.Partial.resumes self.new.items.items self.new.left self.new.head
-            self.new.one) piece.old piece.new result }
+            (moment (list_from P.reads P.Partial.resumes
+            (list_state self.old.items.items self.old.left self.old.head self.old.one)) piece.old)
+            (moment (list_from P.reads P.Partial.resumes
+            (list_state self.new.items.items self.new.left self.new.head self.new.one))
+            piece.new) result }
         ensures no_longer { OnOk result (length piece.new ≤ length piece.old) }
     {
         match &mut self.one {
@@ -183,7 +192,8 @@ impl<P: Item> PartialList<P> {
             (record {
               holding = S.holding;
               reads = list_of wire STRUCT P.reads;
-              resumes = λ p. list_from P.reads P.Partial.resumes p.items.items p.left p.head p.one;
+              resumes = λ p. list_from P.reads P.Partial.resumes
+                  (list_state p.items.items p.left p.head p.one);
             })
             (record { before = slot.old; after = slot.new; piece = piece.old; left = piece.new })
             result }
@@ -206,11 +216,13 @@ impl<P: Item> PartialList<P> {
         alloc: Global,
         piece: &mut Cursor<'_>,
     ) -> Decoded<Arrival>
-        ensures continues { Places S.holding (list_from P.reads P.Partial.resumes
-            self.old.items.items self.old.left self.old.head self.old.one)
-            (list_from P.reads P.Partial.resumes
-            self.new.items.items self.new.left self.new.head self.new.one)
-            slot.old slot.new piece.old piece.new result }
+        ensures continues { Places S.holding
+            (slot_moment (list_from P.reads P.Partial.resumes
+            (list_state self.old.items.items self.old.left self.old.head self.old.one))
+            piece.old slot.old)
+            (slot_moment (list_from P.reads P.Partial.resumes
+            (list_state self.new.items.items self.new.left self.new.head self.new.one))
+            piece.new slot.new) result }
         ensures no_longer { OnOk result (length piece.new ≤ length piece.old) }
     {
         let result = self.resume(alloc, piece);
@@ -244,11 +256,15 @@ pub(crate) fn enter_list<P: Item, S: Slot<Seq<P::Value>>, V: Drop, F: FnOnce(Par
         (record {
           holding = S.holding;
           reads = list_of wire STRUCT P.reads;
-          resumes = λ p. list_from P.reads P.Partial.resumes p.items.items p.left p.head p.one;
+          resumes = λ p. list_from P.reads P.Partial.resumes
+              (list_state p.items.items p.left p.head p.one);
         })
         (F.post held)
-        (record { before = slot.old; after = slot.new; piece = piece.old; left = piece.new })
-        next.new result }
+        (record {
+          slot = record { before = slot.old; after = slot.new; piece = piece.old; left = piece.new };
+          next = next.new;
+        })
+        result }
     ensures no_longer { OnOk result (length piece.new ≤ length piece.old) }
 {
     // For the prover: the match takes the cases of the clause `continues` apart.

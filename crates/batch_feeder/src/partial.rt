@@ -1,9 +1,10 @@
 ghost use Rattle.std.specs.Prelude.{◌≡◌, ◌≤◌, ℕ, List, Result, Err, true, length, OnOk};
 ghost use Rattle.thrift_binary.specs.declared.fault.WireError.TheVariants.{Truncated};
+ghost use Rattle.wire_pieces.specs.Pieces.{moment};
 ghost use Rattle.batch_codec.specs.declared.fault.DecodeError.{DecodeError};
 ghost use Rattle.batch_codec.specs.declared.fault.DecodeError.TheVariants.{Wire};
 ghost use Rattle.batch_feeder.specs.LeastBytes.{IsPart};
-ghost use Rattle.batch_feeder.specs.ContinuedCalls.{Arrives, BeginsValue, Continues, Places, fault_of};
+ghost use Rattle.batch_feeder.specs.ContinuedCalls.{Arrives, BeginsValue, Continues, Places, fault_of, slot_moment};
 
 use batch_codec::{DecodeError, Decoded};
 use std::alloc::Global;
@@ -28,8 +29,8 @@ pub(crate) trait Partial: Drop + Sized {
 
     /// Continues with a piece. Returns the value if it is complete, and `None` if the piece ends before.
     fn more(&mut self, alloc: Global, piece: &mut Cursor<'_>) -> Decoded<Option<Self::Value>>
-        ensures continues { Continues (resumes self.old) (resumes self.new)
-            piece.old piece.new result }
+        ensures continues { Continues (moment (resumes self.old) piece.old)
+            (moment (resumes self.new) piece.new) result }
         ensures no_longer { OnOk result (length piece.new ≤ length piece.old) };
 }
 
@@ -54,13 +55,14 @@ pub(crate) trait Item: Partial {
         alloc: Global,
         piece: &mut Cursor<'_>,
     ) -> Decoded<Option<Self::Value>>
-        ensures continues { BeginsValue reads Self.resumes part.new piece.old piece.new result }
+        ensures continues { BeginsValue (moment reads piece.old)
+            (record { resumes = Self.resumes; part = part.new; left = piece.new }) result }
         ensures no_longer { OnOk result (length piece.new ≤ length piece.old) };
 
     /// Continues with a piece. Take the value once it is complete.
     fn arrive(&mut self, alloc: Global, piece: &mut Cursor<'_>) -> Decoded<Arrival>
-        ensures continues { Arrives (Self.resumes self.old) (Self.resumes self.new) (ends self.new)
-            piece.old piece.new result }
+        ensures continues { Arrives (moment (Self.resumes self.old) piece.old)
+            (moment (Self.resumes self.new) piece.new) (ends self.new) result }
         ensures no_longer { OnOk result (length piece.new ≤ length piece.old) };
 
     /// Takes the value, all of whose bytes have arrived, and resets the state to before the first byte of another.
@@ -117,8 +119,8 @@ pub(crate) fn place<P: Partial, S: Slot<P::Value>>(
     alloc: Global,
     piece: &mut Cursor<'_>,
 ) -> Decoded<Arrival>
-    ensures continues { Places S.holding (P.resumes part.old) (P.resumes part.new) slot.old slot.new
-        piece.old piece.new result }
+    ensures continues { Places S.holding (slot_moment (P.resumes part.old) piece.old slot.old)
+        (slot_moment (P.resumes part.new) piece.new slot.new) result }
     ensures no_longer { OnOk result (length piece.new ≤ length piece.old) }
 {
     let Some(value) = part.more(alloc, piece)? else {

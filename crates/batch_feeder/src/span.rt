@@ -77,7 +77,7 @@ impl PieceSlots for SpanSlots {
         Ok(InPlace::Read)
     }
 
-    #[tactic(auto, unfolding(batch_codec::specs::SpanReading::take_span, batch_codec::specs::TagReading::tag_at, batch_codec::specs::LogReading::log_at, batch_codec::specs::ReferenceReading::reference_at))]
+    #[tactic(auto, unfolding(batch_codec::specs::SpanReading::take_span))]
     fn begin(&self, code: u8, id: i16, alloc: Global) -> PartialSpanField {
         match (code, id) {
             (I64, TRACE_ID_LOW) => PartialSpanField::TraceLow(PartialId::new()),

@@ -1,9 +1,10 @@
 ghost use Rattle.std.specs.Prelude.{◌≡◌, ◌≤◌, ℕ, List, Some, Err, true, length, OnOk};
 ghost use Rattle.thrift_binary.specs.declared.fault.WireError.TheVariants.{Truncated};
+ghost use Rattle.wire_pieces.specs.Pieces.{moment};
 ghost use Rattle.batch_codec.specs.declared.fault.DecodeError.TheVariants.{Wire};
 ghost use Rattle.batch_feeder.specs.declared.fields.Step.{Step};
 ghost use Rattle.batch_feeder.specs.ContinuedCalls.{BeginsValue};
-ghost use Rattle.batch_feeder.specs.Fields.{made_of, struct_at, struct_from};
+ghost use Rattle.batch_feeder.specs.Fields.{made_of, struct_at, struct_from, struct_reading};
 ghost use Rattle.batch_feeder.specs.LeastBytes.{IsPart};
 
 use crate::fields::{Fields, PieceSlots, Step, enter_fields, is_truncated, more_fields};
@@ -24,7 +25,7 @@ pub(crate) struct Struct<S: PieceSlots> {
 impl<S: Fields> Partial for Struct<S> {
     type Value = S::Output;
 
-    ghost resumes = { λ p. struct_from S.takes S.resumes S.makes p.slots p.step };
+    ghost resumes = { λ p. struct_from (struct_reading S.takes S.resumes S.makes) p.slots p.step };
 
     fn more(&mut self, alloc: Global, piece: &mut Cursor<'_>) -> Decoded<Option<S::Output>> {
         match more_fields(&mut self.slots, &mut self.step, alloc, piece)? {
@@ -85,9 +86,13 @@ fn begin_fields<S: Fields>(
     alloc: Global,
     piece: &mut Cursor<'_>,
 ) -> Decoded<Option<S::Output>>
-    ensures continues { BeginsValue (struct_at S.takes S.none S.makes)
-        (λ p. struct_from S.takes S.resumes S.makes p.slots p.step)
-        part.new piece.old piece.new result }
+    ensures continues { BeginsValue (moment (struct_at S.takes S.none S.makes) piece.old)
+        (record {
+          resumes = λ p. struct_from (struct_reading S.takes S.resumes S.makes) p.slots p.step;
+          part = part.new;
+          left = piece.new;
+        })
+        result }
     ensures no_longer { OnOk result (length piece.new ≤ length piece.old) }
 {
     let mut slots = S::start(alloc);
@@ -127,7 +132,7 @@ impl<S: PieceSlots> Struct<S> {
     /// Whether it is between two fields of the innermost struct that has begun.
     pub(crate) fn is_between(&self) -> bool
         ensures wants { result ≡ true → (w : List ℕ) → IsPart w →
-            struct_from S.takes S.resumes S.makes self.now.slots self.now.step w ≡
+            struct_from (struct_reading S.takes S.resumes S.makes) self.now.slots self.now.step w ≡
             Err (Wire Truncated) }
     {
         match &self.step {
@@ -138,8 +143,8 @@ impl<S: PieceSlots> Struct<S> {
 
     /// Returns the state before the first byte.
     pub(crate) fn new(alloc: Global) -> Self
-        ensures { (w : List ℕ) → struct_from S.takes S.resumes S.makes result.slots result.step w ≡
-            struct_at S.takes S.none S.makes w }
+        ensures { (w : List ℕ) → struct_from (struct_reading S.takes S.resumes S.makes)
+            result.slots result.step w ≡ struct_at S.takes S.none S.makes w }
     {
         Struct {
             slots: S::start(alloc),
@@ -152,8 +157,8 @@ impl<S: PieceSlots> Struct<S> {
     #[inline(never)]
     fn take_made(&mut self, alloc: Global) -> Decoded<S::Output>
         ensures made { result ≡ S.makes self.old.slots }
-        ensures fresh { (w : List ℕ) → struct_from S.takes S.resumes S.makes self.new.slots
-            self.new.step w ≡ struct_at S.takes S.none S.makes w }
+        ensures fresh { (w : List ℕ) → struct_from (struct_reading S.takes S.resumes S.makes)
+            self.new.slots self.new.step w ≡ struct_at S.takes S.none S.makes w }
     {
         let slots = mem::replace(&mut self.slots, S::start(alloc));
         self.step = Step::Head(FieldHead::new());

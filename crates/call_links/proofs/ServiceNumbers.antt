@@ -8,10 +8,10 @@ use Rattle.jaeger_model.specs.declared.placed.Placed.{Placed}
 use Rattle.jaeger_model.specs.Parents.{parent}
 use Rattle.jaeger_model.specs.Texts.{same_text}
 use Rattle.trace_model.specs.ServiceLinks.{has_id, parent_in, call_from, calls_of}
-use Rattle.trace_model.specs.TakenSpans.{Taken}
-use Rattle.call_links.specs.NumberedCalls.{NumberedService, NumberedCall, service_in, service_of, has_number}
+use Rattle.trace_model.specs.TakenSpans.{Taken, placed_taken}
+use Rattle.call_links.specs.NumberedCalls.{NumberedService, NumberedCall, service_in, service_of, has_span_id}
 use Rattle.call_links.specs.NumberedCalls.{call_between, call_by, calls_in_trace, calls_in_traces}
-use Rattle.call_links.specs.NumberedCalls.{placed_all, texts_called, StandsFor, AreCallsNumberedBy, AreNumberedBy, IsNumberedBy}
+use Rattle.call_links.specs.NumberedCalls.{texts_called, StandsFor, AreCallsNumberedBy, AreNumberedBy, IsNumberedBy}
 use Rattle.trace_model.proofs.Lists.{each_append}
 use Rattle.trace_model.proofs.NameLaws.{same_where}
 
@@ -37,7 +37,7 @@ module _ (text : ℕ → List ℕ) (number : List ℕ → ℕ) where
   found_next id n None ss p rest = rest
   found_next id n (Some q) ss p rest =
       elim (q.span.id.0 == id) as (λ b.
-      IfSome (option_map service_in (cond b (Some (taken n (Some q))) (find (λ (s : Taken). has_number id s.span) ss))) Stands) [ true ↦ p | false ↦ rest ]
+      IfSome (option_map service_in (cond b (Some (taken n (Some q))) (find (λ (s : Taken). has_span_id id s.span) ss))) Stands) [ true ↦ p | false ↦ rest ]
 
   found_stands : (id : ℕ) (ss : List Taken) → AllByRecursion Named ss → IfSome (service_of id ss) Stands
   found_stands id [] a = tt
@@ -73,21 +73,21 @@ module _ (text : ℕ → List ℕ) (number : List ℕ → ℕ) where
   -- ---- by their texts
   text_found : (id n : ℕ) (o : Option Placed) (ss : List Taken)
       → option_map (λ (s : NumberedService). s.1) (service_of id ss) ≡ option_map
-      (λ (p : Placed). p.process.service) (find (has_id (record { 0 = id })) (placed_all ss))
+      (λ (p : Placed). p.process.service) (find (has_id (record { 0 = id })) (placed_taken ss))
       → option_map (λ (s : NumberedService). s.1) (service_of id (taken n o ∷ ss)) ≡ option_map
-      (λ (p : Placed). p.process.service) (find (has_id (record { 0 = id })) (placed_all (taken n o ∷ ss)))
+      (λ (p : Placed). p.process.service) (find (has_id (record { 0 = id })) (placed_taken (taken n o ∷ ss)))
   text_found id n None ss rest = rest
   text_found id n (Some q) ss rest =
       elim (q.span.id.0 == id) as (λ b. option_map
-      (λ (s : NumberedService). s.1) (option_map service_in (cond b (Some (taken n (Some q))) (find (λ (s : Taken). has_number id s.span) ss))) ≡ option_map
-      (λ (p : Placed). p.process.service) (cond b (Some q) (find (has_id (record { 0 = id })) (placed_all ss)))) [
+      (λ (s : NumberedService). s.1) (option_map service_in (cond b (Some (taken n (Some q))) (find (λ (s : Taken). has_span_id id s.span) ss))) ≡ option_map
+      (λ (p : Placed). p.process.service) (cond b (Some q) (find (has_id (record { 0 = id })) (placed_taken ss)))) [
         | true ↦ refl
         | false ↦ rest
       ]
 
   texts_found : (id : ℕ) (ss : List Taken)
       → option_map (λ (s : NumberedService). s.1) (service_of id ss) ≡ option_map
-      (λ (p : Placed). p.process.service) (find (has_id (record { 0 = id })) (placed_all ss))
+      (λ (p : Placed). p.process.service) (find (has_id (record { 0 = id })) (placed_taken ss))
   texts_found id [] = refl
   texts_found id (s ∷ ss) = text_found id s.number s.span ss (texts_found id ss)
 
@@ -106,13 +106,13 @@ module _ (text : ℕ → List ℕ) (number : List ℕ → ℕ) where
       ∙ ap (λ x. if same_text x p.process.service then None else Some (x, p.process.service)) same
 
   texts_by : (t : List Taken) (n : ℕ) (p : Placed) → AllByRecursion Named t → Stands (n, p.process.service)
-      → option_map texts_called (call_by (λ id. service_of id t) (taken n (Some p))) ≡ call_from p (parent_in (placed_all t) p)
+      → option_map texts_called (call_by (λ id. service_of id t) (taken n (Some p))) ≡ call_from p (parent_in (placed_taken t) p)
   texts_by t n p a s =
       let id = parent p.span in
       elim (id.0 == 0) as (λ b. option_map texts_called (if b then None else call_between (service_of id.0 t) (n, p.process.service))
-      ≡ call_from p (if b then None else find (has_id id) (placed_all t))) [
+      ≡ call_from p (if b then None else find (has_id id) (placed_taken t))) [
         | true ↦ refl
-        | false ↦ texts_between (service_of id.0 t) (find (has_id id) (placed_all t)) n p (texts_found id.0 t) (found_stands id.0 t a) s
+        | false ↦ texts_between (service_of id.0 t) (find (has_id id) (placed_taken t)) n p (texts_found id.0 t) (found_stands id.0 t a) s
       ]
 
   cons_texts : (o : Option NumberedCall) (cs : List NumberedCall)
@@ -121,23 +121,23 @@ module _ (text : ℕ → List ℕ) (number : List ℕ → ℕ) where
   cons_texts (Some c) cs = refl
 
   gathered_next : (t : List Taken) (n : ℕ) (o : Option Placed) (ss : List Taken) → AllByRecursion Named t → Named (taken n o)
-      → map texts_called (filter_map (call_by (λ id. service_of id t)) ss) ≡ filter_map (λ p. call_from p (parent_in (placed_all t) p)) (placed_all ss)
+      → map texts_called (filter_map (call_by (λ id. service_of id t)) ss) ≡ filter_map (λ p. call_from p (parent_in (placed_taken t) p)) (placed_taken ss)
       → map texts_called (filter_map (call_by (λ id. service_of id t)) (taken n o ∷ ss)) ≡ filter_map
-      (λ p. call_from p (parent_in (placed_all t) p)) (placed_all (taken n o ∷ ss))
+      (λ p. call_from p (parent_in (placed_taken t) p)) (placed_taken (taken n o ∷ ss))
   gathered_next t n None ss a p rest = rest
   gathered_next t n (Some q) ss a p rest =
       cons_texts (call_by (λ id. service_of id t) (taken n (Some q))) (filter_map (call_by (λ id. service_of id t)) ss)
       ∙ (λ i. cons_option (texts_by t n q a p i) (rest i))
 
   gathered_texts : (t ss : List Taken) → AllByRecursion Named t → AllByRecursion Named ss
-      → map texts_called (filter_map (call_by (λ id. service_of id t)) ss) ≡ filter_map (λ p. call_from p (parent_in (placed_all t) p)) (placed_all ss)
+      → map texts_called (filter_map (call_by (λ id. service_of id t)) ss) ≡ filter_map (λ p. call_from p (parent_in (placed_taken t) p)) (placed_taken ss)
   gathered_texts t [] a p = refl
   gathered_texts t (s ∷ ss) a p = gathered_next t s.number s.span ss a p.0 (gathered_texts t ss a p.1)
 
   abbrev NamedAll : List Taken → Type 0
   NamedAll t = All Named t
 
-  all_texts : (ts : List (List Taken)) → AllByRecursion NamedAll ts → map texts_called (calls_in_traces ts) ≡ flat_map calls_of (map placed_all ts)
+  all_texts : (ts : List (List Taken)) → AllByRecursion NamedAll ts → map texts_called (calls_in_traces ts) ≡ flat_map calls_of (map placed_taken ts)
   all_texts [] a = refl
   all_texts (t ∷ ts) a =
       let named = recursion_from_All Named t a.0 in
@@ -154,5 +154,5 @@ module _ (text : ℕ → List ℕ) (number : List ℕ → ℕ) where
   pub calls_stand : (ts : List (List Taken)) → AreNumberedBy text number ts → AreCallsNumberedBy text number (calls_in_traces ts)
   calls_stand ts a = all_stand ts (recursion_from_All NamedAll ts a)
 
-  pub calls_by_texts : (ts : List (List Taken)) → AreNumberedBy text number ts → map texts_called (calls_in_traces ts) ≡ flat_map calls_of (map placed_all ts)
+  pub calls_by_texts : (ts : List (List Taken)) → AreNumberedBy text number ts → map texts_called (calls_in_traces ts) ≡ flat_map calls_of (map placed_taken ts)
   calls_by_texts ts a = all_texts ts (recursion_from_All NamedAll ts a)

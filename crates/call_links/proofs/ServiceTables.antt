@@ -22,7 +22,7 @@ use Rattle.trace_model.specs.BorrowedSpans.{placed_by_its_entry}
 use Rattle.trace_model.specs.TakenSpans.{Taken}
 use Rattle.trace_model.proofs.ParentChains.{is_some-map}
 use Rattle.trace_model.proofs.Tables.{entered, kept, entry_map}
-use Rattle.call_links.specs.NumberedCalls.{NumberedService, service_in, service_seen, service_of, has_number, text_in, call_by, calls_in_trace}
+use Rattle.call_links.specs.NumberedCalls.{NumberedService, service_in, service_seen, service_of, has_span_id, text_in, call_by, calls_in_trace}
 
 -- ---- a span as its entry keeps it
 id_stays : (s : Span) → (with_parent s).id ≡ s.id
@@ -53,15 +53,15 @@ not_brought (brings.Batch x) i is = absurd (cc is)
 not_brought (brings.TraceLimit n) i is = refl
 
 -- ---- the table
-own_id : (q id : ℕ) (o : Option Placed) → Some id ≡ option_map (λ (p : Placed). p.span.id.0) o → has_number q o ≡ (id == q)
+own_id : (q id : ℕ) (o : Option Placed) → Some id ≡ option_map (λ (p : Placed). p.span.id.0) o → has_span_id q o ≡ (id == q)
 own_id q id None e = absurd cc
 own_id q id (Some p) e = let same : p.span.id.0 ≡ id = cc e in ap (λ n. n == q) same
 
 service_push : (q : ℕ) (ss : List Taken) (s : Taken)
-    → service_of q (ss ++ s ∷ []) ≡ option_or (service_of q ss) (cond (has_number q s.span) (Some (service_in s)) None)
+    → service_of q (ss ++ s ∷ []) ≡ option_or (service_of q ss) (cond (has_span_id q s.span) (Some (service_in s)) None)
 service_push q ss s =
-    ap (option_map service_in) (find-append (λ (t : Taken). has_number q t.span) ss (s ∷ []))
-    ∙ entry_map service_in (find (λ (t : Taken). has_number q t.span) ss) (has_number q s.span) s
+    ap (option_map service_in) (find-append (λ (t : Taken). has_span_id q t.span) ss (s ∷ []))
+    ∙ entry_map service_in (find (λ (t : Taken). has_span_id q t.span) ss) (has_span_id q s.span) s
 
 one_more : (xs : List Taken) (i : ℕ) (x : Taken) → i < length xs → x ≡ get_or xs i x → take (i + 1) xs ≡ take i xs ++ x ∷ []
 one_more xs i x l e = take_more xs i x l ∙ ap (λ y. take i xs ++ y ∷ []) (sym e)

@@ -28,13 +28,14 @@ abbrev pub HasIds : ℕ → ℕ → Option Placed → Type 0
 HasIds id parent_id o =
     (Some id ≡ option_map (λ (p : Placed). p.span.id.0) o) × (Some parent_id ≡ option_map (λ (p : Placed). (parent p.span).0) o)
 
--- the service of the first span with the id
-abbrev pub has_number : ℕ → Option Placed → Bool
-has_number id None = false
-has_number id (Some p) = has_id (record { 0 = id }) p
+-- the span is there, and has this id
+abbrev pub has_span_id : ℕ → Option Placed → Bool
+has_span_id id None = false
+has_span_id id (Some p) = has_id (record { 0 = id }) p
 
+-- the service of the first span with the id
 abbrev pub service_of : ℕ → List Taken → Option NumberedService
-service_of id ss = option_map service_in (find (λ s. has_number id s.span) ss)
+service_of id ss = option_map service_in (find (λ s. has_span_id id s.span) ss)
 
 abbrev pub CallSpans : Type 0
 CallSpans = Bor Taken × Bor Taken
@@ -68,10 +69,6 @@ calls_in_traces ts = flat_map calls_in_trace ts
 -- the number of calls from each service of the traces to each other one
 abbrev pub links_in : List (List Placed) → List Link
 links_in ts = counted (flat_map calls_of ts)
-
--- the spans that were collected
-abbrev pub placed_all : List Taken → List Placed
-placed_all ss = filter_map (λ s. s.span) ss
 
 -- ---- the texts and the numbers of a call
 abbrev pub texts_called : NumberedCall → List ℕ × List ℕ

@@ -1,8 +1,8 @@
 //! Calls counted trace by trace.
 
 ghost use Rattle.std.specs.Prelude.{◌≡◌, [], List, IfOk, OnOk, map};
-ghost use Rattle.trace_model.specs.TakenSpans.{Taken};
-ghost use Rattle.call_links.specs.NumberedCalls.{numbered_call, placed_all, links_in, AreServicesNumbered};
+ghost use Rattle.trace_model.specs.TakenSpans.{Taken, placed_taken};
+ghost use Rattle.call_links.specs.NumberedCalls.{numbered_call, links_in, AreServicesNumbered};
 ghost use Rattle.call_links.specs.LinkTallies.{with_call, with_trace, tallied};
 
 use crate::calls::{Call, call_to, first_spans};
@@ -60,7 +60,7 @@ impl<'a> LinkCounts<'a> {
     ///
     /// # Errors
     ///
-    /// Out of memory, and nothing else.
+    /// Out of memory; also if a number of calls would pass 64 bits, which can't be: no memory holds that many spans.
     pub fn add(&mut self, alloc: Global, trace: &[NumberedSpan<'a>]) -> Result<(), AllocError>
         ensures { OnOk result (self.new ≡ with_trace self.old trace.now) }
     {
@@ -78,11 +78,11 @@ impl<'a> LinkCounts<'a> {
     ///
     /// # Errors
     ///
-    /// Out of memory, and nothing else.
+    /// Out of memory; also if a service had no name, which can't be.
     pub fn finish(self, alloc: Global) -> Result<Vec<Link>, AllocError>
         ensures { (traces : List (List Taken)) → AreServicesNumbered traces →
             self.entry ≡ tallied traces →
-            IfOk result (λ v. v.items ≡ links_in (map placed_all traces)) }
+            IfOk result (λ v. v.items ≡ links_in (map placed_taken traces)) }
     {
         let ordered = in_order(alloc, self.tallies)?;
         // For the prover: the binding lets the clauses of `linked` be used for the result.

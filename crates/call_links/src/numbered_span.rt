@@ -90,7 +90,7 @@ impl<'a> NumberedSpan<'a> {
         })
     }
 
-    /// Returns the same span.
+    /// Returns a copy. `Copy` can't be derived for a type with a lifetime and a `Model`.
     pub(crate) fn again(&self) -> NumberedSpan<'a>
         ensures { result ≡ self.now }
     {

@@ -13,7 +13,7 @@ use Rattle.text_lines.specs.RunErrors.{Expected, IsWhyOf, RunsToTheEnd, RunsUpTo
 use Rattle.text_lines.specs.HandledLines.{AnswersAll, AnswersSome, LineReply, LineResult, LineRun, TakesEach, handling_of, numbered, run_of}
 use Rattle.text_lines.proofs.LineResults.{lines_come_to, said_append}
 use Rattle.text_lines.proofs.CompleteRuns.{some_after, some_more, stops_all, stops_some}
-use Rattle.commands.specs.GetRuns.{TakesBatch, all_lines, trace_by_id, line_result, nothing_held, output_of, status_by as status_at, status_of, trace_lines}
+use Rattle.commands.specs.GetRuns.{TakesBatch, all_lines, trace_by_id, line_result, nothing_held, output_of, status_at, status_for, trace_lines}
 
 abbrev moved : Option (List ℕ) → Option (List ℕ) → Bool → Traffic
 moved before after failed = record { before = before; after = after; failed = failed }
@@ -30,7 +30,7 @@ lines_judged s limits lines result start e =
     each w n line reply v e s same = (e.0 ∙ ap (λ h. (line_result n h line).held) same, e.1 ∙ ap (λ h. (line_result n h line).reply) same)
 
 abbrev expected : Limits → TraceId → Expected
-expected limits id = expected_of (output_of limits id) (status_of limits id)
+expected limits id = expected_of (output_of limits id) (status_for limits id)
 
 abbrev lines_run : Traffic → Traffic → LimitedHistory → LimitedHistory → LineRun LimitedHistory
 lines_run input output held0 held1 = run_of (handling_of TakesBatch held0 held1) input output

@@ -1,6 +1,7 @@
 -- A status of a failed device while both devices work says how many reads were made.
 use Rattle.std.proofs.Common.{◌≡◌, ℕ, ◌⊎◌, inl, inr, Bool, true, false, List, [], ◌∷◌, ◌++◌, Option, subst, sym, ◌∙◌, arith}
-use Rattle.http_requests.specs.AwaitedReads.{Gives, GivesWhile, FailsToRead, Source, input_moment, read_rule}
+use Rattle.session_devices.specs.ByteTransfers.{ByteTransfer}
+use Rattle.http_requests.specs.AwaitedReads.{GivesWhile, FailsToRead, Source, input_moment, read_rule}
 use Rattle.http_session.specs.Sessions.{Exchange, IsCause}
 use Rattle.http_session.specs.ReadTurns.{input_run, ReadsInTurnUpTo}
 use Rattle.http_session.specs.declared.whole_session.SessionErrorKind.{SessionErrorKind}
@@ -12,8 +13,8 @@ use Rattle.text_lines.specs.RunErrors.{BothWork}
 use Rattle.text_lines.specs.ReadCounts.{GivesEach, MakesReads, StatusIsReads, reads_of}
 use Rattle.trace_model.specs.declared.limits.Limits.{Limits}
 use Rattle.jaeger_model.specs.declared.ids.TraceId.{TraceId}
-use Rattle.commands.specs.GetRuns.{status_by as get_status}
-use Rattle.commands.specs.PlayRuns.{play_status}
+use Rattle.commands.specs.GetRuns.{status_at as get_status}
+use Rattle.commands.specs.PlayRuns.{status_at as play_status}
 use Rattle.commands.specs.PipeRuns.{cause_status}
 
 never_both : {A : Type 0} (b : Bool) → b ≡ true → b ≡ false → A
@@ -21,7 +22,7 @@ never_both b is_true is_false = absurd (let both : true ≡ false = sym is_true 
 
 -- ---- a session
 
-each_read : {R : Type 0} (gives : Gives R) (Awaits : List ℕ → Type 0) (s t : R) (old new : List ℕ) (pieces : List (List ℕ))
+each_read : {R : Type 0} (gives : ByteTransfer R) (Awaits : List ℕ → Type 0) (s t : R) (old new : List ℕ) (pieces : List (List ℕ))
     → GivesWhile (read_rule gives Awaits) (input_moment s old) (input_moment t new) pieces → GivesEach (reads_of gives s t) pieces
 each_read gives Awaits s t old new [] e = e.0
 each_read gives Awaits s t old new (p ∷ ps) e = (e.1, e.2, each_read gives Awaits e.1 t (old ++ p) new ps e.3)

@@ -76,12 +76,12 @@ output_of limits id input =
     all.reply.text ++ trace_lines (trace_by_id all.held id)
 
 -- a line couldn't be used; otherwise whether the trace was found
-abbrev pub status_by : Bool → Bool → ExitStatus
-status_by true found = FaultyLine
-status_by false true = Success
-status_by false false = NotFound
+abbrev pub status_at : Bool → Bool → ExitStatus
+status_at true found = FaultyLine
+status_at false true = Success
+status_at false false = NotFound
 
-abbrev pub status_of : Limits → TraceId → List ℕ → ExitStatus
-status_of limits id input =
+abbrev pub status_for : Limits → TraceId → List ℕ → ExitStatus
+status_for limits id input =
     let all = all_lines limits (lines_of input) in
-    status_by all.reply.faulty (is_some (trace_by_id all.held id))
+    status_at all.reply.faulty (is_some (trace_by_id all.held id))

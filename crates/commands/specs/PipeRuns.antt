@@ -1,9 +1,10 @@
 -- What `pipe` writes for what it reads.
-use Rattle.std.specs.Prelude.{◌≡◌, ℕ, ◌⊎◌, ◌++◌, Bool, false, []}
+use Rattle.std.specs.Prelude.{◌≡◌, ℕ, ◌⊎◌, ◌++◌, false, []}
 use Rattle.trace_model.specs.declared.limits.Limits.{Limits}
 use Rattle.trace_model.specs.LimitedHistories.{LimitedHistory}
 use Rattle.pipe_session.specs.DirectCalls.{direct_store}
 use Rattle.http_session.specs.Sessions.{moment, EndsAs, FailsAs, last_of, exchange_due}
+use Rattle.http_session.specs.declared.whole_session.EndReason.{EndReason}
 use Rattle.http_session.specs.declared.whole_session.SessionErrorKind.{SessionErrorKind}
 use Rattle.http_session.specs.declared.whole_session.SessionErrorKind.TheVariants.{Reading, Writing, Memory}
 use Rattle.http_session.specs.declared.whole_session.SessionError.{SessionError}
@@ -20,10 +21,10 @@ cause_status Memory = OutOfMemory
 -- a session over an empty store ended, and no device failed
 pub record PipesToTheEnd (input output : Traffic) (limits : Limits) : Type 0 where
   pub answered : ℕ
-  pub clean : Bool
+  pub reason : EndReason
   pub last : LimitedHistory
   pub ends : EndsAs direct_store (moment input.before output.before (record { limits = limits; entries = [] })) (moment input.after output.after last)
-      (record { answered = answered; clean = clean })
+      (record { answered = answered; reason = reason })
   pub exact : IsExact (record { limits = limits; entries = [] }) (ends.opens ++ last_of ends.ending) last
   pub input_works : input.failed ≡ false
   pub output_works : output.failed ≡ false

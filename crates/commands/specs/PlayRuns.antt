@@ -37,9 +37,9 @@ played n m line = if length line == 0 then skipped m else played_as n m (step_in
 -- ---- the complete run
 
 -- whether a line was no step
-abbrev pub play_status : Bool → ExitStatus
-play_status true = FaultyLine
-play_status false = Success
+abbrev pub status_at : Bool → ExitStatus
+status_at true = FaultyLine
+status_at false = Success
 
 -- the result of lines, from the initial state of the machine
 abbrev pub all_played : Limits → List (List ℕ) → LineResult Machine
@@ -48,8 +48,8 @@ all_played limits lines = result_of_lines played 1 (new_machine limits) lines
 abbrev pub output_of : Limits → List ℕ → List ℕ
 output_of limits input = (all_played limits (lines_of input)).reply.text
 
-abbrev pub status_of : Limits → List ℕ → ExitStatus
-status_of limits input = play_status (all_played limits (lines_of input)).reply.faulty
+abbrev pub status_for : Limits → List ℕ → ExitStatus
+status_for limits input = status_at (all_played limits (lines_of input)).reply.faulty
 
 -- ---- one line
 

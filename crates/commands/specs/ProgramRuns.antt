@@ -7,8 +7,8 @@ use Rattle.text_lines.specs.declared.exit_status.ExitStatus.{ExitStatus}
 use Rattle.text_lines.specs.declared.exit_status.ExitStatus.TheVariants.{Usage, OutOfMemory}
 use Rattle.session_devices.specs.Traffic.{Traffic}
 use Rattle.text_lines.specs.RunErrors.{RunsAs, expected_of}
-use Rattle.commands.specs.GetRuns.{output_of as get_output, status_of as get_status}
-use Rattle.commands.specs.PlayRuns.{output_of as play_output, status_of as play_status}
+use Rattle.commands.specs.GetRuns.{output_of as get_output, status_for as get_status}
+use Rattle.commands.specs.PlayRuns.{output_of as play_output, status_for as play_status}
 use Rattle.commands.specs.Words.{IsFaultOf, TakesGet}
 use Rattle.commands.specs.CommandWords.{Accepts, AsksCommand}
 use Rattle.commands.specs.declared.words.Command.{Command}
@@ -25,7 +25,7 @@ Does (Serve options) input output status =
     (input.after ≡ input.before) × (input.failed ≡ false) × ServesOrNot options output status
 
 -- no command was run: nothing was read, and the words were answered
-pub record TurnsWordsAway (words : List Text) (input output : Traffic) (status : ExitStatus) : Type 0 where
+pub record AnswersWords (words : List Text) (input output : Traffic) (status : ExitStatus) : Type 0 where
   pub unread : input.after ≡ input.before
   pub input_works : input.failed ≡ false
   pub fault : IsFaultOf status output.failed
@@ -35,4 +35,4 @@ pub record TurnsWordsAway (words : List Text) (input output : Traffic) (status :
 -- the command of the words was run, or the words were answered with a fault
 abbrev pub Runs : List Text → Traffic → Traffic → ExitStatus → Type 0
 Runs words input output status =
-    ((command : Command) × AsksCommand words command × Does command input output status) ⊎ TurnsWordsAway words input output status
+    ((command : Command) × AsksCommand words command × Does command input output status) ⊎ AnswersWords words input output status

@@ -11,7 +11,7 @@ ghost use Rattle.std.specs.Prelude.{◌≡◌, false, IfErr};
 ghost use Rattle.text_lines.specs.ReadCounts.{LimitIsReads, StatusIsReads, reads_of};
 ghost use Rattle.session_devices.specs.Traffic.{traffic_of};
 ghost use Rattle.text_lines.specs.RunErrors.{BothWork, RunsAs, RunsOrStops, expected_of};
-ghost use Rattle.commands.specs.GetRuns.{nothing_held, output_of, status_by as status_at, status_of as status_for};
+ghost use Rattle.commands.specs.GetRuns.{nothing_held, output_of, status_at, status_for};
 
 mod batches;
 mod line_fault;

@@ -11,7 +11,7 @@ ghost use Rattle.session_devices.specs.Traffic.{traffic_of};
 ghost use Rattle.text_lines.specs.RunErrors.{BothWork, RunsAs, expected_of};
 ghost use Rattle.trace_model.specs.declared.limits.Limits.{Limits as LimitsValue};
 ghost use Rattle.schedule_core.specs.Machine.{new_machine};
-ghost use Rattle.commands.specs.PlayRuns.{IsMachineAt, output_of, play_status, status_of as status_for};
+ghost use Rattle.commands.specs.PlayRuns.{IsMachineAt, output_of, status_at, status_for};
 
 mod script;
 
@@ -23,7 +23,7 @@ use text_lines::{ExitStatus, answer_lines};
 use trace_model::Limits;
 
 fn status_of(faulty: bool) -> ExitStatus
-    ensures { result ≡ play_status faulty }
+    ensures { result ≡ status_at faulty }
 {
     if faulty {
         ExitStatus::FaultyLine

@@ -1,7 +1,7 @@
 //! `serve`: a server on an address of this machine.
 ghost use Rattle.std.specs.Prelude.{◌≡◌, false};
 ghost use Rattle.session_devices.specs.Traffic.{traffic_of};
-ghost use Rattle.commands.specs.ServeRuns.{ServesOrNot, TurnsDown};
+ghost use Rattle.commands.specs.ServeRuns.{CannotListen, ServesOrNot};
 
 use serve_options::ServeOptions;
 use session_devices::Output;
@@ -16,14 +16,14 @@ use text_lines::{ExitStatus, write_text};
 use trace_server::{NoObserver, ServerConfig, serve_with};
 
 /// Writes why the server can't listen on an address, and returns the exit status.
-fn turn_down<W: Output>(
+fn write_cannot_listen<W: Output>(
     alloc: Global,
     output: &mut W,
     address: SocketAddr,
     error: &io::Error,
 ) -> ExitStatus
     requires { W.has_failed output.old ≡ false }
-    ensures { TurnsDown (traffic_of W.contents W.has_failed output.old output.new)
+    ensures { CannotListen (traffic_of W.contents W.has_failed output.old output.new)
         result }
 {
     let Ok(line) = format!(in alloc; "cannot listen on {address}: {error}\n") else {
@@ -54,7 +54,7 @@ where
     let address = SocketAddr::new(options.host.address(), options.port);
     let listener = match TcpListener::bind(rt, address) {
         Ok(listener) => listener,
-        Err(error) => return turn_down(alloc, output, address, &error),
+        Err(error) => return write_cannot_listen(alloc, output, address, &error),
     };
     let config = ServerConfig { options, keys };
     serve_with(rt, alloc, &listener, &config, &NoObserver, output)

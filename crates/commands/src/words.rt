@@ -348,6 +348,7 @@ fn judge_words<S: AsStr, W: Write>(
 /// Writes what is wrong with words that name no subcommand, and returns the exit status.
 fn explain_words<S: AsStr, W: Write>(alloc: Global, words: &[S], writer: &mut W) -> ExitStatus {
     match matches_of(program(alloc), words, writer) {
+        // Impossible: words that clap takes name a subcommand, and `judge_words` has read those.
         Ok(_) => ExitStatus::Usage,
         Err(status) => status,
     }
@@ -365,7 +366,11 @@ fn answer<W: Output>(alloc: Global, output: &mut W, text: &[u8], status: ExitSta
     match status {
         ExitStatus::Usage => {}
         // The words were judged over memory, where a write fails only if memory runs out.
-        _ => return ExitStatus::OutOfMemory,
+        ExitStatus::Success
+        | ExitStatus::NotFound
+        | ExitStatus::FaultyLine
+        | ExitStatus::DeviceFailed
+        | ExitStatus::OutOfMemory => return ExitStatus::OutOfMemory,
     }
     match write_text(alloc, output, text) {
         Ok(()) => ExitStatus::Usage,

@@ -100,7 +100,7 @@ module _ {K : Type 0} {eq : K → K → Bool} (laws : IsEquivalence eq) where
       by true e g more = alike q x e ∙ (and_parts (f x) (list_all f xs) h).0
       by false e g more = more g
 
-  -- if none is left, each of the list passes
+  -- if none is missing, each of the list passes
   pub none_left : (f s p : K → Bool) → ((q : K) → f q ≡ (s q || p q)) → (xs met : List K) → IsDistinct eq met
       → ((q : K) → is_member eq met q ≡ (is_member eq xs q && p q))
       → length met ≡ distinct_count eq xs → true ≡ list_all f xs
@@ -153,14 +153,14 @@ module _ {K : Type 0} {eq : K → K → Bool} (laws : IsEquivalence eq) where
         let sum = length-append own met in
         omega arith
 
-    -- as many of the own as were left say that each of the list passes
-    pub counted : (left : ℕ) → left + length met ≡ distinct_count eq xs → (length own == left) ≡ list_all f xs
-    counted left sum = by (list_all f xs) refl
+    -- as many of the own as were missing say that each of the list passes
+    pub counted : (missing : ℕ) → missing + length met ≡ distinct_count eq xs → (length own == missing) ≡ list_all f xs
+    counted missing sum = by (list_all f xs) refl
       where
-        by : (b : Bool) → list_all f xs ≡ b → (length own == left) ≡ b
-        by true h = let e = as_many h in eq-eqb (length own) left (omega arith)
-        by false h = let e = too_few h in unequal (length own == left) refl
+        by : (b : Bool) → list_all f xs ≡ b → (length own == missing) ≡ b
+        by true h = let e = as_many h in eq-eqb (length own) missing (omega arith)
+        by false h = let e = too_few h in unequal (length own == missing) refl
           where
-            unequal : (b : Bool) → (length own == left) ≡ b → b ≡ false
+            unequal : (b : Bool) → (length own == missing) ≡ b → b ≡ false
             unequal false t = refl
-            unequal true t = let same : length own ≡ left = eqb-true (length own) left t in let e = too_few h in absurd (omega arith)
+            unequal true t = let same : length own ≡ missing = eqb-true (length own) missing t in let e = too_few h in absurd (omega arith)

@@ -27,7 +27,7 @@ use Rattle.jaeger_model.specs.Texts.{text_cmp}
 use Rattle.trace_model.specs.declared.query.Find.{Find}
 use Rattle.trace_model.specs.ServiceLinks.{call_cmp as pair_cmp}
 use Rattle.trace_model.specs.Searching.{tag_matches, has_tag, tags_of}
-use Rattle.find_traces.specs.RequestedPairs.{pair_of, same_pair, pairs_lent, with_key, key_bits, asks, requested_count}
+use Rattle.find_traces.specs.RequestedPairs.{pair_of, same_pair, pairs_lent, with_key, key_bits, requests_pair, requested_count}
 use Rattle.find_traces.specs.RequestedPairs.{if_requested, has_pair, is_in, wants, may_be_number}
 use Rattle.find_traces.specs.PreparedSearches.{IsJudged}
 use Rattle.find_traces.proofs.CountedKeys.{few, counted, none_left}
@@ -137,19 +137,19 @@ no_number xs k t number =
     no_part (λ a. may_be_number a.1) (k, t)
     (λ x e. then_eq (text_cmp k x.0) (text_cmp t x.1) ∙ and_right (is_eq (text_cmp k x.0)) (is_eq (text_cmp t x.1)) (other_number t x.1 number e)) xs
 
-pub asked_some : (q : Find) (x p : List ℕ × List ℕ) → if_requested q x ≡ Some p → (asks q x ≡ true) × (p ≡ x)
-asked_some q x p h = by (asks q x) refl h
+pub requested_some : (q : Find) (x p : List ℕ × List ℕ) → if_requested q x ≡ Some p → (requests_pair q x ≡ true) × (p ≡ x)
+requested_some q x p h = by (requests_pair q x) refl h
   where
-    by : (b : Bool) → asks q x ≡ b → (if b then Some x else None) ≡ Some p → (asks q x ≡ true) × (p ≡ x)
+    by : (b : Bool) → requests_pair q x ≡ b → (if b then Some x else None) ≡ Some p → (requests_pair q x ≡ true) × (p ≡ x)
     by true e g = (e, cc)
     by false e g = absurd cc
 
 -- what a look-up among the requested pairs finds
-pub asked_got : (q : Find) (ps : List (List ℕ × List ℕ)) (x : List ℕ × List ℕ) (found : Option (Bor (List ℕ × List ℕ)))
-    → ((a : List ℕ × List ℕ) → is_in ps a ≡ asks q a) → is_some found ≡ is_in ps x → IfSome found (λ r. pair_cmp x r.now ≡ Equal)
+pub requested_got : (q : Find) (ps : List (List ℕ × List ℕ)) (x : List ℕ × List ℕ) (found : Option (Bor (List ℕ × List ℕ)))
+    → ((a : List ℕ × List ℕ) → is_in ps a ≡ requests_pair q a) → is_some found ≡ is_in ps x → IfSome found (λ r. pair_cmp x r.now ≡ Equal)
     → option_copied found ≡ if_requested q x
-asked_got q ps x None asked there same = ap (λ b. if b then Some x else None) (there ∙ asked x)
-asked_got q ps x (Some r) asked there same = ap Some (sym (call_exact x r.now same)) ∙ ap (λ b. if b then Some x else None) (there ∙ asked x)
+requested_got q ps x None requested there same = ap (λ b. if b then Some x else None) (there ∙ requested x)
+requested_got q ps x (Some r) requested there same = ap Some (sym (call_exact x r.now same)) ∙ ap (λ b. if b then Some x else None) (there ∙ requested x)
 
 -- ---- pairs that are referred to
 pub lent_length : (rs : List (Bor (List ℕ × List ℕ))) → length (pairs_lent rs) ≡ length rs
@@ -169,10 +169,10 @@ unfolding IsStrictlySortedBy
 lent_sorted [] s = tt
 lent_sorted (r ∷ rs) s = (lent_above r rs s.0, lent_sorted rs s.1)
 
-pub asked_none : (q : Find) (x : List ℕ × List ℕ) → if_requested q x ≡ None → asks q x ≡ false
-asked_none q x h = by (asks q x) refl h
+pub requested_none : (q : Find) (x : List ℕ × List ℕ) → if_requested q x ≡ None → requests_pair q x ≡ false
+requested_none q x h = by (requests_pair q x) refl h
   where
-    by : (b : Bool) → asks q x ≡ b → (if b then Some x else None) ≡ None → asks q x ≡ false
+    by : (b : Bool) → requests_pair q x ≡ b → (if b then Some x else None) ≡ None → requests_pair q x ≡ false
     by true e g = absurd cc
     by false e g = e
 
@@ -180,14 +180,14 @@ asked_none q x h = by (asks q x) refl h
 wants_alike : (q : Find) (others : List (List ℕ × List ℕ)) (a x : List ℕ × List ℕ) → same_pair a x ≡ true → wants q others a ≡ wants q others x
 wants_alike q others a x e = λ i. list_any_congr pair_laws a x q.tags e i && not (list_any_congr pair_laws a x others e i)
 
-pub wants_new : (q : Find) (others : List (List ℕ × List ℕ)) (x p : List ℕ × List ℕ) → asks q x ≡ true → p ≡ x → is_in others p ≡ false
+pub wants_new : (q : Find) (others : List (List ℕ × List ℕ)) (x p : List ℕ × List ℕ) → requests_pair q x ≡ true → p ≡ x → is_in others p ≡ false
     → wants q others x ≡ true
-wants_new q others x p asked is absent = λ i. asked i && not ((ap (is_in others) (sym is) ∙ absent) i)
+wants_new q others x p requested is absent = λ i. requested i && not ((ap (is_in others) (sym is) ∙ absent) i)
 
 pub wants_old : (q : Find) (others : List (List ℕ × List ℕ)) (x p : List ℕ × List ℕ) → p ≡ x → is_in others p ≡ true → wants q others x ≡ false
-wants_old q others x p is there = ap (λ b. asks q x && not b) (ap (is_in others) (sym is) ∙ there) ∙ and-false (asks q x)
+wants_old q others x p is there = ap (λ b. requests_pair q x && not b) (ap (is_in others) (sym is) ∙ there) ∙ and-false (requests_pair q x)
 
-pub wants_none : (q : Find) (others : List (List ℕ × List ℕ)) (x : List ℕ × List ℕ) → asks q x ≡ false → wants q others x ≡ false
+pub wants_none : (q : Find) (others : List (List ℕ × List ℕ)) (x : List ℕ × List ℕ) → requests_pair q x ≡ false → wants q others x ≡ false
 wants_none q others x e = ap (λ b. b && not (is_in others x)) e
 
 pub met_put : (q : Find) (others n o : List (List ℕ × List ℕ)) (x : List ℕ × List ℕ) → wants q others x ≡ true
@@ -266,21 +266,21 @@ module _ (q : Find) (o : Process) (s : Span) where
   has_alike : (a b : List ℕ × List ℕ) → same_pair a b ≡ true → has_tag here a ≡ has_tag here b
   has_alike a b e = any_has_pair a (tags_of here) ∙ has_pair-alike (tags_of here) a b e ∙ sym (any_has_pair b (tags_of here))
 
-  pub all_asked : (own met : List (List ℕ × List ℕ)) (left : ℕ) → IsJudged q o met left → IsStrictlySortedBy pair_cmp own
+  pub all_requested : (own met : List (List ℕ × List ℕ)) (missing : ℕ) → IsJudged q o met missing → IsStrictlySortedBy pair_cmp own
       → ((a : List ℕ × List ℕ) → is_in own a ≡ (wants q met a && (has_pair s.tags a || has_pair (fields_of s.logs) a)))
-      → (length own == left) ≡ list_all (has_tag here) q.tags
-  all_asked own met left j rising own_is =
+      → (length own == missing) ≡ list_all (has_tag here) q.tags
+  all_requested own met missing j rising own_is =
       counted pair_laws (has_tag here) (λ a. has_pair s.tags a || has_pair (fields_of s.logs) a) (has_pair o.tags) has_alike has_tag-pairs q.tags own met
-      (distinct_pairs own rising) (distinct_pairs met j.rising) own_is j.asked left j.count
+      (distinct_pairs own rising) (distinct_pairs met j.rising) own_is j.requested missing j.count
 
-  pub none_asked : (met : List (List ℕ × List ℕ)) (left : ℕ) → IsJudged q o met left → left ≡ 0 → true ≡ list_all (has_tag here) q.tags
-  none_asked met left j none =
+  pub none_requested : (met : List (List ℕ × List ℕ)) (missing : ℕ) → IsJudged q o met missing → missing ≡ 0 → true ≡ list_all (has_tag here) q.tags
+  none_requested met missing j none =
       let count = j.count in
       none_left pair_laws (has_tag here)
-      (λ a. has_pair s.tags a || has_pair (fields_of s.logs) a) (has_pair o.tags) has_tag-pairs q.tags met (distinct_pairs met j.rising) j.asked
+      (λ a. has_pair s.tags a || has_pair (fields_of s.logs) a) (has_pair o.tags) has_tag-pairs q.tags met (distinct_pairs met j.rising) j.requested
       (omega arith)
 
 -- ---- the tags of a process
 pub met_few : (q : Find) (o : Process) (met : List (List ℕ × List ℕ)) → IsStrictlySortedBy pair_cmp met
-    → ((a : List ℕ × List ℕ) → is_in met a ≡ (asks q a && has_pair o.tags a)) → length met ≤ requested_count q
-met_few q o met rising is = few pair_laws q.tags met (distinct_pairs met rising) (λ a m. (and_parts (asks q a) (has_pair o.tags a) (sym (is a) ∙ m)).0)
+    → ((a : List ℕ × List ℕ) → is_in met a ≡ (requests_pair q a && has_pair o.tags a)) → length met ≤ requested_count q
+met_few q o met rising is = few pair_laws q.tags met (distinct_pairs met rising) (λ a m. (and_parts (requests_pair q a) (has_pair o.tags a) (sym (is a) ∙ m)).0)

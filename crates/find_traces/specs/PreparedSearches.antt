@@ -7,24 +7,25 @@ use Rattle.jaeger_model.specs.declared.batch.Process.{Process}
 use Rattle.jaeger_model.specs.Texts.{text_cmp}
 use Rattle.trace_model.specs.declared.query.Find.{Find}
 use Rattle.trace_model.specs.ServiceLinks.{call_cmp as pair_cmp}
-use Rattle.find_traces.specs.RequestedPairs.{Judgement, requests_key, key_bits, requests_length, requests_number, asks, requested_count, has_pair, is_in}
+use Rattle.find_traces.specs.RequestedPairs.{Judgement, requests_key, key_bits, requests_length, requests_number, requests_pair, requested_count, has_pair}
+use Rattle.find_traces.specs.RequestedPairs.{is_in}
 
 -- the keys, the bits for their lengths, the lengths of the texts, whether one of them may be that of a number, and the
 -- pairs of a search
-pub record IsPrepared (q : Find) (keys : List (List ℕ)) (bits : ℕ) (lengths : List ℕ) (has_number : Bool) (pairs : List (List ℕ × List ℕ)) : Type 0 where
-  pub keys_asked : (k : List ℕ) → list_any (eq_by_cmp text_cmp k) keys ≡ requests_key q k
+pub record IsPrepared (q : Find) (keys : List (List ℕ)) (bits : ℕ) (lengths : List ℕ) (number : Bool) (pairs : List (List ℕ × List ℕ)) : Type 0 where
+  pub keys_requested : (k : List ℕ) → list_any (eq_by_cmp text_cmp k) keys ≡ requests_key q k
   pub bits_set : bits ≡ key_bits q.tags
-  pub lengths_asked : (n : ℕ) → list_any (eq_by_cmp nat_cmp n) lengths ≡ requests_length q n
-  pub number_asked : has_number ≡ requests_number q
-  pub pairs_asked : (a : List ℕ × List ℕ) → is_in pairs a ≡ asks q a
+  pub lengths_requested : (n : ℕ) → list_any (eq_by_cmp nat_cmp n) lengths ≡ requests_length q n
+  pub number_requested : number ≡ requests_number q
+  pub pairs_requested : (a : List ℕ × List ℕ) → is_in pairs a ≡ requests_pair q a
 
 -- the requested pairs that the tags of a process have, and the number of the others
-pub record IsJudged (q : Find) (o : Process) (met : List (List ℕ × List ℕ)) (left : ℕ) : Type 0 where
+pub record IsJudged (q : Find) (o : Process) (met : List (List ℕ × List ℕ)) (missing : ℕ) : Type 0 where
   pub rising : IsStrictlySortedBy pair_cmp met
-  pub asked : (a : List ℕ × List ℕ) → is_in met a ≡ (asks q a && has_pair o.tags a)
-  pub count : left + length met ≡ requested_count q
+  pub requested : (a : List ℕ × List ℕ) → is_in met a ≡ (requests_pair q a && has_pair o.tags a)
+  pub count : missing + length met ≡ requested_count q
 
 -- the search judged the process so
 pub record IsJudgementOf (q : Find) (o : Process) (j : Judgement) : Type 0 where
   pub query : j.query ≡ q
-  pub pairs : IsJudged q o j.met j.left
+  pub pairs : IsJudged q o j.met j.missing

@@ -45,10 +45,11 @@ abbrev pub with_key : ℕ → List ℕ × List ℕ → ℕ
 with_key bits a = bit_or bits (2 ^ (length a.0 % 64))
 
 abbrev pub key_bits : List (List ℕ × List ℕ) → ℕ
-key_bits asked = fold with_key 0 asked
+key_bits requested = fold with_key 0 requested
 
-abbrev pub asks : Find → List ℕ × List ℕ → Bool
-asks q a = list_any (same_pair a) q.tags
+-- the search requests the pair
+abbrev pub requests_pair : Find → List ℕ × List ℕ → Bool
+requests_pair q a = list_any (same_pair a) q.tags
 
 -- the number of requested pairs, each counted once
 abbrev pub requested_count : Find → ℕ
@@ -56,7 +57,7 @@ requested_count q = distinct_count same_pair q.tags
 
 -- the pair, if it is requested
 abbrev pub if_requested : Find → List ℕ × List ℕ → Option (List ℕ × List ℕ)
-if_requested q a = if asks q a then Some a else None
+if_requested q a = if requests_pair q a then Some a else None
 
 -- one of the tags has the pair
 abbrev pub has_pair : List Tag → List ℕ × List ℕ → Bool
@@ -72,10 +73,10 @@ pairs_lent lent = map (λ r. r.now) lent
 
 -- the pair is requested and is not among those
 abbrev pub wants : Find → List (List ℕ × List ℕ) → List ℕ × List ℕ → Bool
-wants q but a = asks q a && not (is_in but a)
+wants q but a = requests_pair q a && not (is_in but a)
 
 -- a search, the requested pairs that the tags of a process have, and the number of the others
 pub record Judgement : Type 0 where
   pub query : Find
   pub met : List (List ℕ × List ℕ)
-  pub left : ℕ
+  pub missing : ℕ

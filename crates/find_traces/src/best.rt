@@ -13,13 +13,13 @@ use crate::key::{Key, key_at};
 use crate::searched::Searched;
 use std::alloc::{AllocError, Global};
 
-/// Returns the keys of the traces that start last, at most `most` of them. Judges none.
-fn latest_keys<T: Searched>(alloc: Global, traces: &T, most: usize) -> Result<BestKeys, AllocError>
+/// Returns the keys of the traces that start last, at most `limit` of them. Judges none.
+fn latest_keys<T: Searched>(alloc: Global, traces: &T, limit: usize) -> Result<BestKeys, AllocError>
     ensures keys { IfOk result (λ latest. latest.keys.keys ≡
-        take most (ranking (T.traces traces.now))) }
-    ensures most { IfOk result (λ latest. latest.most ≡ most) }
+        take limit (ranking (T.traces traces.now))) }
+    ensures limit { IfOk result (λ latest. latest.limit ≡ limit) }
 {
-    let mut latest = BestKeys::new(alloc, most);
+    let mut latest = BestKeys::new(alloc, limit);
     for index in (0..traces.count()).rev() {
         latest.offer(key_at(traces, index))?;
     }
@@ -37,7 +37,7 @@ fn judge_in_order<T: Searched>(
     ensures same_traces { T.traces traces.new ≡ T.traces traces.old }
     ensures same_query { T.query traces.new ≡ T.query traces.old }
 {
-    let mut indices = Vec::new(alloc);
+    let mut indices = Vec::with_capacity(alloc, keys.len())?;
     while let Some(key) = keys.pop() {
         if traces.is_found_at(alloc, key.index)? {
             indices.push(key.index)?;
@@ -55,12 +55,12 @@ fn is_chosen<T: Searched>(
     best: &BestKeys,
     key: Key,
 ) -> Result<bool, AllocError>
-    requires { length best.now.keys.keys ≤ best.now.most }
+    requires { length best.now.keys.keys ≤ best.now.limit }
     ensures chosen { IfOk result (λ chosen. OnTrue chosen
         (is_match_after (T.query traces.old) (T.traces traces.old) last (reversed key) ≡ true)) }
     ensures left { IfOk result (λ chosen. OnFalse chosen
         (is_match_after (T.query traces.old) (T.traces traces.old) last (reversed key) ≡ true →
-        take best.now.most (insert_key reverse_key_cmp best.now.keys.keys (reversed key)) ≡
+        take best.now.limit (insert_key reverse_key_cmp best.now.keys.keys (reversed key)) ≡
         best.now.keys.keys)) }
     ensures same_traces { T.traces traces.new ≡ T.traces traces.old }
     ensures same_query { T.query traces.new ≡ T.query traces.old }
@@ -71,21 +71,21 @@ fn is_chosen<T: Searched>(
     traces.is_found_at(alloc, key.index)
 }
 
-/// Returns the keys of the best matches that rank after a key, at most `most` of them. The trace opened last is
+/// Returns the keys of the best matches that rank after a key, at most `limit` of them. The trace opened last is
 /// judged first, and none that ranks after enough matches.
 fn best_after<T: Searched>(
     alloc: Global,
     traces: &mut T,
     last: Key,
-    most: usize,
+    limit: usize,
 ) -> Result<BestKeys, AllocError>
-    ensures keys { IfOk result (λ best. best.keys.keys ≡ take most
+    ensures keys { IfOk result (λ best. best.keys.keys ≡ take limit
         (filter (is_match_after (T.query traces.old) (T.traces traces.old) last)
         (ranking (T.traces traces.old)))) }
     ensures same_traces { T.traces traces.new ≡ T.traces traces.old }
     ensures same_query { T.query traces.new ≡ T.query traces.old }
 {
-    let mut best = BestKeys::new(alloc, most);
+    let mut best = BestKeys::new(alloc, limit);
     for index in (0..traces.count()).rev() {
         let key = key_at(traces, index);
         if is_chosen(alloc, traces, last, &best, key)? {
@@ -96,7 +96,7 @@ fn best_after<T: Searched>(
 }
 
 /// Appends the indices of the keys, in their order.
-fn push_places(indices: &mut Vec<usize>, mut keys: BestKeys) -> Result<(), AllocError>
+fn push_indices(indices: &mut Vec<usize>, mut keys: BestKeys) -> Result<(), AllocError>
     ensures { OnOk result (indices.new.items ≡
         indices.old.items ++ map reverse_key_index keys.keys.keys) }
 {
@@ -125,7 +125,7 @@ pub(crate) fn find_best<T: Searched>(
         let room = limit - indices.len();
         if room != 0 {
             let others = best_after(alloc, traces, last, room)?;
-            push_places(&mut indices, others)?;
+            push_indices(&mut indices, others)?;
         }
     }
     Ok(indices)

@@ -11,31 +11,38 @@ use std::alloc::{AllocError, Global};
 use std::cmp::Reverse;
 use std::collections::BTreeSet;
 
-/// The best keys of those that were offered, at most `most` of them; the best is the first of the set.
+/// The best keys of those that were offered, at most `limit` of them; the best is the first of the set.
 #[derive(Drop)]
 pub(crate) struct BestKeys {
     keys: BTreeSet<Reverse<Key>>,
-    most: usize,
+    limit: usize,
 }
 
 impl BestKeys {
-    pub(crate) fn new(alloc: Global, most: usize) -> BestKeys
+    pub(crate) fn new(alloc: Global, limit: usize) -> BestKeys
         ensures keys { result.keys.keys ≡ [] }
-        ensures most { result.most ≡ most }
+        ensures limit { result.limit ≡ limit }
     {
         BestKeys {
             keys: BTreeSet::new(alloc),
-            most,
+            limit,
         }
+    }
+
+    /// Returns the number of keys that are kept.
+    pub(crate) fn len(&self) -> usize
+        ensures { result ≡ length self.now.keys.keys }
+    {
+        self.keys.len()
     }
 
     /// Whether a key would be kept if it were offered.
     pub(crate) fn would_keep(&self, key: Key) -> bool
-        requires { length self.now.keys.keys ≤ self.now.most }
-        ensures { OnFalse result (take self.now.most
+        requires { length self.now.keys.keys ≤ self.now.limit }
+        ensures { OnFalse result (take self.now.limit
             (insert_key reverse_key_cmp self.now.keys.keys (reversed key)) ≡ self.now.keys.keys) }
     {
-        if self.keys.len() < self.most {
+        if self.keys.len() < self.limit {
             return true;
         }
         match self.keys.last() {
@@ -46,28 +53,29 @@ impl BestKeys {
 
     /// Adds a key. The worst one is dropped if they are too many.
     pub(crate) fn offer(&mut self, key: Key) -> Result<(), AllocError>
-        requires { length self.old.keys.keys ≤ self.old.most }
-        ensures keys { OnOk result (self.new.keys.keys ≡ take self.old.most
+        requires { length self.old.keys.keys ≤ self.old.limit }
+        ensures keys { OnOk result (self.new.keys.keys ≡ take self.old.limit
             (insert_key reverse_key_cmp self.old.keys.keys (reversed key))) }
-        ensures most { self.new.most ≡ self.old.most }
+        ensures limit { self.new.limit ≡ self.old.limit }
     {
         if !self.would_keep(key) {
             return Ok(());
         }
         self.keys.insert(Reverse(key))?;
-        if self.keys.len() > self.most {
+        if self.keys.len() > self.limit {
             self.keys.pop_last();
         }
         Ok(())
     }
 
-    /// Returns the worst key that is kept, if no more are kept than may be: other keys may have been dropped.
+    /// Returns the worst key that is kept, if the limit is reached: then others may have been dropped. Returns `None` if
+    /// fewer are kept, so that none was dropped.
     pub(crate) fn last_if_full(&self) -> Option<Key>
-        requires { 0 < self.now.most }
+        requires { 0 < self.now.limit }
         ensures last { IfSome result (IsLast self.now.keys.keys) }
-        ensures all { IfNone result (length self.now.keys.keys < self.now.most) }
+        ensures all { IfNone result (length self.now.keys.keys < self.now.limit) }
     {
-        if self.keys.len() < self.most {
+        if self.keys.len() < self.limit {
             return None;
         }
         self.keys.last().map(|worst| worst.0)

@@ -11,7 +11,7 @@ use std::alloc::{AllocError, Global};
 /// Returns the indices of the traces that a search finds, in the order of its answer: latest first start first, of
 /// equal starts the trace opened later, and no more than the limit. With a limit, no more keys than that are kept at
 /// once, and first as many traces as the limit are judged, those that start last. Only if some of these don't match are
-/// others judged. Without a limit, only those that match are sorted.
+/// others judged. Without a limit, only those that match are sorted. No contract speaks of these costs.
 ///
 /// # Errors
 ///
@@ -39,8 +39,8 @@ pub fn find_ids<T: Searched>(alloc: Global, traces: &mut T) -> Result<Vec<TraceI
     ensures { IfOk result (λ v. v.items ≡
         ids_of (found_in (T.query traces.old) (T.traces traces.old))) }
 {
-    let mut ids = Vec::new(alloc);
     let indices = find(alloc, traces)?;
+    let mut ids = Vec::with_capacity(alloc, indices.len())?;
     for index in &indices {
         if let Some(id) = traces.id_at(*index) {
             ids.push(id)?;

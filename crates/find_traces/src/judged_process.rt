@@ -7,7 +7,7 @@ ghost use Rattle.jaeger_model.specs.declared.span.Log.{Log as LogValue};
 ghost use Rattle.trace_model.specs.declared.query.Find.{Find as FindValue};
 ghost use Rattle.trace_model.specs.Searching.{has_tag};
 ghost use Rattle.find_traces.specs.PreparedSearches.{IsJudgementOf};
-ghost use Rattle.find_traces.specs.RequestedPairs.{pair_of, same_pair, is_in, asks, wants, has_pair, pairs_lent};
+ghost use Rattle.find_traces.specs.RequestedPairs.{pair_of, same_pair, is_in, requests_pair, wants, has_pair, pairs_lent};
 
 use crate::prepared::PreparedSearch;
 use jaeger_model::{Log, Process, Span, Tag, Text};
@@ -23,7 +23,7 @@ pub struct JudgedProcess<'a> {
     /// The requested pairs that tags of the process have, lent by the search: no text is copied for a process.
     met: BTreeSet<&'a (Text, Text)>,
     /// The number of the other requested pairs.
-    left: usize,
+    missing: usize,
 }
 
 impl<'a> Model for JudgedProcess<'a> {
@@ -31,7 +31,7 @@ impl<'a> Model for JudgedProcess<'a> {
 
     ghost Value = { Judgement };
 
-    ghost view = { λ j. record { query = j.prepared.now; met = pairs_lent j.met.keys; left = j.left } };
+    ghost view = { λ j. record { query = j.prepared.now; met = pairs_lent j.met.keys; missing = j.missing } };
 }
 
 /// Adds the pair of a tag, if it is requested and is not among the others.
@@ -100,7 +100,7 @@ fn process_pairs<'a>(
     process: &Process,
 ) -> Result<BTreeSet<&'a (Text, Text)>, AllocError>
     ensures { IfOk result (λ s. (a : List ℕ × List ℕ) → is_in (pairs_lent s.keys) a ≡
-        (asks prepared.now a && has_pair process.now.tags a)) }
+        (requests_pair prepared.now a && has_pair process.now.tags a)) }
 {
     let mut met = BTreeSet::new(alloc);
     if prepared.has_no_pairs() {
@@ -142,11 +142,11 @@ impl<'a> JudgedProcess<'a> {
         ensures { IfOk result (IsJudgementOf prepared.now process.now) }
     {
         let met = process_pairs(alloc, prepared, process)?;
-        let left = prepared.count() - met.len();
+        let missing = prepared.count() - met.len();
         Ok(JudgedProcess {
             prepared,
             met,
-            left,
+            missing,
         })
     }
 
@@ -160,10 +160,10 @@ impl<'a> JudgedProcess<'a> {
             IsJudgementOf query process self.now → IfOk result (λ b. b ≡
             list_all (has_tag (record { process = process; span = span.now })) query.tags) }
     {
-        if self.left == 0 {
+        if self.missing == 0 {
             return Ok(true);
         }
         let own = own_pairs(alloc, self.prepared, span, &self.met)?;
-        Ok(own.len() == self.left)
+        Ok(own.len() == self.missing)
     }
 }

@@ -29,7 +29,7 @@ fn all_hits<T: Searched>(alloc: Global, traces: &mut T) -> Result<Vec<Reverse<Ke
 fn indices_of(alloc: Global, hits: &[Reverse<Key>]) -> Result<Vec<usize>, AllocError>
     ensures { IfOk result (λ v. v.items ≡ map reverse_key_index hits.now) }
 {
-    let mut indices = Vec::new(alloc);
+    let mut indices = Vec::with_capacity(alloc, hits.len())?;
     for hit in hits {
         indices.push(hit.0.index)?;
     }

@@ -7,7 +7,7 @@ ghost use Rattle.std.specs.List.{list_any};
 ghost use Rattle.std.specs.Ordering.{eq_by_cmp, nat_cmp};
 ghost use Rattle.jaeger_model.specs.Tags.{hex_text, tag_text};
 ghost use Rattle.jaeger_model.specs.Texts.{text_cmp};
-ghost use Rattle.find_traces.specs.RequestedPairs.{pair_of, same_pair, is_in, key_bits, asks, requested_count, if_requested, may_be_number};
+ghost use Rattle.find_traces.specs.RequestedPairs.{pair_of, same_pair, is_in, key_bits, requests_pair, requested_count, if_requested, may_be_number};
 
 use jaeger_model::{Tag, TagValue, Text, ValueRef, tag_text};
 use std::alloc::{AllocError, Global};
@@ -26,7 +26,7 @@ pub struct PreparedSearch<'q> {
     /// The lengths of the requested texts.
     lengths: BTreeSet<usize>,
     /// Whether one of the requested texts may be that of a number.
-    has_number: bool,
+    requests_number: bool,
     pairs: BTreeSet<(Text, Text)>,
 }
 
@@ -39,16 +39,16 @@ impl<'q> Model for PreparedSearch<'q> {
     ghost view = { λ w. w.query.now };
 
     ghost invariant = { λ w.
-        IsPrepared w.query.now w.keys.keys w.key_bits w.lengths.keys w.has_number w.pairs.keys };
+        IsPrepared w.query.now w.keys.keys w.key_bits w.lengths.keys w.requests_number w.pairs.keys };
 }
 
 /// Returns the keys of the pairs.
-fn keys_of(alloc: Global, asked: &[(Text, Text)]) -> Result<BTreeSet<Text>, AllocError>
+fn keys_of(alloc: Global, requested: &[(Text, Text)]) -> Result<BTreeSet<Text>, AllocError>
     ensures { IfOk result (λ s. (k : List ℕ) → list_any (eq_by_cmp text_cmp k) s.keys ≡
-        list_any (λ (a : List ℕ × List ℕ). eq_by_cmp text_cmp k a.0) asked.now) }
+        list_any (λ (a : List ℕ × List ℕ). eq_by_cmp text_cmp k a.0) requested.now) }
 {
     let mut keys = BTreeSet::new(alloc);
-    for pair in asked {
+    for pair in requested {
         let key = pair.0.clone()?;
         keys.insert(key)?;
     }
@@ -63,11 +63,11 @@ fn bit_of_key(key: &Text) -> u64
 }
 
 /// Returns the bits for the lengths of the pairs' keys.
-fn key_bits(asked: &[(Text, Text)]) -> u64
-    ensures { result ≡ key_bits asked.now }
+fn key_bits(requested: &[(Text, Text)]) -> u64
+    ensures { result ≡ key_bits requested.now }
 {
     let mut bits = 0;
-    for pair in asked {
+    for pair in requested {
         bits |= bit_of_key(&pair.0);
     }
     bits
@@ -81,12 +81,12 @@ fn is_set(bits: u64, key: &Text) -> bool
 }
 
 /// Returns the lengths of the pairs' texts.
-fn lengths_of(alloc: Global, asked: &[(Text, Text)]) -> Result<BTreeSet<usize>, AllocError>
+fn lengths_of(alloc: Global, requested: &[(Text, Text)]) -> Result<BTreeSet<usize>, AllocError>
     ensures { IfOk result (λ s. (n : ℕ) → list_any (eq_by_cmp nat_cmp n) s.keys ≡
-        list_any (λ (a : List ℕ × List ℕ). eq_by_cmp nat_cmp n (length a.1)) asked.now) }
+        list_any (λ (a : List ℕ × List ℕ). eq_by_cmp nat_cmp n (length a.1)) requested.now) }
 {
     let mut lengths = BTreeSet::new(alloc);
-    for pair in asked {
+    for pair in requested {
         let length = pair.1.len();
         lengths.insert(length)?;
     }
@@ -104,10 +104,10 @@ fn may_be_number(text: &str) -> bool
 }
 
 /// Whether one of the pairs' texts may be that of a number.
-fn has_number(asked: &[(Text, Text)]) -> bool
-    ensures { result ≡ list_any (λ (a : List ℕ × List ℕ). may_be_number a.1) asked.now }
+fn requests_number(requested: &[(Text, Text)]) -> bool
+    ensures { result ≡ list_any (λ (a : List ℕ × List ℕ). may_be_number a.1) requested.now }
 {
-    asked.iter().any(|pair| may_be_number(pair.1.as_str()))
+    requested.iter().any(|pair| may_be_number(pair.1.as_str()))
 }
 
 fn copy_of(pair: &(Text, Text)) -> Result<(Text, Text), AllocError>
@@ -117,12 +117,12 @@ fn copy_of(pair: &(Text, Text)) -> Result<(Text, Text), AllocError>
 }
 
 /// Returns the pairs, each once.
-fn pairs_of(alloc: Global, asked: &[(Text, Text)]) -> Result<BTreeSet<(Text, Text)>, AllocError>
+fn pairs_of(alloc: Global, requested: &[(Text, Text)]) -> Result<BTreeSet<(Text, Text)>, AllocError>
     ensures { IfOk result (λ s. (a : List ℕ × List ℕ) →
-        is_in s.keys a ≡ list_any (same_pair a) asked.now) }
+        is_in s.keys a ≡ list_any (same_pair a) requested.now) }
 {
     let mut pairs = BTreeSet::new(alloc);
-    for pair in asked {
+    for pair in requested {
         let copy = copy_of(pair)?;
         pairs.insert(copy)?;
     }
@@ -170,16 +170,16 @@ impl<'q> PreparedSearch<'q> {
     pub fn new(alloc: Global, query: &'q Find) -> Result<Self, AllocError>
         ensures { IfOk result (λ w. w ≡ query.now) }
     {
-        let asked = query.tags.as_slice();
-        let keys = keys_of(alloc, asked)?;
-        let lengths = lengths_of(alloc, asked)?;
-        let pairs = pairs_of(alloc, asked)?;
+        let requested = query.tags.as_slice();
+        let keys = keys_of(alloc, requested)?;
+        let lengths = lengths_of(alloc, requested)?;
+        let pairs = pairs_of(alloc, requested)?;
         Ok(PreparedSearch {
             query,
             keys,
-            key_bits: key_bits(asked),
+            key_bits: key_bits(requested),
             lengths,
-            has_number: has_number(asked),
+            requests_number: requests_number(requested),
             pairs,
         })
     }
@@ -207,7 +207,7 @@ impl<'q> PreparedSearch<'q> {
 
     /// Whether a key may be requested, by its length. No other key has to be looked up.
     pub(crate) fn may_request_key(&self, key: &Text) -> bool
-        ensures { OnFalse result ((t : List ℕ) → asks self.now (key.now, t) ≡ false) }
+        ensures { OnFalse result ((t : List ℕ) → requests_pair self.now (key.now, t) ≡ false) }
     {
         is_set(self.key_bits, key)
     }
@@ -215,11 +215,12 @@ impl<'q> PreparedSearch<'q> {
     /// Whether a value may have a requested text: by the length of its text, or, if it is a number, by whether some
     /// requested text may be that of a number.
     fn may_request(&self, value: &TagValue) -> bool
-        ensures { OnFalse result ((k : List ℕ) → asks self.now (k, tag_text value.now) ≡ false) }
+        ensures { OnFalse result ((k : List ℕ) →
+            requests_pair self.now (k, tag_text value.now) ≡ false) }
     {
         match text_length(value) {
             Some(length) => self.lengths.contains(&length),
-            None => self.has_number,
+            None => self.requests_number,
         }
     }
 

@@ -1,8 +1,9 @@
 -- Reads that were made while something was awaited, one after the other.
 use Rattle.std.proofs.Common.{◌≡◌, ℕ, ◌+◌, List, [], ◌∷◌, ◌++◌, length, Result, Ok, Err, OnErr, refl, sym, ap, subst, arith, append_assoc}
-use Rattle.http_requests.specs.AwaitedReads.{Gives, counted, GivesWhile, ReadsWhile, input_moment, read_rule}
+use Rattle.session_devices.specs.ByteTransfers.{ByteTransfer}
+use Rattle.http_requests.specs.AwaitedReads.{counted, GivesWhile, ReadsWhile, input_moment, read_rule}
 
-module _ {R : Type 0} (gives : Gives R) where
+module _ {R : Type 0} (gives : ByteTransfer R) where
   pub no_read : (Awaits : List ℕ → Type 0) (s : R) (bytes : List ℕ) → ReadsWhile (read_rule gives Awaits) (input_moment s bytes) (input_moment s bytes)
   no_read Awaits s bytes = record { pieces = []; each = (refl, refl) }
 
@@ -47,7 +48,7 @@ module _ {R : Type 0} (gives : Gives R) where
 
 -- ---- with the reads that may still be made
 
-module _ {R : Type 0} (gives : Gives R) (Awaits : List ℕ → Type 0) where
+module _ {R : Type 0} (gives : ByteTransfer R) (Awaits : List ℕ → Type 0) where
   uncounted_each : (ps : List (List ℕ)) (s t : R × ℕ) (old new : List ℕ)
       → GivesWhile (read_rule (counted gives) Awaits) (input_moment s old) (input_moment t new) ps
       → GivesWhile (read_rule gives Awaits) (input_moment s.0 old) (input_moment t.0 new) ps × (t.1 + length ps ≡ s.1)

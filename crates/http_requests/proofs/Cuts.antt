@@ -10,16 +10,16 @@ use Rattle.std.proofs.lemmas.List.{take_all, length-drop}
 use Rattle.std.specs.List.{position_or_len, slice_split}
 use Rattle.std.proofs.Math.Bool.{or-false}
 use Rattle.httparse.specs.Grammar.{trim_ows}
-use Rattle.http_requests.specs.Fields.{cut_at, has_token, same_name}
+use Rattle.http_requests.specs.Fields.{split_once, has_token, same_name}
 
-pub cut_none : (c : ℕ) (xs : List ℕ) → ((k : ℕ) → k < length xs → (get_or xs k 0 == c) ≡ false) → cut_at c xs ≡ None
+pub cut_none : (c : ℕ) (xs : List ℕ) → ((k : ℕ) → k < length xs → (get_or xs k 0 == c) ≡ false) → split_once c xs ≡ None
 cut_none c xs none =
     let at : position_or_len (λ b. b == c) xs ≡ length xs = position_or_len_is (λ b. b == c) xs (length xs) 0 (omega arith) none (λ l. absurd (omega arith)) in
     let not_less : nat_lt (position_or_len (λ b. b == c) xs) (length xs) ≡ false = rw at (search (rules, nat_tests)) in
     rw not_less refl
 
 pub cut_some : (c place : ℕ) (xs : List ℕ) → place < length xs → ((k : ℕ) → k < place → (get_or xs k 0 == c) ≡ false) → (get_or xs place 0 == c) ≡ true
-    → Some (take place xs, take (length xs - (place + 1)) (drop (place + 1) xs)) ≡ cut_at c xs
+    → Some (take place xs, take (length xs - (place + 1)) (drop (place + 1) xs)) ≡ split_once c xs
 cut_some c place xs inside before here =
     let at : position_or_len (λ b. b == c) xs ≡ place = position_or_len_is (λ b. b == c) xs place 0 (omega arith) before (λ l. here) in
     let less : nat_lt (position_or_len (λ b. b == c) xs) (length xs) ≡ true = rw at (search (rules, nat_tests)) in
@@ -31,14 +31,14 @@ none_only true x e = absurd (none-some x (sym e))
 none_only false x e = refl
 
 -- a list that isn't cut is one part
-pub one_part : (c : ℕ) (xs : List ℕ) → cut_at c xs ≡ None → slice_split (λ b. b == c) xs ≡ xs ∷ []
+pub one_part : (c : ℕ) (xs : List ℕ) → split_once c xs ≡ None → slice_split (λ b. b == c) xs ≡ xs ∷ []
 one_part c xs none =
     let off : nat_lt (position_or_len (λ b. b == c) xs) (length xs) ≡ false = none_only _ _ none in
     let far : length xs ≤ position_or_len (λ b. b == c) xs = search (rules, nat_tests) in
     slice_split_none (λ b. b == c) xs (λ k e m. let f = fails_before_first (λ b. b == c) xs k e (grind (arith, common_steps)) in grind (arith, common_steps))
 
 -- a list without a comma has the token where it is the token
-pub last_item : (token list : List ℕ) → cut_at 44 list ≡ None → has_token token list ≡ same_name (trim_ows list) token
+pub last_item : (token list : List ℕ) → split_once 44 list ≡ None → has_token token list ≡ same_name (trim_ows list) token
 last_item token list none = rw (one_part 44 list none) (or-false (same_name (trim_ows list) token))
 
 some_only : {A : Type 0} (b : Bool) (x y : A) → (if b then Some x else None) ≡ Some y → (b ≡ true) × (x ≡ y)
@@ -46,7 +46,7 @@ some_only true x y e = (refl, ap (λ o. unwrap_or o x) e)
 some_only false x y e = absurd (none-some y e)
 
 -- a list that is cut has the token where the first item is the token, or the rest has it
-pub more_items : (token list item more : List ℕ) → cut_at 44 list ≡ Some (item, more)
+pub more_items : (token list item more : List ℕ) → split_once 44 list ≡ Some (item, more)
     → has_token token list ≡ (same_name (trim_ows item) token || has_token token more)
 more_items token list item more is =
     let p = some_only _ _ _ is in

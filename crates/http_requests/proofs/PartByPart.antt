@@ -1,7 +1,7 @@
 -- How a body is read, part by part.
 use Rattle.std.proofs.Common.{Bool, [], ◌++◌, Some}
 use Rattle.std.specs.Io.KnownBytes.{IsAtEnd}
-use Rattle.session_devices.specs.ByteTakers.{Takings, TakesNothing, TakesJoined}
+use Rattle.session_devices.specs.ByteTransfers.{ByteTransfer, TakesNothing, TakesJoined}
 use Rattle.http_requests.specs.Requests.{AwaitsBody}
 use Rattle.http_requests.specs.AwaitedReads.{Source}
 use Rattle.http_requests.specs.ReceivedBytes.{ReadBuffer, ReadsOn, IsRead, ReadFails, StopsWhile, read_moment, failed_call}
@@ -16,7 +16,7 @@ use Rattle.http_requests.specs.declared.read_buffer.ReadError.{ReadError}
 use Rattle.http_requests.proofs.Readings.{nothing_yet, with_text, read_after, stops_reading}
 use Rattle.http_requests.proofs.Parts.{awaits_body, ended_breaks, breaks_anyway}
 
-module _ {S R : Type 0} (takes : Takings S) (source : Source R) where
+module _ {S R : Type 0} (takes : ByteTransfer S) (source : Source R) where
   pub begins_body : TakesNothing S takes → (s : R) (r : ReadBuffer) (before : S) (size : BodyLength) (reader : BodyReader) → IsPart size [] [] reader
       → TakesPart (body_call takes source size) (body_moment s r before) (body_moment s r before) reader
   begins_body nothing s r before size reader part =

@@ -5,7 +5,7 @@ use Rattle.std.proofs.lemmas.List.{flat_map_more, take-append-drop, length-take-
 use Rattle.std.proofs.Math.Seq.{take-append_seam}
 use Rattle.httparse.specs.Ascii.{crlf_bytes}
 use Rattle.http_requests.specs.Chunks.{IsSizeLine, IsSomeSizeLine, IsTrailer, IsContent, Chunk, texts, contents, HasNone, NeverHas}
-use Rattle.session_devices.specs.ByteTakers.{Takings, TakesNothing, TakesJoined}
+use Rattle.session_devices.specs.ByteTransfers.{ByteTransfer, TakesNothing, TakesJoined}
 use Rattle.http_requests.specs.declared.request.TheConstants.{MAX_BODY_BYTES}
 use Rattle.http_requests.specs.declared.request.BodyLength.{BodyLength}
 use Rattle.http_requests.specs.declared.request.BodyLength.TheVariants.{Bytes, Chunked, Unreadable, TooLarge}
@@ -243,7 +243,7 @@ awaits_at TooLarge front fed held left (stage.Unreadable why) so awaits = absurd
 
 pub awaits_body : (of : BodyLength) (front fed held : List ℕ) (reader : BodyReader) → IsPart of front fed reader → AwaitsMoreBody reader held
     → AwaitsBody of (front ++ held)
-awaits_body of front fed held reader so awaits = awaits_at of front fed held reader.left reader.stage so awaits
+awaits_body of front fed held reader so awaits = awaits_at of front fed held reader.data_left reader.stage so awaits
 
 -- the bytes looked at are seen among more
 looked_at : (stage : Stage) (held more : List ℕ) → AwaitsAt stage held → HasLookedAt stage (held ++ more)
@@ -308,7 +308,7 @@ none_taken old was is look outcome = record {
       (subst (λ (l : List ℕ). HasStepOutcome of (body_part front l) (sinkless_moment is old) look) (sym (append-nil fed)) (outcome of front fed part));
 }
 
-module _ {S : Type 0} (takes : Takings S) where
+module _ {S : Type 0} (takes : ByteTransfer S) where
   -- the first bytes were taken and pushed into the sink
   pub data_taken : (old new : ReadBuffer) (before after : S) (was is : BodyReader) (look : Option BodyLook) (count : ℕ)
       → takes before (take count old.held) after → new ≡ record old { held = drop count old.held }
@@ -364,8 +364,8 @@ module _ {S : Type 0} (takes : Takings S) where
 
 -- the part of a reader whose stage is known
 pub at_stage : (of : BodyLength) (front fed : List ℕ) (reader : BodyReader) (stage : Stage) → reader.stage ≡ stage → IsPart of front fed reader
-    → IsPartAt of (body_part front fed) reader.left stage
-at_stage of front fed reader stage is part = subst (λ (s : Stage). IsPartAt of (body_part front fed) reader.left s) is part
+    → IsPartAt of (body_part front fed) reader.data_left stage
+at_stage of front fed reader stage is part = subst (λ (s : Stage). IsPartAt of (body_part front fed) reader.data_left s) is part
 
 -- a text that begins the bytes and isn't empty is taken
 pub fewer_held : (old new : ReadBuffer) (Is : List ℕ → Type 0) (count : ℕ) → HasNone Is [] → Is (take count old.held) → count ≤ length old.held

@@ -53,13 +53,13 @@ takes_more in0 in1 a b text more rest reads cut = record {
 
 module _ {R : Type 0} (source : Source R) where
   pub nothing_yet : (Awaits : List ℕ → Type 0) (s : R) (r : ReadBuffer) → ReadsOnWhile source Awaits (read_moment s r) (read_moment s r)
-  nothing_yet Awaits s r = record { on = nothing_read (source.remaining s) r; waits = no_read (counted source.gives) Awaits (s, r.left) r.held }
+  nothing_yet Awaits s r = record { on = nothing_read (source.remaining s) r; waits = no_read (counted source.gives) Awaits (s, r.reads_left) r.held }
 
   pub once : (Awaits : List ℕ → Type 0) (s t : R) (a b : ReadBuffer) → Awaits a.held → ReadsOn (source.remaining s) (source.remaining t) a b
       → IsRead source.gives (read_moment s a) (read_moment t b)
       → ReadsOnWhile source Awaits (read_moment s a) (read_moment t b)
   once Awaits s t a b awaits on read =
-      record { on = on; waits = one_read (counted source.gives) Awaits (s, a.left) (t, b.left) a.held b.held read.0 awaits (read.1, read.3) read.2 }
+      record { on = on; waits = one_read (counted source.gives) Awaits (s, a.reads_left) (t, b.reads_left) a.held b.held read.0 awaits (read.1, read.3) read.2 }
 
   -- seen from the start of what was taken before
   pub prefix_then : (Awaits More : List ℕ → Type 0) (s m t : R) (a b c : ReadBuffer) (text : List ℕ) → ((h : List ℕ) → More h → Awaits (text ++ h))
@@ -67,8 +67,9 @@ module _ {R : Type 0} (source : Source R) where
       → ReadsOnWhile source Awaits (read_moment s a) (read_moment t (put_back text c))
   prefix_then Awaits More s m t a b c text more first second = record {
     on = takes_then_reads (source.remaining s) (source.remaining m) (source.remaining t) a b c text first.on second.on;
-    waits = reads_in_turn (counted source.gives) Awaits (s, a.left) (m, b.left) (t, c.left) a.held (text ++ b.held) (text ++ c.held) first.waits
-        (reads_after (counted source.gives) More Awaits text more (m, b.left) (t, c.left) b.held c.held second.waits);
+    waits = reads_in_turn (counted source.gives) Awaits (s, a.reads_left) (m, b.reads_left) (t, c.reads_left) a.held (text ++ b.held) (text ++ c.held)
+        first.waits
+        (reads_after (counted source.gives) More Awaits text more (m, b.reads_left) (t, c.reads_left) b.held c.held second.waits);
   }
 
   pub then_on : (Awaits : List ℕ → Type 0) (s m t : R) (a b c : ReadBuffer) → ReadsOnWhile source Awaits (read_moment s a) (read_moment m b)
@@ -84,7 +85,7 @@ module _ {R : Type 0} (source : Source R) where
   prefix_more Awaits s t a b text more rest reads cut = record {
     on = takes_more (source.remaining s) (source.remaining t) a b text more rest reads.on cut;
     waits =
-        subst (λ (l : List ℕ). ReadsWhile (read_rule (counted source.gives) Awaits) (input_moment (s, a.left) a.held) (input_moment (t, b.left) l))
+        subst (λ (l : List ℕ). ReadsWhile (read_rule (counted source.gives) Awaits) (input_moment (s, a.reads_left) a.held) (input_moment (t, b.reads_left) l))
         (ap (λ l. text ++ l) cut ∙ sym (append_assoc text more rest)) reads.waits;
   }
 

@@ -10,10 +10,10 @@ use Rattle.http_requests.specs.Heads.{TakesHead, IsWholeHead, AwaitsHead}
 use Rattle.http_requests.specs.declared.request.Method.{Method}
 use Rattle.http_requests.specs.HeadContents.{asked_by, pairs_of, method_of, has_batch_type, closes_by}
 use Rattle.http_requests.specs.AwaitedReads.{Source}
-use Rattle.http_requests.specs.ReceivedBytes.{ReadBuffer, ReadsOnWhile, FindsHead, read_moment, found_head}
-use Rattle.http_requests.specs.declared.request.BodyLength.{BodyLength}
+use Rattle.http_requests.specs.ReceivedBytes.{ReadBuffer, ReadsOnWhile, read_moment}
+use Rattle.http_requests.specs.HeadSearches.{FindsHead}
 use Rattle.http_requests.specs.FramedHeads.{Frames}
-use Rattle.http_requests.specs.declared.request.Request.{Request}
+use Rattle.http_requests.specs.declared.request.FoundHead.{FoundHead}
 
 -- a part of the start, whatever follows that
 pub slice_of_prefix : (prefix more : List ℕ) (start end : ℕ) → start ≤ end → end ≤ length prefix
@@ -41,21 +41,21 @@ head_cut bytes len h takes fits =
     let is : len ≡ length (print_request h) = omega (arith, whole, fits, length-drop len bytes) in
     ap (take len) takes.reads.1 ∙ ap (λ k. take k (print_request h ++ drop len bytes)) is ∙ take-append_seam (print_request h) (drop len bytes)
 
-pub finds_head : {R : Type 0} (source : Source R) (s t : R) (old here : ReadBuffer) (bytes : List ℕ) (len : ℕ) (r : Request) (size : BodyLength)
-    → ReadsOnWhile source AwaitsHead (read_moment s old) (read_moment t here) → Frames bytes len r size → bytes ≡ here.held
-    → FindsHead source (read_moment s old) (read_moment t here) (found_head r len size)
-finds_head source s t old here bytes len r size reads framed are =
-    let frames : Frames here.held len r size = subst (λ (l : List ℕ). Frames l len r size) are framed in
+pub finds_head : {R : Type 0} (source : Source R) (s t : R) (old here : ReadBuffer) (bytes : List ℕ) (found : FoundHead)
+    → ReadsOnWhile source AwaitsHead (read_moment s old) (read_moment t here) → Frames bytes found → bytes ≡ here.held
+    → FindsHead source (read_moment s old) (read_moment t here) found
+finds_head source s t old here bytes found reads framed are =
+    let frames : Frames here.held found = subst (λ (l : List ℕ). Frames l found) are framed in
     record {
       is =
           record {
             head = frames.head;
             is = frames.takes.reads.0;
-            bytes_are = head_cut here.held len frames.head frames.takes frames.fits;
+            bytes_are = head_cut here.held found.len frames.head frames.takes frames.fits;
             describes = frames.describes;
           };
       takes = frames.takes;
       inside = frames.fits;
-      size_is = frames.size_is;
+      body_length_is = frames.body_length_is;
       reads = reads;
     }

@@ -1,29 +1,26 @@
 -- An input is read only while something is awaited from it.
 use Rattle.std.specs.Prelude.{◌≡◌, ℕ, ◌+◌, Bool, true, List, [], ◌∷◌, ◌++◌, Option}
 use Rattle.std.specs.Io.KnownBytes.{Keeps}
-
--- relates the states of an input before and after one read that returns these bytes
-abbrev pub Gives : Type 0 → Type 1
-Gives R = R → List ℕ → R → Type 0
+use Rattle.session_devices.specs.ByteTransfers.{ByteTransfer}
 
 -- what is known about an input in each of its states
 pub record Source (R : Type 0) : Type 1 where
   pub remaining : R → Option (List ℕ)
-  pub gives : Gives R
+  pub gives : ByteTransfer R
 
-abbrev pub source_of : {R : Type 0} → (R → Option (List ℕ)) → Gives R → Source R
+abbrev pub source_of : {R : Type 0} → (R → Option (List ℕ)) → ByteTransfer R → Source R
 source_of remaining gives = record { remaining = remaining; gives = gives }
 
 -- the relation for an input with the number of reads left: each read takes one
-abbrev pub counted : {R : Type 0} → Gives R → Gives (R × ℕ)
+abbrev pub counted : {R : Type 0} → ByteTransfer R → ByteTransfer (R × ℕ)
 counted gives s piece t = gives s.0 piece t.0 × (t.1 + 1 ≡ s.1)
 
 -- when an input is read: what each read does to it, and what is awaited, given the bytes received before the read
 pub record ReadRule (R : Type 0) : Type 1 where
-  pub gives : Gives R
+  pub gives : ByteTransfer R
   pub awaits : List ℕ → Type 0
 
-abbrev pub read_rule : {R : Type 0} → Gives R → (List ℕ → Type 0) → ReadRule R
+abbrev pub read_rule : {R : Type 0} → ByteTransfer R → (List ℕ → Type 0) → ReadRule R
 read_rule gives Awaits = record { gives = gives; awaits = Awaits }
 
 -- the state of an input at one moment, and the bytes received by then

@@ -7,7 +7,7 @@ use Rattle.http_requests.specs.ChunkLooks.{EndsNoLine}
 use Rattle.http_requests.specs.Requests.{HasBody, BodyBreaks, AwaitsBody}
 use Rattle.http_requests.specs.AwaitedReads.{Source}
 use Rattle.http_requests.specs.ReceivedBytes.{ReadBuffer, ReadMoment, read_moment, ReadsOnWhile, put_back}
-use Rattle.session_devices.specs.ByteTakers.{Takings}
+use Rattle.session_devices.specs.ByteTransfers.{ByteTransfer}
 use Rattle.http_requests.specs.declared.request.BodyLength.{BodyLength}
 use Rattle.http_requests.specs.declared.request.RequestFault.{RequestFault}
 
@@ -55,11 +55,11 @@ body_moment input received sink = record { input = input; received = received; s
 
 -- a call that reads a body: what the sink does with bytes, what is known about the input, and the announced length
 pub record BodyCall (R S : Type 0) : Type 1 where
-  pub takes : Takings S
+  pub takes : ByteTransfer S
   pub source : Source R
   pub size : BodyLength
 
-abbrev pub body_call : {R S : Type 0} → Takings S → Source R → BodyLength → BodyCall R S
+abbrev pub body_call : {R S : Type 0} → ByteTransfer S → Source R → BodyLength → BodyCall R S
 body_call takes source size = record { takes = takes; source = source; size = size }
 
 -- the input and the bytes received at one moment of such a call

@@ -46,5 +46,5 @@ values_in (One v) = v.now ∷ []
 values_in Many = []
 
 -- the bytes before and after the first such byte; None if there is none
-abbrev pub cut_at : ℕ → List ℕ → Option (List ℕ × List ℕ)
-cut_at c s = if nat_lt (position_or_len (λ b. b == c) s) (length s) then Some (before_first (λ b. b == c) s, after_first (λ b. b == c) s) else None
+abbrev pub split_once : ℕ → List ℕ → Option (List ℕ × List ℕ)
+split_once c s = if nat_lt (position_or_len (λ b. b == c) s) (length s) then Some (before_first (λ b. b == c) s, after_first (λ b. b == c) s) else None

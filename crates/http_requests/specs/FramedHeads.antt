@@ -4,14 +4,13 @@ use Rattle.httparse.specs.Grammar.{RequestHead}
 use Rattle.http_requests.specs.Heads.{TakesHead}
 use Rattle.http_requests.specs.HeadContents.{IsBounded, body_length}
 use Rattle.http_requests.specs.Requests.{Describes}
-use Rattle.http_requests.specs.declared.request.BodyLength.{BodyLength}
-use Rattle.http_requests.specs.declared.request.Request.{Request}
+use Rattle.http_requests.specs.declared.request.FoundHead.{FoundHead}
 
 -- the head at the start has this length, asks this, and announces a body of this length
-pub record Frames (bytes : List ℕ) (len : ℕ) (r : Request) (size : BodyLength) : Type 0 where
+pub record Frames (bytes : List ℕ) (found : FoundHead) : Type 0 where
   pub head : RequestHead
-  pub takes : TakesHead bytes head (drop len bytes)
-  pub describes : Describes head r
-  pub size_is : size ≡ body_length head
-  pub bounded : IsBounded size
-  pub fits : len ≤ length bytes
+  pub takes : TakesHead bytes head (drop found.len bytes)
+  pub describes : Describes head found.request
+  pub body_length_is : found.body_length ≡ body_length head
+  pub bounded : IsBounded found.body_length
+  pub fits : found.len ≤ length bytes

@@ -7,6 +7,7 @@ pub mod AwaitedReads
 pub mod Rooms
 pub mod Pieces
 pub mod ReceivedBytes
+pub mod Searches
 pub mod HeadSearches
 pub mod Bodies
 pub mod PartialRequests

@@ -3,7 +3,7 @@ use Rattle.std.specs.Prelude.{◌≡◌, ℕ, ◌+◌, ◌<◌, ◌≤◌, List,
 use Rattle.http_requests.specs.Chunks.{IsSizeLine, IsContent, IsTrailer, Chunk, IsChunk, texts, contents, HasNone}
 use Rattle.http_requests.specs.declared.chunked.looks.Look.{Look}
 use Rattle.http_requests.specs.declared.chunked.looks.Look.TheVariants as look
-use Rattle.session_devices.specs.ByteTakers.{Takings}
+use Rattle.session_devices.specs.ByteTransfers.{ByteTransfer}
 use Rattle.http_requests.specs.declared.request.TheConstants.{MAX_BODY_BYTES}
 use Rattle.http_requests.specs.declared.request.BodyLength.{BodyLength}
 use Rattle.http_requests.specs.declared.request.BodyLength.TheVariants.{Bytes, Chunked, Unreadable, TooLarge}
@@ -85,7 +85,7 @@ IsPartAt _ part left _ = ⊥
 
 -- the reader has taken this part of a body of this length
 abbrev pub IsPart : BodyLength → List ℕ → List ℕ → BodyReader → Type 0
-IsPart size text content reader = IsPartAt size (body_part text content) reader.left reader.stage
+IsPart size text content reader = IsPartAt size (body_part text content) reader.data_left reader.stage
 
 -- ---- what follows it
 
@@ -131,19 +131,20 @@ abbrev pub HasStepOutcome : {S : Type 0} → BodyLength → BodyPart → ReaderM
 HasStepOutcome size part after None = IsPart size part.text part.content after.reader
 HasStepOutcome size part after (Some look) = HasOutcome size part after look
 
--- if nothing is decided, more is awaited
-abbrev pub Leaves : BodyReader → List ℕ → BodyLook → Type 0
-Leaves reader held Whole = Unit {0}
-Leaves reader held More = AwaitsMoreBody reader held
-Leaves reader held (Fault why) = Unit {0}
+-- if nothing is decided, more of the body is awaited
+abbrev pub AwaitsIfMore : BodyReader → List ℕ → BodyLook → Type 0
+AwaitsIfMore reader held Whole = Unit {0}
+AwaitsIfMore reader held More = AwaitsMoreBody reader held
+AwaitsIfMore reader held (Fault why) = Unit {0}
 
-abbrev pub LeavesOr : BodyReader → List ℕ → Option BodyLook → Type 0
-LeavesOr reader held None = HasLooked reader held
-LeavesOr reader held (Some look) = Leaves reader held look
+-- the same after one step of a look: the bytes that were examined hold no trailer if another step may follow
+abbrev pub AwaitsAfterStep : BodyReader → List ℕ → Option BodyLook → Type 0
+AwaitsAfterStep reader held None = HasLooked reader held
+AwaitsAfterStep reader held (Some look) = AwaitsIfMore reader held look
 
 -- A text was taken from the bytes received, and the data in it were pushed into the sink. Whatever part the reader had
 -- taken before, that part with this text has this outcome.
-pub record ContinuesBody {S : Type 0} (takes : Takings S) (before after : ReaderMoment S) (look : Option BodyLook) : Type 0 where
+pub record ContinuesBody {S : Type 0} (takes : ByteTransfer S) (before after : ReaderMoment S) (look : Option BodyLook) : Type 0 where
   pub text : List ℕ
   pub content : List ℕ
   pub cut : before.received ≡ put_back text after.received

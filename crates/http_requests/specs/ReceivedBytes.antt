@@ -1,24 +1,17 @@
--- What reads do to the bytes received, and what one search for the head of a request finds.
+-- What reads do to the bytes received.
 use Rattle.std.specs.Prelude.{◌≡◌, ℕ, ◌+◌, ◌*◌, ◌≤◌, ◌⊎◌, Bool, true, false, if◌then◌else◌}
-use Rattle.std.specs.Prelude.{List, [], ◌++◌, length, take, drop, Option, Result, Ok, Err}
+use Rattle.std.specs.Prelude.{List, ◌++◌, length, Option, Result, Ok, Err}
 use Rattle.std.specs.Io.KnownBytes.{Consumes, IsAtEnd}
+use Rattle.session_devices.specs.ByteTransfers.{ByteTransfer}
 use Rattle.http_requests.specs.declared.room.TheConstants.{READ_BYTES}
-use Rattle.http_requests.specs.Heads.{TakesHead, AwaitsHead}
-use Rattle.http_requests.specs.HeadContents.{body_length}
-use Rattle.http_requests.specs.Requests.{IsHeadOf, IsMalformed}
-use Rattle.http_requests.specs.AwaitedReads.{Gives, Source, counted, read_rule, InputMoment, input_moment, ReadsWhile, FailsToRead}
-use Rattle.http_requests.specs.declared.request.BodyLength.{BodyLength}
-use Rattle.http_requests.specs.declared.request.RequestFault.TheVariants as fault
-use Rattle.http_requests.specs.declared.request.Request.{Request}
+use Rattle.http_requests.specs.AwaitedReads.{Source, counted, read_rule, InputMoment, input_moment, ReadsWhile, FailsToRead}
 use Rattle.http_requests.specs.declared.read_buffer.ReadError.{ReadError}
 use Rattle.http_requests.specs.declared.read_buffer.ReadError.TheVariants.{Reading, Memory}
-use Rattle.http_requests.specs.declared.reading.Next.{Next}
-use Rattle.http_requests.specs.declared.reading.Next.TheVariants.{One, Clean, NoHead}
 
 -- the bytes that were read and not yet taken, the number of reads left, and whether the input has ended
 pub record ReadBuffer : Type 0 where
   pub held : List ℕ
-  pub left : ℕ
+  pub reads_left : ℕ
   pub ended : Bool
 
 -- an input that has ended has nothing left
@@ -27,7 +20,7 @@ KnowsItsEnd ended input = ended ≡ true → IsAtEnd input
 
 -- the number of reads left, with the one that found the end
 abbrev pub turns : ReadBuffer → ℕ
-turns r = r.left + (if r.ended then 1 else 0)
+turns r = r.reads_left + (if r.ended then 1 else 0)
 
 -- Some reads were made. Each returned at most a piece and, unless it found the end, at least one byte.
 pub record ReadsOn (in0 in1 : Option (List ℕ)) (old new : ReadBuffer) : Type 0 where
@@ -35,7 +28,7 @@ pub record ReadsOn (in0 in1 : Option (List ℕ)) (old new : ReadBuffer) : Type 0
   pub read : Consumes in0 in1 more
   pub held : new.held ≡ old.held ++ more
   pub least : turns old ≤ length more + turns new
-  pub most : length more + READ_BYTES * new.left ≤ READ_BYTES * old.left
+  pub most : length more + READ_BYTES * new.reads_left ≤ READ_BYTES * old.reads_left
   pub end : KnowsItsEnd old.ended in0 → KnowsItsEnd new.ended in1
 
 -- whether the input has failed is unchanged, unless a failed read stopped the call
@@ -60,13 +53,13 @@ read_moment input received = record { input = input; received = received }
 
 -- the same, with the number of reads left as a part of the input's state
 abbrev pub counted_moment : {R : Type 0} → ReadMoment R → InputMoment (R × ℕ)
-counted_moment m = input_moment (m.input, m.received.left) m.received.held
+counted_moment m = input_moment (m.input, m.received.reads_left) m.received.held
 
 -- one read was made, and its bytes were appended to those received
-abbrev pub IsRead : {R : Type 0} → Gives R → ReadMoment R → ReadMoment R → Type 0
+abbrev pub IsRead : {R : Type 0} → ByteTransfer R → ReadMoment R → ReadMoment R → Type 0
 IsRead gives before after =
     (piece : List ℕ) × gives before.input piece after.input
-    × (after.received.held ≡ before.received.held ++ piece) × (after.received.left + 1 ≡ before.received.left)
+    × (after.received.held ≡ before.received.held ++ piece) × (after.received.reads_left + 1 ≡ before.received.reads_left)
 
 -- Some reads were made, each while more was awaited, given the bytes received by then. Each takes one of the reads
 -- left.
@@ -94,7 +87,7 @@ ByError Memory IfReading IfMemory = IfMemory
 abbrev pub ReadFails : {R : Type 0} → Source R → ReadMoment R → FailedCall R → Type 0
 ReadFails source before after =
     ByError after.why
-    (((after.input ≡ before.input) × (before.received.left ≡ 0) × (before.received.ended ≡ false))
+    (((after.input ≡ before.input) × (before.received.reads_left ≡ 0) × (before.received.ended ≡ false))
     ⊎ FailsToRead source before.input after.input after.failed)
     (after.input ≡ before.input)
 
@@ -105,40 +98,3 @@ pub record StopsWhile {R : Type 0} (source : Source R) (Awaits : List ℕ → Ty
   pub reads : ReadsOnWhile source Awaits before here
   pub awaits : Awaits here.received.held
   pub last : ReadFails source here after
-
--- ---- what one search for the head of a request finds
-
--- what was reported about a head, its length, and the announced length of the body
-pub record FoundHead : Type 0 where
-  pub request : Request
-  pub len : ℕ
-  pub size : BodyLength
-
-abbrev pub found_head : Request → ℕ → BodyLength → FoundHead
-found_head request len size = record { request = request; len = len; size = size }
-
--- The bytes start with the head of a request, of this length, with this report and this announced body length. Each
--- read for it was made while a head was awaited.
-pub record FindsHead {R : Type 0} (source : Source R) (before after : ReadMoment R) (found : FoundHead) : Type 0 where
-  pub is : IsHeadOf (take found.len after.received.held) found.request
-  pub takes : TakesHead after.received.held is.head (drop found.len after.received.held)
-  pub inside : found.len ≤ length after.received.held
-  pub size_is : found.size ≡ body_length is.head
-  pub reads : ReadsOnWhile source AwaitsHead before after
-
--- the input has ended and nothing is left
-pub record FindsEnd {R : Type 0} (source : Source R) (before after : ReadMoment R) : Type 0 where
-  pub reads : ReadsOnWhile source AwaitsHead before after
-  pub at_end : IsAtEnd (source.remaining after.input)
-  pub nothing : after.received.held ≡ []
-
--- what is left doesn't start with a head
-pub record FindsNone {R : Type 0} (source : Source R) (before after : ReadMoment R) : Type 0 where
-  pub reads : ReadsOnWhile source AwaitsHead before after
-  pub malformed : IsMalformed (IsAtEnd (source.remaining after.input)) after.received.held fault.Head
-
--- what one search for the head of a request finds
-abbrev pub Finds : {R : Type 0} → Source R → ReadMoment R → ReadMoment R → Next → Type 0
-Finds source before after (One request len size) = FindsHead source before after (found_head request len size)
-Finds source before after Clean = FindsEnd source before after
-Finds source before after NoHead = FindsNone source before after

@@ -23,19 +23,19 @@ pub fn read_body<R: Input, S: Sink>(
     input: &mut R,
     received: &mut ReadBuffer,
     sink: &mut S,
-    size: BodyLength,
+    body_length: BodyLength,
 ) -> Result<Result<(), RequestFault>, ReadError>
     requires end { KnowsItsEnd received.old.ended (R.remaining input.old) }
     ensures body { IfOk result (ReadsBody
-        (body_call S.takes (source_of R.remaining R.gives) size)
+        (body_call S.takes (source_of R.remaining R.gives) body_length)
         (body_moment input.old received.old sink.old)
         (body_moment input.new received.new sink.new)) }
     ensures err { IfErr result (λ why. StopsWhile (source_of R.remaining R.gives)
-        (AwaitsBody size) (read_moment input.old received.old)
+        (AwaitsBody body_length) (read_moment input.old received.old)
         (failed_call input.new (R.has_failed input.new) why)) }
     ensures same { SameUnlessReading (R.has_failed input.old) (R.has_failed input.new) result }
 {
-    let mut reader = BodyReader::new(size);
+    let mut reader = BodyReader::new(body_length);
     // For the prover: its proof names the loop by the label.
     'reads: loop {
         match reader.take_from(received, sink) {

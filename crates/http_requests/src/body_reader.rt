@@ -2,9 +2,10 @@
 
 ghost use Rattle.std.specs.Prelude.{◌≡◌, ◌<◌, ℕ, List, [], length, take, drop, min, IfNone, Some};
 ghost use Rattle.http_requests.specs.Chunks.{IsTrailer, HasNone, NeverHas};
-ghost use Rattle.http_requests.specs.HeadSearches.{LooksFor, search_for};
+ghost use Rattle.http_requests.specs.Searches.{LooksFor, search_for};
 ghost use Rattle.http_requests.specs.Bodies.{AwaitsRest, IsLineEnd, Begins, begins_line_end, may_begin_line_end};
-ghost use Rattle.http_requests.specs.PartialRequests.{IsPart, HasLooked, Leaves, LeavesOr, ContinuesBody, ContinuesWithoutData, reader_moment, sinkless_moment};
+ghost use Rattle.http_requests.specs.PartialRequests.{IsPart, HasLooked, AwaitsIfMore, AwaitsAfterStep};
+ghost use Rattle.http_requests.specs.PartialRequests.{ContinuesBody, ContinuesWithoutData, reader_moment, sinkless_moment};
 ghost use Rattle.http_requests.specs.declared.body_reader.Stage.TheVariants as stage;
 
 use crate::chunked::{Look, MAX_TRAILER_BYTES, look_for_size, look_for_trailer};
@@ -43,7 +44,7 @@ enum Stage {
 pub struct BodyReader {
     stage: Stage,
     /// How many bytes of data may still come in chunks.
-    left: u64,
+    data_left: u64,
 }
 
 /// The search for a trailer.
@@ -52,12 +53,13 @@ struct Trailer;
 
 impl Search for Trailer {
     ghost use Rattle.http_requests.specs.LineLaws.{no_trailer_yet, trailer_not_due};
+    ghost use Rattle.http_requests.specs.declared.chunked.trailer.TheConstants.{MAX_TRAILER_BYTES};
 
     type Found = usize;
 
     const MAX_LENGTH: usize = MAX_TRAILER_BYTES;
 
-    ghost MAX_LENGTH = { 8192 };
+    ghost MAX_LENGTH = { MAX_TRAILER_BYTES };
 
     ghost awaits = { HasNone IsTrailer };
 
@@ -118,11 +120,11 @@ fn push_some<S: Sink>(received: &mut ReadBuffer, sink: &mut S, most: u64) -> u64
 
 impl BodyReader {
     /// Creates a reader before the first byte of a body of this length.
-    pub fn new(size: BodyLength) -> Self
-        ensures part { IsPart size [] [] result }
+    pub fn new(body_length: BodyLength) -> Self
+        ensures part { IsPart body_length [] [] result }
         ensures looked { (held : List ℕ) → HasLooked result held }
     {
-        let stage = match size {
+        let stage = match body_length {
             BodyLength::Bytes(count) => Stage::Length(count),
             BodyLength::Chunked => Stage::SizeLine,
             BodyLength::Unreadable => Stage::Unreadable(RequestFault::Body),
@@ -130,7 +132,7 @@ impl BodyReader {
         };
         BodyReader {
             stage,
-            left: MAX_BODY_BYTES,
+            data_left: MAX_BODY_BYTES,
         }
     }
 
@@ -139,20 +141,20 @@ impl BodyReader {
         requires stage { self.old.stage ≡ stage.SizeLine }
         ensures took { ContinuesWithoutData (sinkless_moment self.old received.old)
             (sinkless_moment self.new received.new) result }
-        ensures leaves { LeavesOr self.new received.new.held result }
+        ensures awaits { AwaitsAfterStep self.new received.new.held result }
         ensures fewer { IfNone result (length received.new.held < length received.old.held) }
     {
         match look_for_size(received.as_slice()) {
             Look::Whole((length, size)) => {
                 received.take(length);
-                if size > self.left {
+                if size > self.data_left {
                     return Some(BodyLook::Fault(RequestFault::TooLarge));
                 }
                 if size == 0 {
                     self.stage = Stage::Trailer(0);
                 } else {
                     self.stage = Stage::Data(size);
-                    self.left -= size;
+                    self.data_left -= size;
                 }
                 None
             }
@@ -166,7 +168,7 @@ impl BodyReader {
         requires stage { self.old.stage ≡ stage.Data 0 }
         ensures took { ContinuesWithoutData (sinkless_moment self.old received.old)
             (sinkless_moment self.new received.new) result }
-        ensures leaves { LeavesOr self.new received.new.held result }
+        ensures awaits { AwaitsAfterStep self.new received.new.held result }
         ensures fewer { IfNone result (length received.new.held < length received.old.held) }
     {
         match look_for_line_end(received.as_slice()) {
@@ -186,7 +188,7 @@ impl BodyReader {
         requires looked { HasLooked self.old received.old.held }
         ensures took { ContinuesWithoutData (sinkless_moment self.old received.old)
             (sinkless_moment self.new received.new) (Some result) }
-        ensures leaves { Leaves self.new received.new.held result }
+        ensures awaits { AwaitsIfMore self.new received.new.held result }
     {
         let bytes = received.as_slice();
         match look_when_due(bytes, seen, &mut Trailer) {
@@ -212,7 +214,7 @@ impl BodyReader {
         requires stage { self.old.stage ≡ stage.Length count }
         ensures took { ContinuesBody S.takes (reader_moment self.old received.old sink.old)
             (reader_moment self.new received.new sink.new) (Some result) }
-        ensures leaves { Leaves self.new received.new.held result }
+        ensures awaits { AwaitsIfMore self.new received.new.held result }
     {
         let put = push_some(received, sink, count);
         if put == count {
@@ -233,7 +235,7 @@ impl BodyReader {
         requires some { 0 < count }
         ensures took { ContinuesBody S.takes (reader_moment self.old received.old sink.old)
             (reader_moment self.new received.new sink.new) result }
-        ensures leaves { LeavesOr self.new received.new.held result }
+        ensures awaits { AwaitsAfterStep self.new received.new.held result }
         ensures fewer { IfNone result (length received.new.held < length received.old.held) }
     {
         let put = push_some(received, sink, count);
@@ -251,7 +253,7 @@ impl BodyReader {
         requires looked { HasLooked self.old received.old.held }
         ensures took { ContinuesBody S.takes (reader_moment self.old received.old sink.old)
             (reader_moment self.new received.new sink.new) result }
-        ensures leaves { LeavesOr self.new received.new.held result }
+        ensures awaits { AwaitsAfterStep self.new received.new.held result }
         ensures fewer { IfNone result (length received.new.held < length received.old.held) }
     {
         match self.stage {
@@ -270,7 +272,7 @@ impl BodyReader {
         requires looked { HasLooked self.old received.old.held }
         ensures took { ContinuesBody S.takes (reader_moment self.old received.old sink.old)
             (reader_moment self.new received.new sink.new) (Some result) }
-        ensures leaves { Leaves self.new received.new.held result }
+        ensures awaits { AwaitsIfMore self.new received.new.held result }
     {
         // For the prover: its proof names the loop by the label.
         'steps: loop {

@@ -1,7 +1,7 @@
 ghost use Rattle.std.specs.Prelude.{◌≡◌, ◌∷◌, [], List, ℕ, All, length, map, MatchOption, option_map};
 ghost use Rattle.httparse.specs.Grammar.{trim_ows};
 ghost use Rattle.httparse.specs.Spans.{header_bytes, IsHeaderWithin};
-ghost use Rattle.http_requests.specs.Fields.{same_name, values_of, has_token, have_token, all_are, AreValues, cut_at};
+ghost use Rattle.http_requests.specs.Fields.{same_name, values_of, has_token, have_token, all_are, AreValues, split_once};
 
 use httparse::spans::HeaderSpan;
 use std::marker::Model;
@@ -55,8 +55,8 @@ pub(crate) fn trimmed(bytes: &[u8]) -> &[u8]
 }
 
 /// Splits the bytes at the first byte equal to `at`, which is in neither part.
-pub(crate) fn cut(bytes: &[u8], at: u8) -> Option<(&[u8], &[u8])>
-    ensures { option_map (λ p. (p.0.now, p.1.now)) result ≡ cut_at at bytes.now }
+pub(crate) fn split_once(bytes: &[u8], at: u8) -> Option<(&[u8], &[u8])>
+    ensures { option_map (λ p. (p.0.now, p.1.now)) result ≡ split_once at bytes.now }
 {
     for place in 0..bytes.len() {
         if bytes[place] == at {
@@ -72,7 +72,7 @@ pub(crate) fn has_token(list: &[u8], token: &str) -> bool
     ensures { result ≡ has_token token.now list.now }
 {
     let mut rest = list;
-    while let Some((item, more)) = cut(rest, b',') {
+    while let Some((item, more)) = split_once(rest, b',') {
         if is_named(trimmed(item), token) {
             return true;
         }

@@ -30,12 +30,13 @@ impl HeadSearch {
 impl Search for HeadSearch {
     ghost use Rattle.http_requests.specs.Heads.{NeverHasHead, IsWholeHead};
     ghost use Rattle.http_requests.specs.LineLaws.{no_bytes_await, head_not_due};
+    ghost use Rattle.http_requests.specs.declared.head.TheConstants.{MAX_HEAD_BYTES};
 
     type Found = RequestSpans;
 
     const MAX_LENGTH: usize = MAX_HEAD_BYTES;
 
-    ghost MAX_LENGTH = { 8192 };
+    ghost MAX_LENGTH = { MAX_HEAD_BYTES };
 
     ghost awaits = { AwaitsHead };
 

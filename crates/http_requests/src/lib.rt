@@ -46,7 +46,7 @@ pub use body_reader::{BodyLook, BodyReader};
 pub use chunked::Look;
 pub use read_buffer::{ReadBuffer, ReadError};
 pub use reading::{HeadWait, Next, next_head};
-pub use request::{BodyLength, Method, Request, RequestFault};
+pub use request::{BodyLength, FoundHead, Method, Request, RequestFault};
 pub use room::{READ_BYTES, SpareRoom};
 pub use session_devices::MAX_READS;
 pub use sink::Sink;

@@ -30,7 +30,7 @@ impl From<AllocError> for ReadError {
 #[derive(Drop)]
 pub struct ReadBuffer {
     room: Room,
-    left: u64,
+    reads_left: u64,
     ended: bool,
 }
 
@@ -40,17 +40,17 @@ impl Model for ReadBuffer {
 
     ghost Value = { ReadBufferValue };
 
-    ghost view = { λ s. record { held = held s.room; left = s.left; ended = s.ended } };
+    ghost view = { λ s. record { held = held s.room; reads_left = s.reads_left; ended = s.ended } };
 }
 
 impl ReadBuffer {
     /// Creates a buffer before the first read.
     pub fn new(alloc: Global) -> Self
-        ensures { result ≡ record { held = []; left = MAX_READS; ended = false } }
+        ensures { result ≡ record { held = []; reads_left = MAX_READS; ended = false } }
     {
         ReadBuffer {
             room: Room::new(alloc),
-            left: MAX_READS,
+            reads_left: MAX_READS,
             ended: false,
         }
     }
@@ -104,16 +104,16 @@ impl ReadBuffer {
             (failed_call input.new (R.has_failed input.new) why)) }
         ensures unchanged { OnErr result (self.new ≡ self.old) }
         ensures same { SameUnlessReading (R.has_failed input.old) (R.has_failed input.new) result }
-        ensures fewer { OnOk result (self.new.left + 1 ≡ self.old.left) }
+        ensures fewer { OnOk result (self.new.reads_left + 1 ≡ self.old.reads_left) }
     {
-        if self.left == 0 {
+        if self.reads_left == 0 {
             return Err(ReadError::Reading);
         }
         self.room.make_room()?;
         let Ok(count) = self.room.read_from(input) else {
             return Err(ReadError::Reading);
         };
-        self.left -= 1;
+        self.reads_left -= 1;
         self.ended = count == 0;
         Ok(())
     }

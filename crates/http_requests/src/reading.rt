@@ -1,25 +1,26 @@
 ghost use Rattle.std.specs.Prelude.{◌≡◌, ◌≤◌, ℕ, List, length, take, IfOk, IfErr};
 ghost use Rattle.http_requests.specs.FramedHeads.{Frames};
 ghost use Rattle.http_requests.specs.Heads.{AwaitsHead, NeverHasHead};
-ghost use Rattle.http_requests.specs.HeadSearches.{LooksFor, search_for};
+ghost use Rattle.http_requests.specs.Searches.{LooksFor, search_for};
 ghost use Rattle.http_requests.specs.PartialRequests.{HasSeen, SeesAll};
 ghost use Rattle.http_requests.specs.AwaitedReads.{source_of};
-ghost use Rattle.http_requests.specs.ReceivedBytes.{KnowsItsEnd, StopsWhile, Finds, SameUnlessReading, read_moment, failed_call};
+ghost use Rattle.http_requests.specs.ReceivedBytes.{KnowsItsEnd, StopsWhile, SameUnlessReading, read_moment, failed_call};
+ghost use Rattle.http_requests.specs.HeadSearches.{Finds};
 
 use crate::chunked::Look;
 use crate::head::HeadSearch;
 use crate::read_buffer::{ReadBuffer, ReadError};
-use crate::request::{BodyLength, Request, request_of};
+use crate::request::{FoundHead, found_head};
 use crate::searching::look_when_due;
 use session_devices::Input;
 
 /// What the bytes received start with, after reading as far as necessary. Only tests use it.
 #[derive(Clone, Copy, Debug)]
 pub enum Next {
-    /// The head of a request, its length, and the length of the body.
-    One(Request, usize, BodyLength),
+    /// The head of a request.
+    One(FoundHead),
     /// The input has ended between two requests.
-    Clean,
+    EndOfInput,
     /// They don't start with a head, and none can come.
     NoHead,
 }
@@ -38,21 +39,16 @@ impl HeadWait {
         HeadWait { seen: 0 }
     }
 
-    /// Looks for the head of a request at the start of the bytes received. Finds the request, the length of its head,
-    /// and the length of its body. Bytes that were examined are not examined again before a line ends after them.
-    pub fn look(&mut self, bytes: &[u8]) -> Look<(Request, usize, BodyLength)>
+    /// Looks for the head of a request at the start of the bytes received. Bytes that were examined are not examined
+    /// again before a line ends after them.
+    pub fn look(&mut self, bytes: &[u8]) -> Look<FoundHead>
         requires seen { HasSeen self.old bytes.now }
-        ensures found { LooksFor (search_for AwaitsHead
-            (λ bytes found. Frames bytes found.1 found.0 found.2) NeverHasHead)
-            bytes.now result }
+        ensures found { LooksFor (search_for AwaitsHead Frames NeverHasHead) bytes.now result }
         ensures seen { SeesAll self.new bytes.now result }
     {
         let mut search = HeadSearch::new();
         match look_when_due(bytes, self.seen, &mut search) {
-            Look::Whole(spans) => {
-                let (request, size) = request_of(bytes, &search.headers, spans);
-                Look::Whole((request, spans.len, size))
-            }
+            Look::Whole(spans) => Look::Whole(found_head(bytes, &search.headers, spans)),
             Look::More => {
                 self.seen = bytes.len();
                 Look::More
@@ -85,9 +81,9 @@ pub fn next_head<R: Input>(input: &mut R, received: &mut ReadBuffer) -> Result<N
     // For the prover: its proof names the loop by the label.
     'reads: loop {
         match wait.look(received.as_slice()) {
-            Look::Whole((request, length, size)) => return Ok(Next::One(request, length, size)),
+            Look::Whole(found) => return Ok(Next::One(found)),
             Look::More if !received.has_ended() => received.read_more(input)?,
-            Look::More if received.as_slice().is_empty() => return Ok(Next::Clean),
+            Look::More if received.as_slice().is_empty() => return Ok(Next::EndOfInput),
             Look::More | Look::Never => return Ok(Next::NoHead),
         }
     }

@@ -5,7 +5,7 @@ ghost use Rattle.http_requests.specs.FramedHeads.{Frames};
 ghost use Rattle.http_requests.specs.Heads.{IsWholeHead};
 
 use crate::chunked::prefix_of;
-use crate::fields::{Fields, Values, cut, is_named, trimmed};
+use crate::fields::{Fields, Values, is_named, split_once, trimmed};
 use crate::head::MAX_HEAD_BYTES;
 use httparse::spans::{HeaderSpan, RequestSpans, Span};
 use jaeger_model::decimal::{is_number, value_of};
@@ -55,6 +55,16 @@ pub struct Request {
     pub has_batch_type: bool,
     /// The session closes after the response.
     pub closes: bool,
+}
+
+/// The head of a request, found at the start of the bytes received.
+#[derive(Clone, Copy, Debug)]
+pub struct FoundHead {
+    pub request: Request,
+    /// The length of the head.
+    pub len: usize,
+    /// The length of the body after it.
+    pub body_length: BodyLength,
 }
 
 fn method_of(method: &[u8]) -> Method
@@ -117,7 +127,7 @@ fn body_length(fields: &Fields<'_>) -> BodyLength
 fn media_type(value: &[u8]) -> &[u8]
     ensures { result.now ≡ media_type value.now }
 {
-    match cut(value, b';') {
+    match split_once(value, b';') {
         Some((prefix, _)) => trimmed(prefix),
         None => trimmed(value),
     }
@@ -138,10 +148,7 @@ fn has_batch_type(fields: &Fields<'_>) -> bool
     if !fields.all_are("content-encoding", "identity") {
         return false;
     }
-    match fields.first("content-type") {
-        Some(value) => is_thrift(value),
-        None => false,
-    }
+    fields.first("content-type").is_some_and(is_thrift)
 }
 
 /// Returns whether the session closes after the response: for HTTP/1.0, or if the request asks for it.
@@ -151,14 +158,10 @@ fn closes(version: u8, fields: &Fields<'_>) -> bool
     version == 0 || fields.have_token("connection", "close")
 }
 
-/// Returns what the head at the start of the bytes asks, and the length of the body.
-pub(crate) fn request_of(
-    bytes: &[u8],
-    headers: &[HeaderSpan],
-    spans: RequestSpans,
-) -> (Request, BodyLength)
+/// Returns what the head at the start of the bytes asks, its length, and the length of the body.
+pub(crate) fn found_head(bytes: &[u8], headers: &[HeaderSpan], spans: RequestSpans) -> FoundHead
     requires { IsWholeHead bytes.now headers.now spans }
-    ensures { Frames bytes.now spans.len result.0 result.1 }
+    ensures { Frames bytes.now result }
 {
     let prefix = prefix_of(bytes, MAX_HEAD_BYTES);
     let fields = Fields::new(prefix, &headers[..spans.headers]);
@@ -168,5 +171,9 @@ pub(crate) fn request_of(
         has_batch_type: has_batch_type(&fields),
         closes: closes(spans.version, &fields),
     };
-    (request, body_length(&fields))
+    FoundHead {
+        request,
+        len: spans.len,
+        body_length: body_length(&fields),
+    }
 }

@@ -1,6 +1,6 @@
 ghost use Rattle.std.specs.Prelude.{◌≡◌, ◌≤◌, ℕ, List, [], false, length, take};
 ghost use Rattle.http_requests.specs.LineEnds.{is_due};
-ghost use Rattle.http_requests.specs.HeadSearches.{LooksFor, search_for};
+ghost use Rattle.http_requests.specs.Searches.{LooksFor, search_for};
 
 use crate::chunked::Look;
 use crate::line_ends::is_due;

@@ -1,5 +1,5 @@
 ghost use Rattle.std.specs.Prelude.{ℕ, List};
-ghost use Rattle.session_devices.specs.ByteTakers.{TakesNothing, TakesJoined};
+ghost use Rattle.session_devices.specs.ByteTransfers.{TakesNothing, TakesJoined};
 
 /// Takes a body piece by piece as it is read.
 pub trait Sink {

@@ -7,10 +7,11 @@ use Rattle.http_requests.proofs.OneRequest.{request_is_some}
 use Rattle.http_session.specs.IncomingRequests.{ReceivesOne}
 use Rattle.http_session.specs.Replies.{closes, takes_no_memory, response_of}
 use Rattle.http_session.specs.Sessions.{Exchange, IsExchange, Store, Step, output_state, WritesResponse}
-use Rattle.http_session.specs.ResponseOrder.{ConnectionModel, connection_moment, IsTwoWay, EndsOver, FailsOver}
+use Rattle.http_session.specs.ResponseOrder.{ConnectionModel, connection_moment, IsTwoWay, EndsOnConnection, FailsOnConnection}
 use Rattle.http_session.specs.ResumableSessions.{between_requests, SoFar}
 use Rattle.http_session.specs.declared.verdict.Verdict.{Verdict}
 use Rattle.http_session.specs.declared.reply.Reply.{Reply}
+use Rattle.http_session.specs.declared.whole_session.EndReason.TheVariants.{ClosedByResponse}
 use Rattle.http_session.specs.declared.whole_session.SessionErrorKind.TheVariants.{Memory}
 use Rattle.http_session.specs.declared.whole_session.PartialWrite.{PartialWrite}
 use Rattle.http_session.proofs.SessionTurns.{goes_on, ends_closing, fails_due}
@@ -21,10 +22,10 @@ some_text old here v asked found = request_is_some found.text found.head found.b
 
 -- fewer bytes are left after a request, and as many reads
 pub fewer_left : (old here : ReadBuffer) (v : Verdict) (asked : Bool) (found : ReceivesOne old here v asked)
-    → READ_BYTES * here.left + length here.held < READ_BYTES * old.left + length old.held
+    → READ_BYTES * here.reads_left + length here.held < READ_BYTES * old.reads_left + length old.held
 fewer_left old here v asked found =
     let held : length old.held ≡ length (found.text ++ here.held) = ap (λ (b : ReadBuffer). length b.held) found.cut in
-    let left : old.left ≡ here.left = ap (λ (b : ReadBuffer). b.left) found.cut in
+    let left : old.reads_left ≡ here.reads_left = ap (λ (b : ReadBuffer). b.reads_left) found.cut in
     rw left (omega (arith, some_text old here v asked found, held, length-append found.text here.held))
 
 module _ {S C : Type 0} (store : Store S) (model : ConnectionModel C) (two : IsTwoWay model) (c0 c2 : C) (s t : S) (old here : ReadBuffer)
@@ -54,7 +55,7 @@ module _ {S C : Type 0} (store : Store S) (model : ConnectionModel C) (two : IsT
         (subst (λ (b : Bool). model.takes c2 (response_of reply b) c3) close_is took)
 
     pub answered_last : Appends (model.contents c2) (model.contents c3) (response_of reply close) → model.takes c2 (response_of reply close) c3 → close ≡ true
-        → EndsOver store model (connection_moment c0 s) (connection_moment c3 u) (record { answered = answered + 1; clean = false })
+        → EndsOnConnection store model (connection_moment c0 s) (connection_moment c3 u) (record { answered = answered + 1; reason = ClosedByResponse })
     answered_last wrote took leaves =
         ends_closing store model two c0 c2 c3 s t u whole here.held answered turn so_whole is_turn (sym close_is ∙ leaves) refl step
         (subst (λ (b : Bool). Appends (model.contents c2) (model.contents c3) (response_of reply b)) close_is wrote)
@@ -65,7 +66,7 @@ module _ {S C : Type 0} (store : Store S) (model : ConnectionModel C) (two : IsT
         (Err partial_write)
         → model.takes c2 (take partial_write.written (response_of reply close)) c3 → model.in_failed c2 ≡ false
         → (takes_no_memory reply ≡ true → partial_write.cause ≢ Memory)
-        → FailsOver store model (connection_moment c0 s) (connection_moment c3 u)
+        → FailsOnConnection store model (connection_moment c0 s) (connection_moment c3 u)
         (record { answered = answered; written = partial_write.written; cause = partial_write.cause })
     answered_not partial_write said took in_works spared =
         fails_due store model two c0 c2 c3 s t u whole here.held answered turn partial_write so_whole is_turn refl step

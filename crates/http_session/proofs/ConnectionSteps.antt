@@ -1,9 +1,9 @@
 -- How what is done with a connection goes on.
 use Rattle.std.proofs.Common.{◌≡◌, ℕ, ◌+◌, Bool, List, [], ◌∷◌, ◌++◌, length, map, Option, refl, sym, ap, ap₂, ◌∙◌, subst, subst₂, append_assoc, append-nil}
 use Rattle.std.proofs.Common.{length-append}
-use Rattle.session_devices.specs.ByteTakers.{LeavesOther}
+use Rattle.session_devices.specs.ByteTransfers.{ByteTransfer, KeepsOther}
 use Rattle.http_requests.specs.Requests.{AwaitsRequest}
-use Rattle.http_requests.specs.AwaitedReads.{Gives, GivesWhile, ReadsWhile, input_moment, read_rule}
+use Rattle.http_requests.specs.AwaitedReads.{GivesWhile, ReadsWhile, input_moment, read_rule}
 use Rattle.http_session.specs.Sessions.{Exchange, texts, responses}
 use Rattle.http_session.specs.ReadTurns.{AwaitsNext, ReadsInTurn}
 use Rattle.http_session.specs.ResponseOrder.{ConnectionModel, Act, got, put, reads_of, Transcript, transcript, ActsLead, AwaitsAnswered, AnswersInTurn}
@@ -128,12 +128,12 @@ module _ {C : Type 0} (model : ConnectionModel C) where
   }
 
 -- reads change nothing of what was written
-pub reads_left : {C : Type 0} (gives : Gives C) (contents : C → Option (List ℕ)) (failed : C → Bool) → LeavesOther C gives contents failed
+pub reads_keep : {C : Type 0} (gives : ByteTransfer C) (contents : C → Option (List ℕ)) (failed : C → Bool) → KeepsOther C gives contents failed
     → (A : List ℕ → Type 0) (ps : List (List ℕ)) (s t : C) (old new : List ℕ)
     → GivesWhile (read_rule gives A) (input_moment s old) (input_moment t new) ps → (contents t ≡ contents s) × (failed t ≡ failed s)
-reads_left gives contents failed leave A [] s t old new each = (ap contents (sym each.0), ap failed (sym each.0))
-reads_left gives contents failed leave A (p ∷ ps) s t old new each =
-    let rest = reads_left gives contents failed leave A ps each.1 t (old ++ p) new each.3 in
+reads_keep gives contents failed leave A [] s t old new each = (ap contents (sym each.0), ap failed (sym each.0))
+reads_keep gives contents failed leave A (p ∷ ps) s t old new each =
+    let rest = reads_keep gives contents failed leave A ps each.1 t (old ++ p) new each.3 in
     let one = leave s each.1 p each.2 in
     (rest.0 ∙ one.0, rest.1 ∙ one.1)
 
@@ -151,7 +151,7 @@ module _ {C N : Type 0} (model : ConnectionModel C) (name : C → N) (reads : (s
 
 -- ---- the input of a connection that was joined
 
-module _ {C R : Type 0} (model : ConnectionModel C) (given : Gives R) (input : C → R)
+module _ {C R : Type 0} (model : ConnectionModel C) (given : ByteTransfer R) (input : C → R)
     (reads : (s t : C) (p : List ℕ) → model.source.gives s p t → given (input s) p (input t))
     (writes : (s t : C) (w : List ℕ) → model.takes s w t → input t ≡ input s) where
   read_each : (opens : List Exchange) (xs : List Act) (s t : Transcript C) → ActsLead model (AwaitsAnswered opens) s t xs

@@ -6,7 +6,7 @@ use Rattle.std.proofs.Math.Seq.{take-append_seam}
 use Rattle.httparse.specs.Grammar.{print_request}
 use Rattle.batch_codec.specs.BatchReading.{decoded}
 use Rattle.batch_feeder.specs.FeederAnswers.{answers}
-use Rattle.session_devices.specs.ByteTakers.{Takings}
+use Rattle.session_devices.specs.ByteTransfers.{ByteTransfer}
 use Rattle.http_requests.specs.HeadContents.{Asked, asked_by, body_length}
 use Rattle.http_requests.specs.Heads.{TakesHead, AwaitsHead, NeverHasHead}
 use Rattle.http_requests.specs.Requests.{HasBody, BodyBreaks, Spells, IsMalformed, BreaksAfter, IsHeadOf, AwaitsRequest}
@@ -17,7 +17,7 @@ use Rattle.http_requests.specs.declared.request.BodyLength.{BodyLength}
 use Rattle.http_requests.specs.declared.request.BodyLength.TheVariants.{Bytes, Chunked, Unreadable, TooLarge}
 use Rattle.http_requests.specs.declared.request.RequestFault.{RequestFault}
 use Rattle.http_requests.specs.declared.request.RequestFault.TheVariants as fault
-use Rattle.http_requests.specs.declared.request.Request.{Request}
+use Rattle.http_requests.specs.declared.request.FoundHead.{FoundHead}
 use Rattle.http_requests.specs.declared.body_reader.BodyReader.{BodyReader}
 use Rattle.http_requests.specs.declared.body_reader.BodyLook.{BodyLook}
 use Rattle.http_requests.specs.declared.body_reader.BodyLook.TheVariants as look
@@ -34,7 +34,7 @@ use Rattle.http_session.specs.declared.question.Question.{Question}
 use Rattle.http_session.specs.declared.question.Question.TheVariants as question
 use Rattle.http_session.specs.declared.verdict.Verdict.{Verdict}
 use Rattle.http_session.specs.declared.receiving.Incoming.{Incoming}
-use Rattle.http_session.specs.declared.receiving.Incoming.TheVariants.{Request as OneRequest, Clean, NoRequest}
+use Rattle.http_session.specs.declared.receiving.Incoming.TheVariants.{Request as OneRequest, EndOfInput, NoRequest}
 use Rattle.http_session.specs.declared.receiving.BatchBody.{BatchBody}
 use Rattle.http_session.specs.declared.receiving.BodySink.TheVariants.{Settled, Batch}
 use Rattle.http_session.specs.declared.receiving.PartialRequest.{PartialRequest}
@@ -56,7 +56,8 @@ batch_carries b d content follows question.Batch before judged =
     follows_joined decoded (answers b.feeder.value) (answers d.feeder.value) before content judged follows
 
 -- the same was taken, and put into another sink
-pub put_as : {S T : Type 0} (takes : Takings S) (other : Takings T) (old new : ReadBuffer) (s t : S) (x y : T) (was is : BodyReader) (result : BodyLook)
+pub put_as : {S T : Type 0} (takes : ByteTransfer S) (other : ByteTransfer T) (old new : ReadBuffer) (s t : S) (x y : T) (was is : BodyReader)
+    (result : BodyLook)
     → ((content : List ℕ) → takes s content t → other x content y)
     → ContinuesBody takes (reader_moment was old s) (reader_moment is new t) (Some result)
     → ContinuesBody other (reader_moment was old x) (reader_moment is new y) (Some result)
@@ -86,18 +87,24 @@ batch_decides b v judges question.Batch body judged = batch_verdict decoded (ans
 
 -- ---- a head
 
-pub head_of : (bytes : List ℕ) (len : ℕ) (r : Request) (size : BodyLength) → Frames bytes len r size → IsHeadOf (take len bytes) r
-head_of bytes len r size frames =
-    record { head = frames.head; is = frames.takes.reads.0; bytes_are = head_cut bytes len frames.head frames.takes frames.fits; describes = frames.describes }
+pub head_of : (bytes : List ℕ) (found : FoundHead) → Frames bytes found → IsHeadOf (take found.len bytes) found.request
+head_of bytes found frames =
+    record {
+      head = frames.head;
+      is = frames.takes.reads.0;
+      bytes_are = head_cut bytes found.len frames.head frames.takes frames.fits;
+      describes = frames.describes;
+    }
 
 -- the head of a request, before its body
-pub begins_request : (bytes : List ℕ) (len : ℕ) (r : Request) (size : BodyLength) (q : Question) (request : PartialRequest) (frames : Frames bytes len r size)
-    → AsksQuestion (asked_of (take len bytes) r) q
-    → IsPart size [] [] request.reader → JudgesBy q request.sink [] → request.closes ≡ r.closes → IsPartOf request (take len bytes)
+pub begins_request : (bytes : List ℕ) (found : FoundHead) (q : Question) (request : PartialRequest) (frames : Frames bytes found)
+    → AsksQuestion (asked_of (take found.len bytes) found.request) q
+    → IsPart found.body_length [] [] request.reader → JudgesBy q request.sink [] → request.closes ≡ found.request.closes
+    → IsPartOf request (take found.len bytes)
 unfolding head_of
-begins_request bytes len r size q request frames asks part judged closes =
-    let is = head_of bytes len r size frames in
-    let same : asked_by frames.head ≡ asked_of (take len bytes) r = asked_is (take len bytes) r is in
+begins_request bytes found q request frames asks part judged closes =
+    let is = head_of bytes found frames in
+    let same : asked_by frames.head ≡ asked_of (take found.len bytes) found.request = asked_is (take found.len bytes) found.request is in
     record {
       head = frames.head;
       taken = [];
@@ -105,7 +112,7 @@ begins_request bytes len r size q request frames asks part judged closes =
       question = q;
       takes = record { reads = (frames.takes.reads.0, sym (append-nil (print_request frames.head))); size = frames.takes.size; fields = frames.takes.fields };
       text_is = is.bytes_are ∙ sym (append-nil (print_request frames.head));
-      part = subst (λ (z : BodyLength). IsPart z [] [] request.reader) frames.size_is part;
+      part = subst (λ (z : BodyLength). IsPart z [] [] request.reader) frames.body_length_is part;
       asks = subst (λ (a : Asked). AsksQuestion a q) (sym same) asks;
       judged = judged;
       closes_is = closes ∙ ap (λ (a : Asked). a.closes) (sym same);
@@ -248,7 +255,7 @@ finished_as old new request (OneRequest v closes) whole finishes = (
   },
   refl,
 )
-finished_as old new request Clean whole finishes = absurd finishes
+finished_as old new request EndOfInput whole finishes = absurd finishes
 finished_as old new request (NoRequest why) whole finishes = absurd finishes
 
 pub receives_finished : (old new : ReadBuffer) (request : PartialRequest) (stage next : SessionStage) (incoming : Incoming) → stage ≡ Body request

@@ -20,8 +20,8 @@ use Rattle.http_session.specs.Verdicts.{BeginsWithQuery}
 use Rattle.http_session.specs.IncomingRequests.{before_a_request, HasReceived, WaitsAfter, ReceivesOne, ReceivesEnd, ReceivesFault, ReceivesPart}
 use Rattle.http_session.specs.Replies.{closes, takes_no_memory, response_of}
 use Rattle.http_session.specs.Sessions.{Submits, Reads, Store, store_of, Step, output_state, WritesResponse, cause_by}
-use Rattle.http_session.specs.ResponseOrder.{ConnectionModel, connection_moment, IsTwoWay, EndsOver, FailsOver}
-use Rattle.http_session.specs.SessionRuns.{EndsServed, FailsServed}
+use Rattle.http_session.specs.ResponseOrder.{ConnectionModel, connection_moment, IsTwoWay, EndsOnConnection, FailsOnConnection}
+use Rattle.http_session.specs.SessionRuns.{EndsOnConnectionInHistory, FailsOnConnectionInHistory}
 use Rattle.http_session.specs.ResumableSessions.{AsksOnce, AnswersSoFar, StaysUnderway, OutlastsWrites, SubmitsSome, ReadsSome, no_requests_yet}
 use Rattle.http_session.specs.ResumableSessions.{between_requests, SoFar, CanContinue, AwaitsMore, shared, session_moment, Underway, ComesTo}
 use Rattle.http_session.specs.ResumableSessions.{UnderwayAmong, RunsPiece}
@@ -31,13 +31,15 @@ use Rattle.http_session.specs.declared.verdict.Verdict.{Verdict}
 use Rattle.http_session.specs.declared.verdict.Verdict.TheVariants.{Submit, Ask, Reject}
 use Rattle.http_session.specs.declared.reply.Reply.{Reply}
 use Rattle.http_session.specs.declared.reply.Reply.TheVariants.{Accepted, Answered, Refused, Error, NoRequest}
+use Rattle.http_session.specs.declared.whole_session.EndReason.TheVariants.{ClosedByClient, ClosedByResponse}
 use Rattle.http_session.specs.declared.whole_session.Ended.{Ended}
 use Rattle.http_session.specs.declared.whole_session.SessionError.{SessionError}
 use Rattle.http_session.specs.declared.whole_session.SessionErrorKind.TheVariants.{Memory}
 use Rattle.http_session.specs.declared.whole_session.PartialWrite.{PartialWrite}
 use Rattle.http_session.proofs.HistoryPoints.{related_all}
 use Rattle.http_session.proofs.IncomingParts.{malformed_if, waits_for_request, looked_by, looked_still}
-use Rattle.http_session.proofs.SessionTurns.{begins, reads_on, stays, ends_clean, ends_malformed, fails_none, fails_stopped, fails_malformed, works_received}
+use Rattle.http_session.proofs.SessionTurns.{begins, reads_on, stays, ends_with_input, ends_malformed, fails_none, fails_stopped, fails_malformed}
+use Rattle.http_session.proofs.SessionTurns.{works_received}
 use Rattle.http_session.proofs.AnsweredRequests.{fewer_left, answered_open, answered_last, answered_not}
 
 -- ---- what a store promises, and that it promises it also where others use it
@@ -98,16 +100,16 @@ module _ {S : Type 0} (store : Store S) where
     shared_promises = record { submit_knows = later_submit_knows; read_knows = later_read_knows }
 
     -- its answers are those of one growing history
-    pub ends_served : {C : Type 0} (model : ConnectionModel C) (c0 c1 : C) (s t : S) (ended : Ended)
-        → EndsOver store model (connection_moment c0 s) (connection_moment c1 t) ended
-        → EndsServed store model (connection_moment c0 s) (connection_moment c1 t) ended
-    ends_served model c0 c1 s t ended over =
+    pub ends_in_history : {C : Type 0} (model : ConnectionModel C) (c0 c1 : C) (s t : S) (ended : Ended)
+        → EndsOnConnection store model (connection_moment c0 s) (connection_moment c1 t) ended
+        → EndsOnConnectionInHistory store model (connection_moment c0 s) (connection_moment c1 t) ended
+    ends_in_history model c0 c1 s t ended over =
         (over, related_all store promises.submit_knows promises.read_knows s t _ over.0.run)
 
-    pub fails_served : {C : Type 0} (model : ConnectionModel C) (c0 c1 : C) (s t : S) (error : SessionError)
-        → FailsOver store model (connection_moment c0 s) (connection_moment c1 t) error
-        → FailsServed store model (connection_moment c0 s) (connection_moment c1 t) error
-    fails_served model c0 c1 s t error over =
+    pub fails_in_history : {C : Type 0} (model : ConnectionModel C) (c0 c1 : C) (s t : S) (error : SessionError)
+        → FailsOnConnection store model (connection_moment c0 s) (connection_moment c1 t) error
+        → FailsOnConnectionInHistory store model (connection_moment c0 s) (connection_moment c1 t) error
+    fails_in_history model c0 c1 s t error over =
         (over, related_all store promises.submit_knows promises.read_knows s t _ over.0.run)
 
 -- ---- what one piece does
@@ -146,7 +148,7 @@ module _ {S C : Type 0} (store : Store S) (promises : Promises store) (model : C
   receives_no_query in_works out_works none =
       unasked c1 (Err (record { answered = old.answered; written = 0; cause = Memory }))
       (λ other kept c0 s m so.
-      fails_served other kept model c0 c1 s m _
+      fails_in_history other kept model c0 c1 s m _
       (fails_none other model two c0 c1 c1 s m (put_back so.text old.received) old.answered Memory so.so_far
       (inr (none so.text so.incoming)) (inl refl) (λ made sum. (in_works, out_works))))
 
@@ -159,32 +161,33 @@ module _ {S C : Type 0} (store : Store S) (promises : Promises store) (model : C
   receives_nothing A c2 before stop stops same was out =
       unasked c2 (Err (record { answered = old.answered; written = 0; cause = cause_by stop }))
       (λ other kept c0 s m so.
-      fails_served other kept model c0 c2 s m _
+      fails_in_history other kept model c0 c2 s m _
       (fails_stopped other model two A c0 c1 c2 s m (put_back so.text old.received) old.answered before stop so.so_far
       (stops so.text so.incoming) same was out))
 
   pub receives_end : (here : ReadBuffer) → ((text : List ℕ) → HasReceived old.stage text → ReceivesEnd (put_back text old.received) here)
-      → RunsPiece store model (session_moment c1 t old) (session_moment c1 t new) (Ok (Some (record { answered = old.answered; clean = true })))
+      → RunsPiece store model (session_moment c1 t old) (session_moment c1 t new) (Ok (Some (record { answered = old.answered; reason = ClosedByClient })))
   receives_end here found =
-      unasked c1 (Ok (Some (record { answered = old.answered; clean = true })))
+      unasked c1 (Ok (Some (record { answered = old.answered; reason = ClosedByClient })))
       (λ other kept c0 s m so.
       let end = found so.text so.incoming in
       let here_so = subst (λ (b : ReadBuffer). SoFar other model (connection_moment c0 s) (between_requests c1 m b old.answered))
       end.same so.so_far in
-      ends_served other kept model c0 c1 s m _
-      (ends_clean other model two c0 c1 s m here old.answered here_so (here_so.end end.ended, end.nothing)))
+      ends_in_history other kept model c0 c1 s m _
+      (ends_with_input other model two c0 c1 s m here old.answered here_so (here_so.end end.ended, end.nothing)))
 
   pub parts : (c2 : C) (here : ReadBuffer) (b : RequestFault)
       → ((text : List ℕ) → HasReceived old.stage text → ReceivesFault (put_back text old.received) here b)
       → Appends (model.contents c1) (model.contents c2) (response_of (NoRequest b) true) → model.takes c1 (response_of (NoRequest b) true) c2
-      → RunsPiece store model (session_moment c1 t old) (session_moment c2 t new) (Ok (Some (record { answered = old.answered + 1; clean = false })))
+      → RunsPiece store model (session_moment c1 t old) (session_moment c2 t new)
+      (Ok (Some (record { answered = old.answered + 1; reason = ClosedByResponse })))
   parts c2 here b found wrote took =
-      unasked c2 (Ok (Some (record { answered = old.answered + 1; clean = false })))
+      unasked c2 (Ok (Some (record { answered = old.answered + 1; reason = ClosedByResponse })))
       (λ other kept c0 s m so.
       let fault = found so.text so.incoming in
       let here_so = subst (λ (r : ReadBuffer). SoFar other model (connection_moment c0 s) (between_requests c1 m r old.answered))
       fault.cut so.so_far in
-      ends_served other kept model c0 c2 s m _
+      ends_in_history other kept model c0 c2 s m _
       (ends_malformed other model two c0 c1 c2 s m _ old.answered b here_so (malformed_if _ _ b _ here_so.end fault.malformed)
       wrote took))
 
@@ -201,7 +204,7 @@ module _ {S C : Type 0} (store : Store S) (promises : Promises store) (model : C
       let fault = found so.text so.incoming in
       let here_so = subst (λ (r : ReadBuffer). SoFar other model (connection_moment c0 s) (between_requests c1 m r old.answered))
       fault.cut so.so_far in
-      fails_served other kept model c0 c2 s m _
+      fails_in_history other kept model c0 c2 s m _
       (fails_malformed other model two c0 c1 c2 s m _ old.answered b partial_write here_so
       (malformed_if _ _ b _ here_so.end fault.malformed) said took works))
 
@@ -209,11 +212,12 @@ module _ {S C : Type 0} (store : Store S) (promises : Promises store) (model : C
       (found : (text : List ℕ) → HasReceived old.stage text → ReceivesOne (put_back text old.received) here v ask)
       (step : Step store t v reply u) (close_is : close ≡ (ask || closes reply)) where
     pub answers_last : Appends (model.contents c1) (model.contents c2) (response_of reply close) → model.takes c1 (response_of reply close) c2 → close ≡ true
-        → RunsPiece store model (session_moment c1 t old) (session_moment c2 u new) (Ok (Some (record { answered = old.answered + 1; clean = false })))
+        → RunsPiece store model (session_moment c1 t old) (session_moment c2 u new)
+        (Ok (Some (record { answered = old.answered + 1; reason = ClosedByResponse })))
     answers_last wrote took leaves =
-        asked c2 u v reply (Ok (Some (record { answered = old.answered + 1; clean = false }))) step
+        asked c2 u v reply (Ok (Some (record { answered = old.answered + 1; reason = ClosedByResponse }))) step
         (λ other kept c0 s m n one so.
-        ends_served other kept model c0 c2 s n _
+        ends_in_history other kept model c0 c2 s n _
         (answered_last other model two c0 c1 s m (put_back so.text old.received) here old.answered v ask so.so_far
         (found so.text so.incoming) c2 n reply close one close_is wrote took leaves))
 
@@ -227,7 +231,7 @@ module _ {S C : Type 0} (store : Store S) (promises : Promises store) (model : C
     answers_not partial_write said took works spared =
         asked c2 u v reply (Err (record { answered = old.answered; written = partial_write.written; cause = partial_write.cause })) step
         (λ other kept c0 s m n one so.
-        fails_served other kept model c0 c2 s n _
+        fails_in_history other kept model c0 c2 s n _
         (answered_not other model two c0 c1 s m (put_back so.text old.received) here old.answered v ask so.so_far (found so.text so.incoming)
         c2 n reply close one close_is partial_write said took works spared))
 
@@ -286,7 +290,7 @@ module _ {S C : Type 0} (store : Store S) (promises : Promises store) (model : C
   paused_continues waits can =
       let part = found can.text can.incoming in
       let held : length (can.text ++ old.received.held) ≡ length (part.text ++ here.held) = ap (λ (b : ReadBuffer). length b.held) part.cut in
-      let left : old.received.left ≡ here.left = ap (λ (b : ReadBuffer). b.left) part.cut in
+      let left : old.received.reads_left ≡ here.reads_left = ap (λ (b : ReadBuffer). b.reads_left) part.cut in
       record {
         text = part.text;
         incoming = part.incoming;

@@ -5,10 +5,10 @@ use Rattle.std.specs.Io.KnownBytes.{Appends, Consumes, IsAtEnd, Keeps as KeepsBy
 use Rattle.std.proofs.KnownBytes.{Consumes-trans, Consumes-kept, Appends-trans, Appends-kept, Consumes-nil, Appends-nil}
 use Rattle.std.proofs.lemmas.List.{flat_map_more}
 use Rattle.std.proofs.lemmas.List.Elements.{All-append, All-cons, All-nil}
-use Rattle.session_devices.specs.ByteTakers.{Takings, LeavesOther}
+use Rattle.session_devices.specs.ByteTransfers.{ByteTransfer, KeepsOther}
 use Rattle.session_devices.specs.declared.limits.TheConstants.{MAX_READS}
 use Rattle.http_requests.specs.Requests.{IsMalformed, AwaitsRequest}
-use Rattle.http_requests.specs.AwaitedReads.{Gives, Source, FailsToRead}
+use Rattle.http_requests.specs.AwaitedReads.{Source, FailsToRead}
 use Rattle.http_requests.specs.ReceivedBytes.{ReadBuffer, ReadsOnWhile, StopsWhile, SameUnlessReading, read_moment, failed_call}
 use Rattle.http_requests.specs.declared.request.RequestFault.{RequestFault}
 use Rattle.http_requests.specs.declared.read_buffer.ReadError.{ReadError}
@@ -16,16 +16,17 @@ use Rattle.http_requests.specs.declared.read_buffer.ReadError.TheVariants as why
 use Rattle.http_requests.proofs.AwaitedReads.{uncounted}
 use Rattle.http_requests.specs.LineLaws.{no_bytes_await}
 use Rattle.http_session.specs.Replies.{response_of, takes_no_memory}
-use Rattle.http_session.specs.Sessions.{Exchange, IsExchange, LeavesOpen, texts, response_to, responses, Store, Step, Run, Ending, clean, closing}
-use Rattle.http_session.specs.Sessions.{malformed, last_of, IsEnding, malformed_response, malformed_responses, is_clean, Due, none_yet, due, due_malformed}
+use Rattle.http_session.specs.Sessions.{Exchange, IsExchange, StaysOpen, texts, response_to, responses, Store, Step, Run, Ending, end_of_input, closing}
+use Rattle.http_session.specs.Sessions.{malformed, last_of, IsEnding, malformed_response, malformed_responses, end_reason, Due, none_yet, due, due_malformed}
 use Rattle.http_session.specs.Sessions.{exchange_due, NothingWasDue, IsDue, bytes_due, is_spared, IsCause, output_state, WritesResponse, cause_by}
-use Rattle.http_session.specs.ResponseOrder.{ConnectionModel, connection_moment, model_of, IsTwoWay, reads_of, EndsOver, FailsOver}
+use Rattle.http_session.specs.ResponseOrder.{ConnectionModel, connection_moment, model_of, IsTwoWay, reads_of, EndsOnConnection, FailsOnConnection}
 use Rattle.http_session.specs.ResumableSessions.{between_requests, SoFar}
 use Rattle.http_session.specs.declared.reply.Reply.TheVariants.{NoRequest}
+use Rattle.http_session.specs.declared.whole_session.EndReason.TheVariants.{ClosedByClient, ClosedByResponse}
 use Rattle.http_session.specs.declared.whole_session.SessionErrorKind.{SessionErrorKind}
 use Rattle.http_session.specs.declared.whole_session.SessionErrorKind.TheVariants.{Reading, Writing, Memory}
 use Rattle.http_session.specs.declared.whole_session.PartialWrite.{PartialWrite}
-use Rattle.http_session.proofs.ConnectionSteps.{read_more, said_before, said_on, said_as, reads_left}
+use Rattle.http_session.proofs.ConnectionSteps.{read_more, said_before, said_on, said_as, reads_keep}
 
 responses_more : (xs : List Exchange) (x : Exchange) → responses (xs ++ x ∷ []) ≡ responses xs ++ response_to x
 responses_more xs x = sym (flat_map_more response_to [] xs x)
@@ -59,8 +60,8 @@ still_consumed source s m t failed bytes read (inl same) = subst (λ (x : _). Co
 still_consumed source s m t failed bytes read (inr fails) = Consumes-kept (source.remaining s) (source.remaining m) (source.remaining t) bytes read fails.1
 
 -- a connection of which reads leave what was written, and writes what is still to be read
-pub two_way : {C : Type 0} {remaining contents : C → Option (List ℕ)} {gives : Gives C} {takes : Takings C} {in_failed out_failed : C → Bool}
-    → LeavesOther C gives contents out_failed → LeavesOther C takes remaining in_failed
+pub two_way : {C : Type 0} {remaining contents : C → Option (List ℕ)} {gives : ByteTransfer C} {takes : ByteTransfer C} {in_failed out_failed : C → Bool}
+    → KeepsOther C gives contents out_failed → KeepsOther C takes remaining in_failed
     → IsTwoWay (model_of remaining gives in_failed contents takes out_failed)
 two_way reads_leave writes_leave = record { reads_leave = reads_leave; writes_leave = writes_leave }
 
@@ -70,8 +71,8 @@ module _ {C : Type 0} (model : ConnectionModel C) (two : IsTwoWay model) where
       → (model.contents c2 ≡ model.contents c1)
       × (model.out_failed c2 ≡ model.out_failed c1)
   output_kept c1 c2 old new more =
-      let alone = uncounted model.source.gives AwaitsRequest c1 c2 old.left new.left old.held new.held more.waits in
-      reads_left model.source.gives model.contents model.out_failed two.reads_leave AwaitsRequest alone.0.pieces c1 c2 old.held new.held alone.0.each
+      let alone = uncounted model.source.gives AwaitsRequest c1 c2 old.reads_left new.reads_left old.held new.held more.waits in
+      reads_keep model.source.gives model.contents model.out_failed two.reads_leave AwaitsRequest alone.0.pieces c1 c2 old.held new.held alone.0.each
 
   -- nor does one that failed
   output_still : (c1 c2 : C) (failed : Bool) → (c2 ≡ c1) ⊎ FailsToRead model.source c1 c2 failed → (model.contents c2 ≡ model.contents c1)
@@ -92,7 +93,7 @@ module _ {C : Type 0} (model : ConnectionModel C) (two : IsTwoWay model) where
 
 module _ {S C : Type 0} (store : Store S) (model : ConnectionModel C) (two : IsTwoWay model) where
   pub begins : (c : C) (s : S)
-      → SoFar store model (connection_moment c s) (between_requests c s (record { held = []; left = MAX_READS; ended = false }) 0)
+      → SoFar store model (connection_moment c s) (between_requests c s (record { held = []; reads_left = MAX_READS; ended = false }) 0)
   begins c s = record {
     taken = [];
     opens = [];
@@ -116,7 +117,7 @@ module _ {S C : Type 0} (store : Store S) (model : ConnectionModel C) (two : IsT
       → SoFar store model (connection_moment c0 s) (between_requests c2 t new answered)
   reads_on c0 c1 c2 s t old new answered so more =
       let on = more.on in
-      let alone = uncounted model.source.gives AwaitsRequest c1 c2 old.left new.left old.held new.held more.waits in
+      let alone = uncounted model.source.gives AwaitsRequest c1 c2 old.reads_left new.reads_left old.held new.held more.waits in
       let long : length (so.taken ++ on.more) ≡ length so.taken + length on.more = length-append so.taken on.more in
       let held : length new.held ≡ length old.held + length on.more = ap length on.held ∙ length-append old.held on.more in
       let split : so.taken ++ on.more ≡ texts so.opens ++ new.held =
@@ -159,7 +160,7 @@ module _ {S C : Type 0} (store : Store S) (model : ConnectionModel C) (two : IsT
         answers = said.0;
         made = omega (arith, so.made, said.1, ap (λ a. length (reads_of a)) before.1);
         split = split_more so.taken old.held rest so.opens x so.split cut;
-        each = All-append LeavesOpen so.opens (x ∷ []) so.each (All-cons LeavesOpen x [] (record { exchange = is; open_is = open_is }) (All-nil LeavesOpen));
+        each = All-append StaysOpen so.opens (x ∷ []) so.each (All-cons StaysOpen x [] (record { exchange = is; open_is = open_is }) (All-nil StaysOpen));
         run = run_more store s t u so.opens x so.run step;
         written = subst (Appends (model.contents c0) (model.contents c2)) (sym (responses_more so.opens x))
             (Appends-trans (model.contents c0) (model.contents c1) (model.contents c2) (responses so.opens) (response_to x) so.written wrote);
@@ -196,15 +197,15 @@ module _ {S C : Type 0} (store : Store S) (model : ConnectionModel C) (two : IsT
 
   -- ---- a session that ends
 
-  pub ends_clean : (c0 c1 : C) (s t : S) (old : ReadBuffer) (answered : ℕ)
+  pub ends_with_input : (c0 c1 : C) (s t : S) (old : ReadBuffer) (answered : ℕ)
       → SoFar store model (connection_moment c0 s) (between_requests c1 t old answered) → IsAtEnd (model.source.remaining c1) × (old.held ≡ [])
-      → EndsOver store model (connection_moment c0 s) (connection_moment c1 t) (record { answered = answered; clean = true })
-  ends_clean c0 c1 s t old answered so found =
+      → EndsOnConnection store model (connection_moment c0 s) (connection_moment c1 t) (record { answered = answered; reason = ClosedByClient })
+  ends_with_input c0 c1 s t old answered so found =
       let same : responses (so.opens ++ []) ++ [] ≡ responses so.opens = append-nil (responses (so.opens ++ [])) ∙ ap responses (append-nil so.opens) in (
         record {
           taken = so.taken;
           opens = so.opens;
-          ending = clean;
+          ending = end_of_input;
           rest = old.held;
           read = so.read;
           split = split_all so.taken old.held so.opens so.split;
@@ -213,7 +214,7 @@ module _ {S C : Type 0} (store : Store S) (model : ConnectionModel C) (two : IsT
           run = run_all store s t so.opens so.run;
           written = subst (Appends (model.contents c0) (model.contents c1)) (sym same) so.written;
           count = so.count ∙ omega (arith, length-append {A = Exchange} so.opens []);
-          clean_is = refl;
+          reason_is = refl;
         },
         said_as model c0 c1 so.opens so.taken (responses so.opens) (responses (so.opens ++ []) ++ []) so.answers same,
       )
@@ -223,10 +224,10 @@ module _ {S C : Type 0} (store : Store S) (model : ConnectionModel C) (two : IsT
       → (so : SoFar store model (connection_moment c0 s) (between_requests c1 t old answered)) → so.taken ≡ texts (so.opens ++ last_of ending) ++ rest
       → IsEnding (IsAtEnd (model.source.remaining c1)) rest ending → Run store s (so.opens ++ last_of ending) u
       → responses (so.opens ++ last_of ending) ++ malformed_response ending ≡ responses so.opens ++ said
-      → length (last_of ending) + malformed_responses ending ≡ 1 → false ≡ is_clean ending
+      → length (last_of ending) + malformed_responses ending ≡ 1 → ClosedByResponse ≡ end_reason ending
       → Appends (model.contents c1) (model.contents c2) said → model.takes c1 said c2
-      → EndsOver store model (connection_moment c0 s) (connection_moment c2 u) (record { answered = answered + 1; clean = false })
-  ends_saying c0 c1 c2 s t u old answered ending rest said so split is run all one unclean wrote took =
+      → EndsOnConnection store model (connection_moment c0 s) (connection_moment c2 u) (record { answered = answered + 1; reason = ClosedByResponse })
+  ends_saying c0 c1 c2 s t u old answered ending rest said so split is run all one reason wrote took =
       let same = (two.writes_leave c1 c2 said took).0 in (
         record {
           taken = so.taken;
@@ -241,7 +242,7 @@ module _ {S C : Type 0} (store : Store S) (model : ConnectionModel C) (two : IsT
           written = subst (Appends (model.contents c0) (model.contents c2)) (sym all)
               (Appends-trans (model.contents c0) (model.contents c1) (model.contents c2) (responses so.opens) said so.written wrote);
           count = omega (arith, so.count, one, length-append so.opens (last_of ending));
-          clean_is = unclean;
+          reason_is = reason;
         },
         (said_on model c0 c1 c2 so.opens so.taken (responses so.opens) said
             (responses (so.opens ++ last_of ending) ++ malformed_response ending) so.answers took all).0,
@@ -250,7 +251,7 @@ module _ {S C : Type 0} (store : Store S) (model : ConnectionModel C) (two : IsT
   pub ends_malformed : (c0 c1 c2 : C) (s t : S) (old : ReadBuffer) (answered : ℕ) (b : RequestFault)
       → SoFar store model (connection_moment c0 s) (between_requests c1 t old answered) → IsMalformed (IsAtEnd (model.source.remaining c1)) old.held b
       → Appends (model.contents c1) (model.contents c2) (response_of (NoRequest b) true) → model.takes c1 (response_of (NoRequest b) true) c2
-      → EndsOver store model (connection_moment c0 s) (connection_moment c2 t) (record { answered = answered + 1; clean = false })
+      → EndsOnConnection store model (connection_moment c0 s) (connection_moment c2 t) (record { answered = answered + 1; reason = ClosedByResponse })
   ends_malformed c0 c1 c2 s t old answered b so is wrote took =
       ends_saying c0 c1 c2 s t t old answered (malformed b) old.held (response_of (NoRequest b) true) so (split_all so.taken old.held so.opens so.split) is
       (run_all store s t so.opens so.run)
@@ -259,7 +260,7 @@ module _ {S C : Type 0} (store : Store S) (model : ConnectionModel C) (two : IsT
   pub ends_closing : (c0 c1 c2 : C) (s t u : S) (old : ReadBuffer) (rest : List ℕ) (answered : ℕ) (x : Exchange)
       → SoFar store model (connection_moment c0 s) (between_requests c1 t old answered) → IsExchange x → x.close ≡ true → old.held ≡ x.text ++ rest
       → Step store t x.verdict x.reply u → Appends (model.contents c1) (model.contents c2) (response_to x) → model.takes c1 (response_to x) c2
-      → EndsOver store model (connection_moment c0 s) (connection_moment c2 u) (record { answered = answered + 1; clean = false })
+      → EndsOnConnection store model (connection_moment c0 s) (connection_moment c2 u) (record { answered = answered + 1; reason = ClosedByResponse })
   ends_closing c0 c1 c2 s t u old rest answered x so is closes_is cut step wrote took =
       ends_saying c0 c1 c2 s t u old answered (closing x) rest (response_to x) so (split_more so.taken old.held rest so.opens x so.split cut) (is, closes_is)
       (run_more store s t u so.opens x so.run step)
@@ -276,8 +277,8 @@ module _ {S C : Type 0} (store : Store S) (model : ConnectionModel C) (two : IsT
   pub fails_none : (c0 c1 c2 : C) (s t : S) (here : ReadBuffer) (answered : ℕ) (cause : SessionErrorKind)
       → (so : SoFar store model (connection_moment c0 s) (between_requests c1 t here answered)) → NothingWasDue cause here.held
       → (c2 ≡ c1) ⊎ FailsToRead model.source c1 c2 (model.in_failed c2)
-      → ((made : ℕ) → here.left + made ≡ MAX_READS → IsCause cause (model.in_failed c2) (model.out_failed c2) so.taken made)
-      → FailsOver store model (connection_moment c0 s) (connection_moment c2 t) (record { answered = answered; written = 0; cause = cause })
+      → ((made : ℕ) → here.reads_left + made ≡ MAX_READS → IsCause cause (model.in_failed c2) (model.out_failed c2) so.taken made)
+      → FailsOnConnection store model (connection_moment c0 s) (connection_moment c2 t) (record { answered = answered; written = 0; cause = cause })
   fails_none c0 c1 c2 s t here answered cause so nothing last is_cause =
       let same = (output_still model two c1 c2 (model.in_failed c2) last).0 in (
         record {
@@ -314,7 +315,7 @@ module _ {S C : Type 0} (store : Store S) (model : ConnectionModel C) (two : IsT
       → SoFar store model (connection_moment c0 s) (between_requests c1 t old answered)
       → StopsWhile model.source AwaitsRequest (read_moment c1 old) (failed_call c2 (model.in_failed c2) stop)
       → SameUnlessReading {A = A} before (model.in_failed c2) (Err stop) → before ≡ false → model.out_failed c1 ≡ false
-      → FailsOver store model (connection_moment c0 s) (connection_moment c2 t) (record { answered = answered; written = 0; cause = cause_by stop })
+      → FailsOnConnection store model (connection_moment c0 s) (connection_moment c2 t) (record { answered = answered; written = 0; cause = cause_by stop })
   fails_stopped A c0 c1 c2 s t old answered before why.Reading so stops same was out =
       let m = stops.here.input in
       let here = stops.here.received in
@@ -326,7 +327,7 @@ module _ {S C : Type 0} (store : Store S) (model : ConnectionModel C) (two : IsT
       fails_none c0 m c2 s t here answered Reading all stops.awaits last
       (λ made sum. (
         elim stops.last [
-          | inl over ↦ inr (omega (arith, sum, over.1), omega (arith, all.least, over.1, ap (λ (b : Bool). here.left + (if b then 1 else 0)) over.2))
+          | inl over ↦ inr (omega (arith, sum, over.1), omega (arith, all.least, over.1, ap (λ (b : Bool). here.reads_left + (if b then 1 else 0)) over.2))
           | inr failed ↦ inl failed.0
         ],
         works,
@@ -340,9 +341,9 @@ module _ {S C : Type 0} (store : Store S) (model : ConnectionModel C) (two : IsT
 
   -- there was no memory before the first request
   pub fails_to_begin : (c : C) (s : S) → model.in_failed c ≡ false → model.out_failed c ≡ false
-      → FailsOver store model (connection_moment c s) (connection_moment c s) (record { answered = 0; written = 0; cause = Memory })
+      → FailsOnConnection store model (connection_moment c s) (connection_moment c s) (record { answered = 0; written = 0; cause = Memory })
   fails_to_begin c s in_works out_works =
-      fails_none c c c s s (record { held = []; left = MAX_READS; ended = false }) 0 Memory (begins c s) nothing_was_due (inl refl)
+      fails_none c c c s s (record { held = []; reads_left = MAX_READS; ended = false }) 0 Memory (begins c s) nothing_was_due (inl refl)
       (λ made sum. (in_works, out_works))
 
   cause_of_partial_write : (cause : SessionErrorKind) (written : ℕ) (in_failed out_failed : Bool) (taken : List ℕ) (made : ℕ) → in_failed ≡ false
@@ -367,7 +368,7 @@ module _ {S C : Type 0} (store : Store S) (model : ConnectionModel C) (two : IsT
       → WritesResponse (output_state (model.contents c1) false) (output_state (model.contents c2) (model.out_failed c2)) (bytes_due next) (Err partial_write)
       → model.takes c1 (take partial_write.written (bytes_due next)) c2 → model.in_failed c1 ≡ false
       → (is_spared next ≡ true → partial_write.cause ≢ Memory)
-      → FailsOver store model (connection_moment c0 s) (connection_moment c2 u)
+      → FailsOnConnection store model (connection_moment c0 s) (connection_moment c2 u)
       (record { answered = answered; written = partial_write.written; cause = partial_write.cause })
   fails_saying c0 c1 c2 s t u old answered next rest partial_write so split is run said took in_works spared =
       let part = take partial_write.written (bytes_due next) in
@@ -404,7 +405,7 @@ module _ {S C : Type 0} (store : Store S) (model : ConnectionModel C) (two : IsT
       → WritesResponse (output_state (model.contents c1) false) (output_state (model.contents c2) (model.out_failed c2)) (response_to x) (Err partial_write)
       → model.takes c1 (take partial_write.written (response_to x)) c2 → model.in_failed c1 ≡ false
       → (takes_no_memory x.reply ≡ true → partial_write.cause ≢ Memory)
-      → FailsOver store model (connection_moment c0 s) (connection_moment c2 u)
+      → FailsOnConnection store model (connection_moment c0 s) (connection_moment c2 u)
       (record { answered = answered; written = partial_write.written; cause = partial_write.cause })
   fails_due c0 c1 c2 s t u old rest answered x partial_write so is cut step said took in_works spared =
       fails_saying c0 c1 c2 s t u old answered (due x) rest partial_write so (split_more so.taken old.held rest so.opens x so.split cut) (is, said.2)
@@ -415,7 +416,7 @@ module _ {S C : Type 0} (store : Store S) (model : ConnectionModel C) (two : IsT
       → WritesResponse (output_state (model.contents c1) false) (output_state (model.contents c2) (model.out_failed c2)) (response_of (NoRequest b) true)
       (Err partial_write)
       → model.takes c1 (take partial_write.written (response_of (NoRequest b) true)) c2 → model.in_failed c1 ≡ false
-      → FailsOver store model (connection_moment c0 s) (connection_moment c2 t)
+      → FailsOnConnection store model (connection_moment c0 s) (connection_moment c2 t)
       (record { answered = answered; written = partial_write.written; cause = partial_write.cause })
   fails_malformed c0 c1 c2 s t old answered b partial_write so is said took in_works =
       fails_saying c0 c1 c2 s t t old answered (due_malformed b) old.held partial_write so (split_all so.taken old.held so.opens so.split) (is, said.2)

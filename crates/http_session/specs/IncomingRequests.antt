@@ -18,7 +18,7 @@ use Rattle.http_session.specs.declared.verdict.Verdict.{Verdict}
 use Rattle.http_session.specs.declared.verdict.Verdict.TheVariants.{Reject}
 use Rattle.http_session.specs.declared.verdict.ErrorReply.TheVariants.{NoMemory}
 use Rattle.http_session.specs.declared.receiving.Incoming.{Incoming}
-use Rattle.http_session.specs.declared.receiving.Incoming.TheVariants.{Request as OneRequest, Clean, NoRequest}
+use Rattle.http_session.specs.declared.receiving.Incoming.TheVariants.{Request as OneRequest, EndOfInput, NoRequest}
 use Rattle.http_session.specs.declared.receiving.BodySink.{BodySink}
 use Rattle.http_session.specs.declared.receiving.BodySink.TheVariants.{Settled, Batch}
 use Rattle.http_session.specs.declared.receiving.PartialRequest.{PartialRequest}
@@ -125,7 +125,7 @@ abbrev pub FinishesAs : SessionStage → Incoming → Type 0
 FinishesAs (Head wait) incoming = ⊥
 FinishesAs (Body request) (OneRequest v closes) =
     ((q : Question) (body : List ℕ) → JudgesBy q request.sink body → Decides q body v) × (closes ≡ request.closes)
-FinishesAs (Body request) Clean = ⊥
+FinishesAs (Body request) EndOfInput = ⊥
 FinishesAs (Body request) (NoRequest why) = ⊥
 
 abbrev pub IsBodyStage : SessionStage → Type 0
@@ -135,16 +135,17 @@ IsBodyStage (Body request) = Unit {0}
 -- what was received, or what is awaited
 abbrev pub ReceivesOf : ReadBuffer → ReadBuffer → SessionStage → Option Incoming → Type 0
 ReceivesOf old new stage (Some (OneRequest v closes)) = ReceivesOne old new v closes × (stage ≡ before_a_request)
-ReceivesOf old new stage (Some Clean) = ReceivesEnd old new
+ReceivesOf old new stage (Some EndOfInput) = ReceivesEnd old new
 ReceivesOf old new stage (Some (NoRequest why)) = ReceivesFault old new why
 ReceivesOf old new stage None = ReceivesPart old new stage
 
 -- if nothing is decided, more is awaited, and the input hasn't ended
-abbrev pub LeavesWaiting : ReadBuffer → SessionStage → Option Incoming → Type 0
-LeavesWaiting new stage (Some incoming) = Unit {0}
-LeavesWaiting new stage None = WaitsAfter stage new.held × (new.ended ≡ false)
+abbrev pub AwaitsIfNone : ReadBuffer → SessionStage → Option Incoming → Type 0
+AwaitsIfNone new stage (Some incoming) = Unit {0}
+AwaitsIfNone new stage None = WaitsAfter stage new.held × (new.ended ≡ false)
 
-abbrev pub LeavesPart : ReadBuffer → PartialRequest → BodyLook → Type 0
-LeavesPart new request look.Whole = Unit {0}
-LeavesPart new request look.More = AwaitsMoreBody request.reader new.held × (new.ended ≡ false)
-LeavesPart new request (look.Fault why) = Unit {0}
+-- like AwaitsIfNone, for a body of which a part was taken
+abbrev pub AwaitsInputIfMore : ReadBuffer → PartialRequest → BodyLook → Type 0
+AwaitsInputIfMore new request look.Whole = Unit {0}
+AwaitsInputIfMore new request look.More = AwaitsMoreBody request.reader new.held × (new.ended ≡ false)
+AwaitsInputIfMore new request (look.Fault why) = Unit {0}

@@ -1,7 +1,8 @@
 -- A session reads only while the request that it answers next is awaited.
 use Rattle.std.specs.Prelude.{◌≡◌, ℕ, ◌⊎◌, Bool, List, [], ◌++◌, length}
+use Rattle.session_devices.specs.ByteTransfers.{ByteTransfer}
 use Rattle.http_requests.specs.Requests.{AwaitsRequest}
-use Rattle.http_requests.specs.AwaitedReads.{Gives, Source, ReadsWhile, FailsToRead, input_moment, read_rule}
+use Rattle.http_requests.specs.AwaitedReads.{Source, ReadsWhile, FailsToRead, input_moment, read_rule}
 use Rattle.http_session.specs.Sessions.{Exchange, texts}
 
 -- The bytes received are the first of these requests, and a rest in which the next one is awaited: the rest doesn't
@@ -17,7 +18,7 @@ pub record AwaitsNext (opens : List Exchange) (bytes : List ℕ) : Type 0 where
 -- The bytes taken between two states of an input came by reads in order, and before each of them the next request was
 -- awaited, given the bytes received by then. The requests before it are among these, after which the session stays
 -- open. Nothing was read after any other request, such as one that closes the session or is still due.
-abbrev pub ReadsInTurn : {R : Type 0} → Gives R → R → R → List Exchange → List ℕ → Type 0
+abbrev pub ReadsInTurn : {R : Type 0} → ByteTransfer R → R → R → List Exchange → List ℕ → Type 0
 ReadsInTurn gives s t opens taken = ReadsWhile (read_rule gives (AwaitsNext opens)) (input_moment s []) (input_moment t taken)
 
 -- an input before and after a session, and whether it has failed by then

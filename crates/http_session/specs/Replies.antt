@@ -11,25 +11,13 @@ use Rattle.http_requests.specs.declared.request.RequestFault.TheVariants as faul
 use Rattle.query_http.specs.declared.paths.Endpoint.{Endpoint}
 use Rattle.query_http.specs.Faults.{parameter_name}
 use Rattle.query_http.specs.Responses.{response}
+use Rattle.query_http.specs.Statuses.{refusal_status}
 use Rattle.query_json.specs.Trees.{answer_tree, error_tree}
 use Rattle.http_session.specs.Verdicts.{takes_post}
 use Rattle.http_session.specs.declared.verdict.ErrorReply.{ErrorReply}
 use Rattle.http_session.specs.declared.verdict.ErrorReply.TheVariants.{NoSuchPath, NotAllowed, UnsupportedType, BadBatch, BadParameter, NoMemory}
 use Rattle.http_session.specs.declared.reply.Reply.{Reply}
 use Rattle.http_session.specs.declared.reply.Reply.TheVariants.{Accepted, Answered, Refused, Error, NoRequest}
-
-abbrev pub refusal_status : Refusal → ℕ
-refusal_status (why.JournalFull batches spans) = 503
-refusal_status (why.Stale last) = 500
-refusal_status why.NoMemory = 500
-refusal_status why.Deferred = 503
-refusal_status why.Busy = 503
-refusal_status why.Closed = 503
-refusal_status why.Stranger = 500
-refusal_status why.NoReply = 500
-refusal_status (why.Behind front) = 500
-refusal_status (why.Conflict place) = 409
-refusal_status why.Gone = 500
 
 abbrev pub refusal_message : Refusal → List ℕ
 refusal_message (why.JournalFull batches spans) = codes "journal full"

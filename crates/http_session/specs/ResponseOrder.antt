@@ -1,7 +1,7 @@
 -- A session has written the responses to all earlier requests before it reads for the next one.
 use Rattle.std.specs.Prelude.{◌≡◌, ℕ, ◌⊎◌, Bool, List, [], ◌∷◌, ◌++◌, length, take, Option}
-use Rattle.session_devices.specs.ByteTakers.{Takings, LeavesOther}
-use Rattle.http_requests.specs.AwaitedReads.{Gives, Source, source_of, FailsToRead}
+use Rattle.session_devices.specs.ByteTransfers.{ByteTransfer, KeepsOther}
+use Rattle.http_requests.specs.AwaitedReads.{Source, source_of, FailsToRead}
 use Rattle.http_session.specs.Sessions.{Exchange, responses, Store, BytesMoment, SessionFailure, EndsAs, FailsAs, last_of, malformed_response, bytes_due}
 use Rattle.http_session.specs.ReadTurns.{AwaitsNext}
 use Rattle.http_session.specs.declared.whole_session.Ended.{Ended}
@@ -11,19 +11,19 @@ use Rattle.http_session.specs.declared.whole_session.SessionError.{SessionError}
 pub record ConnectionModel (C : Type 0) : Type 1 where
   pub source : Source C
   pub contents : C → Option (List ℕ)
-  pub takes : Takings C
+  pub takes : ByteTransfer C
   pub in_failed : C → Bool
   pub out_failed : C → Bool
 
-abbrev pub model_of : {C : Type 0} → (C → Option (List ℕ)) → Gives C → (C → Bool) → (C → Option (List ℕ)) → Takings C → (C → Bool)
+abbrev pub model_of : {C : Type 0} → (C → Option (List ℕ)) → ByteTransfer C → (C → Bool) → (C → Option (List ℕ)) → ByteTransfer C → (C → Bool)
     → ConnectionModel C
 model_of remaining gives in_failed contents takes out_failed =
     record { source = source_of remaining gives; contents = contents; takes = takes; in_failed = in_failed; out_failed = out_failed }
 
 -- reads don't change what was written, and writes don't change what is still to be read
 pub record IsTwoWay {C : Type 0} (model : ConnectionModel C) : Type 0 where
-  pub reads_leave : LeavesOther C model.source.gives model.contents model.out_failed
-  pub writes_leave : LeavesOther C model.takes model.source.remaining model.in_failed
+  pub reads_leave : KeepsOther C model.source.gives model.contents model.out_failed
+  pub writes_leave : KeepsOther C model.takes model.source.remaining model.in_failed
 
 -- what is done with a connection: a read that returns these bytes, or writes that take them
 pub data Act : Type 0 where
@@ -97,15 +97,15 @@ connection_failure model at error =
     record { error = error; input_failed = model.in_failed at.connection; output_failed = model.out_failed at.connection }
 
 -- a session over a connection that ended
-abbrev pub EndsOver : {S C : Type 0} → Store S → ConnectionModel C → ConnectionMoment C S → ConnectionMoment C S → Ended → Type 0
-EndsOver store model before after ended =
+abbrev pub EndsOnConnection : {S C : Type 0} → Store S → ConnectionModel C → ConnectionMoment C S → ConnectionMoment C S → Ended → Type 0
+EndsOnConnection store model before after ended =
     (ends : EndsAs store (connection_bytes model before) (connection_bytes model after) ended)
     × AnswersInTurn model before.connection ends.opens
     (transcript after.connection ends.taken (responses (ends.opens ++ last_of ends.ending) ++ malformed_response ends.ending))
 
 -- a session over a connection that failed
-abbrev pub FailsOver : {S C : Type 0} → Store S → ConnectionModel C → ConnectionMoment C S → ConnectionMoment C S → SessionError → Type 0
-FailsOver store model before after error =
+abbrev pub FailsOnConnection : {S C : Type 0} → Store S → ConnectionModel C → ConnectionMoment C S → ConnectionMoment C S → SessionError → Type 0
+FailsOnConnection store model before after error =
     (fails : FailsAs store (connection_bytes model before) (connection_bytes model after) (connection_failure model after error))
     × AnswersInTurnUpTo model before.connection fails.opens
     (transcript after.connection fails.taken (responses fails.opens ++ take error.written (bytes_due fails.next))) fails.made

@@ -12,10 +12,10 @@ use Rattle.trace_model.specs.declared.query.Query.{Query}
 use Rattle.trace_model.specs.declared.answer.Answer.{Answer}
 use Rattle.trace_model.specs.declared.refusal.Refusal.{Refusal}
 use Rattle.trace_model.specs.StoreKnowledge.{ForgetsNothing}
-use Rattle.http_session.specs.Sessions.{Exchange, LeavesOpen, texts, responses, Submits, Reads, Store, Step, Run}
+use Rattle.http_session.specs.Sessions.{Exchange, StaysOpen, texts, responses, Submits, Reads, Store, Step, Run}
 use Rattle.http_session.specs.ResponseOrder.{ConnectionModel, ConnectionMoment, connection_moment, transcript, AnswersInTurn, reads_of}
 use Rattle.http_session.specs.HistoryPoints.{known_at, Related, no_points}
-use Rattle.http_session.specs.SessionRuns.{EndsServed, FailsServed}
+use Rattle.http_session.specs.SessionRuns.{EndsOnConnectionInHistory, FailsOnConnectionInHistory}
 use Rattle.http_session.specs.IncomingRequests.{before_a_request, HasReceived, HasLookedBy, WaitsAfter, ReceivesOne}
 use Rattle.http_session.specs.declared.resumable.Session.{Session}
 use Rattle.http_session.specs.declared.resumable.Progress.{Progress}
@@ -27,7 +27,7 @@ use Rattle.http_session.specs.declared.whole_session.SessionError.{SessionError}
 
 -- a session before the first read
 abbrev pub no_requests_yet : Session
-no_requests_yet = record { received = record { held = []; left = MAX_READS; ended = false }; stage = before_a_request; answered = 0 }
+no_requests_yet = record { received = record { held = []; reads_left = MAX_READS; ended = false }; stage = before_a_request; answered = 0 }
 
 -- The session can continue over an input: what it keeps of a request comes from a part of one; if it has found the end
 -- of the input, the input has ended; and the number of responses, with those that may still come, is bounded.
@@ -36,7 +36,7 @@ pub record CanContinue (input : Option (List ℕ)) (session : Session) : Type 0 
   pub incoming : HasReceived session.stage text
   pub looked : HasLookedBy session.stage session.received.held
   pub end : KnowsItsEnd session.received.ended input
-  pub most : session.answered + length (text ++ session.received.held) + READ_BYTES * session.received.left ≤ READ_BYTES * MAX_READS
+  pub most : session.answered + length (text ++ session.received.held) + READ_BYTES * session.received.reads_left ≤ READ_BYTES * MAX_READS
 
 -- A session that pauses inside a request or before one: the bytes received hold no complete request, and don't rule one
 -- out.
@@ -106,14 +106,14 @@ pub record SoFar {S C : Type 0} (store : Store S) (model : ConnectionModel C) (s
   pub opens : List Exchange
   pub read : Consumes (model.source.remaining start.connection) (model.source.remaining now.connection) taken
   pub answers : AnswersInTurn model start.connection opens (transcript now.connection taken (responses opens))
-  pub made : now.received.left + length (reads_of answers.acts) ≡ MAX_READS
+  pub made : now.received.reads_left + length (reads_of answers.acts) ≡ MAX_READS
   pub split : taken ≡ texts opens ++ now.received.held
-  pub each : All LeavesOpen opens
+  pub each : All StaysOpen opens
   pub run : Run store start.store opens now.store
   pub written : Appends (model.contents start.connection) (model.contents now.connection) (responses opens)
   pub count : now.answered ≡ length opens
   pub least : MAX_READS ≤ length taken + turns now.received
-  pub most : now.answered + length now.received.held + READ_BYTES * now.received.left ≤ READ_BYTES * MAX_READS
+  pub most : now.answered + length now.received.held + READ_BYTES * now.received.reads_left ≤ READ_BYTES * MAX_READS
   pub end : KnowsItsEnd now.received.ended (model.source.remaining now.connection)
 
 -- a session that can pause, with its connection and the store at the same moment
@@ -137,8 +137,8 @@ pub record Underway {S C : Type 0} (store : Store S) (model : ConnectionModel C)
 -- what became of a session that began at the first moment: it is open, it has ended, or it has failed
 abbrev pub ComesTo : {S C : Type 0} → Store S → ConnectionModel C → ConnectionMoment C S → SessionMoment C S → Result (Option Ended) SessionError → Type 0
 ComesTo store model start now (Ok None) = Underway store model start now
-ComesTo store model start now (Ok (Some ended)) = EndsServed store model start (connection_moment now.connection now.store) ended
-ComesTo store model start now (Err error) = FailsServed store model start (connection_moment now.connection now.store) error
+ComesTo store model start now (Ok (Some ended)) = EndsOnConnectionInHistory store model start (connection_moment now.connection now.store) ended
+ComesTo store model start now (Err error) = FailsOnConnectionInHistory store model start (connection_moment now.connection now.store) error
 
 -- A session over a store that others use too: the store still knows everything that it knew after the session's own
 -- steps.

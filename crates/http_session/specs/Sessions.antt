@@ -24,6 +24,8 @@ use Rattle.http_session.specs.declared.reply.Reply.{Reply}
 use Rattle.http_session.specs.declared.reply.Reply.TheVariants.{Accepted, Answered, Refused, Error, NoRequest}
 use Rattle.http_session.specs.declared.whole_session.SessionErrorKind.{SessionErrorKind}
 use Rattle.http_session.specs.declared.whole_session.SessionErrorKind.TheVariants.{Reading, Writing, Memory}
+use Rattle.http_session.specs.declared.whole_session.EndReason.{EndReason}
+use Rattle.http_session.specs.declared.whole_session.EndReason.TheVariants.{ClosedByClient, ClosedByResponse}
 use Rattle.http_session.specs.declared.whole_session.Ended.{Ended}
 use Rattle.http_session.specs.declared.whole_session.SessionError.{SessionError}
 use Rattle.http_session.specs.declared.whole_session.PartialWrite.{PartialWrite}
@@ -43,7 +45,7 @@ pub record IsExchange (x : Exchange) : Type 0 where
   pub verdict_follows : Judges (asked_by x.head) x.body x.verdict
   pub close_is : x.close ≡ ((asked_by x.head).closes || closes x.reply)
 
-pub record LeavesOpen (x : Exchange) : Type 0 where
+pub record StaysOpen (x : Exchange) : Type 0 where
   pub exchange : IsExchange x
   pub open_is : x.close ≡ false
 
@@ -107,36 +109,36 @@ BytesMoment S = Moment (Option (List ℕ)) (Option (List ℕ)) S
 
 -- how a session ends: the input ends between two requests, a response closes it, or the request is malformed
 pub data Ending : Type 0 where
-  clean : Ending
+  end_of_input : Ending
   closing : Exchange → Ending
   malformed : RequestFault → Ending
 
 -- the exchange that closes the session, if one does
 abbrev pub last_of : Ending → List Exchange
-last_of clean = []
+last_of end_of_input = []
 last_of (closing x) = x ∷ []
 last_of (malformed b) = []
 
 abbrev pub IsEnding : Type 0 → List ℕ → Ending → Type 0
-IsEnding AtEnd rest clean = AtEnd × (rest ≡ [])
+IsEnding AtEnd rest end_of_input = AtEnd × (rest ≡ [])
 IsEnding AtEnd rest (closing x) = IsExchange x × (x.close ≡ true)
 IsEnding AtEnd rest (malformed b) = IsMalformed AtEnd rest b
 
 -- the last response, if the request was malformed
 abbrev pub malformed_response : Ending → List ℕ
-malformed_response clean = []
+malformed_response end_of_input = []
 malformed_response (closing x) = []
 malformed_response (malformed b) = response_of (NoRequest b) true
 
 abbrev pub malformed_responses : Ending → ℕ
-malformed_responses clean = 0
+malformed_responses end_of_input = 0
 malformed_responses (closing x) = 0
 malformed_responses (malformed b) = 1
 
-abbrev pub is_clean : Ending → Bool
-is_clean clean = true
-is_clean (closing x) = false
-is_clean (malformed b) = false
+abbrev pub end_reason : Ending → EndReason
+end_reason end_of_input = ClosedByClient
+end_reason (closing x) = ClosedByResponse
+end_reason (malformed b) = ClosedByResponse
 
 -- A session ended. The bytes read are the requests and a rest, and the bytes written are their responses, and a last
 -- one if the rest was malformed.
@@ -147,12 +149,12 @@ pub record EndsAs {S : Type 0} (store : Store S) (before after : BytesMoment S) 
   pub rest : List ℕ
   pub read : Consumes before.input after.input taken
   pub split : taken ≡ texts (opens ++ last_of ending) ++ rest
-  pub each : All LeavesOpen opens
+  pub each : All StaysOpen opens
   pub ends : IsEnding (IsAtEnd after.input) rest ending
   pub run : Run store before.store (opens ++ last_of ending) after.store
   pub written : Appends before.output after.output (responses (opens ++ last_of ending) ++ malformed_response ending)
   pub count : ended.answered ≡ length (opens ++ last_of ending) + malformed_responses ending
-  pub clean_is : ended.clean ≡ is_clean ending
+  pub reason_is : ended.reason ≡ end_reason ending
 
 -- ---- errors
 
@@ -215,7 +217,7 @@ pub record FailsAs {S : Type 0} (store : Store S) (before after : BytesMoment S)
   pub rest : List ℕ
   pub read : Consumes before.input after.input taken
   pub split : taken ≡ texts (opens ++ exchange_due next) ++ rest
-  pub each : All LeavesOpen opens
+  pub each : All StaysOpen opens
   pub next_is : IsDue (IsAtEnd after.input) failure.error.cause rest next
   pub run : Run store before.store (opens ++ exchange_due next) after.store
   pub within : failure.error.cause ≡ Writing → failure.error.written < length (bytes_due next)

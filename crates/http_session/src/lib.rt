@@ -34,4 +34,6 @@ pub use respond::Respond;
 pub use response::Response;
 pub use resumable::{Progress, Session};
 pub use verdict::{ErrorReply, Verdict};
-pub use whole_session::{Ended, SessionError, SessionErrorKind, serve_connection, session};
+pub use whole_session::{
+    EndReason, Ended, SessionError, SessionErrorKind, serve_connection, session,
+};

@@ -4,14 +4,14 @@ ghost use Rattle.std.specs.Prelude.{◌≡◌, ℕ, List, [], ◌++◌, Some, If
 ghost use Rattle.batch_codec.specs.BatchReading.{decoded};
 ghost use Rattle.batch_feeder.specs.FeederAnswers.{answers};
 ghost use Rattle.query_http.specs.Paths.{endpoint_rows};
-ghost use Rattle.http_requests.specs.PartialRequests.{IsPart, HasSeen, HasLooked, Leaves, reader_moment, ContinuesBody};
+ghost use Rattle.http_requests.specs.PartialRequests.{IsPart, HasSeen, HasLooked, AwaitsIfMore, reader_moment, ContinuesBody};
 ghost use Rattle.http_requests.specs.ReceivedBytes.{put_back};
 ghost use Rattle.http_session.specs.Verdicts.{BeginsWithQuery};
 ghost use Rattle.http_session.specs.Questions.{JudgesRead, Decides};
 ghost use Rattle.http_session.specs.declared.question.Question.{Question as QuestionValue};
 ghost use Rattle.http_session.specs.IncomingRequests.{before_a_request, JudgesBy, Carries, IsPartOf, HasReceived, HasLookedBy, IsBodyStage};
-ghost use Rattle.http_session.specs.IncomingRequests.{PartComes, LeavesPart};
-ghost use Rattle.http_session.specs.IncomingRequests.{FinishesAs, ReceivesOf, LeavesWaiting};
+ghost use Rattle.http_session.specs.IncomingRequests.{PartComes, AwaitsInputIfMore};
+ghost use Rattle.http_session.specs.IncomingRequests.{FinishesAs, ReceivesOf, AwaitsIfNone};
 
 use crate::question::{Question, question_of};
 use crate::verdict::{ErrorReply, Verdict};
@@ -36,7 +36,7 @@ pub(crate) enum Incoming {
         closes: bool,
     },
     /// The input has ended between two requests.
-    Clean,
+    EndOfInput,
     /// No request, for this reason.
     NoRequest(RequestFault),
 }
@@ -132,8 +132,8 @@ pub(crate) enum SessionStage {
 
 impl PartialRequest {
     /// Creates a request before the first byte of its body.
-    fn new(alloc: Global, question: Question, size: BodyLength, closes: bool) -> Self
-        ensures part { IsPart size [] [] result.reader }
+    fn new(alloc: Global, question: Question, body_length: BodyLength, closes: bool) -> Self
+        ensures part { IsPart body_length [] [] result.reader }
         ensures looked { (held : List ℕ) → HasLooked result.reader held }
         ensures judged { JudgesBy question result.sink [] }
         ensures closes { result.closes ≡ closes }
@@ -146,7 +146,7 @@ impl PartialRequest {
             },
         };
         PartialRequest {
-            reader: BodyReader::new(size),
+            reader: BodyReader::new(body_length),
             sink,
             closes,
         }
@@ -158,7 +158,7 @@ impl PartialRequest {
         ensures took { ContinuesBody Carries
             (reader_moment self.old.reader received.old self.old.sink)
             (reader_moment self.new.reader received.new self.new.sink) (Some result) }
-        ensures leaves { Leaves self.new.reader received.new.held result }
+        ensures awaits { AwaitsIfMore self.new.reader received.new.held result }
         ensures closes { self.new.closes ≡ self.old.closes }
     {
         match &mut self.sink {
@@ -172,7 +172,7 @@ impl PartialRequest {
         requires looked { HasLooked self.old.reader received.old.held }
         ensures part { (text : List ℕ) → IsPartOf self.old text →
             PartComes (put_back text received.old) received.new self.new result }
-        ensures waits { LeavesPart received.new self.new result }
+        ensures waits { AwaitsInputIfMore received.new self.new result }
     {
         // For the prover: the match takes the cases of the clauses of `take_from` apart, which give the clause `part`.
         match self.take_from(received) {
@@ -236,7 +236,7 @@ fn receive_body(stage: &mut SessionStage, received: &mut ReadBuffer) -> Option<I
     requires looked { HasLookedBy stage.old received.old.held }
     ensures incoming { (text : List ℕ) → HasReceived stage.old text →
         ReceivesOf (put_back text received.old) received.new stage.new result }
-    ensures waits { LeavesWaiting received.new stage.new result }
+    ensures waits { AwaitsIfNone received.new stage.new result }
 {
     let SessionStage::Body(request) = stage else {
         unreachable!()
@@ -264,15 +264,16 @@ fn receive_head(
     requires routes { router.now ≡ endpoint_rows }
     requires seen { HasSeen wait received.old.held }
     ensures incoming { IfOk result (ReceivesOf received.old received.new stage.new) }
-    ensures waits { IfOk result (LeavesWaiting received.new stage.new) }
+    ensures waits { IfOk result (AwaitsIfNone received.new stage.new) }
     ensures err { OnErr result (BeginsWithQuery received.old.held) }
 {
     match wait.look(received.as_slice()) {
-        Look::Whole((request, length, size)) => {
-            let head = &received.as_slice()[..length];
-            let question = question_of(alloc, router, head, &request)?;
-            received.take(length);
-            let partial = PartialRequest::new(alloc, question, size, request.closes);
+        Look::Whole(found) => {
+            let head = &received.as_slice()[..found.len];
+            let question = question_of(alloc, router, head, &found.request)?;
+            received.take(found.len);
+            let closes = found.request.closes;
+            let partial = PartialRequest::new(alloc, question, found.body_length, closes);
             assign(stage, SessionStage::Body(partial));
             Ok(receive_body(stage, received))
         }
@@ -280,9 +281,8 @@ fn receive_head(
             assign(stage, SessionStage::Head(wait));
             Ok(None)
         }
-        Look::More if received.as_slice().is_empty() => Ok(Some(Incoming::Clean)),
-        Look::More => Ok(Some(Incoming::NoRequest(RequestFault::Head))),
-        Look::Never => Ok(Some(Incoming::NoRequest(RequestFault::Head))),
+        Look::More if received.as_slice().is_empty() => Ok(Some(Incoming::EndOfInput)),
+        Look::More | Look::Never => Ok(Some(Incoming::NoRequest(RequestFault::Head))),
     }
 }
 
@@ -302,7 +302,7 @@ pub(crate) fn receive(
     requires looked { HasLookedBy stage.old received.old.held }
     ensures incoming { IfOk result (λ incoming. (text : List ℕ) → HasReceived stage.old text →
         ReceivesOf (put_back text received.old) received.new stage.new incoming) }
-    ensures waits { IfOk result (LeavesWaiting received.new stage.new) }
+    ensures waits { IfOk result (AwaitsIfNone received.new stage.new) }
     ensures err { OnErr result ((text : List ℕ) → HasReceived stage.old text →
         BeginsWithQuery (text ++ received.old.held)) }
 {

@@ -5,7 +5,7 @@ ghost use Rattle.query_http.specs.Statuses.{code_of};
 ghost use Rattle.query_json.specs.Parts.{to_come};
 ghost use Rattle.query_json.specs.Trees.{answer_tree};
 ghost use Rattle.http_session.specs.Replies.{status_of, allow_of, closes, takes_no_memory, response_of, error_message, error_status, methods_of};
-ghost use Rattle.http_session.specs.Replies.{refusal_status, refusal_message, fault_status, fault_message, error_body};
+ghost use Rattle.http_session.specs.Replies.{refusal_message, fault_status, fault_message, error_body};
 ghost use Rattle.http_session.specs.declared.reply.Reply.TheVariants as reply;
 
 use crate::fixed::{accepted, internal_error, out_of_memory};
@@ -35,22 +35,6 @@ pub enum Reply {
 
 /// The size up to which an answer is copied after its head, so that one write takes both.
 const MAX_JOINED: usize = 16_384;
-
-fn refusal_status(refusal: Refusal) -> Status
-    ensures { code_of result ≡ refusal_status refusal }
-{
-    match refusal {
-        Refusal::JournalFull { .. } | Refusal::Deferred | Refusal::Busy | Refusal::Closed =>
-            Status::ServiceUnavailable,
-        Refusal::Conflict { .. } => Status::Conflict,
-        Refusal::NoMemory
-        | Refusal::Stale { .. }
-        | Refusal::Stranger
-        | Refusal::NoReply
-        | Refusal::Behind { .. }
-        | Refusal::Gone => Status::InternalServerError,
-    }
-}
 
 fn refusal_message(refusal: Refusal) -> &'static str
     ensures { result.now ≡ refusal_message refusal }
@@ -164,15 +148,10 @@ fn fixed_refusal(refusal: Refusal, close: bool) -> Option<&'static [u8]>
         bytes.now ≡ response_of (reply.Refused refusal) close) }
     ensures which { is_some result ≡ takes_no_memory (reply.Refused refusal) }
 {
-    match refusal {
-        Refusal::JournalFull { .. } | Refusal::Deferred | Refusal::Busy | Refusal::Closed => None,
-        Refusal::Conflict { .. } => None,
-        Refusal::NoMemory => Some(out_of_memory(close)),
-        Refusal::Stale { .. }
-        | Refusal::Stranger
-        | Refusal::NoReply
-        | Refusal::Behind { .. }
-        | Refusal::Gone => Some(internal_error(close)),
+    match (Status::of_refusal(refusal), refusal) {
+        (Status::InternalServerError, Refusal::NoMemory) => Some(out_of_memory(close)),
+        (Status::InternalServerError, _) => Some(internal_error(close)),
+        _ => None,
     }
 }
 
@@ -208,7 +187,7 @@ impl Reply {
             Reply::Accepted => Status::Accepted,
             Reply::Answered(Answer::Trace(None)) => Status::NotFound,
             Reply::Answered(_) => Status::Ok,
-            Reply::Refused(refusal) => refusal_status(*refusal),
+            Reply::Refused(refusal) => Status::of_refusal(*refusal),
             Reply::Error(error) => error_status(*error),
             Reply::NoRequest(fault) => fault_status(*fault),
         }

@@ -15,7 +15,7 @@ use crate::reply::Reply;
 use crate::respond::Respond;
 use crate::verdict::Verdict;
 use crate::whole_session::{
-    Ended, SessionError, SessionErrorKind, answer, cause_of, closes_after, write_reply,
+    EndReason, Ended, SessionError, SessionErrorKind, answer, cause_of, closes_after, write_reply,
 };
 use http_requests::{ReadBuffer, SpareRoom};
 use matchit::Router;
@@ -127,7 +127,7 @@ impl Session {
         if close {
             return Ok(Some(Ended {
                 answered: self.answered,
-                clean: false,
+                reason: EndReason::ClosedByResponse,
             }));
         }
         Ok(None)
@@ -170,7 +170,7 @@ impl Session {
 
         ensures paused { IfPaused result (AwaitsMore self.new
             × (self.new.answered ≡ self.old.answered)
-            × (self.new.received.left ≡ self.old.received.left)
+            × (self.new.received.reads_left ≡ self.old.received.reads_left)
             × (connection.new ≡ connection.old) × (backend.new ≡ backend.old)) }
     {
         let answered = self.answered;
@@ -186,10 +186,10 @@ impl Session {
             Ok(Some(incoming)) => incoming,
         };
         let (verdict, closes) = match incoming {
-            Incoming::Clean => {
+            Incoming::EndOfInput => {
                 return Ok(Progress::Ended(Ended {
                     answered,
-                    clean: true,
+                    reason: EndReason::ClosedByClient,
                 }));
             }
             Incoming::NoRequest(fault) => {
@@ -199,11 +199,12 @@ impl Session {
                 }
                 return Ok(Progress::Ended(Ended {
                     answered: answered + 1,
-                    clean: false,
+                    reason: EndReason::ClosedByResponse,
                 }));
             }
             Incoming::Request { verdict, closes } => (verdict, closes),
         };
+        // For the prover: the match takes the cases of the clause `goes_on` apart.
         match self.answer_request(rt, alloc, connection, backend, verdict, closes) {
             Ok(None) => Ok(Progress::Answered),
             Ok(Some(ended)) => Ok(Progress::Ended(ended)),
@@ -249,7 +250,7 @@ impl Session {
 
         ensures paused { IfPaused result (AwaitsMore self.new
             × (self.new.answered ≡ self.old.answered)
-            × (self.new.received.left + 1 ≡ self.old.received.left)
+            × (self.new.received.reads_left + 1 ≡ self.old.received.reads_left)
             × (backend.new ≡ backend.old)) }
     {
         // For the prover: the matches take the cases of the clause `goes_on` apart.

@@ -5,7 +5,8 @@ ghost use Rattle.http_session.specs.Replies.{response_of, closes, takes_no_memor
 ghost use Rattle.http_session.specs.declared.whole_session.SessionErrorKind.TheVariants.{Writing, Memory};
 ghost use Rattle.http_session.specs.Sessions.{store_of, moment, Step, output_state, WritesResponse, part_written, cause_by};
 ghost use Rattle.http_session.specs.ResponseOrder.{model_of, connection_moment};
-ghost use Rattle.http_session.specs.SessionRuns.{devices_of, EndsBetween, FailsBetween, EndsServed, FailsServed};
+ghost use Rattle.http_session.specs.SessionRuns.{devices_of, EndsOnDevicesInHistory, FailsOnDevicesInHistory};
+ghost use Rattle.http_session.specs.SessionRuns.{EndsOnConnectionInHistory, FailsOnConnectionInHistory};
 
 use crate::reply::Reply;
 use crate::respond::Respond;
@@ -21,13 +22,21 @@ use std::alloc::Global;
 use std::mem::drop;
 use trace_model::Backend;
 
+/// Why a session ended.
+#[derive(Clone, Copy, Debug, PartialEq, Eq)]
+pub enum EndReason {
+    /// The input ended between two requests.
+    ClosedByClient,
+    /// A response closed the session: the request or the reply asked for it, or the bytes received were malformed.
+    ClosedByResponse,
+}
+
 /// How a session ended.
 #[derive(Clone, Copy, Debug, PartialEq, Eq)]
 pub struct Ended {
     /// The number of responses written.
     pub answered: u64,
-    /// The input ended between two requests.
-    pub clean: bool,
+    pub reason: EndReason,
 }
 
 /// Why a session failed.
@@ -58,6 +67,16 @@ pub(crate) struct PartialWrite {
 }
 
 impl PartialWrite {
+    /// Creates the report of a failed write, after this number of bytes.
+    fn writing(written: usize) -> Self
+        ensures { result ≡ record { written = written; cause = Writing } }
+    {
+        PartialWrite {
+            written,
+            cause: SessionErrorKind::Writing,
+        }
+    }
+
     pub(crate) fn after(self, answered: u64) -> SessionError
         ensures { result ≡
             record { answered = answered; written = self.written; cause = self.cause } }
@@ -117,13 +136,7 @@ fn write_fixed<W: Output>(output: &mut W, response: &[u8]) -> Result<(), Partial
     ensures took { W.takes output.old (part_written response.now result) output.new }
     ensures writing { IfErr result (λ e. e.cause ≡ Writing) }
 {
-    match write_all(output, response) {
-        Ok(()) => Ok(()),
-        Err(written) => Err(PartialWrite {
-            written,
-            cause: SessionErrorKind::Writing,
-        }),
-    }
+    write_all(output, response).map_err(PartialWrite::writing)
 }
 
 /// Writes a response, or hands it over to be written later.
@@ -135,13 +148,9 @@ fn write_response<C: Respond>(connection: &mut C, response: Response) -> Result<
     ensures took { C.takes connection.old (part_written (to_come response) result) connection.new }
     ensures writing { IfErr result (λ e. e.cause ≡ Writing) }
 {
-    match connection.send_response(response) {
-        Ok(()) => Ok(()),
-        Err(written) => Err(PartialWrite {
-            written,
-            cause: SessionErrorKind::Writing,
-        }),
-    }
+    connection
+        .send_response(response)
+        .map_err(PartialWrite::writing)
 }
 
 /// Writes the response of a reply. Allocates nothing itself if that is 202 or 500, as [`write_fixed`].
@@ -182,13 +191,15 @@ fn run_session<T, C: Respond, B: Backend<T>>(
     requires routes { router.now ≡ endpoint_rows }
     requires input_works { C.Input.has_failed connection.old ≡ false }
     requires output_works { C.Output.has_failed connection.old ≡ false }
-    ensures ended { IfOk result (EndsServed (store_of B.submits B.reads B.knows B.limits)
+    ensures ended { IfOk result (EndsOnConnectionInHistory
+        (store_of B.submits B.reads B.knows B.limits)
         (model_of C.remaining C.gives C.Input.has_failed C.contents C.takes C.Output.has_failed)
         (connection_moment connection.old backend.old)
         (connection_moment connection.new backend.new)) }
     ensures works { OnOk result ((C.Input.has_failed connection.new ≡ false)
         × (C.Output.has_failed connection.new ≡ false)) }
-    ensures error { IfErr result (FailsServed (store_of B.submits B.reads B.knows B.limits)
+    ensures error { IfErr result (FailsOnConnectionInHistory
+        (store_of B.submits B.reads B.knows B.limits)
         (model_of C.remaining C.gives C.Input.has_failed C.contents C.takes C.Output.has_failed)
         (connection_moment connection.old backend.old)
         (connection_moment connection.new backend.new)) }
@@ -238,7 +249,8 @@ pub fn serve_connection<T, C: Respond, B: Backend<T>>(
     requires input_works { C.Input.has_failed connection.old ≡ false }
     requires output_works { C.Output.has_failed connection.old ≡ false }
 
-    ensures ended { IfOk result (EndsServed (store_of B.submits B.reads B.knows B.limits)
+    ensures ended { IfOk result (EndsOnConnectionInHistory
+        (store_of B.submits B.reads B.knows B.limits)
         (model_of C.remaining C.gives C.Input.has_failed C.contents C.takes C.Output.has_failed)
         (connection_moment connection.old backend.old)
         (connection_moment connection.new backend.new)) }
@@ -246,7 +258,8 @@ pub fn serve_connection<T, C: Respond, B: Backend<T>>(
     ensures works { OnOk result ((C.Input.has_failed connection.new ≡ false)
         × (C.Output.has_failed connection.new ≡ false)) }
 
-    ensures error { IfErr result (FailsServed (store_of B.submits B.reads B.knows B.limits)
+    ensures error { IfErr result (FailsOnConnectionInHistory
+        (store_of B.submits B.reads B.knows B.limits)
         (model_of C.remaining C.gives C.Input.has_failed C.contents C.takes C.Output.has_failed)
         (connection_moment connection.old backend.old)
         (connection_moment connection.new backend.new)) }
@@ -276,13 +289,15 @@ fn serve_joined<T, R: Input, W: Output, B: Backend<T>>(
     requires output_works { W.has_failed connection.old.output.now ≡ false }
     ensures same_input { connection.new.input.ghost_name ≡ connection.old.input.ghost_name }
     ensures same_output { connection.new.output.ghost_name ≡ connection.old.output.ghost_name }
-    ensures ended { IfOk result (EndsBetween (store_of B.submits B.reads B.knows B.limits)
+    ensures ended { IfOk result (EndsOnDevicesInHistory
+        (store_of B.submits B.reads B.knows B.limits)
         (devices_of R.remaining R.gives R.has_failed W.contents W.has_failed)
         (moment connection.old.input.now connection.old.output.now backend.old)
         (moment connection.new.input.now connection.new.output.now backend.new)) }
     ensures works { OnOk result ((R.has_failed connection.new.input.now ≡ false)
         × (W.has_failed connection.new.output.now ≡ false)) }
-    ensures error { IfErr result (FailsBetween (store_of B.submits B.reads B.knows B.limits)
+    ensures error { IfErr result (FailsOnDevicesInHistory
+        (store_of B.submits B.reads B.knows B.limits)
         (devices_of R.remaining R.gives R.has_failed W.contents W.has_failed)
         (moment connection.old.input.now connection.old.output.now backend.old)
         (moment connection.new.input.now connection.new.output.now backend.new)) }
@@ -312,14 +327,16 @@ pub fn session<T, R: Input, W: Output, B: Backend<T>>(
     requires input_works { R.has_failed input.old ≡ false }
     requires output_works { W.has_failed output.old ≡ false }
 
-    ensures ended { IfOk result (EndsBetween (store_of B.submits B.reads B.knows B.limits)
+    ensures ended { IfOk result (EndsOnDevicesInHistory
+        (store_of B.submits B.reads B.knows B.limits)
         (devices_of R.remaining R.gives R.has_failed W.contents W.has_failed)
         (moment input.old output.old backend.old) (moment input.new output.new backend.new)) }
 
     ensures works { OnOk result ((R.has_failed input.new ≡ false)
         × (W.has_failed output.new ≡ false)) }
 
-    ensures error { IfErr result (FailsBetween (store_of B.submits B.reads B.knows B.limits)
+    ensures error { IfErr result (FailsOnDevicesInHistory
+        (store_of B.submits B.reads B.knows B.limits)
         (devices_of R.remaining R.gives R.has_failed W.contents W.has_failed)
         (moment input.old output.old backend.old) (moment input.new output.new backend.new)) }
 {

@@ -16,7 +16,7 @@ use Rattle.trace_model.specs.Refusals.{place_of}
 use Rattle.trace_model.specs.ResentBatches.{is_sent}
 use Rattle.trace_model.proofs.Admissions.{IsSaid, admission_says}
 use Rattle.trace_model.proofs.Prefixes.{prefix_get}
-use Rattle.read_side.specs.Keepers.{Lists, Answers, accepted, after_admission, admission_after, refusal_after, TurnsAway}
+use Rattle.read_side.specs.Keepers.{Lists, Answers, accepted, after_admission, admission_after, refusal_after, admit_call}
 use Rattle.read_side.specs.Receipts.{StandsAt, AnsweredAt}
 use Rattle.intake.specs.Books.{is_accepted, AnsweredIfPlaced}
 use Rattle.read_side.proofs.AdmittedPlaces.{last_stands, entry_stands}
@@ -49,7 +49,7 @@ accepted-after limits k j (Resent place) s =
     subst P (sym s.sent) (sym (append-nil (accepted k)))
 
 -- the accepted list grows by the entry if it was accepted and was not there before
-pub judged-accepted : (limits : Limits) (k : Lists) (j : Entry) (r : Result ℕ Refusal) (m : Lists) → Answers limits k j r m
+pub judged-accepted : (limits : Limits) (k : Lists) (j : Entry) (r : Result ℕ Refusal) (m : Lists) → Answers (admit_call limits k j m) r
     → accepted m ≡ accepted k ++ (if is_accepted r && not (is_sent (accepted k) j) then j ∷ [] else [])
 judged-accepted limits k j (Ok place) m g =
     ap accepted g.2 ∙ (append-nil (accepted (after_admission k j g.0)) ∙ accepted-after limits k j g.0 (said limits k j g.0 g.1))
@@ -82,8 +82,8 @@ pub answered-on : (list more : List Entry) (place : ℕ) (j : Entry) → IsPrefi
 answered-on list more place j p s = (s.0, (s.1.0, prefix_get list more (place - 1) s.0 p s.1.1), s.2)
 
 -- an entry answers for each acknowledged one at its place of each later list
-pub judged-answered : (limits : Limits) (k : Lists) (j : Entry) (r : Result ℕ Refusal) (m : Lists) (list : List Entry) → Answers limits k j r m
-    → IsPrefix m.published list → AnsweredIfPlaced list j r
+pub judged-answered : (limits : Limits) (k : Lists) (j : Entry) (r : Result ℕ Refusal) (m : Lists) (list : List Entry)
+    → Answers (admit_call limits k j m) r → IsPrefix m.published list → AnsweredIfPlaced list j r
 judged-answered limits k j (Err why) m list g p = tt
 judged-answered limits k j (Ok place) m list g p =
     let a = g.0 in

@@ -7,10 +7,10 @@ use Rattle.trace_model.specs.declared.limits.Limits.{Limits}
 use Rattle.trace_model.specs.declared.refusal.Refusal.{Refusal}
 use Rattle.trace_model.specs.Histories.{IsLegal}
 use Rattle.intake.specs.Denials.{IsLeftOut}
-use Rattle.intake.specs.LiveStores.{IsTurnedDown}
+use Rattle.intake.specs.LiveStores.{LiveValue, IsRefusedJob}
 
-pub turned_down : (limits : Limits) (e : Entry) (why : Refusal) (list known refused_by : List Entry) (b : Bool) → IsLegal limits list
-    → MatchBool b (IsPrefix list known) (IsPrefix known list × (length known < length list)) → IsPrefix list refused_by → IsLeftOut limits list e why
-    → IsTurnedDown limits e why known refused_by
-turned_down limits e why list known refused_by true legal begins by left = inl (list, legal, inl begins, by, left)
-turned_down limits e why list known refused_by false legal begins by left = inl (list, legal, inr begins.0, by, left)
+pub refused_job : (limits : Limits) (e : Entry) (why : Refusal) (list : List Entry) (t : LiveValue) (b : Bool) → IsLegal limits list
+    → MatchBool b (IsPrefix list t.known) (IsPrefix t.known list × (length t.known < length list)) → IsPrefix list t.refused_by → IsLeftOut limits list e why
+    → IsRefusedJob limits e why t
+refused_job limits e why list t true legal begins by left = inl (list, legal, inl begins, by, left)
+refused_job limits e why list t false legal begins by left = inl (list, legal, inr begins.0, by, left)

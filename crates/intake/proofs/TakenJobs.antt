@@ -9,7 +9,7 @@ use Rattle.trace_model.specs.declared.entry.Entry.{Entry}
 use Rattle.intake.specs.declared.account.Account.{Account}
 use Rattle.intake.specs.declared.queue.EndedSeat.{EndedSeat}
 use Rattle.intake.specs.Queues.{jobs_of, CountUp, AreWhole}
-use Rattle.intake.specs.Books.{HasEnded, AllTaken, Balances, is_job, has_job, EachNeeded, MovesFor, StillEnded, StaysTaken}
+use Rattle.intake.specs.Books.{HasEnded, AllTaken, Balances, is_job, has_job, EachNeeded, DeskJobs, MovesFor, StillEnded, StaysTaken}
 use Rattle.intake.proofs.Steps.{jobs_of-append, counted-left}
 use Rattle.intake.proofs.EndedSeats.{whole-of, no-more}
 use Rattle.trace_model.proofs.NameLaws.{any_filter}
@@ -86,14 +86,13 @@ needed-snoc s js taken (m ∷ ms) e h not =
     (h.0, needed-snoc s js (taken ++ m ∷ []) ms e h.1 (λ a. not (subst (AllTaken s js) (append_assoc taken (m ∷ []) ms) a)))
 
 -- one more was moved, and the seat's last job was not among those before
-pub moves-one : (s n : ℕ) (js taken left taken1 left1 taken2 left2 : List Entry) (e : Entry) → MovesFor s js taken left taken1 left1 → n ≡ length js → 0 < n
-    → has_job s n taken1 ≡ false
-    → taken2 ≡ taken1 ++ e ∷ [] → left2 ≡ left1 ++ e ∷ [] → MovesFor s js taken left taken2 left2
-moves-one s n js taken left taken1 left1 taken2 left2 e m is some not t l = record {
+pub moves-one : (s n : ℕ) (js : List Entry) (old now next : DeskJobs) (e : Entry) → MovesFor s js old now → n ≡ length js → 0 < n
+    → has_job s n now.taken ≡ false → next.taken ≡ now.taken ++ e ∷ [] → next.unjudged ≡ now.unjudged ++ e ∷ [] → MovesFor s js old next
+moves-one s n js old now next e m is some not t l = record {
   moved = m.moved ++ e ∷ [];
-  taken_is = t ∙ (ap (λ z. z ++ e ∷ []) m.taken_is ∙ append_assoc taken m.moved (e ∷ []));
-  left_is = l ∙ (ap (λ z. z ++ e ∷ []) m.left_is ∙ append_assoc left m.moved (e ∷ []));
-  needed = needed-snoc s js taken m.moved e m.needed (λ a. not-yet s n js taken1 is some not (subst (AllTaken s js) (sym m.taken_is) a));
+  taken_is = t ∙ (ap (λ z. z ++ e ∷ []) m.taken_is ∙ append_assoc old.taken m.moved (e ∷ []));
+  unjudged_is = l ∙ (ap (λ z. z ++ e ∷ []) m.unjudged_is ∙ append_assoc old.unjudged m.moved (e ∷ []));
+  needed = needed-snoc s js old.taken m.moved e m.needed (λ a. not-yet s n js now.taken is some not (subst (AllTaken s js) (sym m.taken_is) a));
 }
 
 pub left-more : {X : Type 0} (value : X → Entry) (before reserved after : List X) (x : X) (e : Entry) → after ≡ reserved ++ x ∷ [] → reserved ≡ before
@@ -116,13 +115,15 @@ still-not s n taken taken' e not other t =
     ap (has_job s n) t ∙ (list_any-append (is_job s n) taken (e ∷ []) ∙ (ap (λ z. z || (is_job s n e || false)) not ∙ ap (λ z. z || false) other))
 
 -- of the seats that had ended nothing more was moved
-pub stays : (before ks : List EndedSeat) (s : ℕ) (js taken left taken' left' items : List Entry) → StillEnded before ks → MovesFor s js taken left taken' left'
-    → AreWhole ks (taken' ++ items) → StaysTaken before taken taken'
-stays before ks s js taken left taken' left' items still m w seat jobs ended all =
-    let whole = whole-of ks seat jobs (taken' ++ items) (still seat jobs ended) w in
+pub stays : (before ks : List EndedSeat) (s : ℕ) (js : List Entry) (old now : DeskJobs) (items : List Entry) → StillEnded before ks → MovesFor s js old now
+    → AreWhole ks (now.taken ++ items) → StaysTaken before old.taken now.taken
+stays before ks s js old now items still m w seat jobs ended all =
+    let whole = whole-of ks seat jobs (now.taken ++ items) (still seat jobs ended) w in
     let more = jobs_of seat m.moved in
-    let now : jobs_of seat taken' ≡ jobs ++ more = ap (jobs_of seat) m.taken_is ∙ (jobs_of-append seat taken m.moved ∙ ap (λ z. z ++ more) all.0) in
-    let rest : (jobs ++ more) ++ jobs_of seat items ≡ jobs = ap (λ z. z ++ jobs_of seat items) (sym now) ∙ (sym (jobs_of-append seat taken' items) ∙ whole.0) in
+    let here : jobs_of seat now.taken ≡ jobs ++ more =
+    ap (jobs_of seat) m.taken_is ∙ (jobs_of-append seat old.taken m.moved ∙ ap (λ z. z ++ more) all.0) in
+    let rest : (jobs ++ more) ++ jobs_of seat items ≡ jobs =
+    ap (λ z. z ++ jobs_of seat items) (sym here) ∙ (sym (jobs_of-append seat now.taken items) ∙ whole.0) in
     let size : length jobs ≡ length (jobs ++ more) + length (jobs_of seat items) = ap length (sym rest) ∙ length-append (jobs ++ more) (jobs_of seat items) in
     let two : length (jobs ++ more) ≡ length jobs + length more = length-append jobs more in
-    (now ∙ no-more jobs more (omega (arith, size, two)), all.1)
+    (here ∙ no-more jobs more (omega (arith, size, two)), all.1)

@@ -9,7 +9,7 @@ use Rattle.trace_model.specs.declared.refusal.Refusal.{Refusal}
 use Rattle.trace_model.specs.declared.refusal.Refusal.TheVariants.{JournalFull, Stale, NoMemory, Deferred, Conflict}
 use Rattle.trace_model.specs.Refusals.{admission}
 use Rattle.trace_model.proofs.Admissions.{IsSaid, admission_says}
-use Rattle.read_side.specs.Keepers.{Lists, accepted, TurnsAway}
+use Rattle.read_side.specs.Keepers.{Lists, accepted, admit_call, RefusesEntry}
 use Rattle.intake.specs.Seats.{IsUnacknowledged}
 use Rattle.intake.specs.Denials.{IsLeftOut, IsDenied}
 
@@ -21,8 +21,9 @@ left-out limits list e (Err (JournalFull batches spans)) is s = ap result_err is
 left-out limits list e (Err (Conflict place)) is s = ap result_err is
 left-out limits list e (Err why) is s = absurd s
 
-pub turned-away : (limits : Limits) (k : Lists) (e : Entry) (why : Refusal) (m : Lists) → TurnsAway limits k e why m → IsLeftOut limits (accepted k) e why
-turned-away limits k e why m t = ⊎_elim
+pub refused-left-out : (limits : Limits) (k : Lists) (e : Entry) (why : Refusal) (m : Lists) → RefusesEntry (admit_call limits k e m) why
+    → IsLeftOut limits (accepted k) e why
+refused-left-out limits k e why m t = ⊎_elim
     (λ p. subst (IsLeftOut limits (accepted k) e) (sym p.0) (p.1.0, p.1.1))
     (λ q. subst (IsLeftOut limits (accepted k) e) (sym q.1)
     (left-out limits (accepted k) e (admission limits (accepted k) e) refl (admission_says limits (accepted k) e)))

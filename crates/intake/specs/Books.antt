@@ -6,7 +6,7 @@ use Rattle.trace_model.specs.declared.limits.Limits.{Limits}
 use Rattle.trace_model.specs.declared.refusal.Refusal.{Refusal}
 use Rattle.trace_model.specs.declared.refusal.Refusal.TheVariants.{Deferred}
 use Rattle.trace_model.specs.ResentBatches.{is_sent}
-use Rattle.read_side.specs.Keepers.{Lists, Answers, accepted}
+use Rattle.read_side.specs.Keepers.{Lists, admit_call, Answers, accepted, no_entries}
 use Rattle.read_side.specs.Receipts.{AnsweredAt}
 use Rattle.intake.specs.declared.account.Account.{Account}
 use Rattle.intake.specs.declared.queue.EndedSeat.{EndedSeat}
@@ -17,7 +17,7 @@ use Rattle.intake.specs.Turns.{Accounted}
 abbrev pub JudgedInTurn : Limits → Lists → List Entry → List Account → Lists → Type 0
 JudgedInTurn limits k [] [] end = end ≡ k
 JudgedInTurn limits k (j ∷ js) (a ∷ rest) end =
-    (m : Lists) × Answers limits k j a.answer m × JudgedInTurn limits m js rest end
+    (m : Lists) × Answers (admit_call limits k j m) a.answer × JudgedInTurn limits m js rest end
 JudgedInTurn limits k _ _ end = ⊥
 
 -- the entry was acknowledged, or it waits for a publish
@@ -53,23 +53,35 @@ acknowledged accounts = count_by (λ (a : Account). is_ok a.answer) accounts
 abbrev pub refused : List Account → ℕ
 refused accounts = count_by (λ (a : Account). is_err a.answer) accounts
 
+-- all jobs that a clerk has taken, their accounts, and the keeper's lists
+pub record RunState : Type 0 where
+  pub taken : List Entry
+  pub accounts : List Account
+  pub lists : Lists
+
+abbrev pub run_state : List Entry → List Account → Lists → RunState
+run_state taken accounts lists = record { taken = taken; accounts = accounts; lists = lists }
+
+-- nothing was taken yet, and the store is empty
+abbrev pub nothing_run : RunState
+nothing_run = run_state [] [] no_entries
+
 -- what the clerk took in this run was judged in turn; each job that it ever took has its account
-pub record Ran (limits : Limits) (before : List Entry) (accounts : List Account) (start : Lists) (taken : List Entry) (after : List Account)
-    (end : Lists) : Type 0 where
+pub record Ran (limits : Limits) (before after : RunState) : Type 0 where
   pub jobs : List Entry
   pub answers : List Account
-  pub taken_is : taken ≡ before ++ jobs
-  pub accounts_are : after ≡ accounts ++ answers
-  pub each : Accounted taken after
-  pub in_turn : JudgedInTurn limits start jobs answers end
-  pub gained : accepted end ≡ accepted start ++ gained_jobs (accepted start) jobs answers
-  pub answered : AllAnswered end.published jobs answers
+  pub taken_is : after.taken ≡ before.taken ++ jobs
+  pub accounts_are : after.accounts ≡ before.accounts ++ answers
+  pub each : Accounted after.taken after.accounts
+  pub in_turn : JudgedInTurn limits before.lists jobs answers after.lists
+  pub gained : accepted after.lists ≡ accepted before.lists ++ gained_jobs (accepted before.lists) jobs answers
+  pub answered : AllAnswered after.lists.published jobs answers
 
--- the jobs that were judged, each with its account, followed by those that are left
-pub record Balances (taken : List Entry) (accounts : List Account) (left : List Entry) : Type 0 where
+-- the jobs that were judged, each with its account, followed by those that were not judged
+pub record Balances (taken : List Entry) (accounts : List Account) (unjudged : List Entry) : Type 0 where
   pub judged_jobs : List Entry
   pub each : Accounted judged_jobs accounts
-  pub taken_is : taken ≡ judged_jobs ++ left
+  pub taken_is : taken ≡ judged_jobs ++ unjudged
 
 -- the seat's list is among those of the ended ones
 abbrev pub HasEnded : List EndedSeat → ℕ → List Entry → Type 0
@@ -96,12 +108,20 @@ EachNeeded seat jobs taken [] = Unit {0}
 EachNeeded seat jobs taken (j ∷ js) =
     (AllTaken seat jobs taken → ⊥) × EachNeeded seat jobs (taken ++ j ∷ []) js
 
--- these jobs were moved from the queue to those that are left, because the seat had jobs there
-pub record MovesFor (seat : ℕ) (jobs : List Entry) (taken left taken' left' : List Entry) : Type 0 where
+-- all jobs that were taken, and those of them that were not judged
+pub record DeskJobs : Type 0 where
+  pub taken : List Entry
+  pub unjudged : List Entry
+
+abbrev pub desk_jobs : List Entry → List Entry → DeskJobs
+desk_jobs taken unjudged = record { taken = taken; unjudged = unjudged }
+
+-- these jobs were moved from the queue to those that were not judged, because the seat had jobs there
+pub record MovesFor (seat : ℕ) (jobs : List Entry) (before after : DeskJobs) : Type 0 where
   pub moved : List Entry
-  pub taken_is : taken' ≡ taken ++ moved
-  pub left_is : left' ≡ left ++ moved
-  pub needed : EachNeeded seat jobs taken moved
+  pub taken_is : after.taken ≡ before.taken ++ moved
+  pub unjudged_is : after.unjudged ≡ before.unjudged ++ moved
+  pub needed : EachNeeded seat jobs before.taken moved
 
 -- the seats that had ended are among those that have
 abbrev pub StillEnded : List EndedSeat → List EndedSeat → Type 0

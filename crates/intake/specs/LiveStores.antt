@@ -50,11 +50,11 @@ KnowsPlace limits e place known =
 abbrev pub OneListBegins : List Entry → List Entry → Type 0
 OneListBegins xs ys = IsPrefix xs ys ⊎ IsPrefix ys xs
 
--- the refusal of a queued job: a legal prefix of the second list, comparable with the known one, leaves the entry out for
--- this reason; or the clerk ended
-abbrev pub IsTurnedDown : Limits → Entry → Refusal → List Entry → List Entry → Type 0
-IsTurnedDown limits e why known refused_by =
-    ((list : List Entry) × IsLegal limits list × OneListBegins list known × IsPrefix list refused_by × IsLeftOut limits list e why)
+-- the refusal of a queued job, after which the store is in this state: a legal prefix of the longest list that refused,
+-- comparable with the known one, leaves the entry out for this reason; or the clerk ended
+abbrev pub IsRefusedJob : Limits → Entry → Refusal → LiveValue → Type 0
+IsRefusedJob limits e why t =
+    ((list : List Entry) × IsLegal limits list × OneListBegins list t.known × IsPrefix list t.refused_by × IsLeftOut limits list e why)
     ⊎ ((why ≡ Closed) ⊎ (why ≡ NoReply))
 
 -- The seat submitted the batch, and a list that is known then answers for its entry at the place. Or it was refused:
@@ -68,7 +68,7 @@ LiveSubmits limits s b (Ok place) t =
 LiveSubmits limits s b (Err why) t =
     (t.known ≡ s.known)
     × (((t.seat ≡ s.seat) × IsNotQueued s.seat why)
-    ⊎ (SubmitsAs s.seat b t.seat × IsTurnedDown limits (next_job s.seat (brings.Batch b)) why t.known t.refused_by))
+    ⊎ (SubmitsAs s.seat b t.seat × IsRefusedJob limits (next_job s.seat (brings.Batch b)) why t))
     × IsPrefix s.refused_by t.refused_by
 
 -- The answer is the plain store's for the list that is known then, which is legal and starts with what was known. If

@@ -4,7 +4,7 @@ use Rattle.atomic_table.specs.Seated.{TableId}
 use Rattle.trace_model.specs.declared.entry.Entry.{Entry}
 use Rattle.trace_model.specs.declared.limits.Limits.{Limits}
 use Rattle.trace_model.specs.declared.refusal.Refusal.{Refusal}
-use Rattle.read_side.specs.Keepers.{Lists, Answers}
+use Rattle.read_side.specs.Keepers.{Lists, admit_call, Answers}
 use Rattle.intake.specs.declared.account.Account.{Account}
 use Rattle.intake.specs.declared.clerk.Turn.{Turn}
 use Rattle.intake.specs.declared.clerk.Turn.TheVariants.{Idle, Served, Ended}
@@ -69,15 +69,24 @@ pub record TurnState : Type 0 where
 abbrev pub turn_state : ClerkValue → Lists → TurnState
 turn_state clerk lists = record { clerk = clerk; lists = lists }
 
--- one job of this seat and number was taken, and judged as one call of admit does
-abbrev pub ServesJob : Limits → TurnState → TurnState → ℕ → ℕ → Type 0
-ServesJob limits before after seat number =
-    (job : Entry) × (answer : Result ℕ Refusal) × (job.seat ≡ seat) × (job.number ≡ number)
-    × (after.clerk ≡ with_account before.clerk job answer) × Answers limits before.lists job answer after.lists
+-- a job, by its seat and its number there
+pub record JobId : Type 0 where
+  pub seat : ℕ
+  pub number : ℕ
 
--- a job was served, by its seat and number
-abbrev pub IfServed : Result Turn Refusal → (ℕ → ℕ → Type 0) → Type 0
-IfServed (Ok (Served seat number)) P = P seat number
+abbrev pub job_id : ℕ → ℕ → JobId
+job_id seat number = record { seat = seat; number = number }
+
+-- this job was taken, and judged as one call of admit does
+abbrev pub ServesJob : Limits → TurnState → TurnState → JobId → Type 0
+ServesJob limits before after id =
+    (job : Entry) × (answer : Result ℕ Refusal) × (job.seat ≡ id.seat) × (job.number ≡ id.number)
+    × (after.clerk ≡ with_account before.clerk job answer)
+    × Answers (admit_call limits before.lists job after.lists) answer
+
+-- a job was served
+abbrev pub IfServed : Result Turn Refusal → (JobId → Type 0) → Type 0
+IfServed (Ok (Served seat number)) P = P (job_id seat number)
 IfServed (Ok Idle) P = Unit {0}
 IfServed (Ok Ended) P = Unit {0}
 IfServed (Err why) P = Unit {0}

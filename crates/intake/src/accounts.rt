@@ -9,12 +9,12 @@ use std::marker::Model;
 use std::sync::Wait;
 
 /// The greatest number of accounts.
-const MAX_ACCOUNTS: u64 = 4_611_686_018_427_387_904;
+const MAX_ACCOUNTS: u64 = 1 << 62;
 
 /// An account of each job that a clerk took, in the order taken.
 ///
 /// Contracts see all of them. Only the number of accounts and of acknowledged jobs are stored, so that they need no
-/// more memory as jobs come. There are at most 4,611,686,018,427,387,904.
+/// more memory as jobs come. There are at most 2^62.
 #[derive(Drop)]
 pub struct Accounts {
     log: CountedLog<Account>,

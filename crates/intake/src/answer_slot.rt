@@ -70,7 +70,7 @@ impl<N: StoreName> AnswerSlot<N> {
         }
     }
 
-    /// Stores the answer to the entry, unless the slot has one.
+    /// Stores the answer to the entry.
     pub(crate) fn store_answer(&self, job_answer: JobAnswer<N>)
         requires answered { IfOk job_answer.answer (λ a.
             AnsweredAt (arc_value a.receipt).entries a.place self.now) }
@@ -79,6 +79,7 @@ impl<N: StoreName> AnswerSlot<N> {
     {
         let (found, claim) = self.slot.turn(FREE, TAKEN);
         if found != FREE {
+            // Impossible: a job is answered once.
             claim.done();
             return;
         }
@@ -97,6 +98,7 @@ impl<N: StoreName> AnswerSlot<N> {
         }
         let (found, claim) = self.slot.turn(PRESENT, TAKEN);
         if found != PRESENT {
+            // Impossible: only its one ticket takes it.
             claim.done();
             return None;
         }

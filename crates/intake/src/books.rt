@@ -3,7 +3,7 @@
 ghost use Rattle.std.specs.Prelude.{◌≡◌, ◌⊎◌, true, false, length, map, IfErr, OnOk};
 ghost use Rattle.std.specs.Arc.{arc_value};
 ghost use Rattle.trace_model.specs.declared.refusal.Refusal.TheVariants.{NoMemory};
-ghost use Rattle.intake.specs.Books.{Balances, HasEnded, AllTaken, MovesFor, StillEnded, StaysTaken, is_job};
+ghost use Rattle.intake.specs.Books.{Balances, HasEnded, AllTaken, desk_jobs, MovesFor, StillEnded, StaysTaken, is_job};
 
 use crate::accounts::Accounts;
 use crate::inbox::Inbox;
@@ -12,7 +12,7 @@ use read_side::{Keeper, StoreName};
 use std::sync::{Arc, Wait};
 use trace_model::{Entry, Refusal};
 
-/// What the clerk returns when it ends: the keeper, the result of each judged job, and the jobs that are left.
+/// What the clerk returns when it ends: the keeper, the result of each judged job, and the jobs that were not judged.
 ///
 /// It is not `Drop`, since the keeper isn't: [`Books::close`] it, or take it apart and close the keeper.
 pub struct Books<N: StoreName> {
@@ -24,7 +24,7 @@ pub struct Books<N: StoreName> {
     /// The number of refused jobs.
     pub refused: u64,
     /// The jobs that were taken and not judged, in the order taken.
-    pub left: Vec<Arc<Entry>>,
+    pub unjudged: Vec<Arc<Entry>>,
     pub inbox: Inbox<N>,
 }
 
@@ -36,20 +36,20 @@ fn is_job(entry: &Entry, seat: u16, number: u64) -> bool
 }
 
 impl<N: StoreName> Books<N> {
-    /// Ends a seat of this desk, and moves jobs from the queue to `left` until the seat's last one was taken. If
-    /// that was taken before, judged or left, none is moved. After an error a further call continues; after `Ok` a
+    /// Ends a seat of this desk, and moves jobs from the queue to `unjudged` until the seat's last one was taken. If
+    /// that was taken before, judged or not, none is moved. After an error a further call continues; after `Ok` a
     /// further call changes nothing.
     ///
-    /// The seat's jobs among those judged, followed by those in `left`, are then all that it submitted, in order,
+    /// The seat's jobs among those judged, followed by those in `unjudged`, are then all that it submitted, in order,
     /// each once, with the numbers 1, 2 and so on.
     ///
     /// # Errors
     ///
-    /// [`Refusal::NoMemory`]: the seat has ended, and what was moved is in `left`.
-    pub fn take_in<R: Wait>(&mut self, rt: &R, seat: &mut Seat<N>) -> Result<(), Refusal>
+    /// [`Refusal::NoMemory`]: the seat has ended, and what was moved is in `unjudged`.
+    pub fn take_in_seat<R: Wait>(&mut self, rt: &R, seat: &mut Seat<N>) -> Result<(), Refusal>
         requires desk { self.old.inbox.desk ≡ seat.old.desk }
         requires books { Balances self.old.inbox.taken self.old.accounts
-            (map arc_value self.old.left.items) }
+            (map arc_value self.old.unjudged.items) }
         requires seat { (seat.old.may_submit ≡ true)
             ⊎ HasEnded self.old.inbox.ended seat.old.seat seat.old.jobs }
 
@@ -61,10 +61,10 @@ impl<N: StoreName> Books<N> {
         ensures keeper { self.new.keeper ≡ self.old.keeper }
 
         ensures moved { MovesFor seat.old.seat seat.old.jobs
-            self.old.inbox.taken (map arc_value self.old.left.items)
-            self.new.inbox.taken (map arc_value self.new.left.items) }
+            (desk_jobs self.old.inbox.taken (map arc_value self.old.unjudged.items))
+            (desk_jobs self.new.inbox.taken (map arc_value self.new.unjudged.items)) }
         ensures books { Balances self.new.inbox.taken self.new.accounts
-            (map arc_value self.new.left.items) }
+            (map arc_value self.new.unjudged.items) }
 
         ensures ended { HasEnded self.new.inbox.ended seat.old.seat seat.old.jobs }
         ensures others_ended { StillEnded self.old.inbox.ended self.new.inbox.ended }
@@ -82,7 +82,7 @@ impl<N: StoreName> Books<N> {
             return Ok(());
         }
         for _ in rt.forever() {
-            if self.left.reserve(1).is_err() {
+            if self.unjudged.reserve(1).is_err() {
                 return Err(Refusal::NoMemory);
             }
             let Some(job) = self.inbox.pop(rt) else {
@@ -91,7 +91,7 @@ impl<N: StoreName> Books<N> {
             let (entry, _slot) = job.split();
             let entry = entry.into_entry();
             let is_last = is_job(&entry, number, last);
-            self.left.push_reserved(entry);
+            self.unjudged.push_reserved(entry);
             if is_last {
                 // For the prover: no job of an ended seat is lost.
                 self.inbox.learn_queue();
@@ -101,19 +101,19 @@ impl<N: StoreName> Books<N> {
         unreachable!()
     }
 
-    /// Closes the store, and returns the number of jobs that are left.
+    /// Closes the store, and returns the number of jobs that were not judged.
     pub fn close<R: Wait>(self, rt: &R) -> u64
-        ensures { result ≡ length (map arc_value self.left.items) }
+        ensures { result ≡ length (map arc_value self.unjudged.items) }
     {
         let Books {
             keeper,
             accounts: _,
             acknowledged: _,
             refused: _,
-            left,
+            unjudged,
             inbox: _,
         } = self;
         keeper.close(rt);
-        left.len() as u64
+        unjudged.len() as u64
     }
 }

@@ -3,11 +3,11 @@
 ghost use Rattle.std.specs.Prelude.{◌≡◌, ◌≤◌, ◌^◌, map, [], length, IfOk, IfErr, OnErr};
 ghost use Rattle.std.specs.Arc.{arc_value};
 ghost use Rattle.trace_model.specs.declared.refusal.Refusal.TheVariants.{NoMemory};
-ghost use Rattle.read_side.specs.Keepers.{Answers};
+ghost use Rattle.read_side.specs.Keepers.{admit_call, Answers};
 ghost use Rattle.read_side.specs.Receipts.{AnsweredAt};
 ghost use Rattle.intake.specs.Denials.{IsDenied};
 ghost use Rattle.intake.specs.Turns.{IsNewInbox, IsNewClerk, Accounted, place_or_refusal, ServesJob, turn_state, IfServed, IfNotServed, IfNoJob, WasEmpty};
-ghost use Rattle.intake.specs.Books.{Ran, Balances, acknowledged, refused};
+ghost use Rattle.intake.specs.Books.{run_state, Ran, Balances, acknowledged, refused};
 
 use crate::account::Account;
 use crate::accounts::Accounts;
@@ -29,7 +29,7 @@ use trace_model::Refusal;
 const BURST: u64 = 3;
 
 /// The number of spins for a job that is expected soon, before the clerk sleeps.
-const SPINS: u32 = 40;
+const JOB_SPINS: u32 = 40;
 
 /// The result of a turn.
 #[derive(Clone, Copy, PartialEq, Eq, Debug)]
@@ -76,7 +76,7 @@ impl<N: StoreName> Model for Clerk<N> {
     ghost invariant = { λ c. Accounted c.inbox.taken c.accounts };
 }
 
-/// Fills the place that was made for the receipt.
+/// Fills the room that was made for the receipt.
 fn fill<N: StoreName, R: Wait>(
     rt: &R,
     mut room: Arc<Receipt<N>>,
@@ -84,7 +84,7 @@ fn fill<N: StoreName, R: Wait>(
 ) -> Arc<Receipt<N>>
     ensures { arc_value result ≡ receipt }
 {
-    // Impossible: a second try. Nobody else has the place yet.
+    // Impossible: a second try. Nobody else has the room yet.
     for _ in rt.forever() {
         if let Some(slot) = Arc::get_mut(&mut room) {
             *slot = receipt;
@@ -101,8 +101,8 @@ fn judge_entry<N: StoreName, R: Wait>(
     keeper: &mut Keeper<N>,
     entry: Record,
 ) -> Result<Ack<N>, Denial<N>>
-    ensures judged { Answers N.limits keeper.old entry
-        (place_or_refusal (λ a. a.place) (λ d. d.refusal) result) keeper.new }
+    ensures judged { Answers (admit_call N.limits keeper.old entry keeper.new)
+        (place_or_refusal (λ a. a.place) (λ d. d.refusal) result) }
     ensures answered { IfOk result (λ a.
         AnsweredAt (arc_value a.receipt).entries a.place entry) }
     ensures denied { IfErr result (λ d. IsDenied N.limits entry d.refusal d.list) }
@@ -206,7 +206,7 @@ impl<N: StoreName> Clerk<N> {
     /// Waits until the bell's count isn't `rings` any more. Looks for a ring before it sleeps if the clerk has
     /// served at least [`BURST`] jobs since it last slept. Returns whether it slept.
     fn await_job<R: Wait>(&self, rt: &R, rings: u64, served: u64) -> bool {
-        let spins = if served >= BURST { SPINS } else { 0 };
+        let spins = if served >= BURST { JOB_SPINS } else { 0 };
         self.ending.shared.jobs.wait(rt, rings, spins)
     }
 
@@ -214,15 +214,15 @@ impl<N: StoreName> Clerk<N> {
     ///
     /// If there is nothing to do, or no room for another account, it sleeps until a job is submitted.
     pub fn run<R: Wait>(self, rt: &R, mut keeper: Keeper<N>) -> Books<N>
-        ensures judged { Ran N.limits self.taken self.accounts keeper
-            result.inbox.taken result.accounts result.keeper }
+        ensures judged { Ran N.limits (run_state self.taken self.accounts keeper)
+            (run_state result.inbox.taken result.accounts result.keeper) }
         ensures acknowledged { result.acknowledged ≡ acknowledged result.accounts }
         ensures refused { result.refused ≡ refused result.accounts }
-        ensures left { result.left.items ≡ [] }
+        ensures unjudged { result.unjudged.items ≡ [] }
         ensures empty { WasEmpty result.inbox.ended result.inbox.taken }
         ensures desk { (result.inbox.desk ≡ self.desk) × (result.inbox.ended ≡ self.ended) }
         ensures books { Balances result.inbox.taken result.accounts
-            (map arc_value result.left.items) }
+            (map arc_value result.unjudged.items) }
     {
         let mut clerk = self;
         // For the prover: the clause `each` of `accounts` is used below.
@@ -243,7 +243,7 @@ impl<N: StoreName> Clerk<N> {
         unreachable!()
     }
 
-    /// Returns the books at once. Waiting jobs stay in the queue, from which [`Books::take_in`] returns them; their
+    /// Returns the books at once. Waiting jobs stay in the queue, from which [`Books::take_in_seat`] returns them; their
     /// tickets are told that no answer comes, or that the desk was closed.
     pub fn leave(self, keeper: Keeper<N>) -> Books<N>
         ensures taken { result.inbox.taken ≡ self.taken }
@@ -252,10 +252,10 @@ impl<N: StoreName> Clerk<N> {
         ensures each { Accounted self.taken self.accounts }
         ensures acknowledged { result.acknowledged ≡ acknowledged result.accounts }
         ensures refused { result.refused ≡ refused result.accounts }
-        ensures left { result.left.items ≡ [] }
+        ensures unjudged { result.unjudged.items ≡ [] }
         ensures desk { (result.inbox.desk ≡ self.desk) × (result.inbox.ended ≡ self.ended) }
         ensures books { Balances result.inbox.taken result.accounts
-            (map arc_value result.left.items) }
+            (map arc_value result.unjudged.items) }
     {
         let Clerk {
             inbox,
@@ -269,7 +269,7 @@ impl<N: StoreName> Clerk<N> {
             acknowledged: accounts.acknowledged(),
             refused: accounts.refused(),
             accounts,
-            left: Vec::new(alloc),
+            unjudged: Vec::new(alloc),
             inbox,
         }
     }

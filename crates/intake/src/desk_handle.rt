@@ -10,13 +10,13 @@ use trace_model::Refusal;
 
 /// Closes the queue, and vouches for what was published.
 #[derive(Drop)]
-pub struct Desk<N: StoreName> {
+pub struct DeskHandle<N: StoreName> {
     shared: Arc<Shared<N>>,
 }
 
-impl<N: StoreName> Desk<N> {
-    pub(crate) fn new(shared: Arc<Shared<N>>) -> Desk<N> {
-        Desk { shared }
+impl<N: StoreName> DeskHandle<N> {
+    pub(crate) fn new(shared: Arc<Shared<N>>) -> DeskHandle<N> {
+        DeskHandle { shared }
     }
 
     /// Closes the desk: no seat submits anything from then on. The clerk still serves what is queued.

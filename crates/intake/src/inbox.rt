@@ -92,7 +92,7 @@ impl<N: StoreName> Inbox<N> {
     }
 
     /// Takes over a seat's right to submit.
-    fn absorb(&mut self, end: QueueEnd<N>)
+    fn take_in(&mut self, end: QueueEnd<N>)
         requires queue { (end.table_id ≡ self.old.desk) × (end.me.1 ≡ []) }
         requires seat { ((view end).submits ≡ true) × ((view end).takes ≡ false) }
         ensures { self.new ≡ record self.old {
@@ -113,7 +113,7 @@ impl<N: StoreName> Inbox<N> {
         ensures others { StillEnded self.old.ended self.new.ended }
     {
         if let Some(end) = seat.retire() {
-            self.absorb(end);
+            self.take_in(end);
         }
     }
 

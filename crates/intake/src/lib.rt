@@ -1,6 +1,6 @@
 //! The way of a batch to the writer: a desk with seats, a queue, and a clerk.
 //!
-//! [`desk`] opens it. A [`Seat`] submits a batch and gets a [`Ticket`] for it; the [`Clerk`] takes the jobs in
+//! [`open_desk`] opens it. A [`Seat`] submits a batch and gets a [`Ticket`] for it; the [`Clerk`] takes the jobs in
 //! the queue's order and has the store's keeper judge each one; the ticket waits for the answer. An
 //! acknowledgement holds a receipt whose list has, at the place that it names, the ticket's own entry or the
 //! one that had its batch before. A [`Denial`] by the keeper holds the list by which the entry was refused. For
@@ -14,7 +14,7 @@
 //! * `account`: the result of a job. `accounts`: the results of all jobs. `clerk`: the [`Clerk`]. `books`: what
 //!   it returns.
 //! * `shared`: the state that all of them share. `bell`: wakes a sleeping thread.
-//! * `opening`: [`desk`]. `desk_handle`: the [`Desk`], which closes the queue.
+//! * `opening`: [`open_desk`]. `desk_handle`: the [`DeskHandle`], which closes the queue.
 //! * `live`: a seat and a pass as the backend of a session: the [`Live`].
 #![tactic(auto)]
 
@@ -40,10 +40,10 @@ pub use accounts::Accounts;
 pub use books::Books;
 pub use clerk::{Clerk, Turn};
 pub use denial::Denial;
-pub use desk_handle::Desk;
+pub use desk_handle::DeskHandle;
 pub use inbox::Inbox;
 pub use live::Live;
-pub use opening::desk;
+pub use opening::{MAX_QUEUE, MAX_SEATS, open_desk};
 pub use queue::{EndedSeat, QueueView};
 pub use seat::Seat;
 pub use ticket::{Ack, Ticket};

@@ -15,7 +15,7 @@ ghost use Rattle.trace_model.specs.declared.entry.Entry.{Entry};
 ghost use Rattle.trace_model.specs.Histories.{IsLegal};
 ghost use Rattle.intake.specs.Seats.{IsNotQueued, next_job};
 ghost use Rattle.intake.specs.Denials.{IsDenied};
-ghost use Rattle.intake.specs.LiveStores.{SubmitsAs, IsTurnedDown, LiveSubmits};
+ghost use Rattle.intake.specs.LiveStores.{SubmitsAs, IsRefusedJob, LiveSubmits};
 
 mod processes;
 
@@ -133,7 +133,7 @@ impl<N: StoreName> Live<N> {
         ensures known { self.new.known ≡ self.old.known }
         ensures longer { IsPrefix self.old.refused_by self.new.refused_by }
         ensures history { (e : Entry) → IsDenied N.limits e denial.refusal denial.list →
-            IsTurnedDown N.limits e result self.new.known self.new.refused_by }
+            IsRefusedJob N.limits e result self.new }
     {
         let Denial { refusal, list } = denial;
         if let Some(list) = list {

@@ -8,7 +8,7 @@ ghost use Rattle.intake.specs.Turns.{IsNewClerk};
 
 use crate::bell::Bell;
 use crate::clerk::Clerk;
-use crate::desk_handle::Desk;
+use crate::desk_handle::DeskHandle;
 use crate::inbox::Inbox;
 use crate::queue::{MakeSeat, Queue, QueueEnd};
 use crate::seat::Seat;
@@ -22,6 +22,12 @@ use std::sync::atomic::AtomicBool;
 use std::sync::{Arc, Mutex};
 use trace_model::Refusal;
 
+/// The greatest number of seats of a desk.
+pub const MAX_SEATS: u16 = 64;
+
+/// The greatest number of jobs that a queue has room for.
+pub const MAX_QUEUE: usize = 4096;
+
 /// Makes `count` bells.
 fn bells(alloc: Global, count: u16) -> Result<Vec<CachePadded<Bell>>, AllocError> {
     let mut bells = Vec::with_capacity(alloc, count as usize)?;
@@ -31,22 +37,22 @@ fn bells(alloc: Global, count: u16) -> Result<Vec<CachePadded<Bell>>, AllocError
     Ok(bells)
 }
 
-/// Opens a desk of the receipt's store, whose queue has room for 1 to 4,096 jobs, with 1 to 64 seats and a clerk.
-/// The seats have the numbers 0, 1 and so on. The keys are those with which the store was opened: with others the
-/// clerk hashes each batch again.
+/// Opens a desk of the receipt's store, whose queue has room for 1 to [`MAX_QUEUE`] jobs, with 1 to [`MAX_SEATS`] seats
+/// and a clerk. The seats have the numbers 0, 1 and so on. The keys are those with which the store was opened: with
+/// others the clerk hashes each batch again.
 ///
 /// # Errors
 ///
 /// [`Refusal::NoMemory`]: nothing is left allocated.
-pub fn desk<N: StoreName>(
+pub fn open_desk<N: StoreName>(
     alloc: Global,
     keys: RandomState,
     first: Receipt<N>,
     capacity: usize,
     seats: u16,
-) -> Result<(Desk<N>, Vec<Seat<N>>, Clerk<N>), Refusal>
-    requires capacity { (1 ≤ capacity) × (capacity ≤ 4096) }
-    requires seats { (1 ≤ seats) × (seats ≤ 64) }
+) -> Result<(DeskHandle<N>, Vec<Seat<N>>, Clerk<N>), Refusal>
+    requires capacity { (1 ≤ capacity) × (capacity ≤ MAX_QUEUE) }
+    requires seats { (1 ≤ seats) × (seats ≤ MAX_SEATS) }
     ensures clerk { IfOk result (λ r. IsNewClerk r.2) }
     ensures seats { IfOk result (λ r. All (IsNewSeat r.2.desk capacity) r.1.items) }
     ensures numbers { IfOk result (λ r. map (λ s. s.seat) r.1.items ≡ range_with_len 0 seats) }
@@ -74,7 +80,7 @@ pub fn desk<N: StoreName>(
         let seat = shared.queue.another::<MakeSeat>(&mut end);
         made.push_reserved(Seat::new(theirs, seat, number));
     }
-    let desk = Desk::new(Arc::try_clone(&shared)?);
+    let desk = DeskHandle::new(Arc::try_clone(&shared)?);
     let inbox = Inbox::new(Arc::try_clone(&shared)?, end, none_taken);
     Ok((desk, made, Clerk::new(alloc, shared, inbox)))
 }

@@ -87,9 +87,9 @@ impl Split<QueueView> for MakeSeat {
 }
 
 /// The step by which a seat gives up its right to submit, and keeps its list.
-pub struct Resign;
+pub struct Retire;
 
-impl Split<QueueView> for Resign {
+impl Split<QueueView> for Retire {
     ghost use Rattle.intake.specs.Queues.{retired};
 
     ghost left = { retired };

@@ -8,7 +8,7 @@ ghost use Rattle.intake.specs.Seats.{next_job, with_job, HasNextNumber, IsNotQue
 
 use crate::answer_slot::AnswerSlot;
 use crate::job::Job;
-use crate::queue::{PushJob, QueueEnd, Resign};
+use crate::queue::{PushJob, QueueEnd, Retire};
 use crate::shared::Shared;
 use crate::ticket::Ticket;
 use jaeger_model::Batch;
@@ -107,7 +107,7 @@ impl<N: StoreName> Seat<N> {
             return None;
         }
         self.may_submit = false;
-        Some(self.shared.queue.another::<Resign>(&mut self.queue_end))
+        Some(self.shared.queue.another::<Retire>(&mut self.queue_end))
     }
 
     /// Submits a batch, as the entry with the seat's next number.

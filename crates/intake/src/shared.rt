@@ -43,9 +43,12 @@ impl<N: StoreName> Shared<N> {
     }
 
     /// Returns the bell of a seat.
-    pub(crate) fn bell(&self, seat: u16) -> Option<&Bell> {
-        let bell = self.answer_bells.get(seat as usize)?;
-        Some(&**bell)
+    pub(crate) fn bell(&self, seat: u16) -> &Bell {
+        match self.answer_bells.get(seat as usize) {
+            Some(bell) => &**bell,
+            // Impossible: each seat has a bell.
+            None => &*self.jobs,
+        }
     }
 
     /// Returns why a job has no answer, after the clerk has ended.
@@ -82,10 +85,7 @@ impl<N: StoreName> Shared<N> {
             *self.last.lock(rt) = receipt;
         }
         slot.store_answer(job_answer);
-        // Impossible: a seat without a bell. Its ticket would sleep until the clerk ends.
-        if let Some(bell) = self.bell(seat) {
-            bell.ring();
-        }
+        self.bell(seat).ring();
     }
 
     /// Records that the clerk has ended. Every waiting ticket looks once more.

@@ -12,11 +12,10 @@ use crate::shared::Shared;
 use read_side::{Receipt, StoreName};
 use std::marker::Model;
 use std::sync::{Arc, Wait};
-use std::thread::yield_now;
 use trace_model::{Entry, Refusal};
 
 /// The number of spins of a ticket for its answer before it sleeps.
-const SPINS: u32 = 40;
+const ANSWER_SPINS: u32 = 40;
 
 /// An acknowledgement: a receipt, and the place in its list, counted from 1, of the entry that answers for the
 /// job's: that one itself, or the one that had its batch before.
@@ -64,7 +63,7 @@ impl<N: StoreName> Ticket<N> {
             entry,
             slot,
             shared,
-            spins: SPINS,
+            spins: ANSWER_SPINS,
         }
     }
 
@@ -78,7 +77,7 @@ impl<N: StoreName> Ticket<N> {
 
     /// Waits for the answer. An acknowledgement's list has at the place an entry that answers for the job's: its
     /// own, or the one that had its batch before. A refusal by the keeper is returned without its list, which
-    /// [`answer`](Self::answer) returns too.
+    /// [`answer`](Self::answer) returns too. Only tests call it.
     ///
     /// # Errors
     ///
@@ -129,21 +128,13 @@ impl<N: StoreName> Ticket<N> {
 
     /// Returns the number of rings of the seat's bell.
     fn rings(&self) -> u64 {
-        match self.shared.bell(self.entry.seat) {
-            Some(bell) => bell.rings(),
-            // Impossible: each seat has a bell.
-            None => 0,
-        }
+        self.shared.bell(self.entry.seat).rings()
     }
 
     /// Waits until the seat's bell rings again.
     fn await_ring<R: Wait>(&self, rt: &R, rings: u64) {
-        match self.shared.bell(self.entry.seat) {
-            Some(bell) => {
-                bell.wait(rt, rings, self.spins);
-            }
-            // Impossible: each seat has a bell.
-            None => yield_now(),
-        }
+        self.shared
+            .bell(self.entry.seat)
+            .wait(rt, rings, self.spins);
     }
 }

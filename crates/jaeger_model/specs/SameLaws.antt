@@ -1,5 +1,5 @@
 -- Laws that the impls of this crate name, and their lemmas. They are in specs/, since a clause can't name its own crate's proofs/.
--- Each test of Same decides whether two values are equal.
+-- Each test of Sameness.antt decides whether two values are equal.
 use Rattle.std.specs.Prelude.{◌≡◌, ℤ, ◌==◌, Option, Some, None, refl}
 use Rattle.std.specs.Bool.{Decides, beq}
 use Rattle.std.specs.Ordering.{int_eq}
@@ -21,7 +21,7 @@ use Rattle.jaeger_model.specs.declared.tag.Tag.{Tag}
 use Rattle.jaeger_model.specs.declared.batch.Process.{Process}
 use Rattle.jaeger_model.specs.declared.tag.Value.{Value}
 use Rattle.jaeger_model.specs.declared.tag.Value.TheVariants.{Text, Double, Bool as BoolValue, Long, Bytes}
-use Rattle.jaeger_model.specs.Sameness.{same_value, same_tag, same_process, same_id, same_kind, same_reference, same_log, same_span, same_number, same_batch}
+use Rattle.jaeger_model.specs.Sameness.{same_value, same_tag, same_process, same_id, same_kind, same_reference, same_log, same_span, same_seq_no, same_batch}
 use Rattle.jaeger_model.specs.Sameness.{same_placed}
 
 pub same_value-decides : (a b : Value) → Decides (same_value a b) (a ≡ b)
@@ -139,17 +139,17 @@ same_span-decides a b =
     (Decides-and (pointwise same_tag a.tags b.tags) _ (pointwise_decides same_tag-decides a.tags b.tags)
     (pointwise_decides same_log-decides a.logs b.logs))))))))))
 
-pub same_number-decides : (a b : Option ℤ) → Decides (same_number a b) (a ≡ b)
-same_number-decides None None = (λ e. refl, λ e. refl)
-same_number-decides (Some x) (Some y) = Decides-like (int_eq x y) (λ e. ap (λ z. Some z) e) (λ e. cc) (Decides-int_eq x y)
-same_number-decides None (Some y) = (λ e. absurd cc, λ e. absurd cc)
-same_number-decides (Some x) None = (λ e. absurd cc, λ e. absurd cc)
+pub same_seq_no-decides : (a b : Option ℤ) → Decides (same_seq_no a b) (a ≡ b)
+same_seq_no-decides None None = (λ e. refl, λ e. refl)
+same_seq_no-decides (Some x) (Some y) = Decides-like (int_eq x y) (λ e. ap (λ z. Some z) e) (λ e. cc) (Decides-int_eq x y)
+same_seq_no-decides None (Some y) = (λ e. absurd cc, λ e. absurd cc)
+same_seq_no-decides (Some x) None = (λ e. absurd cc, λ e. absurd cc)
 
 pub same_batch-decides : (a b : Batch) → Decides (same_batch a b) (a ≡ b)
 same_batch-decides a b =
     Decides-like (same_batch a b) (λ p. λ i. record { seq_no = p.0 i; process = p.1.0 i; spans = p.1.1 i })
     (λ e. (ap (λ (t : Batch). t.seq_no) e, (ap (λ (t : Batch). t.process) e, ap (λ (t : Batch). t.spans) e)))
-    (Decides-and (same_number a.seq_no b.seq_no) _ (same_number-decides a.seq_no b.seq_no)
+    (Decides-and (same_seq_no a.seq_no b.seq_no) _ (same_seq_no-decides a.seq_no b.seq_no)
     (Decides-and (same_process a.process b.process) _ (same_process-decides a.process b.process) (pointwise_decides same_span-decides a.spans b.spans)))
 
 pub same_placed-decides : (a b : Placed) → Decides (same_placed a b) (a ≡ b)

@@ -1,4 +1,4 @@
--- Traces whose ranges don't reach into a window have no span in it.
+-- Traces whose ranges don't overlap a window have no span in it.
 use Rattle.std.proofs.Common.{◌≡◌, ℕ, ℤ, zero, suc, ◌+◌, ◌-◌, ◌<◌, ◌≤◌, Bool, true, false, ◌||◌, ◌&&◌, List, [], ◌∷◌, ◌++◌, map, length, take, get_or, refl}
 use Rattle.std.proofs.Common.{sym, ap, ◌∙◌, arith, Some}
 use Rattle.std.specs.Prelude.{filter, int_lt, pos, ◌-ℤ◌, ◌*ℤ◌}
@@ -14,7 +14,7 @@ use Rattle.trace_model.specs.ServiceLinks.{in_window, is_between}
 use Rattle.trace_ring.specs.declared.first_starts.ranges.Range.{Range}
 use Rattle.trace_ring.specs.declared.first_starts.ranges.Window.{Window}
 use Rattle.trace_ring.specs.FirstStarts.{Starts}
-use Rattle.trace_ring.specs.StartRanges.{IsIn, range_at, reaches}
+use Rattle.trace_ring.specs.StartRanges.{IsIn, range_at, overlaps}
 use Rattle.trace_assembly.specs.declared.spot.Spot.{Spot}
 use Rattle.trace_assembly.specs.AssembledRows.{Assembled, spots_of}
 use Rattle.journal_traces.specs.TraceRanges.{AreRanged, FailsOutside, StartsIn}
@@ -30,7 +30,7 @@ later b latest time p q = true_from_ne_false (int_lt b latest) (λ f. absurd (om
 sooner : (b earliest time : ℤ) → int_lt time earliest ≡ false → int_lt time b ≡ true → int_lt earliest b ≡ true
 sooner b earliest time p q = true_from_ne_false (int_lt earliest b) (λ f. absurd (omega (arith, ints)))
 
-outside : (e l : ℤ) (r : Range) (time : ℤ) → reaches (window_of e l) r ≡ false → IsIn r time → is_between e l time ≡ false
+outside : (e l : ℤ) (r : Range) (time : ℤ) → overlaps (window_of e l) r ≡ false → IsIn r time → is_between e l time ≡ false
 outside e l r time none in_it = by (is_between e l time) refl
   where
     by : (b : Bool) → is_between e l time ≡ b → b ≡ false
@@ -41,7 +41,7 @@ outside e l r time none in_it = by (is_between e l time) refl
         let b = sooner (pos 1000 *ℤ e) r.earliest time in_it.begun parts.1 in
         absurd (false≢true (sym none ∙ (λ i. a i && b i)))
 
-none_starts : (e l : ℤ) (r : Range) (ps : List Placed) → reaches (window_of e l) r ≡ false → AllByRecursion (StartsIn r) ps
+none_starts : (e l : ℤ) (r : Range) (ps : List Placed) → overlaps (window_of e l) r ≡ false → AllByRecursion (StartsIn r) ps
     → list_any (in_window e l) ps ≡ false
 none_starts e l r [] none all = refl
 none_starts e l r (p ∷ ps) none all =
@@ -68,16 +68,16 @@ module _ {X : Type 0} (p : X → Bool) (f : TraceId → X) (ids : List TraceId) 
 
 -- no trace from one place to another one has a span in the window
 pub skipped : (e l : ℤ) (starts : Starts) (ids : List TraceId) (spans : TraceId → List Placed) → AreRanged starts ids spans → (w : Window) → w ≡ window_of e l
-    → (from to : ℕ) → from ≤ to → to ≤ length ids → ((k : ℕ) → from ≤ k → k < to → reaches w (range_at starts k) ≡ false)
+    → (from to : ℕ) → from ≤ to → to ≤ length ids → ((k : ℕ) → from ≤ k → k < to → overlaps w (range_at starts k) ≡ false)
     → filter (list_any (in_window e l)) (map spans (take to ids)) ≡ filter (list_any (in_window e l)) (map spans (take from ids))
 skipped e l starts ids spans ranged w is from to up within none =
     all_fail (list_any (in_window e l)) spans ids from to up within (λ k low high.
-    none_starts e l (range_at starts k) (spans (get_or ids k no_id)) (ap (λ v. reaches v (range_at starts k)) (sym is) ∙ none k low high)
+    none_starts e l (range_at starts k) (spans (get_or ids k no_id)) (ap (λ v. overlaps v (range_at starts k)) (sym is) ∙ none k low high)
     (ranged k (get_or ids k no_id) (slice_get-get_or ids k no_id (omega arith))))
 
 -- their spots fail the test
 pub spots_skipped : (w : Window) (starts : Starts) (shown : Assembled) (p : List Spot → Bool) → FailsOutside w starts shown p
-    → (from to : ℕ) → from ≤ to → to ≤ length shown.newest.ids → ((k : ℕ) → from ≤ k → k < to → reaches w (range_at starts k) ≡ false)
+    → (from to : ℕ) → from ≤ to → to ≤ length shown.newest.ids → ((k : ℕ) → from ≤ k → k < to → overlaps w (range_at starts k) ≡ false)
     → filter p (map (spots_of shown) (take to shown.newest.ids)) ≡ filter p (map (spots_of shown) (take from shown.newest.ids))
 spots_skipped w starts shown p fails from to up within none =
     all_fail p (spots_of shown) shown.newest.ids from to up within (λ k low high.

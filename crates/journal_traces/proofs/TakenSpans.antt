@@ -1,12 +1,8 @@
 -- Taken spans, as they are read.
-use Rattle.std.proofs.Common.{◌≡◌, ℕ, ◌+◌, ◌<◌, ◌≤◌, Bool, true, false, ◌||◌, List, [], ◌∷◌, ◌++◌, map, length, take, drop, get_or, zero, suc, refl, sym, ap}
+use Rattle.std.proofs.Common.{◌≡◌, ℕ, ◌+◌, ◌<◌, List, [], ◌∷◌, ◌++◌, map, length, take, get_or, zero, suc, refl, sym, ap}
 use Rattle.std.proofs.Common.{subst, ◌∙◌, arith, Some, Option}
 use Rattle.std.specs.Prelude.{IfSome, slice_index_or}
 use Rattle.std.specs.List.{list_any, cons_option, All}
-use Rattle.std.proofs.lemmas.Bool.{or_right}
-use Rattle.std.proofs.lemmas.List.{take_more, take_all, take-append-drop}
-use Rattle.std.proofs.lemmas.List.Elements.{filter_map-append}
-use Rattle.std.proofs.lemmas.List.Folds.{list_any-append}
 use Rattle.jaeger_model.specs.declared.batch.Process.{Process}
 use Rattle.jaeger_model.specs.declared.placed.Placed.{Placed}
 use Rattle.jaeger_model.specs.declared.placed.Seen.{Seen}
@@ -18,7 +14,6 @@ use Rattle.trace_model.specs.BorrowedSpans.{seen, placed_by_its_entry}
 use Rattle.trace_model.specs.TakenSpans.{Taken, placed_taken, numbers_taken}
 use Rattle.journal_traces.specs.declared.process_classes.ProcessClasses.{ProcessClasses}
 use Rattle.journal_traces.specs.ProcessClasses.{Leads}
-use Rattle.journal_traces.specs.TakenSearch.{IsFlagged}
 use Rattle.journal_traces.specs.TakenTraces.{HasProcess, HaveProcesses}
 use Rattle.journal_traces.proofs.ParentReferences.{matches-adopted}
 use Rattle.journal_traces.proofs.TraceMarks.{or_same}
@@ -41,33 +36,6 @@ match_seen q x s at = sym (matches-adopted q (seen s)) ∙ or_same (matches q (p
 module _ (xs : List Taken) (i : ℕ) (x : Taken) (le : i < length xs) (is : x ≡ get_or xs i x) where
   pub has_process : (process_of : ℕ → Option Process) → HaveProcesses process_of xs → HasProcess process_of x
   has_process process_of all = subst (HasProcess process_of) (sym is) (all i x le)
-
-  pub flag_here : (q : Find) (first now : List Bool) → now ≡ first → All (IsFlagged q first) xs → IsFlagged q now x
-  flag_here q first now same all = subst (λ (f : List Bool). IsFlagged q f x) (sym same) (subst (IsFlagged q first) (sym is) (all i x le))
-
-  pub taken_more : placed_taken (take (i + 1) xs) ≡ placed_taken (take i xs) ++ placed_taken (x ∷ [])
-  taken_more =
-      ap placed_taken (take_more xs i x le) ∙ filter_map-append (λ (y : Taken). y.span) (take i xs) (get_or xs i x ∷ [])
-      ∙ ap (λ y. placed_taken (take i xs) ++ placed_taken (y ∷ [])) (sym is)
-
-  any_more : (w : Placed → Bool) → list_any w (placed_taken (take (i + 1) xs)) ≡ (list_any w (placed_taken (take i xs)) || list_any w (placed_taken (x ∷ [])))
-  any_more w = ap (list_any w) taken_more ∙ list_any-append w (placed_taken (take i xs)) (placed_taken (x ∷ []))
-
-  pub none_more : (w : Placed → Bool) → list_any w (placed_taken (take i xs)) ≡ false → list_any w (placed_taken (x ∷ [])) ≡ false
-      → list_any w (placed_taken (take (i + 1) xs)) ≡ false
-  none_more w before here = any_more w ∙ (λ j. before j || here j)
-
-  pub one_here : (w : Placed → Bool) → list_any w (placed_taken (x ∷ [])) ≡ true → list_any w (placed_taken xs) ≡ true
-  one_here w here =
-      let front : list_any w (placed_taken (take (i + 1) xs)) ≡ true =
-      any_more w ∙ or_right (list_any w (placed_taken (take i xs))) (list_any w (placed_taken (x ∷ []))) here in
-      ap (λ l. list_any w (placed_taken l)) (sym (take-append-drop (i + 1) xs))
-      ∙ ap (list_any w) (filter_map-append (λ (y : Taken). y.span) (take (i + 1) xs) (drop (i + 1) xs))
-      ∙ list_any-append w (placed_taken (take (i + 1) xs)) (placed_taken (drop (i + 1) xs)) ∙ ap (λ b. b || list_any w (placed_taken (drop (i + 1) xs))) front
-
-pub none_left : (w : Placed → Bool) (xs : List Taken) (i : ℕ) → length xs ≤ i → list_any w (placed_taken (take i xs)) ≡ false
-    → false ≡ list_any w (placed_taken xs)
-none_left w xs i end none = sym none ∙ ap (λ l. list_any w (placed_taken l)) (take_all i xs end)
 
 -- ---- the trace at a place
 pub placed_got : (ts : List (List Taken)) (k : ℕ) → placed_taken (slice_index_or ts k []) ≡ slice_index_or (map placed_taken ts) k []

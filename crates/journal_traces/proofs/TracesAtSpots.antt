@@ -1,7 +1,7 @@
 -- Traces that are collected by their spots among entries that are collected once each.
 use Rattle.std.proofs.Common.{◌≡◌, ℕ, zero, suc, ◌+◌, ◌-◌, ◌<◌, ◌≤◌, Bool, true, false, ◌||◌, ◌&&◌, cond, List, [], ◌∷◌, ◌++◌, map, length, take, drop}
 use Rattle.std.proofs.Common.{get_or, append_assoc, refl, sym, ap, subst, ◌∙◌, arith, Some, None, Option}
-use Rattle.std.specs.Prelude.{slice_get, slice_range, slice_index_or, IfSome, IfOk, Result, Ok, Err, option_map}
+use Rattle.std.specs.Prelude.{slice_get, slice_range, slice_index_or, IfSome, option_map}
 use Rattle.std.specs.List.{list_any, cons_option, All, AllZip}
 use Rattle.std.specs.Option.{option_and_then}
 use Rattle.std.proofs.Math.Seq.{drop-cons}
@@ -10,11 +10,11 @@ use Rattle.std.proofs.lemmas.List.{length-map}
 use Rattle.std.proofs.lemmas.List.{append-nil, take-map, drop-map, take_more, take-append-drop, drop_all}
 use Rattle.std.proofs.lemmas.List.Elements.{filter_map-append, filter-append}
 use Rattle.std.proofs.lemmas.List.Folds.{list_any-append}
-use Rattle.std.proofs.lemmas.Option.{slice_get-map}
 use Rattle.jaeger_model.specs.declared.batch.Batch.{Batch}
 use Rattle.jaeger_model.specs.declared.batch.Process.{Process}
 use Rattle.jaeger_model.specs.declared.span.Span.{Span}
 use Rattle.jaeger_model.specs.declared.placed.Placed.{Placed}
+use Rattle.jaeger_model.specs.declared.placed.Seen.{Seen}
 use Rattle.jaeger_model.specs.Parents.{placed}
 use Rattle.jaeger_model.specs.Texts.{same_text}
 use Rattle.trace_model.specs.declared.entry.Entry.{Entry}
@@ -25,29 +25,31 @@ use Rattle.trace_model.specs.Places.{entry_at}
 use Rattle.trace_model.specs.Searching.{matches, is_timed, has_tag, cut, ranked_by_start, first_start, matching, found_in}
 use Rattle.std.specs.List.{list_all}
 use Rattle.trace_model.specs.TakenSpans.{Taken, placed_taken}
+use Rattle.trace_model.specs.BorrowedSpans.{seen, placed_by_its_entry}
+use Rattle.find_traces.specs.FoundIndices.{trace_at}
 use Rattle.trace_model.specs.EntryWork.{batch_brought, placed_brought}
 use Rattle.arrival_journal.specs.declared.outline.Outline.{Outline}
 use Rattle.arrival_journal.specs.Outlines.{outline_in}
 use Rattle.trace_assembly.specs.declared.spot.Spot.{Spot}
 use Rattle.trace_assembly.specs.LocatedSpans.{span_at}
-use Rattle.journal_traces.specs.declared.tag_candidates.TakenEntry.{TakenEntry}
+use Rattle.journal_traces.specs.declared.collected_candidates.TakenEntry.{TakenEntry}
 use Rattle.journal_traces.specs.declared.taken_spot.TakenSpot.{TakenSpot}
 use Rattle.journal_traces.specs.TraceParts.{cut_at, next_start}
 use Rattle.journal_traces.specs.Told.{AreTold}
 use Rattle.journal_traces.specs.MatchingSpans.{meets, met, met_or_none}
 use Rattle.journal_traces.specs.SkippedEntries.{may_meet}
-use Rattle.journal_traces.specs.TagCandidates.{entry_shared, entries_shared, process_numbered, spot_of, taken_spotted}
-use Rattle.journal_traces.specs.TagCandidates.{trace_spotted, is_entry_met, may_spot_meet}
-use Rattle.journal_traces.specs.TagCandidates.{may_spots_meet, IsMatchFlag, IsMatchFlagOf, IsSpotWithin, AddsSpan, IsTakenFrom}
-use Rattle.journal_traces.specs.TagCandidates.{AreNumberedByEntry, AreJudgedEntries, entry_process}
-use Rattle.journal_traces.specs.TakenSearch.{IsFlagged, IsSearching}
-use Rattle.journal_traces.specs.declared.judged_entries.JudgedEntries.{JudgedEntries}
+use Rattle.journal_traces.specs.CollectedCandidates.{entry_shared, entries_shared, process_numbered, spot_of, taken_spotted}
+use Rattle.journal_traces.specs.CollectedCandidates.{CandidatesValue, trace_spotted, traces_spotted, traces_picked, is_entry_met, may_spot_meet}
+use Rattle.journal_traces.specs.CollectedCandidates.{may_spots_meet, IsMatchFlag, IsMatchFlagOf, IsSpotWithin, AddsSpan}
+use Rattle.journal_traces.specs.CollectedCandidates.{AreNumberedByEntry, entry_process}
 use Rattle.journal_traces.specs.ReportedSpots.{is_number}
 use Rattle.journal_traces.specs.SpansAtSpots.{process_at, spans_named}
-use Rattle.journal_traces.specs.TakenTraces.{HasProcess}
+use Rattle.journal_traces.specs.TakenTraces.{HasProcess, ShareByNumber}
 use Rattle.journal_traces.proofs.Processes.{process_there}
 use Rattle.journal_traces.proofs.ParentReferences.{matches-adopted}
 use Rattle.journal_traces.proofs.OutlineBounds.{passed_there}
+use Rattle.journal_traces.proofs.SpansAtSpots.{first_none, any_here, any_later}
+use Rattle.journal_traces.proofs.TakenSpans.{match_seen}
 use Rattle.journal_traces.proofs.TakingSpans.{IsTaking}
 use Rattle.journal_traces.proofs.RequestedService.{is_requested_service}
 
@@ -253,57 +255,22 @@ pub batch_met : (q : Find) (b : Batch) → list_any (meets q b.process) b.spans 
 batch_met q b = meets_domain q b b.spans
 
 -- ---- what is collected at a spot
-pub there_shared : (ts : List TakenEntry) (s : TakenSpot) (t : TakenEntry) → Some t ≡ slice_get ts s.number
-    → slice_get (placed_brought (entry_shared t).work) s.index ≡ span_at (entries_shared ts) (spot_of s)
-there_shared ts s t at =
-    ap (λ (o : Option TakenEntry). option_and_then (λ (e : Entry). slice_get (placed_brought e.work) s.index) (option_map entry_shared o)) at
-    ∙ ap (option_and_then (λ (e : Entry). slice_get (placed_brought e.work) s.index)) (sym (slice_get-map entry_shared ts s.number))
+-- the number of the entry leads to the process of the span
+pub process_spotted : (es : List Entry) (s : TakenSpot) (p : Placed) → Some p ≡ span_at es (spot_of s) → Some p.process ≡ process_numbered es s.number
+process_spotted es s p at = process_there es (spot_of s) p at
 
-pub nothing_shared : (ts : List TakenEntry) (s : TakenSpot) → None ≡ slice_get ts s.number → None ≡ span_at (entries_shared ts) (spot_of s)
-nothing_shared ts s at =
-    ap (λ (o : Option TakenEntry). option_and_then (λ (e : Entry). slice_get (placed_brought e.work) s.index) (option_map entry_shared o)) at
-    ∙ ap (option_and_then (λ (e : Entry). slice_get (placed_brought e.work) s.index)) (sym (slice_get-map entry_shared ts s.number))
-
-numbered_spot : (es : List Entry) (s : TakenSpot) (taken : Option Taken) → option_and_then (λ (x : Taken). x.span) taken ≡ span_at es (spot_of s)
-    → IfSome taken (λ (x : Taken). x.number ≡ s.number) → IfSome taken (IsTakenFrom es)
-numbered_spot es s None at number = tt
-numbered_spot es s (Some x) at number = (s, at, number)
-
-pub numbered_result : {E : Type 0} → (es : List Entry) (s : TakenSpot) (r : Result (Option Taken) E)
-    → IfOk r (λ t. option_and_then (λ (x : Taken). x.span) t ≡ span_at es (spot_of s)) → IfOk r (λ t. IfSome t (λ (x : Taken). x.number ≡ s.number))
-    → IfOk r (λ t. IfSome t (IsTakenFrom es))
-numbered_result es s (Ok t) at number = numbered_spot es s t at number
-numbered_result es s (Err e) at number = tt
-
--- ---- what is known of a span by the entry that it was taken from
-taken_process : (es : List Entry) (t : Taken) → IsTakenFrom es t → HasProcess (process_numbered es) t
-taken_process es t from = by t.span from.1
+pub numbered_there : (es : List Entry) (s : TakenSpot) (taken : Option Taken) → option_and_then (λ (x : Taken). x.span) taken ≡ span_at es (spot_of s)
+    → IfSome taken (λ (x : Taken). x.number ≡ s.number) → IfSome taken (HasProcess (process_numbered es))
+numbered_there es s None at number = tt
+numbered_there es s (Some x) at number = by x.span at
   where
-    by : (o : Option Placed) → o ≡ span_at es (spot_of from.0) → IfSome o (λ (p : Placed). Some p.process ≡ process_numbered es t.number)
+    by : (o : Option Placed) → o ≡ span_at es (spot_of s) → IfSome o (λ (p : Placed). Some p.process ≡ process_numbered es x.number)
     by None e = tt
-    by (Some p) e = process_there es (spot_of from.0) p e ∙ ap (process_numbered es) (sym from.2)
+    by (Some p) e = process_spotted es s p e ∙ ap (process_numbered es) (sym number)
 
-taken_flag : (q : Find) (es : List Entry) (flags : List Bool) (t : Taken) → AllZip (IsMatchFlag q) es flags → IsTakenFrom es t → IsFlagged q flags t
-taken_flag q es flags t correct from none =
-    ap (λ o. list_any (matches q) (cons_option o [])) from.1
-    ∙ spot_unmet q es flags from.0.number from.0.index correct (ap (λ n. get_or flags n false) (sym from.2) ∙ none)
-
--- a search over traces whose entries were judged
-pub searching : (q : Find) (es : List Entry) (traces : List (List Taken)) (j : JudgedEntries) → AreNumberedByEntry es traces → AreJudgedEntries q es j
-    → IsSearching q traces j
-searching q es traces j numbered judged = record {
-  process_of = process_numbered es;
-  each = λ k d le m e below. taken_process es (get_or (get_or traces k d) m e) (numbered k d le m e below);
-  judged = judged.processes;
-  flagged = λ k d le m e below. taken_flag q es j.flags.items (get_or (get_or traces k d) m e) judged.flags (numbered k d le m e below);
-}
-
--- the number of an entry leads to its process
-pub numbered_process : (ts : List TakenEntry) (i : ℕ) (t : TakenEntry) → i < length ts → t ≡ get_or ts i t
-    → entry_process (entry_shared t) ≡ process_numbered (entries_shared ts) i
-numbered_process [] i t le is = absurd (omega arith)
-numbered_process (x ∷ ts) zero t le is = ap (λ y. entry_process (entry_shared y)) is
-numbered_process (x ∷ ts) (suc i) t le is = numbered_process ts i t (omega arith) is
+-- spans with the numbers of their entries share processes
+pub share_by_entry : (es : List Entry) (traces : List (List Taken)) → AreNumberedByEntry es traces → ShareByNumber traces
+share_by_entry es traces numbered = record { process_of = process_numbered es; each = numbered }
 
 -- ---- the spots of a trace, one by one
 pub spots_left : (ss : List TakenSpot) (i : ℕ) (d : TakenSpot) → i < length ss
@@ -319,6 +286,54 @@ pub spots_named : (es : List Entry) (ss : List TakenSpot) → spans_named es (ma
 spots_named es [] = refl
 spots_named es (s ∷ ss) = ap (cons_option (span_at es (spot_of s))) (spots_named es ss)
 
+-- ---- a span that is judged at its spot
+-- it doesn't meet the search if none of its entry does
+pub entry_unmet : (q : Find) (es : List Entry) (flags : List Bool) (s : TakenSpot) → AllZip (IsMatchFlag q) es flags → may_spot_meet flags s ≡ false
+    → list_any (matches q) (placed_taken (trace_spotted es (s ∷ []))) ≡ false
+entry_unmet q es flags s correct none = spot_unmet q es flags s.number s.index correct none
+
+pub nothing_met : (q : Find) (es : List Entry) (s : TakenSpot) → None ≡ span_at es (spot_of s)
+    → list_any (matches q) (placed_taken (trace_spotted es (s ∷ []))) ≡ false
+nothing_met q es s none = ap (λ o. list_any (matches q) (cons_option o [])) (sym none)
+
+pub spot_met : (q : Find) (es : List Entry) (s : TakenSpot) (at : Seen) → Some (placed_by_its_entry at) ≡ span_at es (spot_of s)
+    → matches q (seen at) ≡ list_any (matches q) (placed_taken (trace_spotted es (s ∷ [])))
+spot_met q es s at there = match_seen q (taken_spotted es s) at there
+
+-- the spots up to the end are left to be judged
+pub first_left : (es : List Entry) (ss : List TakenSpot) (i : ℕ) (d : TakenSpot) → i < length ss → span_at es (spot_of (get_or ss i d)) ≡ None
+    → slice_get (spans_named es (map spot_of (drop (i + 1) ss))) 0 ≡ slice_get (spans_named es (map spot_of (drop i ss))) 0
+first_left es ss i d le none =
+    first_none es (spot_of (get_or ss i d)) (map spot_of (drop (i + 1) ss)) none
+    ∙ ap (λ l. slice_get (spans_named es l) 0) (sym (spots_left ss i d le))
+
+pub first_now : (es : List Entry) (ss : List TakenSpot) (i : ℕ) (d : TakenSpot) (p : Placed) → i < length ss → Some p ≡ span_at es (spot_of (get_or ss i d))
+    → Some p ≡ slice_get (spans_named es (map spot_of (drop i ss))) 0
+first_now es ss i d p le there =
+    ap (λ o. slice_get (cons_option o (spans_named es (map spot_of (drop (i + 1) ss)))) 0) there
+    ∙ ap (λ l. slice_get (spans_named es l) 0) (sym (spots_left ss i d le))
+
+pub any_left : (q : Find) (es : List Entry) (ss : List TakenSpot) (i : ℕ) (d : TakenSpot) → i < length ss
+    → list_any (matches q) (placed_taken (trace_spotted es (get_or ss i d ∷ []))) ≡ false
+    → list_any (matches q) (spans_named es (map spot_of (drop (i + 1) ss))) ≡ list_any (matches q) (spans_named es (map spot_of (drop i ss)))
+any_left q es ss i d le none =
+    any_later es (matches q) (spot_of (get_or ss i d)) (map spot_of (drop (i + 1) ss)) none
+    ∙ ap (λ l. list_any (matches q) (spans_named es l)) (sym (spots_left ss i d le))
+
+pub any_now : (q : Find) (es : List Entry) (ss : List TakenSpot) (i : ℕ) (d : TakenSpot) → i < length ss
+    → list_any (matches q) (placed_taken (trace_spotted es (get_or ss i d ∷ []))) ≡ true
+    → true ≡ list_any (matches q) (spans_named es (map spot_of (drop i ss)))
+any_now q es ss i d le met =
+    any_here es (matches q) (spot_of (get_or ss i d)) (map spot_of (drop (i + 1) ss)) met
+    ∙ ap (λ l. list_any (matches q) (spans_named es l)) (sym (spots_left ss i d le))
+
+-- the number of an entry leads to its process
+pub numbered_process : (ts : List TakenEntry) (i : ℕ) (t : TakenEntry) → i < length ts → t ≡ get_or ts i t
+    → entry_process (entry_shared t) ≡ process_numbered (entries_shared ts) i
+numbered_process [] i t le is = absurd (omega arith)
+numbered_process (x ∷ ts) zero t le is = ap (λ y. entry_process (entry_shared y)) is
+numbered_process (x ∷ ts) (suc i) t le is = numbered_process ts i t (omega arith) is
+
 -- ---- the traces, one by one
 module _ (q : Find) (done xs : List (List Placed)) (k : ℕ) (t : List Placed) (le : k < length xs) (before : matching q done ≡ matching q (take k xs))
     (is : t ≡ slice_index_or xs k []) where
@@ -333,3 +348,16 @@ module _ (q : Find) (done xs : List (List Placed)) (k : ℕ) (t : List Placed) (
   pub trace_passed : list_any (matches q) t ≡ false → matching q done ≡ matching q (take (k + 1) xs)
   trace_passed none =
       before ∙ sym (append-nil (matching q (take k xs))) ∙ ap (λ b. matching q (take k xs) ++ (cond b (t ∷ []) [])) (sym none) ∙ sym next_trace
+
+-- ---- the traces that are picked
+pub picked_there : (v : CandidatesValue) (picked : List ℕ) (index k : ℕ) → Some k ≡ slice_get picked index
+    → trace_at (traces_spotted v) k ≡ trace_at (traces_picked v picked) index
+picked_there v [] index k is = absurd (cc is)
+picked_there v (x ∷ picked) zero k is = let same : k ≡ x = cc is in ap (trace_at (traces_spotted v)) same
+picked_there v (x ∷ picked) (suc index) k is = picked_there v picked index k is
+
+pub none_picked : (v : CandidatesValue) (picked : List ℕ) (index : ℕ) → None ≡ slice_get picked index
+    → [] ≡ trace_at (traces_picked v picked) index
+none_picked v [] index is = refl
+none_picked v (x ∷ picked) zero is = absurd (cc is)
+none_picked v (x ∷ picked) (suc index) is = none_picked v picked index is

@@ -26,7 +26,7 @@ use Rattle.journal_traces.specs.declared.taken_spot.TakenSpot.{TakenSpot}
 use Rattle.journal_traces.specs.declared.window_traces.WindowSpots.{WindowSpots}
 use Rattle.journal_traces.specs.TraceParts.{next_start, cut_at, AreStarts}
 use Rattle.journal_traces.specs.Numbered.{numbered, AreNumbers}
-use Rattle.journal_traces.specs.TagCandidates.{IsSpotWithin, AddsSpan}
+use Rattle.journal_traces.specs.CollectedCandidates.{IsSpotWithin, AddsSpan}
 use Rattle.journal_traces.specs.SpansAtSpots.{HasServiceNumber, AreNumberedByService}
 use Rattle.journal_traces.specs.WindowTraces.{ServedEntry, entry_seen, entries_seen, entries_in, numbered_span, taken_in, taken_reported, trace_reported}
 use Rattle.journal_traces.specs.WindowTraces.{traces_reported, HasService, AreWindowSpots}

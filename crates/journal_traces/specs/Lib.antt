@@ -10,7 +10,7 @@ pub mod TraceParts
 pub mod TakenTraces
 pub mod ProcessConditions
 pub mod TakenSearch
-pub mod TagCandidates
+pub mod CollectedCandidates
 pub mod WindowTraces
 pub mod ProcessClasses
 pub mod TraceRanges

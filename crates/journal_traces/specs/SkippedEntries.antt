@@ -33,11 +33,11 @@ abbrev pub requested_bits : List (List ℕ × List ℕ) → List ℕ
 requested_bits asked = fold with_requested no_bits asked
 
 -- the bit of each requested tag is among these
-abbrev pub may_match_tags : Find → List ℕ → Bool
-may_match_tags q bits = list_all (is_marked bits) q.tags
+abbrev pub may_meet_tags : Find → List ℕ → Bool
+may_meet_tags q bits = list_all (is_marked bits) q.tags
 
 abbrev pub may_meet : Find → Outline → Bool
-may_meet q o = may_meet_durations q o.times && may_meet_starts q o.times && may_match_tags q o.tags
+may_meet q o = may_meet_durations q o.times && may_meet_starts q o.times && may_meet_tags q o.tags
 
 -- some start between these bounds may be strictly between those of the window
 abbrev pub may_reach : ℤ → ℤ → Times → Bool

@@ -9,7 +9,7 @@ use Rattle.trace_assembly.specs.AssembledRows.{Assembled, spots_of}
 use Rattle.trace_ring.specs.declared.first_starts.ranges.Range.{Range}
 use Rattle.trace_ring.specs.declared.first_starts.ranges.Window.{Window}
 use Rattle.trace_ring.specs.FirstStarts.{Starts}
-use Rattle.trace_ring.specs.StartRanges.{IsIn, range_at, reaches}
+use Rattle.trace_ring.specs.StartRanges.{IsIn, range_at, overlaps}
 
 abbrev pub StartsIn : Range → Placed → Type 0
 StartsIn r p = IsIn r p.span.start
@@ -18,10 +18,10 @@ StartsIn r p = IsIn r p.span.start
 abbrev pub AreRanged : Starts → List TraceId → (TraceId → List Placed) → Type 0
 AreRanged starts ids spans = (k : ℕ) (t : TraceId) → slice_get ids k ≡ Some t → AllByRecursion (StartsIn (range_at starts k)) (spans t)
 
--- the spots of a trace whose range doesn't reach into the window fail the test
+-- the spots of a trace whose range doesn't overlap the window fail the test
 abbrev pub FailsOutside : Window → Starts → Assembled → (List Spot → Bool) → Type 0
 FailsOutside w starts shown p =
-    (k : ℕ) (t : TraceId) → slice_get shown.newest.ids k ≡ Some t → reaches w (range_at starts k) ≡ false → p (spots_of shown t) ≡ false
+    (k : ℕ) (t : TraceId) → slice_get shown.newest.ids k ≡ Some t → overlaps w (range_at starts k) ≡ false → p (spots_of shown t) ≡ false
 
 -- the times strictly between the bounds of a search's starts, widened so that the bounds are included
 abbrev pub search_window : Find → Window

@@ -14,14 +14,14 @@ use Rattle.journal_traces.specs.declared.window_traces.NumberedEntry.{NumberedEn
 use Rattle.journal_traces.specs.declared.window_traces.WindowSpots.{WindowSpots}
 use Rattle.journal_traces.specs.TraceParts.{cut_at, AreStarts}
 use Rattle.journal_traces.specs.Numbered.{AreNumbers}
-use Rattle.journal_traces.specs.TagCandidates.{IsSpotWithin}
+use Rattle.journal_traces.specs.CollectedCandidates.{IsSpotWithin}
 
 -- an entry and the number of its service
 abbrev pub ServedEntry : Type 0
 ServedEntry = Entry × ℕ
 
 abbrev pub entry_seen : NumberedEntry → ServedEntry
-entry_seen t = (arc_value t.entry, t.service)
+entry_seen t = (arc_value t.entry, t.service_number)
 
 abbrev pub entries_seen : List NumberedEntry → List ServedEntry
 entries_seen ts = map entry_seen ts

@@ -16,14 +16,14 @@ use trace_assembly::Spots;
 pub struct CandidateSearch<'a> {
     pub journal: &'a Journal,
     /// The numbers of the services of the journal's entries.
-    pub reported: &'a ServicePlaces,
+    pub by_service: &'a ServicePlaces,
     /// The number of the search's service; none if no entry is of it.
-    pub service: Option<u32>,
+    pub service_number: Option<u32>,
     pub prepared: &'a PreparedSearch<'a>,
     /// The spots of each trace, those of the one opened first at the front.
     pub spots: &'a [Spots<'a>],
-    pub ghost correct: { AreTold prepared.now journal.now.held.entries reported.now.service_numbers
-        service } by { Prim.hlevel props },
+    pub ghost correct: { AreTold prepared.now journal.now.held.entries
+        by_service.now.service_numbers service_number } by { Prim.hlevel props },
 }
 
 impl<'a> Searched for CandidateSearch<'a> {
@@ -60,9 +60,9 @@ impl<'a> Searched for CandidateSearch<'a> {
             Some(spots) => {
                 let judging = Judging::new(
                     self.journal,
-                    self.reported,
+                    self.by_service,
                     self.prepared,
-                    self.service,
+                    self.service_number,
                 );
                 is_found(alloc, &judging, spots.again())
             }

@@ -6,14 +6,19 @@ ghost use Rattle.journal_traces.specs.ReportedSpots.{is_number};
 use service_index::ServicePlaces;
 
 /// Whether the entry at a place is of the service with this number; no entry is of a service without a number.
-pub(crate) fn is_of_service(reported: &ServicePlaces, service: Option<u32>, place: u64) -> bool
+pub(crate) fn is_of_service(
+    by_service: &ServicePlaces,
+    service_number: Option<u32>,
+    place: u64,
+) -> bool
     requires few { place < 2 ^ 32 }
     requires above { 0 < place }
-    requires within { place ≤ length reported.now.service_numbers }
-    ensures { result ≡ is_number service (get_or reported.now.service_numbers (place - 1) 0) }
+    requires within { place ≤ length by_service.now.service_numbers }
+    ensures { result ≡
+        is_number service_number (get_or by_service.now.service_numbers (place - 1) 0) }
 {
-    match service {
-        Some(service) => reported.service_number_at((place - 1) as u32) == service,
+    match service_number {
+        Some(number) => by_service.service_number_at((place - 1) as u32) == number,
         None => false,
     }
 }

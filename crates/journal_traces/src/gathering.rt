@@ -43,6 +43,7 @@ pub fn gather(
     let count = spot_count(spots.again());
     let mut spans = Vec::with_capacity(alloc, count)?;
     for spot in spots {
+        // Impossible in a store: a spot of no span. No clause says so.
         if let Some(span) = taken_at(journal, spot)? {
             // For the prover: `reported`'s clause says that there is a span.
             let _seen = span.reported();

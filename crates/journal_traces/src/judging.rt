@@ -25,10 +25,10 @@ use trace_assembly::Spot;
 #[derive(Drop)]
 pub(crate) struct Judging<'a> {
     journal: &'a Journal,
-    reported: &'a ServicePlaces,
+    by_service: &'a ServicePlaces,
     prepared: &'a PreparedSearch<'a>,
     /// The number of the requested service; none if no entry is of it.
-    service: Option<u32>,
+    service_number: Option<u32>,
 }
 
 impl<'a> Model for Judging<'a> {
@@ -42,26 +42,26 @@ impl<'a> Model for Judging<'a> {
     ghost view = { λ j. (j.prepared.now, j.journal.now.held.entries) };
 
     ghost invariant = { λ j. AreTold j.prepared.now
-        j.journal.now.held.entries j.reported.now.service_numbers
-        j.service };
+        j.journal.now.held.entries j.by_service.now.service_numbers
+        j.service_number };
 }
 
 impl<'a> Judging<'a> {
     pub(crate) fn new(
         journal: &'a Journal,
-        reported: &'a ServicePlaces,
+        by_service: &'a ServicePlaces,
         prepared: &'a PreparedSearch<'a>,
-        service: Option<u32>,
+        service_number: Option<u32>,
     ) -> Self
         requires { AreTold prepared.now journal.now.held.entries
-            reported.now.service_numbers service }
+            by_service.now.service_numbers service_number }
         ensures { result ≡ (prepared.now, journal.now.held.entries) }
     {
         Judging {
             journal,
-            reported,
+            by_service,
             prepared,
-            service,
+            service_number,
         }
     }
 
@@ -71,7 +71,7 @@ impl<'a> Judging<'a> {
         ensures { (process : ProcessValue) → Some process ≡ process_at self.now.1 place →
             result ≡ same_text self.now.0.service process.service }
     {
-        is_of_service(self.reported, self.service, place)
+        is_of_service(self.by_service, self.service_number, place)
     }
 
     /// Whether a span of the entry at a place meets every condition of the search. The process is judged only if
@@ -94,6 +94,7 @@ impl<'a> Judging<'a> {
     {
         match seen_at(self.journal, spot) {
             Some(seen) => self.is_match(alloc, spot.place, seen),
+            // Impossible in a store: a spot of no span. No clause says so.
             None => Ok(false),
         }
     }

@@ -5,13 +5,11 @@ ghost use Rattle.std.specs.BTreeMap.{get};
 ghost use Rattle.std.specs.Ordering.{nat_cmp};
 ghost use Rattle.jaeger_model.specs.declared.batch.Process.{Process as ProcessValue};
 ghost use Rattle.journal_traces.specs.ProcessClasses.{Leads};
-ghost use Rattle.journal_traces.specs.TakenTraces.{HasProcess};
 
 use crate::recurring::Recurring;
 use jaeger_model::{ByContent, Process};
 use std::alloc::{AllocError, Global};
 use std::collections::BTreeMap;
-use trace_model::TakenSpan;
 
 /// A key, and its class.
 #[derive(Clone, Copy)]
@@ -20,7 +18,7 @@ pub(crate) struct KeyClass {
     class: u32,
 }
 
-/// The classes of the keys of taken spans: keys whose processes are equal have one class, which is the first
+/// The classes of keys, as spans have them: keys whose processes are equal have one class, which is the first
 /// of them. A process is compared with the others once for each key.
 #[derive(Drop)]
 pub(crate) struct ProcessClasses<'a> {
@@ -114,14 +112,13 @@ impl<'a> ProcessClasses<'a> {
         }
     }
 
-    /// Looks up the class of a span's key.
-    fn find_class(&mut self, span: &'a TakenSpan, key: u32) -> Result<u32, AllocError>
-        requires { key ≡ span.now.number }
+    /// Looks up the class of a key, which has this process.
+    fn find_class(&mut self, process: &'a Process, key: u32) -> Result<u32, AllocError>
         ensures class { (process_of : ℕ → Option ProcessValue) →
-            HasProcess process_of span.now → Leads process_of self.old →
+            process_of key ≡ Some process.now → Leads process_of self.old →
             IfOk result (λ class. process_of class ≡ process_of key) }
         ensures leads { (process_of : ℕ → Option ProcessValue) →
-            HasProcess process_of span.now → Leads process_of self.old →
+            process_of key ≡ Some process.now → Leads process_of self.old →
             Leads process_of self.new }
     {
         if !self.is_compared(key) {
@@ -130,25 +127,24 @@ impl<'a> ProcessClasses<'a> {
         if let Some(class) = known(&self.by_key, key) {
             return Ok(class);
         }
-        let class = self.class_of_process(span.reported().process, key)?;
+        let class = self.class_of_process(process, key)?;
         keep(&mut self.by_key, key, class)?;
         Ok(class)
     }
 
-    /// Returns the class of the key of a span. It is looked up only if another key was requested last.
-    pub(crate) fn class_of(&mut self, span: &'a TakenSpan) -> Result<u32, AllocError>
+    /// Returns the class of a key, which has this process. It is looked up only if another key was requested last.
+    pub(crate) fn class_of(&mut self, process: &'a Process, key: u32) -> Result<u32, AllocError>
         ensures class { (process_of : ℕ → Option ProcessValue) →
-            HasProcess process_of span.now → Leads process_of self.old →
-            IfOk result (λ class. process_of class ≡ process_of span.now.number) }
+            process_of key ≡ Some process.now → Leads process_of self.old →
+            IfOk result (λ class. process_of class ≡ process_of key) }
         ensures leads { (process_of : ℕ → Option ProcessValue) →
-            HasProcess process_of span.now → Leads process_of self.old →
+            process_of key ≡ Some process.now → Leads process_of self.old →
             Leads process_of self.new }
     {
-        let key = span.process_key();
         if let Some(class) = self.last_class(key) {
             return Ok(class);
         }
-        let class = self.find_class(span, key)?;
+        let class = self.find_class(process, key)?;
         self.last = Some(KeyClass { key, class });
         Ok(class)
     }

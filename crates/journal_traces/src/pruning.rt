@@ -45,7 +45,7 @@ fn covers(bits: u64, mask: u64) -> bool
 }
 
 /// Whether spans with these bits may have all requested tags, whose bits are the mask.
-fn may_match_tags(bits: &TagBits, mask: &TagBits) -> bool
+fn may_meet_tags(bits: &TagBits, mask: &TagBits) -> bool
     ensures { (asked : List (List ℕ × List ℕ)) → mask.now ≡ requested_bits asked →
         result ≡ list_all (is_marked bits.now) asked }
 {
@@ -101,7 +101,7 @@ impl<'q> EntryFilter<'q> {
     {
         may_meet_durations(outline.times, self.query)
             && may_meet_starts(outline.times, self.query)
-            && may_match_tags(&outline.tags, &self.mask)
+            && may_meet_tags(&outline.tags, &self.mask)
     }
 }
 

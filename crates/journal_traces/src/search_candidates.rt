@@ -12,6 +12,7 @@ ghost use Rattle.journal_traces.specs.SpansAtSpots.{batch_at};
 
 use crate::pruning::EntryFilter;
 use crate::spotted_spans::batch_at;
+use crate::store_view::StoreView;
 use arrival_journal::Journal;
 use jaeger_model::{Process, Seen, Span, TraceId};
 use service_index::Places;
@@ -156,27 +157,37 @@ fn spans_before(firsts: &[u32], place: u64) -> u32 {
 /// meets every condition of the search except for those on tags.
 fn marks_along(
     alloc: Global,
-    assembly: &Assembly,
+    store: StoreView<'_>,
     firsts: &[u32],
-    journal: &Journal,
     places: Places<'_>,
     query: &Find,
 ) -> Result<Vec<bool>, AllocError>
     ensures { IfOk result (λ v. v.items ≡
-        map (any_of (near_along query.now journal.now.held.entries places.entry))
-        assembly.now.newest.ids) }
+        map (any_of (near_along query.now store.entry.journal.now.held.entries places.entry))
+        store.entry.assembly.now.newest.ids) }
 {
-    let ring = assembly.ring();
+    let ring = store.assembly.ring();
     let filter = EntryFilter::new(query);
     let mut marks = vec![in alloc; false; ring.len()]?;
     for place in places {
         let rows = RowGuesses {
-            assembly,
+            assembly: store.assembly,
             before: spans_before(firsts, place),
         };
-        mark_entry(&mut marks, ring, rows, journal, place, &filter);
+        mark_entry(&mut marks, ring, rows, store.journal, place, &filter);
     }
     Ok(marks)
+}
+
+/// Counts the marked traces, to allocate exactly.
+fn mark_count(marks: &[bool]) -> usize {
+    let mut count = 0usize;
+    for is_marked in marks {
+        if *is_marked {
+            count = count.saturating_add(1);
+        }
+    }
+    count
 }
 
 /// Returns the spots of the traces of the ring that are marked, in their order.
@@ -190,7 +201,7 @@ fn marked_spots<'a>(
         IfOk result (λ v. v.items ≡
         map (spots_of assembly.now) (filter p assembly.now.newest.ids)) }
 {
-    let mut spots = Vec::new(alloc);
+    let mut spots = Vec::with_capacity(alloc, mark_count(marks))?;
     for index in 0..assembly.ring().len() {
         if marks[index] {
             spots.push(assembly.spots_at(index))?;
@@ -209,16 +220,15 @@ fn marked_spots<'a>(
 /// Out of memory, and nothing else.
 pub fn spots_along<'a>(
     alloc: Global,
-    assembly: &'a Assembly,
+    store: StoreView<'a>,
     firsts: &[u32],
-    journal: &Journal,
     places: Places<'_>,
     query: &Find,
 ) -> Result<Vec<Spots<'a>>, AllocError>
-    ensures { IfOk result (λ v. v.items ≡ map (spots_of assembly.now)
-        (filter (any_of (near_along query.now journal.now.held.entries places.entry))
-        assembly.now.newest.ids)) }
+    ensures { IfOk result (λ v. v.items ≡ map (spots_of store.entry.assembly.now)
+        (filter (any_of (near_along query.now store.entry.journal.now.held.entries places.entry))
+        store.entry.assembly.now.newest.ids)) }
 {
-    let marks = marks_along(alloc, assembly, firsts, journal, places, query)?;
-    marked_spots(alloc, assembly, &marks)
+    let marks = marks_along(alloc, store, firsts, places, query)?;
+    marked_spots(alloc, store.assembly, &marks)
 }

@@ -13,24 +13,35 @@ use std::alloc::{AllocError, Global};
 use trace_assembly::{Assembly, Spot, Spots};
 
 /// Whether there is an entry at a spot's place, and its service has this number.
-fn is_reported(journal: &Journal, reported: &ServicePlaces, service: u32, spot: Spot) -> bool
+fn is_reported(
+    journal: &Journal,
+    by_service: &ServicePlaces,
+    service_number: u32,
+    spot: Spot,
+) -> bool
     requires few { length journal.now.held.entries < 2 ^ 32 }
-    requires numbers { AreServiceNumbers journal.now.held.entries reported.now.service_numbers }
-    ensures { result ≡
-        is_reported journal.now.held.entries reported.now.service_numbers service spot }
+    requires numbers { AreServiceNumbers journal.now.held.entries by_service.now.service_numbers }
+    ensures { result ≡ is_reported journal.now.held.entries by_service.now.service_numbers
+        service_number spot }
 {
-    journal.entry(spot.place).is_some() && is_of_service(reported, Some(service), spot.place)
+    journal.entry(spot.place).is_some()
+        && is_of_service(by_service, Some(service_number), spot.place)
 }
 
 /// Whether the entry of one of the spots is of the service with this number.
-fn are_reported(journal: &Journal, reported: &ServicePlaces, service: u32, spots: Spots<'_>) -> bool
+fn are_reported(
+    journal: &Journal,
+    by_service: &ServicePlaces,
+    service_number: u32,
+    spots: Spots<'_>,
+) -> bool
     requires few { length journal.now.held.entries < 2 ^ 32 }
-    requires numbers { AreServiceNumbers journal.now.held.entries reported.now.service_numbers }
-    ensures { result ≡
-        are_reported journal.now.held.entries reported.now.service_numbers service spots.entry }
+    requires numbers { AreServiceNumbers journal.now.held.entries by_service.now.service_numbers }
+    ensures { result ≡ are_reported journal.now.held.entries by_service.now.service_numbers
+        service_number spots.entry }
 {
     for spot in spots {
-        if is_reported(journal, reported, service, spot) {
+        if is_reported(journal, by_service, service_number, spot) {
             return true;
         }
     }
@@ -48,19 +59,19 @@ pub fn spots_reported<'a>(
     alloc: Global,
     assembly: &'a Assembly,
     journal: &Journal,
-    reported: &ServicePlaces,
-    service: u32,
+    by_service: &ServicePlaces,
+    service_number: u32,
 ) -> Result<Vec<Spots<'a>>, AllocError>
     requires few { length journal.now.held.entries < 2 ^ 32 }
-    requires numbers { AreServiceNumbers journal.now.held.entries reported.now.service_numbers }
+    requires numbers { AreServiceNumbers journal.now.held.entries by_service.now.service_numbers }
     ensures { IfOk result (λ v. v.items ≡ map (spots_of assembly.now)
-        (filter (λ t. are_reported journal.now.held.entries reported.now.service_numbers service
-        (spots_of assembly.now t)) assembly.now.newest.ids)) }
+        (filter (λ t. are_reported journal.now.held.entries by_service.now.service_numbers
+        service_number (spots_of assembly.now t)) assembly.now.newest.ids)) }
 {
     let mut found = Vec::new(alloc);
     for index in 0..assembly.ring().len() {
         let spots = assembly.spots_at(index);
-        if are_reported(journal, reported, service, spots.again()) {
+        if are_reported(journal, by_service, service_number, spots.again()) {
             found.push(spots)?;
         }
     }

@@ -46,6 +46,7 @@ fn first_seen<'a>(journal: &'a Journal, spots: Spots<'_>) -> Option<Seen<'a>>
         (spans_named journal.now.held.entries spots.entry) 0 }
 {
     for spot in spots {
+        // Impossible in a store: a spot of no span. No clause says so.
         if let Some(seen) = seen_at(journal, spot) {
             return Some(seen);
         }
@@ -106,7 +107,7 @@ fn is_outside(journal: &Journal, spot: Spot, end_ms: i64, lookback_ms: i64) -> b
 {
     match journal.outline(spot.place) {
         Some(outline) => !may_reach(outline.times, end_ms, lookback_ms),
-        // Impossible in a store: a spot is of an entry. No clause says so.
+        // Impossible in a store: a spot of no entry. No clause says so.
         None => false,
     }
 }
@@ -121,6 +122,7 @@ fn starts_within(journal: &Journal, spot: Spot, end_ms: i64, lookback_ms: i64) -
     }
     match seen_at(journal, spot) {
         Some(seen) => is_in_window(start(seen), end_ms, lookback_ms),
+        // Impossible in a store: a spot of no span. No clause says so.
         None => false,
     }
 }

@@ -1,6 +1,6 @@
 //! Traces whose spans were collected from a store.
 
-ghost use Rattle.std.specs.Prelude.{◌≡◌, List, [], ◌∷◌, ◌++◌, OnOk, length, slice_index_or};
+ghost use Rattle.std.specs.Prelude.{◌≡◌, List, [], ◌∷◌, ◌++◌, IfOk, OnOk, length, slice_index_or};
 ghost use Rattle.trace_model.specs.TakenSpans.{Taken};
 
 use crate::trace_parts::trace_part;
@@ -31,14 +31,22 @@ impl Model for TakenTraces {
 }
 
 impl TakenTraces {
-    /// Makes an empty list.
-    pub fn new(alloc: Global) -> TakenTraces
-        ensures { result ≡ [] }
+    /// Makes an empty list with room for this number of traces, and of spans of all of them. It grows if there are
+    /// more.
+    ///
+    /// # Errors
+    ///
+    /// Out of memory, and nothing else.
+    pub fn with_capacity(
+        alloc: Global,
+        traces: usize,
+        spans: usize,
+    ) -> Result<TakenTraces, AllocError>
+        ensures { IfOk result (λ ts. ts ≡ []) }
     {
-        TakenTraces {
-            spans: Vec::new(alloc),
-            starts: Vec::new(alloc),
-        }
+        let starts = Vec::with_capacity(alloc, traces)?;
+        let spans = Vec::with_capacity(alloc, spans)?;
+        Ok(TakenTraces { spans, starts })
     }
 
     /// Returns the number of traces.

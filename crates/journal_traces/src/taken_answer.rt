@@ -1,20 +1,16 @@
-//! What a search finds among traces that were collected from a store.
+//! Traces that were collected from a store, as they are to be shown.
 
 ghost use Rattle.std.specs.Prelude.{◌≡◌, false, ℕ, Option, [], IfOk, OnOk, map, slice_index_or};
 ghost use Rattle.jaeger_model.specs.declared.batch.Process.{Process as ProcessValue};
 ghost use Rattle.trace_model.specs.Adjusting.{adjusted};
 ghost use Rattle.trace_model.specs.KeptTraces.{KeptShares};
-ghost use Rattle.trace_model.specs.Searching.{found_in, ids_of};
 ghost use Rattle.journal_traces.specs.ProcessClasses.{Leads, ShareByClass};
 ghost use Rattle.journal_traces.specs.TakenTraces.{HasProcess, HaveProcesses, ShareByNumber};
 ghost use Rattle.trace_model.specs.TakenSpans.{placed_taken};
-ghost use Rattle.journal_traces.specs.TakenSearch.{traces_taken, query_taken};
 
 use crate::process_classes::ProcessClasses;
 use crate::recurring::{Recurring, have_one_key};
 use crate::taken::TakenTraces;
-use crate::taken_search::TakenSearch;
-use jaeger_model::TraceId;
 use std::alloc::{AllocError, Global};
 use trace_model::{AnsweredTrace, KeptTrace, TakenSpan};
 
@@ -32,10 +28,13 @@ fn key_of<'a>(
         HasProcess process_of span.now → Leads process_of classes.old →
         OnOk result (Leads process_of classes.new) }
 {
+    let key = span.process_key();
     if alone {
-        return Ok(span.process_key());
+        return Ok(key);
     }
-    classes.class_of(span)
+    // For the prover: the binding lets the clauses of `class_of` be used for the result.
+    let class = classes.class_of(span.reported().process, key)?;
+    Ok(class)
 }
 
 /// Returns the trace of these spans, which are in their entries, to be shown adjusted. Spans whose processes are
@@ -95,19 +94,6 @@ fn kept_at<'a>(
     Ok(kept)
 }
 
-/// Returns the keys that are in several of the traces at the indices.
-fn recurring_at(
-    alloc: Global,
-    traces: &TakenTraces,
-    indices: &[usize],
-) -> Result<Recurring, AllocError> {
-    let mut recurring = Recurring::new(alloc);
-    for index in indices {
-        recurring.add(traces.trace(*index), *index)?;
-    }
-    Ok(recurring)
-}
-
 /// Returns the keys that are in several of the traces.
 fn recurring_in(alloc: Global, traces: &TakenTraces) -> Result<Recurring, AllocError> {
     let mut recurring = Recurring::new(alloc);
@@ -115,64 +101,6 @@ fn recurring_in(alloc: Global, traces: &TakenTraces) -> Result<Recurring, AllocE
         recurring.add(traces.trace(index), index)?;
     }
     Ok(recurring)
-}
-
-/// Returns the traces at the indices as they are to be shown.
-#[tactic(auto, using(std::proofs::lemmas::List::map_more))]
-fn all_kept(
-    alloc: Global,
-    traces: &TakenTraces,
-    indices: &[usize],
-    max_skew: u64,
-) -> Result<Vec<AnsweredTrace>, AllocError>
-    requires { ShareByNumber traces.now }
-    ensures { IfOk result (λ v. v.items ≡ map (λ i. adjusted max_skew
-        (slice_index_or (map placed_taken traces.now) i [])) indices.now) }
-{
-    let recurring = recurring_at(alloc, traces, indices)?;
-    let mut classes = ProcessClasses::of_recurring(alloc, recurring);
-    let mut kept = Vec::with_capacity(alloc, indices.len())?;
-    for index in indices {
-        kept.push(kept_at(alloc, traces, *index, max_skew, &mut classes)?)?;
-    }
-    Ok(kept)
-}
-
-/// Returns the traces that a search finds, in the order of its answer, as they are to be shown: clock skews of up to
-/// `max_skew` microseconds are adjusted. Their spans stay in the entries.
-///
-/// # Errors
-///
-/// Out of memory, and nothing else.
-pub fn find_kept(
-    alloc: Global,
-    search: &mut TakenSearch<'_, '_>,
-    max_skew: u64,
-) -> Result<Vec<AnsweredTrace>, AllocError>
-    ensures { IfOk result (λ v. v.items ≡ map (adjusted max_skew)
-        (found_in (query_taken search.old) (traces_taken search.old))) }
-{
-    let indices = find_traces::find(alloc, search)?;
-    // For the prover: the binding lets the clauses of `all_kept` be used for the result.
-    let kept = all_kept(alloc, search.traces(), &indices, max_skew)?;
-    Ok(kept)
-}
-
-/// Returns the ids of the traces that a search finds, in the order of its answer.
-///
-/// # Errors
-///
-/// Out of memory, and nothing else.
-pub fn find_kept_ids(
-    alloc: Global,
-    search: &mut TakenSearch<'_, '_>,
-) -> Result<Vec<TraceId>, AllocError>
-    ensures { IfOk result (λ v. v.items ≡
-        ids_of (found_in (query_taken search.old) (traces_taken search.old))) }
-{
-    // For the prover: the binding lets the clauses of `find_ids` be used for the result.
-    let ids = find_traces::find_ids(alloc, search)?;
-    Ok(ids)
 }
 
 /// Returns all of the traces as they are to be shown, in their order: clock skews of up to `max_skew` microseconds are

@@ -1,33 +1,41 @@
-//! A search over traces that were collected from a store.
+//! A search over candidates that were collected from a store.
 
-ghost use Rattle.std.specs.Prelude.{◌≡◌, ℕ, Option, Some, IfOk, ◌∷◌, []};
-ghost use Rattle.std.specs.List.{list_any, All};
+ghost use Rattle.std.specs.Prelude.{◌≡◌, ◌∷◌, [], ℕ, Option, Some, IfOk, map};
+ghost use Rattle.std.specs.List.{list_any};
 ghost use Rattle.jaeger_model.specs.declared.batch.Process.{Process as ProcessValue};
-ghost use Rattle.trace_model.specs.Searching.{matches, first_start, first_id};
+ghost use Rattle.trace_model.specs.Searching.{matches, found_in};
 ghost use Rattle.trace_model.specs.BorrowedSpans.{seen};
+ghost use Rattle.trace_model.specs.TakenSpans.{placed_taken};
+ghost use Rattle.find_traces.specs.FoundIndices.{trace_at};
+ghost use Rattle.journal_traces.specs.CollectedCandidates.{trace_spotted, traces_spotted, traces_picked, entries_shared};
+ghost use Rattle.journal_traces.specs.CollectedCandidates.{IsSearchingBy};
 ghost use Rattle.journal_traces.specs.ProcessClasses.{Leads};
 ghost use Rattle.journal_traces.specs.ProcessConditions.{of_service_with_tags};
-ghost use Rattle.journal_traces.specs.TakenTraces.{HasProcess, HaveProcesses, ShareByNumber};
-ghost use Rattle.trace_model.specs.TakenSpans.{placed_taken};
-ghost use Rattle.journal_traces.specs.TakenSearch.{AreJudged, IsFlagged, IsSearching, traces_taken, query_taken};
+ghost use Rattle.journal_traces.specs.TakenSearch.{AreJudged, traces_taken, query_taken};
+ghost use Rattle.journal_traces.specs.TakenTraces.{ShareByNumber};
 
+use crate::collected_candidates::{CollectedCandidates, TakenEntry};
+use crate::collected_spans::{first_id, first_start, seen_at};
 use crate::judged_entries::{JudgedEntries, JudgedProcesses};
+use crate::picked_candidates::{spots_picked, take_picked};
 use crate::process_classes::ProcessClasses;
 use crate::process_conditions::{has_tags, judge};
 use crate::taken::TakenTraces;
+use crate::taken_spot::TakenSpot;
 use find_traces::{PreparedSearch, Searched};
-use jaeger_model::{Seen, TraceId};
+use jaeger_model::{Process, Seen, TraceId};
 use span_steps::meets_span_conditions;
 use std::alloc::{AllocError, Global};
 use std::marker::Model;
-use trace_model::TakenSpan;
 
-/// A search over taken traces, after some of their entries were judged. Of the other entries it judges each process at
-/// most once, also if several have equal ones; only then is its service compared. Contracts see the search and the
-/// traces, each with its taken spans.
+/// A search over collected candidates, after some of their entries were judged. Of the other entries it judges each
+/// process at most once, also if several have equal ones; only then is its service compared. It reads the spans where
+/// they are, and makes nothing for a span. Contracts see the search, and the traces among which it searches.
 #[derive(Drop)]
 pub struct TakenSearch<'t, 'a> {
-    traces: &'t TakenTraces,
+    candidates: &'t CollectedCandidates<'t>,
+    /// The indices of the candidates that may meet the search.
+    picked: Vec<usize>,
     prepared: &'a PreparedSearch<'a>,
     judged: JudgedEntries<'a>,
     /// The other entries by their processes, so that what was judged is kept once for equal ones.
@@ -36,15 +44,16 @@ pub struct TakenSearch<'t, 'a> {
 
 impl<'t, 'a> Model for TakenSearch<'t, 'a> {
     ghost use Rattle.std.specs.Prelude.{List};
+    ghost use Rattle.jaeger_model.specs.declared.placed.Placed.{Placed};
     ghost use Rattle.trace_model.specs.declared.query.Find.{Find};
-    ghost use Rattle.trace_model.specs.TakenSpans.{Taken};
-    ghost use Rattle.journal_traces.specs.TakenSearch.{IsSearchingBy};
+    ghost use Rattle.journal_traces.specs.CollectedCandidates.{traces_picked, IsSearchingBy};
 
-    ghost Value = { Find × List (List Taken) };
+    ghost Value = { Find × List (List Placed) };
 
-    ghost view = { λ s. (s.prepared.now, s.traces.now) };
+    ghost view = { λ s. (s.prepared.now, traces_picked s.candidates.now s.picked.items) };
 
-    ghost invariant = { λ s. IsSearchingBy s.prepared.now s.traces.now s.judged s.classes };
+    ghost invariant = { λ s.
+        IsSearchingBy s.prepared.now s.candidates.now.entries s.judged s.classes };
 }
 
 /// Whether a span is of the service of the search and has its tags. A process that was judged under the number is its
@@ -74,84 +83,76 @@ fn has_judged_tags<'a>(
     Ok(has_tags)
 }
 
-/// Returns the number under which the process of a span is judged: that of its entry if it was judged ahead, else that
-/// of the first entry with an equal process.
+/// Returns the number under which the process of the entry with a number is judged: the entry's own if it was judged
+/// ahead, else that of the first entry with an equal process.
 fn number_judged<'t>(
     processes: &JudgedProcesses<'_>,
     classes: &mut ProcessClasses<'t>,
-    span: &'t TakenSpan,
+    number: u32,
+    process: &'t Process,
 ) -> Result<usize, AllocError>
     ensures same { (process_of : ℕ → Option ProcessValue) →
-        HasProcess process_of span.now → Leads process_of classes.old →
-        IfOk result (λ n. process_of n ≡ process_of span.now.number) }
+        process_of number ≡ Some process.now → Leads process_of classes.old →
+        IfOk result (λ n. process_of n ≡ process_of number) }
     ensures leads { (process_of : ℕ → Option ProcessValue) →
-        HasProcess process_of span.now → Leads process_of classes.old →
+        process_of number ≡ Some process.now → Leads process_of classes.old →
         Leads process_of classes.new }
 {
-    let number = span.process_key() as usize;
-    if processes.contains_key(&number) {
-        return Ok(number);
+    let own = number as usize;
+    if processes.contains_key(&own) {
+        return Ok(own);
     }
-    Ok(classes.class_of(span)? as usize)
+    Ok(classes.class_of(process, number)? as usize)
 }
 
-/// Whether a span meets every condition of the search. Its process is judged unless it was before, and only if the span
-/// has the requested operation, duration and start.
+/// Whether the span at a spot meets every condition of the search. Its process is judged unless it was before, and only
+/// if the span has the requested operation, duration and start. The span isn't read if its entry has none that may meet
+/// the search.
 fn is_match<'t, 'a>(
     alloc: Global,
     prepared: &'a PreparedSearch<'a>,
     judged: &mut JudgedEntries<'a>,
     classes: &mut ProcessClasses<'t>,
-    span: &'t TakenSpan,
+    entries: &'t [TakenEntry],
+    spot: TakenSpot,
 ) -> Result<bool, AllocError>
-    ensures found { (process_of : ℕ → Option ProcessValue) →
-        AreJudged prepared.now process_of judged.old.processes →
-        Leads process_of classes.old → HasProcess process_of span.now →
-        IsFlagged prepared.now judged.old.flags.items span.now →
-        IfOk result (λ b. b ≡ list_any (matches prepared.now) (placed_taken (span.now ∷ []))) }
-    ensures flags { judged.new.flags ≡ judged.old.flags }
-    ensures judged { (process_of : ℕ → Option ProcessValue) →
-        AreJudged prepared.now process_of judged.old.processes →
-        Leads process_of classes.old → HasProcess process_of span.now →
-        AreJudged prepared.now process_of judged.new.processes }
-    ensures leads { (process_of : ℕ → Option ProcessValue) →
-        HasProcess process_of span.now → Leads process_of classes.old →
-        Leads process_of classes.new }
+    requires { IsSearchingBy prepared.now (entries_shared entries.now) judged.old classes.old }
+    ensures found { IfOk result (λ b. b ≡ list_any (matches prepared.now)
+        (placed_taken (trace_spotted (entries_shared entries.now) (spot ∷ [])))) }
+    ensures searching { IsSearchingBy prepared.now (entries_shared entries.now)
+        judged.new classes.new }
 {
-    let at = span.reported();
-    if !judged.may_meet(span.process_key() as usize)
-        || !meets_span_conditions(at, prepared.query())
-    {
+    if !judged.may_meet(spot.number as usize) {
         return Ok(false);
     }
-    let number = number_judged(&judged.processes, classes, span)?;
+    // Impossible in a store: a spot of no span. No clause says so.
+    let Some(at) = seen_at(entries, spot) else {
+        return Ok(false);
+    };
+    if !meets_span_conditions(at, prepared.query()) {
+        return Ok(false);
+    }
+    let number = number_judged(&judged.processes, classes, spot.number, at.process)?;
     has_judged_tags(alloc, prepared, &mut judged.processes, number, at)
 }
 
-/// Whether one of the spans meets every condition of the search. No span is judged after that one.
+/// Whether one of the spans at the spots meets every condition of the search. No span is judged after that one.
 fn is_found<'t, 'a>(
     alloc: Global,
     prepared: &'a PreparedSearch<'a>,
     judged: &mut JudgedEntries<'a>,
     classes: &mut ProcessClasses<'t>,
-    spans: &'t [TakenSpan],
+    entries: &'t [TakenEntry],
+    spots: &[TakenSpot],
 ) -> Result<bool, AllocError>
-    ensures found { (process_of : ℕ → Option ProcessValue) →
-        AreJudged prepared.now process_of judged.old.processes →
-        Leads process_of classes.old → HaveProcesses process_of spans.now →
-        All (IsFlagged prepared.now judged.old.flags.items) spans.now →
-        IfOk result (λ b. b ≡ list_any (matches prepared.now) (placed_taken spans.now)) }
-    ensures flags { judged.new.flags ≡ judged.old.flags }
-    ensures judged { (process_of : ℕ → Option ProcessValue) →
-        AreJudged prepared.now process_of judged.old.processes →
-        Leads process_of classes.old → HaveProcesses process_of spans.now →
-        AreJudged prepared.now process_of judged.new.processes }
-    ensures leads { (process_of : ℕ → Option ProcessValue) →
-        HaveProcesses process_of spans.now → Leads process_of classes.old →
-        Leads process_of classes.new }
+    requires { IsSearchingBy prepared.now (entries_shared entries.now) judged.old classes.old }
+    ensures found { IfOk result (λ b. b ≡ list_any (matches prepared.now)
+        (placed_taken (trace_spotted (entries_shared entries.now) spots.now))) }
+    ensures searching { IsSearchingBy prepared.now (entries_shared entries.now)
+        judged.new classes.new }
 {
-    for span in spans {
-        let is_match = is_match(alloc, prepared, judged, classes, span)?;
+    for spot in spots {
+        let is_match = is_match(alloc, prepared, judged, classes, entries, *spot)?;
         if is_match {
             return Ok(true);
         }
@@ -160,30 +161,42 @@ fn is_found<'t, 'a>(
 }
 
 impl<'t, 'a> TakenSearch<'t, 'a> {
-    /// Makes a search over the traces, of whose entries some were judged.
+    /// Makes a search over candidates. Judges some of their entries, and picks the traces that may meet it: it finds
+    /// the same among these as among all.
+    ///
+    /// # Errors
+    ///
+    /// Out of memory, and nothing else.
     pub fn new(
-        traces: &'t TakenTraces,
+        alloc: Global,
+        candidates: &'t CollectedCandidates<'t>,
         prepared: &'a PreparedSearch<'a>,
-        judged: JudgedEntries<'a>,
-    ) -> Self
-        requires { IsSearching prepared.now traces.now judged }
-        ensures { result ≡ (prepared.now, traces.now) }
+    ) -> Result<Self, AllocError>
+        requires { prepared.now ≡ candidates.now.query }
+        ensures query { IfOk result (λ s. query_taken s ≡ prepared.now) }
+        ensures found { IfOk result (λ s. found_in prepared.now (traces_taken s) ≡
+            found_in prepared.now (traces_spotted candidates.now)) }
     {
-        let alloc = *judged.flags.allocator();
-        TakenSearch {
-            traces,
+        let judged = candidates.judge_entries(alloc, prepared)?;
+        let picked = candidates.indices_that_may_meet(alloc, prepared, &judged)?;
+        Ok(TakenSearch {
+            candidates,
+            picked,
             prepared,
             judged,
             classes: ProcessClasses::of_all(alloc),
-        }
+        })
     }
 
-    /// Returns the traces.
-    pub(crate) fn traces(&self) -> &'t TakenTraces
-        ensures traces { result.now ≡ self.now.1 }
-        ensures shared { ShareByNumber result.now }
+    /// Takes the traces at the indices.
+    pub(crate) fn take(&self, alloc: Global, indices: &[usize]) -> Result<TakenTraces, AllocError>
+        ensures spans { IfOk result (λ ts. map placed_taken ts ≡
+            map (trace_at (traces_taken self.now)) indices.now) }
+        ensures shared { IfOk result ShareByNumber }
     {
-        self.traces
+        // For the prover: the binding lets the clauses of `take_picked` be used for the result.
+        let traces = take_picked(alloc, self.candidates, &self.picked, indices)?;
+        Ok(traces)
     }
 }
 
@@ -197,31 +210,29 @@ impl<'t, 'a> Searched for TakenSearch<'t, 'a> {
     }
 
     fn count(&self) -> usize {
-        self.traces.count()
+        self.picked.len()
     }
 
     fn start_at(&self, index: usize) -> i64 {
-        match self.traces.trace(index).first() {
-            Some(span) => span.reported().span.start,
-            None => 0,
-        }
+        let spots = spots_picked(self.candidates, &self.picked, index);
+        first_start(self.candidates.entries(), spots)
     }
 
     fn id_at(&self, index: usize) -> Option<TraceId> {
-        match self.traces.trace(index).first() {
-            Some(span) => Some(span.reported().span.trace),
-            None => None,
-        }
+        let spots = spots_picked(self.candidates, &self.picked, index);
+        first_id(self.candidates.entries(), spots)
     }
 
     fn is_found_at(&mut self, alloc: Global, index: usize) -> Result<bool, AllocError> {
-        let traces = self.traces;
+        let candidates = self.candidates;
+        let spots = spots_picked(candidates, &self.picked, index);
         is_found(
             alloc,
             self.prepared,
             &mut self.judged,
             &mut self.classes,
-            traces.trace(index),
+            candidates.entries(),
+            spots,
         )
     }
 }

@@ -21,6 +21,7 @@ pub(crate) fn taken_at(journal: &Journal, spot: Spot) -> Result<Option<TakenSpan
     ensures number { IfOk result (λ t. IfSome t
         (HasProcess (process_at journal.now.held.entries))) }
 {
+    // Impossible in a store: a spot of no entry. No clause says so.
     let Some(entry) = journal.entry(spot.place) else {
         return Ok(None);
     };
@@ -47,6 +48,7 @@ pub fn take_trace(
 {
     traces.begin()?;
     for spot in spots {
+        // Impossible in a store: a spot of no span. No clause says so.
         if let Some(span) = taken_at(journal, spot)? {
             traces.push(span)?;
         }

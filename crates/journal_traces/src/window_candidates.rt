@@ -9,7 +9,7 @@ use std::alloc::{AllocError, Global};
 use trace_assembly::{Assembly, Spots};
 use trace_ring::{FirstStarts, Window};
 
-/// Returns the spots of each trace of the ring whose range reaches into the window, those of the one opened first
+/// Returns the spots of each trace of the ring whose range overlaps the window, those of the one opened first
 /// at the front. A test that all other traces fail finds the same among these as among all.
 ///
 /// # Errors

@@ -9,49 +9,50 @@ ghost use Rattle.trace_assembly.specs.LocatedSpans.{span_at};
 ghost use Rattle.trace_assembly.specs.AssembledRows.{spots_of};
 ghost use Rattle.service_index.specs.ServicePlaces.{AreServiceNumbers};
 ghost use Rattle.journal_traces.specs.TraceRanges.{AreRanged};
-ghost use Rattle.journal_traces.specs.TagCandidates.{AddsSpan};
+ghost use Rattle.journal_traces.specs.CollectedCandidates.{AddsSpan};
 ghost use Rattle.journal_traces.specs.SpansAtSpots.{spans_named, trace_named, AreNumberedByService};
 ghost use Rattle.trace_model.specs.TakenSpans.{placed_taken};
 ghost use Rattle.journal_traces.specs.WindowTraces.{entries_in, entries_seen, traces_reported, AreWindowSpots};
 
 use crate::entry_numbers::EntryNumbers;
 use crate::spotted_spans::reaches_window;
+use crate::store_view::StoreView;
 use crate::taken_spot::TakenSpot;
 use crate::window::window_of;
 use crate::window_traces::{WindowSpots, WindowTraces};
-use arrival_journal::Journal;
-use service_index::ServicePlaces;
 use std::alloc::{AllocError, Global};
 use std::sync::Arc;
-use trace_assembly::{Assembly, Spot, Spots};
+use trace_assembly::{Spot, Spots};
 use trace_model::Entry;
-use trace_ring::FirstStarts;
 
 /// Returns the number of the entry at a place, which is collected unless it was before, with the number of its
 /// service.
 fn number_of(
     taken: &mut WindowSpots,
     numbers: &mut EntryNumbers,
-    journal: &Journal,
-    reported: &ServicePlaces,
+    store: StoreView<'_>,
     entry: &Arc<Entry>,
     place: u64,
 ) -> Result<u32, AllocError>
-    requires few { length journal.now.held.entries < 2 ^ 32 }
-    requires service_numbers { AreServiceNumbers journal.now.held.entries
-        reported.now.service_numbers }
-    requires there { Some (arc_value entry.now) ≡ entry_at journal.now.held.entries place }
-    requires taken { AreWindowSpots journal.now.held.entries taken.old numbers.old }
+    requires few { length store.journal.now.held.entries < 2 ^ 32 }
+    requires service_numbers { AreServiceNumbers store.journal.now.held.entries
+        store.by_service.now.service_numbers }
+    requires there { Some (arc_value entry.now) ≡ entry_at store.journal.now.held.entries place }
+    requires taken { AreWindowSpots store.journal.now.held.entries taken.old numbers.old }
     ensures number { IfOk result (λ n.
         slice_get (entries_in (entries_seen taken.new.entries.items)) n ≡
         Some (arc_value entry.now)) }
-    ensures taken { OnOk result (AreWindowSpots journal.now.held.entries taken.new numbers.new) }
+    ensures taken { OnOk result
+        (AreWindowSpots store.entry.journal.now.held.entries taken.new numbers.new) }
     ensures traces { OnOk result (traces_reported taken.new ≡ traces_reported taken.old) }
 {
     if let Some(number) = numbers.at(place) {
         return Ok(number);
     }
-    taken.add_entry(entry, reported.service_number_at((place - 1) as u32))?;
+    taken.add_entry(
+        entry,
+        store.by_service.service_number_at((place - 1) as u32),
+    )?;
     Ok(numbers.add(place))
 }
 
@@ -81,20 +82,21 @@ fn begin(taken: &mut WindowSpots) -> Result<(), AllocError>
 fn take_spot(
     taken: &mut WindowSpots,
     numbers: &mut EntryNumbers,
-    journal: &Journal,
-    reported: &ServicePlaces,
+    store: StoreView<'_>,
     spot: Spot,
 ) -> Result<(), AllocError>
-    requires few { length journal.now.held.entries < 2 ^ 32 }
-    requires service_numbers { AreServiceNumbers journal.now.held.entries
-        reported.now.service_numbers }
-    requires taken { AreWindowSpots journal.now.held.entries taken.old numbers.old }
-    ensures taken { OnOk result (AreWindowSpots journal.now.held.entries taken.new numbers.new) }
-    ensures traces { OnOk result (AddsSpan (span_at journal.now.held.entries spot)
+    requires few { length store.journal.now.held.entries < 2 ^ 32 }
+    requires service_numbers { AreServiceNumbers store.journal.now.held.entries
+        store.by_service.now.service_numbers }
+    requires taken { AreWindowSpots store.journal.now.held.entries taken.old numbers.old }
+    ensures taken { OnOk result
+        (AreWindowSpots store.entry.journal.now.held.entries taken.new numbers.new) }
+    ensures traces { OnOk result (AddsSpan (span_at store.entry.journal.now.held.entries spot)
         (traces_reported taken.old) (traces_reported taken.new)) }
 {
-    if let Some(entry) = journal.entry(spot.place) {
-        let number = number_of(taken, numbers, journal, reported, entry, spot.place)?;
+    // Impossible in a store: a spot of no entry. No clause says so.
+    if let Some(entry) = store.journal.entry(spot.place) {
+        let number = number_of(taken, numbers, store, entry, spot.place)?;
         let index = spot.index;
         push_spot(taken, TakenSpot { number, index })?;
     }
@@ -105,22 +107,22 @@ fn take_spot(
 fn take_spots(
     taken: &mut WindowSpots,
     numbers: &mut EntryNumbers,
-    journal: &Journal,
-    reported: &ServicePlaces,
+    store: StoreView<'_>,
     spots: Spots<'_>,
 ) -> Result<(), AllocError>
-    requires few { length journal.now.held.entries < 2 ^ 32 }
-    requires service_numbers { AreServiceNumbers journal.now.held.entries
-        reported.now.service_numbers }
-    requires taken { AreWindowSpots journal.now.held.entries taken.old numbers.old }
-    ensures taken { OnOk result (AreWindowSpots journal.now.held.entries taken.new numbers.new) }
+    requires few { length store.journal.now.held.entries < 2 ^ 32 }
+    requires service_numbers { AreServiceNumbers store.journal.now.held.entries
+        store.by_service.now.service_numbers }
+    requires taken { AreWindowSpots store.journal.now.held.entries taken.old numbers.old }
+    ensures taken { OnOk result
+        (AreWindowSpots store.entry.journal.now.held.entries taken.new numbers.new) }
     ensures spans { OnOk result (map placed_taken (traces_reported taken.new) ≡
         map placed_taken (traces_reported taken.old)
-        ++ spans_named journal.now.held.entries spots.entry ∷ []) }
+        ++ spans_named store.entry.journal.now.held.entries spots.entry ∷ []) }
 {
     begin(taken)?;
     for spot in spots {
-        take_spot(taken, numbers, journal, reported, spot)?;
+        take_spot(taken, numbers, store, spot)?;
     }
     Ok(())
 }
@@ -135,34 +137,32 @@ fn take_spots(
 /// Out of memory, and nothing else.
 pub fn take_within(
     alloc: Global,
-    journal: &Journal,
-    assembly: &Assembly,
-    starts: &FirstStarts,
-    reported: &ServicePlaces,
+    store: StoreView<'_>,
     end_ms: i64,
     lookback_ms: i64,
 ) -> Result<WindowTraces, AllocError>
-    requires few { length journal.now.held.entries < 2 ^ 32 }
-    requires numbers { AreServiceNumbers journal.now.held.entries reported.now.service_numbers }
-    requires as_many { length starts.now.starts ≡ length assembly.now.newest.ids }
-    requires ranged { AreRanged starts.now assembly.now.newest.ids
-        (trace_named journal.now.held.entries (spots_of assembly.now)) }
+    requires few { length store.journal.now.held.entries < 2 ^ 32 }
+    requires numbers { AreServiceNumbers store.journal.now.held.entries
+        store.by_service.now.service_numbers }
+    requires as_many { length store.starts.now.starts ≡ length store.assembly.now.newest.ids }
+    requires ranged { AreRanged store.starts.now store.assembly.now.newest.ids
+        (trace_named store.journal.now.held.entries (spots_of store.assembly.now)) }
     ensures within { IfOk result (λ traces. map placed_taken traces ≡
         filter (list_any (in_window end_ms lookback_ms))
-        (map (trace_named journal.now.held.entries (spots_of assembly.now))
-        assembly.now.newest.ids)) }
-    ensures numbered { IfOk result (AreNumberedByService journal.now.held.entries) }
+        (map (trace_named store.entry.journal.now.held.entries (spots_of store.entry.assembly.now))
+        store.entry.assembly.now.newest.ids)) }
+    ensures numbered { IfOk result (AreNumberedByService store.entry.journal.now.held.entries) }
 {
     let window = window_of(end_ms, lookback_ms);
     let mut taken = WindowSpots::new(alloc);
-    let mut numbers = EntryNumbers::new(alloc, journal.entries().len())?;
-    let mut index = starts.next_within(0, window);
-    while index < starts.len() {
-        let spots = assembly.spots_at(index);
-        if reaches_window(journal, spots.again(), end_ms, lookback_ms) {
-            take_spots(&mut taken, &mut numbers, journal, reported, spots)?;
+    let mut numbers = EntryNumbers::new(alloc, store.journal.entries().len())?;
+    let mut index = store.starts.next_within(0, window);
+    while index < store.starts.len() {
+        let spots = store.assembly.spots_at(index);
+        if reaches_window(store.journal, spots.again(), end_ms, lookback_ms) {
+            take_spots(&mut taken, &mut numbers, store, spots)?;
         }
-        index = starts.next_within(index + 1, window);
+        index = store.starts.next_within(index + 1, window);
     }
     Ok(WindowTraces::new(taken))
 }

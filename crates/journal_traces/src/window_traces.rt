@@ -17,7 +17,7 @@ use trace_model::Entry;
 #[derive(Drop)]
 pub(crate) struct NumberedEntry {
     pub(crate) entry: Arc<Entry>,
-    pub(crate) service: u32,
+    pub(crate) service_number: u32,
 }
 
 /// The spots of the spans of some traces, and their entries.
@@ -71,14 +71,21 @@ impl WindowSpots {
     /// # Errors
     ///
     /// Out of memory, and nothing else.
-    pub(crate) fn add_entry(&mut self, entry: &Arc<Entry>, service: u32) -> Result<(), AllocError>
+    pub(crate) fn add_entry(
+        &mut self,
+        entry: &Arc<Entry>,
+        service_number: u32,
+    ) -> Result<(), AllocError>
         ensures entries { OnOk result (entries_seen self.new.entries.items ≡
-            entries_seen self.old.entries.items ++ (arc_value entry.now, service) ∷ []) }
+            entries_seen self.old.entries.items ++ (arc_value entry.now, service_number) ∷ []) }
         ensures spots { self.new.spots ≡ self.old.spots }
         ensures starts { self.new.starts ≡ self.old.starts }
     {
         let entry = Arc::try_clone(entry)?;
-        self.entries.push(NumberedEntry { entry, service })?;
+        self.entries.push(NumberedEntry {
+            entry,
+            service_number,
+        })?;
         Ok(())
     }
 }
@@ -96,8 +103,8 @@ fn spots_of(taken: &WindowSpots, index: usize) -> &[TakenSpot]
 fn span_at<'a>(entries: &'a [NumberedEntry], spot: TakenSpot) -> Option<NumberedSpan<'a>>
     ensures { result ≡ taken_reported (entries_seen entries.now) spot }
 {
-    let reported = entries.get(spot.number as usize)?;
-    NumberedSpan::new(&reported.entry, spot.index, reported.service)
+    let numbered = entries.get(spot.number as usize)?;
+    NumberedSpan::new(&numbered.entry, spot.index, numbered.service_number)
 }
 
 /// Returns the spans at these spots, in their order.
@@ -110,6 +117,7 @@ fn spans_at<'a>(
 {
     let mut spans = Vec::with_capacity(alloc, spots.len())?;
     for spot in spots {
+        // Impossible in a store: a spot of no span. No clause says so.
         if let Some(span) = span_at(entries, *spot) {
             spans.push(span)?;
         }

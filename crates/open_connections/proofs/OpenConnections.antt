@@ -5,7 +5,7 @@ use Rattle.slab.specs.Slab.{Slab, get, Updates}
 use Rattle.std.specs.Io.KnownBytes.{append_known}
 use Rattle.http_session.specs.ResponseOrder.{ConnectionModel, connection_moment, IsTwoWay}
 use Rattle.http_session.specs.Sessions.{Store}
-use Rattle.http_session.specs.SessionRuns.{EndsServed, FailsServed}
+use Rattle.http_session.specs.SessionRuns.{EndsOnConnectionInHistory, FailsOnConnectionInHistory}
 use Rattle.trace_model.specs.StoreKnowledge.{ForgetsNothing}
 use Rattle.http_session.specs.ResumableSessions.{AsksOnce, CanContinue, session_moment, RunsPiece, UnderwayAmong, OutlastsWrites, IfOpen, no_requests_yet}
 use Rattle.http_session.specs.ResumableSessions.{piece_of, shared}
@@ -17,12 +17,13 @@ use Rattle.http_session.specs.declared.whole_session.SessionError.{SessionError}
 use Rattle.http_session.proofs.SessionPieces.{Promises, others_go_on, others_forget_nothing}
 use Rattle.open_connections.specs.OpenConnections.{IsOpen, SessionEnded, HasFailed, HasCome, HasBroken, Delivers, AllOpen, IsRest, stays_open}
 use Rattle.open_connections.specs.BufferedConnections.{buffered_model, bytes_waiting}
-use Rattle.open_connections.specs.ReadEffects.{LeavesContents}
-use Rattle.http_requests.specs.AwaitedReads.{Gives}
+use Rattle.open_connections.specs.ReadEffects.{KeepsContents}
+use Rattle.session_devices.specs.ByteTransfers.{ByteTransfer}
 use Rattle.open_connections.specs.declared.open.OpenConnection.{OpenConnection}
 use Rattle.open_connections.specs.declared.buffered.BufferedConnection.{BufferedConnection}
 use Rattle.open_connections.specs.declared.open.ConnectionProgress.{ConnectionProgress}
-use Rattle.open_connections.specs.declared.open.ConnectionProgress.TheVariants.{Answered, HoldsMore, Paused, Writing, Ended, Closing, Failed, Undelivered}
+use Rattle.open_connections.specs.declared.open.ConnectionProgress.TheVariants.{Answered, HoldsBytes, Paused, Writing}
+use Rattle.open_connections.specs.declared.open.ConnectionProgress.TheVariants.{ClosedByClient, ClosedByResponse, Failed, Undelivered}
 
 module _ {S C : Type 0} (store : Store S) (promises : Promises store) (model : ConnectionModel (BufferedConnection C)) where
   -- while another one is served
@@ -79,22 +80,22 @@ module _ {S C : Type 0} (store : Store S) (model : ConnectionModel (BufferedConn
 
   pub open_if_it_stays : (it : OpenConnection C) (p : ConnectionProgress) → stays_open p ≡ true → HasCome store model now it p → IsOpen store model now it
   open_if_it_stays it Answered stays is = is
-  open_if_it_stays it HoldsMore stays is = is
+  open_if_it_stays it HoldsBytes stays is = is
   open_if_it_stays it Paused stays is = is
   open_if_it_stays it Writing stays is = is
-  open_if_it_stays it Ended stays is = absurd (cc stays)
-  open_if_it_stays it Closing stays is = absurd (cc stays)
+  open_if_it_stays it ClosedByClient stays is = absurd (cc stays)
+  open_if_it_stays it ClosedByResponse stays is = absurd (cc stays)
   open_if_it_stays it Failed stays is = absurd (cc stays)
   open_if_it_stays it Undelivered stays is = absurd (cc stays)
 
   -- it has come to what its turn says, if that says that it stays open
   pub come_open : (it : OpenConnection C) (p : ConnectionProgress) → stays_open p ≡ true → IsOpen store model now it → HasCome store model now it p
   come_open it Answered stays is = is
-  come_open it HoldsMore stays is = is
+  come_open it HoldsBytes stays is = is
   come_open it Paused stays is = is
   come_open it Writing stays is = is
-  come_open it Ended stays is = absurd (cc stays)
-  come_open it Closing stays is = absurd (cc stays)
+  come_open it ClosedByClient stays is = absurd (cc stays)
+  come_open it ClosedByResponse stays is = absurd (cc stays)
   come_open it Failed stays is = absurd (cc stays)
   come_open it Undelivered stays is = absurd (cc stays)
 
@@ -134,8 +135,8 @@ module _ {S C : Type 0} (store : Store S) (model : ConnectionModel (BufferedConn
 -- ---- what waits is written
 
 -- reads leave what was handed over, and writes what is still to be read
-pub two_way_box : {C : Type 0} (remaining : C → Option (List ℕ)) (gives : Gives C) (failed : C → Bool) (contents : C → Option (List ℕ))
-    → LeavesContents C gives contents → IsTwoWay (buffered_model remaining gives failed contents)
+pub two_way_box : {C : Type 0} (remaining : C → Option (List ℕ)) (gives : ByteTransfer C) (failed : C → Bool) (contents : C → Option (List ℕ))
+    → KeepsContents C gives contents → IsTwoWay (buffered_model remaining gives failed contents)
 two_way_box remaining gives failed contents leaves = record {
   reads_leave = λ s t bytes given. (
     ap (λ x. append_known x (bytes_waiting t.waiting)) (leaves s.connection t.connection bytes given.0)
@@ -145,8 +146,9 @@ two_way_box remaining gives failed contents leaves = record {
   writes_leave = λ s t bytes taken. (taken.1, taken.2);
 }
 
-module _ {S C : Type 0} (store : Store S) (now : S) (remaining : C → Option (List ℕ)) (gives : Gives C) (failed : C → Bool) (contents : C → Option (List ℕ))
-    (lasts : OutlastsWrites store (buffered_model remaining gives failed contents)) (old new : OpenConnection C) (p : ConnectionProgress)
+module _ {S C : Type 0} (store : Store S) (now : S) (remaining : C → Option (List ℕ)) (gives : ByteTransfer C) (failed : C → Bool)
+    (contents : C → Option (List ℕ)) (lasts : OutlastsWrites store (buffered_model remaining gives failed contents)) (old new : OpenConnection C)
+    (p : ConnectionProgress)
     (is : IsOpen store (buffered_model remaining gives failed contents) now old)
     (delivers : Delivers remaining failed contents old new p) where
   abbrev model : ConnectionModel (BufferedConnection C)
@@ -209,7 +211,8 @@ module _ {S C : Type 0} (store : Store S) (model : ConnectionModel (BufferedConn
         last = came.0;
         ended = ended;
         served = subst
-            (λ (b : BufferedConnection C). EndsServed (shared store) model (connection_moment b is.then) (connection_moment new.connection came.0) ended)
+            (λ (b : BufferedConnection C). EndsOnConnectionInHistory (shared store) model (connection_moment b is.then)
+            (connection_moment new.connection came.0) ended)
             (sym began) came.1;
         keeps = came.2;
       }
@@ -223,7 +226,8 @@ module _ {S C : Type 0} (store : Store S) (model : ConnectionModel (BufferedConn
         last = came.0;
         error = error;
         served = subst
-            (λ (b : BufferedConnection C). FailsServed (shared store) model (connection_moment b is.then) (connection_moment new.connection came.0) error)
+            (λ (b : BufferedConnection C). FailsOnConnectionInHistory (shared store) model (connection_moment b is.then)
+            (connection_moment new.connection came.0) error)
             (sym began) came.1;
         keeps = came.2;
       }

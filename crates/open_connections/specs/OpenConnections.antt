@@ -6,7 +6,7 @@ use Rattle.slab.specs.Slab.{Slab, get}
 use Rattle.trace_model.specs.StoreKnowledge.{ForgetsNothing}
 use Rattle.http_session.specs.ResponseOrder.{ConnectionModel, connection_moment}
 use Rattle.http_session.specs.Sessions.{Store}
-use Rattle.http_session.specs.SessionRuns.{EndsServed, FailsServed}
+use Rattle.http_session.specs.SessionRuns.{EndsOnConnectionInHistory, FailsOnConnectionInHistory}
 use Rattle.http_session.specs.ResumableSessions.{CanContinue, session_moment, UnderwayAmong, shared}
 use Rattle.http_session.specs.declared.whole_session.Ended.{Ended as EndedSession}
 use Rattle.http_session.specs.declared.whole_session.SessionError.{SessionError}
@@ -15,9 +15,10 @@ use Rattle.open_connections.specs.declared.open.OpenConnection.{OpenConnection}
 use Rattle.open_connections.specs.declared.buffered.BufferedConnection.{BufferedConnection}
 use Rattle.open_connections.specs.declared.open.ConnectionProgress.{ConnectionProgress}
 use Rattle.open_connections.specs.declared.set.ConnectionTurn.{ConnectionTurn}
-use Rattle.open_connections.specs.declared.set.ConnectionTurn.TheVariants.{Absent, Open, Left}
+use Rattle.open_connections.specs.declared.set.ConnectionTurn.TheVariants.{Absent, Open, Removed}
 use Rattle.open_connections.specs.declared.socket.Socket.{Socket}
-use Rattle.open_connections.specs.declared.open.ConnectionProgress.TheVariants.{Answered, HoldsMore, Paused, Writing, Ended, Closing, Failed, Undelivered}
+use Rattle.open_connections.specs.declared.open.ConnectionProgress.TheVariants.{Answered, HoldsBytes, Paused, Writing}
+use Rattle.open_connections.specs.declared.open.ConnectionProgress.TheVariants.{ClosedByClient, ClosedByResponse, Failed, Undelivered}
 
 -- The connection can continue: its session is underway from the start of the connection and the state of the store
 -- then, and the connection hasn't failed.
@@ -33,7 +34,7 @@ pub record SessionEnded {S C : Type 0} (store : Store S) (model : ConnectionMode
   pub then : S
   pub last : S
   pub ended : EndedSession
-  pub served : EndsServed (shared store) model (connection_moment it.began.value then) (connection_moment it.connection last) ended
+  pub served : EndsOnConnectionInHistory (shared store) model (connection_moment it.began.value then) (connection_moment it.connection last) ended
   pub keeps : ForgetsNothing store.limits store.knows last now
 
 -- its session has failed, as one that began with the connection
@@ -41,7 +42,7 @@ pub record HasFailed {S C : Type 0} (store : Store S) (model : ConnectionModel (
   pub then : S
   pub last : S
   pub error : SessionError
-  pub served : FailsServed (shared store) model (connection_moment it.began.value then) (connection_moment it.connection last) error
+  pub served : FailsOnConnectionInHistory (shared store) model (connection_moment it.began.value then) (connection_moment it.connection last) error
   pub keeps : ForgetsNothing store.limits store.knows last now
 
 -- its session is underway, and the connection failed before the client took the last response
@@ -53,21 +54,21 @@ pub record HasBroken {S C : Type 0} (store : Store S) (model : ConnectionModel (
 -- what became of a connection in one more turn
 abbrev pub HasCome : {S C : Type 0} → Store S → ConnectionModel (BufferedConnection C) → S → OpenConnection C → ConnectionProgress → Type 0
 HasCome store model now it Answered = IsOpen store model now it
-HasCome store model now it HoldsMore = IsOpen store model now it
+HasCome store model now it HoldsBytes = IsOpen store model now it
 HasCome store model now it Paused = IsOpen store model now it
 HasCome store model now it Writing = IsOpen store model now it
-HasCome store model now it Ended = SessionEnded store model now it
-HasCome store model now it Closing = SessionEnded store model now it
+HasCome store model now it ClosedByClient = SessionEnded store model now it
+HasCome store model now it ClosedByResponse = SessionEnded store model now it
 HasCome store model now it Failed = HasFailed store model now it
 HasCome store model now it Undelivered = HasBroken store model now it
 
 abbrev pub stays_open : ConnectionProgress → Bool
 stays_open Answered = true
-stays_open HoldsMore = true
+stays_open HoldsBytes = true
 stays_open Paused = true
 stays_open Writing = true
-stays_open Ended = false
-stays_open Closing = false
+stays_open ClosedByClient = false
+stays_open ClosedByResponse = false
 stays_open Failed = false
 stays_open Undelivered = false
 
@@ -75,9 +76,9 @@ stays_open Undelivered = false
 abbrev pub AllOpen : {S C : Type 0} → Store S → ConnectionModel (BufferedConnection C) → S → Slab (OpenConnection C) → Type 0
 AllOpen {C = C} store model now set = (key : ℕ) (it : OpenConnection C) → get set key ≡ Some it → IsOpen store model now it
 
--- The connection left the set with what waits: the session that began with the connection under the key ended or failed,
--- or the client didn't take its last response.
-pub record HasLeft {S C : Type 0} (store : Store S) (model : ConnectionModel (BufferedConnection C)) (now : S) (before : Option (OpenConnection C))
+-- The connection was removed from the set with what waits: the session that began with the connection under the key
+-- ended or failed, or the client didn't take its last response.
+pub record WasRemoved {S C : Type 0} (store : Store S) (model : ConnectionModel (BufferedConnection C)) (now : S) (before : Option (OpenConnection C))
     (progress : ConnectionProgress) (box : BufferedConnection C) : Type 0 where
   pub it : OpenConnection C
   pub box_is : it.connection ≡ box
@@ -89,7 +90,7 @@ pub record HasLeft {S C : Type 0} (store : Store S) (model : ConnectionModel (Bu
 abbrev pub TurnsTo : {S C : Type 0} → Store S → ConnectionModel (BufferedConnection C) → S → Slab (OpenConnection C) → ℕ → ConnectionTurn C → Type 0
 TurnsTo store model now set key Absent = get set key ≡ None
 TurnsTo store model now set key (Open progress) = stays_open progress ≡ true
-TurnsTo store model now set key (Left progress box) = HasLeft store model now (get set key) progress box
+TurnsTo store model now set key (Removed progress box) = WasRemoved store model now (get set key) progress box
 
 -- the set is empty
 abbrev pub IsEmpty : {C : Type 0} → Slab (OpenConnection C) → Type 0

@@ -8,7 +8,7 @@ use crate::nonblocking::TryConnection;
 use trace_model::Backend;
 
 /// A batch that is refused by `JournalFull`, `Stale` or `Conflict` is refused by a list, and the store still knows by
-/// which one later: while the connection that sent the batch is open, and after it has left the set
+/// which one later: while the connection that sent the batch is open, and after it was removed from the set
 /// ([`ConnectionSet::take_turn`](crate::ConnectionSet::take_turn): `turn`), whatever other connections do.
 pub fn refusals_stay_known<T, C: TryConnection, B: Backend<T>>()
     ensures { ConnectionRefusalsStayKnown (store_of B.submits B.reads B.knows B.limits)

@@ -3,7 +3,7 @@
 ghost use Rattle.std.specs.Prelude.{◌≡◌, ℕ, List, Option};
 ghost use Rattle.std.specs.Io.{WritesAtMost};
 ghost use Rattle.std.specs.Io.KnownBytes.{WriteAppends};
-ghost use Rattle.open_connections.specs.ReadEffects.{LeavesContents};
+ghost use Rattle.open_connections.specs.ReadEffects.{KeepsContents};
 
 use session_devices::{Failed, Input};
 
@@ -25,5 +25,5 @@ pub trait TryConnection: Input {
         ensures input_works { Self.has_failed self.new ≡ Self.has_failed self.old };
 
     /// A read doesn't change what was written.
-    ghost reads_leave: { LeavesContents Self Self.gives contents };
+    ghost reads_leave: { KeepsContents Self Self.gives contents };
 }

@@ -9,7 +9,7 @@ ghost use Rattle.open_connections.specs.OpenConnections.{IsOpen, HasCome, Delive
 
 use crate::buffered::BufferedConnection;
 use crate::nonblocking::TryConnection;
-use http_session::{Progress, Session, SessionError, SpareRoom};
+use http_session::{EndReason, Progress, Session, SessionError, SpareRoom};
 use matchit::Router;
 use query_http::Endpoint;
 use std::alloc::Global;
@@ -28,10 +28,10 @@ pub struct OpenConnection<C> {
     pub active: Duration,
     /// The round of its thread in which it was last served.
     pub round: u64,
-    /// Nothing was read when it was last served. Bytes that came before then are not reported any more: watch it again.
-    pub is_unread: bool,
+    /// Nothing was read in its last turn: bytes that came before are not reported again.
+    pub must_reregister: bool,
     /// Its session holds bytes after the last request that it has not examined.
-    holds_more: bool,
+    holds_request_bytes: bool,
 }
 
 /// The result of a connection's turn.
@@ -40,15 +40,15 @@ pub enum ConnectionProgress {
     /// A request was answered, and the connection waits for the next one.
     Answered,
     /// A request was answered, and bytes after it were received already.
-    HoldsMore,
+    HoldsBytes,
     /// More of a request is awaited.
     Paused,
     /// A request was answered, and the client has not yet taken all of the response. Nothing is read meanwhile.
     Writing,
     /// The session has ended: the client closed the connection after its last request.
-    Ended,
+    ClosedByClient,
     /// The session has ended by a response that closes the connection. The client may still be sending.
-    Closing,
+    ClosedByResponse,
     /// The connection failed, or memory ran out.
     Failed,
     /// The connection failed before the client took the last response.
@@ -70,7 +70,7 @@ impl ConnectionProgress {
         matches!(
             self,
             ConnectionProgress::Answered
-                | ConnectionProgress::HoldsMore
+                | ConnectionProgress::HoldsBytes
                 | ConnectionProgress::Paused
                 | ConnectionProgress::Writing
         )
@@ -95,8 +95,8 @@ impl<C: TryConnection> OpenConnection<C> {
             began,
             active: now,
             round: 0,
-            is_unread: false,
-            holds_more: false,
+            must_reregister: false,
+            holds_request_bytes: false,
         }
     }
 
@@ -132,7 +132,7 @@ impl<C: TryConnection> OpenConnection<C> {
     {
         let connection = &mut self.connection;
         // For the prover: each match takes the cases of the clause `goes_on` apart, and returns them as they are.
-        if self.holds_more {
+        if self.holds_request_bytes {
             match self
                 .session
                 .answer_held(rt, alloc, router, connection, backend)
@@ -158,10 +158,10 @@ impl<C: TryConnection> OpenConnection<C> {
         if self.connection.has_waiting() {
             return ConnectionProgress::Writing;
         }
-        if self.holds_more {
-            return ConnectionProgress::HoldsMore;
+        if self.holds_request_bytes {
+            return ConnectionProgress::HoldsBytes;
         }
-        self.is_unread = true;
+        self.must_reregister = true;
         ConnectionProgress::Answered
     }
 
@@ -172,12 +172,12 @@ impl<C: TryConnection> OpenConnection<C> {
         ensures session { self.new.session ≡ self.old.session }
         ensures began { self.new.began.value ≡ self.old.began.value }
     {
-        self.holds_more = self.session.holds_bytes();
+        self.holds_request_bytes = self.session.holds_bytes();
         if self.connection.has_waiting() {
             return ConnectionProgress::Writing;
         }
-        if self.holds_more {
-            return ConnectionProgress::HoldsMore;
+        if self.holds_request_bytes {
+            return ConnectionProgress::HoldsBytes;
         }
         ConnectionProgress::Answered
     }
@@ -210,16 +210,18 @@ impl<C: TryConnection> OpenConnection<C> {
         self.session.borrow_room(spare);
         let taken = self.run_piece(rt, alloc, router, backend);
         self.session.return_room(spare);
-        self.is_unread = self.holds_more;
-        self.holds_more = false;
+        self.must_reregister = self.holds_request_bytes;
+        self.holds_request_bytes = false;
         let Ok(piece) = taken else {
             return ConnectionProgress::Failed;
         };
         match piece {
             Progress::Paused => ConnectionProgress::Paused,
             Progress::Answered => self.after_response(),
-            Progress::Ended(ended) if ended.clean => ConnectionProgress::Ended,
-            Progress::Ended(_) => ConnectionProgress::Closing,
+            Progress::Ended(ended) => match ended.reason {
+                EndReason::ClosedByClient => ConnectionProgress::ClosedByClient,
+                EndReason::ClosedByResponse => ConnectionProgress::ClosedByResponse,
+            },
         }
     }
 

@@ -53,7 +53,7 @@ pub enum ConnectionTurn<C> {
     /// The connection stays open.
     Open(ConnectionProgress),
     /// The connection was removed from the set.
-    Left(ConnectionProgress, BufferedConnection<C>),
+    Removed(ConnectionProgress, BufferedConnection<C>),
 }
 
 impl<C: TryConnection + Drop> ConnectionSet<C> {
@@ -168,7 +168,7 @@ impl<C: TryConnection + Drop> ConnectionSet<C> {
             } = open;
             // For the prover: an explicit drop is cheaper than one at the end of the block.
             drop(session);
-            return ConnectionTurn::Left(progress, connection);
+            return ConnectionTurn::Removed(progress, connection);
         }
         open.active = at.now;
         open.round = at.round;

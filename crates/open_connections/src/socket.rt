@@ -13,7 +13,7 @@ pub struct Socket {
     stream: TcpStream,
     failed: bool,
     /// The last read filled its buffer, so more bytes may be there already.
-    may_hold_more: bool,
+    last_read_was_full: bool,
 }
 
 impl Socket {
@@ -24,13 +24,13 @@ impl Socket {
         Socket {
             stream,
             failed: false,
-            may_hold_more: false,
+            last_read_was_full: false,
         }
     }
 
     /// Returns whether the last read filled its buffer. The system doesn't report bytes that are there already.
-    pub fn may_hold_more(&self) -> bool {
-        self.may_hold_more
+    pub fn last_read_was_full(&self) -> bool {
+        self.last_read_was_full
     }
 
     /// Returns the stream.
@@ -73,7 +73,7 @@ impl Input for Socket {
             };
             match got {
                 Ok(count) => {
-                    self.may_hold_more = count > 0 && count == buf.len();
+                    self.last_read_was_full = count > 0 && count == buf.len();
                     return Ok(count);
                 }
                 Err(error) if error.kind() == ErrorKind::Interrupted => {}

@@ -3,15 +3,16 @@ use Rattle.std.proofs.Common.{◌≡◌, ℕ, Bool, List, ◌++◌, take, Option
 use Rattle.trace_model.specs.LimitedHistories.{LimitedHistory}
 use Rattle.pipe_session.specs.DirectCalls.{direct_store}
 use Rattle.http_session.specs.Sessions.{moment, EndsAs, FailsAs, last_of, responses, exchange_due, bytes_due}
+use Rattle.http_session.specs.declared.whole_session.EndReason.{EndReason}
 use Rattle.http_session.specs.declared.whole_session.SessionError.{SessionError}
 use Rattle.pipe_session.specs.OneFunction.{NeverWants, Finished, Failed}
 use Rattle.pipe_session.proofs.Prefixes.{spoken}
 
-pub finished : (bytes before : List ℕ) (left out : Option (List ℕ)) (s t : LimitedHistory) (n : ℕ) (c : Bool)
-    (ends : EndsAs direct_store (moment (Some bytes) (Some before) s) (moment left out t) (record { answered = n; clean = c }))
+pub finished : (bytes before : List ℕ) (left out : Option (List ℕ)) (s t : LimitedHistory) (n : ℕ) (c : EndReason)
+    (ends : EndsAs direct_store (moment (Some bytes) (Some before) s) (moment left out t) (record { answered = n; reason = c }))
     → NeverWants (ends.opens ++ last_of ends.ending)
     → (written : List ℕ) × (out ≡ Some (before ++ written))
-    × Finished bytes s (record { written = written; held = t; ended = record { answered = n; clean = c } })
+    × Finished bytes s (record { written = written; held = t; ended = record { answered = n; reason = c } })
 finished bytes before left None s t n c ends memory = absurd ends.written
 finished bytes before left (Some after) s t n c ends memory = (
   spoken ends.opens ends.ending,
@@ -31,7 +32,7 @@ finished bytes before left (Some after) s t n c ends memory = (
       run = ends.run;
       written = refl;
       count = ends.count;
-      clean_is = ends.clean_is;
+      reason_is = ends.reason_is;
     };
     memory = memory;
   },

@@ -6,7 +6,7 @@ use Rattle.trace_model.specs.LimitedHistories.{LimitedHistory}
 use Rattle.http_requests.specs.HeadContents.{asked_by}
 use Rattle.http_requests.specs.declared.request.RequestFault.{RequestFault}
 use Rattle.http_requests.proofs.OneRequest.{Breaks, breaks_all, request_is_some, request_once, no_request, one_fault, nothing_is_no_fault}
-use Rattle.http_session.specs.Sessions.{Exchange, IsExchange, LeavesOpen, texts, Ending, Ending.{clean, closing, malformed}, last_of, IsEnding}
+use Rattle.http_session.specs.Sessions.{Exchange, IsExchange, StaysOpen, texts, Ending, Ending.{end_of_input, closing, malformed}, last_of, IsEnding}
 use Rattle.http_session.specs.Replies.{closes}
 use Rattle.http_session.specs.Verdicts.{Judges}
 use Rattle.http_session.specs.declared.verdict.ErrorReply.TheVariants.{NoMemory}
@@ -44,7 +44,7 @@ same_exchange bytes s x y rest more one other =
 -- ---- what comes next: nothing, an exchange, or a malformed request
 
 abbrev pub ComesNext : List ℕ → LimitedHistory → Ending → List ℕ → Type 0
-ComesNext bytes s clean rest = (bytes ≡ []) × (rest ≡ [])
+ComesNext bytes s end_of_input rest = (bytes ≡ []) × (rest ≡ [])
 ComesNext bytes s (closing x) rest = Asks bytes s x rest
 ComesNext bytes s (malformed b) rest = Breaks bytes b × (rest ≡ [])
 
@@ -64,13 +64,13 @@ not_nothing bytes b none breaks = nothing_is_no_fault b (subst (λ (l : List ℕ
 
 pub one_next : (bytes : List ℕ) (s : LimitedHistory) (m n : Ending) (rest more : List ℕ) → ComesNext bytes s m rest → ComesNext bytes s n more
     → (m ≡ n) × (rest ≡ more)
-one_next bytes s clean clean rest more one other = (refl, one.1 ∙ sym other.1)
-one_next bytes s clean (closing y) rest more one other = absurd (not_empty_at bytes s y more one.0 other)
-one_next bytes s clean (malformed b) rest more one other = absurd (not_nothing bytes b one.0 other.0)
-one_next bytes s (closing x) clean rest more one other = absurd (not_empty_at bytes s x rest other.0 one)
+one_next bytes s end_of_input end_of_input rest more one other = (refl, one.1 ∙ sym other.1)
+one_next bytes s end_of_input (closing y) rest more one other = absurd (not_empty_at bytes s y more one.0 other)
+one_next bytes s end_of_input (malformed b) rest more one other = absurd (not_nothing bytes b one.0 other.0)
+one_next bytes s (closing x) end_of_input rest more one other = absurd (not_empty_at bytes s x rest other.0 one)
 one_next bytes s (closing x) (closing y) rest more one other = let same = same_exchange bytes s x y rest more one other in (ap closing same.0, same.1)
 one_next bytes s (closing x) (malformed b) rest more one other = absurd (not_malformed bytes s x rest b one other.0)
-one_next bytes s (malformed a) clean rest more one other = absurd (not_nothing bytes a other.0 one.0)
+one_next bytes s (malformed a) end_of_input rest more one other = absurd (not_nothing bytes a other.0 one.0)
 one_next bytes s (malformed a) (closing y) rest more one other = absurd (not_malformed bytes s y more a other one.0)
 one_next bytes s (malformed a) (malformed b) rest more one other = (ap malformed (one_fault bytes a b one.0 other.0), one.1 ∙ sym other.1)
 
@@ -78,7 +78,7 @@ one_next bytes s (malformed a) (malformed b) rest more one other = (ap malformed
 
 -- a session ends by nothing more, a malformed request, or an exchange that closes it
 abbrev pub Shuts : Ending → Type 0
-Shuts clean = Unit {0}
+Shuts end_of_input = Unit {0}
 Shuts (closing x) = x.close ≡ true
 Shuts (malformed b) = Unit {0}
 
@@ -146,26 +146,26 @@ rest_stands bytes s x xs behind t stand = record {
 
 -- what ends the session, at the bytes after the exchanges that leave it open
 abbrev pub EndsAt : List ℕ → Ending → Type 0
-EndsAt behind clean = behind ≡ []
+EndsAt behind end_of_input = behind ≡ []
 EndsAt behind (closing x) = IsExchange x × (x.close ≡ true)
 EndsAt behind (malformed b) = Breaks behind b
 
 pub ends_at : (rest left : List ℕ) (e : Ending) → IsEnding (left ≡ []) rest e → EndsAt (rest ++ left) e
-ends_at rest left clean ends = (λ i. ends.1 i ++ ends.0 i)
+ends_at rest left end_of_input ends = (λ i. ends.1 i ++ ends.0 i)
 ends_at rest left (closing x) ends = ends
 ends_at rest left (malformed b) ends = breaks_all rest left b ends
 
 last_goes : (bytes : List ℕ) (s : LimitedHistory) (e : Ending) (behind : List ℕ) (t : LimitedHistory) → Stand bytes s (last_of e) behind t → EndsAt behind e
     → RunsTo bytes s [] e t
-last_goes bytes s clean behind t stand ends = ([], (stand.front ∙ ends, refl), tt, stand.held)
+last_goes bytes s end_of_input behind t stand ends = ([], (stand.front ∙ ends, refl), tt, stand.held)
 last_goes bytes s (closing x) behind t stand ends = (behind, first_asks bytes s x [] behind t ends.0 stand, ends.1, stand.held)
 last_goes bytes s (malformed b) behind t stand ends = ([], (subst (λ (l : List ℕ). Breaks l b) (sym stand.front) ends, refl), tt, stand.held)
 
-pub runs_to : (bytes : List ℕ) (s : LimitedHistory) (xs : List Exchange) (e : Ending) (behind : List ℕ) (t : LimitedHistory) → All LeavesOpen xs
+pub runs_to : (bytes : List ℕ) (s : LimitedHistory) (xs : List Exchange) (e : Ending) (behind : List ℕ) (t : LimitedHistory) → All StaysOpen xs
     → Stand bytes s (xs ++ last_of e) behind t → EndsAt behind e → RunsTo bytes s xs e t
 runs_to bytes s [] e behind t opens stand ends = last_goes bytes s e behind t stand ends
 runs_to bytes s (x ∷ xs) e behind t opens stand ends =
-    let is = All-head LeavesOpen x xs opens in
-    let later = runs_to (texts (xs ++ last_of e) ++ behind) (held_after s x.verdict) xs e behind t (All-tail LeavesOpen x xs opens)
+    let is = All-head StaysOpen x xs opens in
+    let later = runs_to (texts (xs ++ last_of e) ++ behind) (held_after s x.verdict) xs e behind t (All-tail StaysOpen x xs opens)
     (rest_stands bytes s x (xs ++ last_of e) behind t stand) ends in
     (texts (xs ++ last_of e) ++ behind, first_asks bytes s x (xs ++ last_of e) behind t is.exchange stand, is.open_is, later)

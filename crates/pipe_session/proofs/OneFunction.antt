@@ -5,8 +5,9 @@ use mathlib.Core.List.{IsPrefix}
 use Rattle.trace_model.specs.LimitedHistories.{LimitedHistory}
 use Rattle.trace_model.proofs.Prefixes.{prefix_self, prefix_trans}
 use Rattle.pipe_session.specs.DirectCalls.{direct_store}
-use Rattle.http_session.specs.Sessions.{Exchange, texts, moment, Run, EndsAs, FailsAs, last_of, responses, malformed_responses, is_clean, exchange_due}
+use Rattle.http_session.specs.Sessions.{Exchange, texts, moment, Run, EndsAs, FailsAs, last_of, responses, malformed_responses, end_reason, exchange_due}
 use Rattle.http_session.specs.Sessions.{bytes_due}
+use Rattle.http_session.specs.declared.whole_session.EndReason.{EndReason}
 use Rattle.http_session.specs.declared.whole_session.SessionError.{SessionError}
 use Rattle.pipe_session.specs.OneFunction.{NeverWants, SessionResult, Finished, Failed}
 use Rattle.pipe_session.proofs.ExactRuns.{exact}
@@ -28,8 +29,8 @@ stand bytes taken rest left s t xs read split run memory =
 
 -- ---- the course of a session that ended
 
-course : (bytes before out : List ℕ) (left : Option (List ℕ)) (s t : LimitedHistory) (n : ℕ) (c : Bool)
-    (ends : EndsAs direct_store (moment (Some bytes) (Some before) s) (moment left (Some out) t) (record { answered = n; clean = c }))
+course : (bytes before out : List ℕ) (left : Option (List ℕ)) (s t : LimitedHistory) (n : ℕ) (c : EndReason)
+    (ends : EndsAs direct_store (moment (Some bytes) (Some before) s) (moment left (Some out) t) (record { answered = n; reason = c }))
     → NeverWants (ends.opens ++ last_of ends.ending) → RunsTo bytes s ends.opens ends.ending t
 course bytes before out None s t n c ends memory = absurd ends.read
 course bytes before out (Some left) s t n c ends memory =
@@ -43,7 +44,7 @@ said bytes s result f = append_cancel_left f.before result.written (spoken f.end
 finished_course : (bytes : List ℕ) (s : LimitedHistory) (result : SessionResult) (f : Finished bytes s result)
     → RunsTo bytes s f.ends.opens f.ends.ending result.held
 finished_course bytes s result f =
-    course bytes f.before (f.before ++ result.written) f.left s result.held result.ended.answered result.ended.clean f.ends f.memory
+    course bytes f.before (f.before ++ result.written) f.left s result.held result.ended.answered result.ended.reason f.ends f.memory
 
 pub one_function : (bytes : List ℕ) (s : LimitedHistory) (one other : SessionResult) → Finished bytes s one → Finished bytes s other → one ≡ other
 one_function bytes s one other f g =
@@ -53,8 +54,8 @@ one_function bytes s one other f g =
     said bytes s one f ∙ (λ i. spoken (same.0 i) (same.1 i)) ∙ sym (said bytes s other g) in
     let answered : one.ended.answered ≡ other.ended.answered =
     f.ends.count ∙ (λ i. length (same.0 i ++ last_of (same.1 i)) + malformed_responses (same.1 i)) ∙ sym g.ends.count in
-    let clean : one.ended.clean ≡ other.ended.clean = f.ends.clean_is ∙ ap is_clean same.1 ∙ sym g.ends.clean_is in
-    λ i. record { written = written i; held = same.2 i; ended = record { answered = answered i; clean = clean i } }
+    let reason : one.ended.reason ≡ other.ended.reason = f.ends.reason_is ∙ ap end_reason same.1 ∙ sym g.ends.reason_is in
+    λ i. record { written = written i; held = same.2 i; ended = record { answered = answered i; reason = reason i } }
 
 -- ---- the course of a session that failed
 

@@ -7,10 +7,12 @@ use Rattle.std.proofs.lemmas.List.Elements.{All-head, All-tail, All-cons, All-ni
 use Rattle.std.proofs.lemmas.Grind.{flat_map-append}
 use Rattle.trace_model.specs.LimitedHistories.{LimitedHistory}
 use Rattle.pipe_session.specs.DirectCalls.{direct_store}
-use Rattle.http_session.specs.Sessions.{Exchange, LeavesOpen, texts, Store, moment, Run, EndsAs, FailsAs, Ending, Ending.{clean, closing, malformed}, last_of}
+use Rattle.http_session.specs.Sessions.{Exchange, StaysOpen, texts, Store, moment, Run, EndsAs, FailsAs, last_of}
+use Rattle.http_session.specs.Sessions.{Ending, Ending.{end_of_input, closing, malformed}}
 use Rattle.http_session.specs.Sessions.{malformed_response, response_to, responses, Due, Due.{none_yet, due, due_malformed}, exchange_due, bytes_due}
 use Rattle.http_requests.specs.LineLaws.{no_bytes_await}
 use Rattle.http_session.specs.declared.whole_session.SessionErrorKind.TheVariants.{Reading}
+use Rattle.http_session.specs.declared.whole_session.EndReason.{EndReason}
 use Rattle.http_session.specs.declared.whole_session.SessionError.{SessionError}
 use Rattle.pipe_session.specs.OneFunction.{NeverWants, Failed, WroteFirst}
 use Rattle.std.specs.Prelude.{take}
@@ -40,7 +42,7 @@ front (o ∷ os) last (y ∷ ys) zs z few e =
     (rest.0, λ i. first i ∷ rest.1 i)
 
 last_few : (e : Ending) → length (last_of e) ≤ 1
-last_few clean = omega arith
+last_few end_of_input = omega arith
 last_few (closing x) = omega arith
 last_few (malformed b) = omega arith
 
@@ -60,7 +62,7 @@ left_after bytes front behind taken (Some left) read split = (behind ++ left, re
 
 -- a session up to some exchange is one whose input failed there, and had written the responses before
 stopped_there : (bytes before taken rest : List ℕ) (left : Option (List ℕ)) (s t : LimitedHistory) (ys zs : List Exchange) → Consumes (Some bytes) left taken
-    → taken ≡ texts (ys ++ zs) ++ rest → All LeavesOpen ys
+    → taken ≡ texts (ys ++ zs) ++ rest → All StaysOpen ys
     → Run direct_store s (ys ++ zs) t → NeverWants ys → Failed bytes s (responses ys)
 stopped_there bytes before taken rest left s t ys zs read split opens run memory =
     let parts = run_parts direct_store s ys zs t run in
@@ -98,7 +100,7 @@ stopped_there bytes before taken rest left s t ys zs read split opens run memory
 
 -- what was answered before some exchange was written first, whatever was written after
 written_first : (bytes before taken rest tail : List ℕ) (left out : Option (List ℕ)) (s t : LimitedHistory) (opens last ys zs : List Exchange) (z : Exchange)
-    → length last ≤ 1 → All LeavesOpen opens → opens ++ last ≡ ys ++ z ∷ zs → NeverWants ys
+    → length last ≤ 1 → All StaysOpen opens → opens ++ last ≡ ys ++ z ∷ zs → NeverWants ys
     → Consumes (Some bytes) left taken → taken ≡ texts (opens ++ last) ++ rest → Run direct_store s (opens ++ last) t
     → Appends (Some before) out (responses opens ++ tail) → WroteFirst bytes before out s (responses ys)
 written_first bytes before taken rest tail left None s t opens last ys zs z few each e memory read split run written = absurd written
@@ -111,11 +113,11 @@ written_first bytes before taken rest tail left (Some o) s t opens last ys zs z 
           ∙ ap (λ (l : List ℕ). l ++ tail) (responses_parts ys mid.0)
           ∙ append_assoc (responses ys) (responses mid.0) tail));
       failed = stopped_there bytes before taken rest left s t ys (z ∷ zs) read (split ∙ ap (λ (l : List Exchange). texts l ++ rest) e)
-          (all_front LeavesOpen ys mid.0 (subst (All LeavesOpen) mid.1 each)) (subst (λ (l : List Exchange). Run direct_store s l t) e run) memory;
+          (all_front StaysOpen ys mid.0 (subst (All StaysOpen) mid.1 each)) (subst (λ (l : List Exchange). Run direct_store s l t) e run) memory;
     }
 
-pub ended_before : (bytes before : List ℕ) (left out : Option (List ℕ)) (s t : LimitedHistory) (n : ℕ) (c : Bool)
-    (ends : EndsAs direct_store (moment (Some bytes) (Some before) s) (moment left out t) (record { answered = n; clean = c }))
+pub ended_before : (bytes before : List ℕ) (left out : Option (List ℕ)) (s t : LimitedHistory) (n : ℕ) (c : EndReason)
+    (ends : EndsAs direct_store (moment (Some bytes) (Some before) s) (moment left out t) (record { answered = n; reason = c }))
     (ys zs : List Exchange) (z : Exchange) → ends.opens ++ last_of ends.ending ≡ ys ++ z ∷ zs → NeverWants ys → WroteFirst bytes before out s (responses ys)
 ended_before bytes before left out s t n c ends ys zs z e memory =
     let last = last_of ends.ending in

@@ -6,7 +6,7 @@ use Rattle.trace_model.specs.LimitedHistories.{LimitedHistory}
 use Rattle.trace_model.proofs.Prefixes.{prefix_trans}
 use Rattle.http_requests.proofs.OneRequest.{Breaks, breaks_all}
 use Rattle.http_session.specs.declared.whole_session.SessionErrorKind.{SessionErrorKind}
-use Rattle.http_session.specs.Sessions.{Exchange, IsExchange, LeavesOpen, texts, response_to, responses, Ending, Ending.{closing, malformed}, last_of}
+use Rattle.http_session.specs.Sessions.{Exchange, IsExchange, StaysOpen, texts, response_to, responses, Ending, Ending.{closing, malformed}, last_of}
 use Rattle.http_session.specs.Sessions.{malformed_response, Due, Due.{none_yet, due, due_malformed}, exchange_due, IsDue, bytes_due}
 use Rattle.pipe_session.specs.ExactAnswers.{held_after}
 use Rattle.pipe_session.proofs.Courses.{Asks, same_exchange, ComesNext, one_next, RunsTo, goes_on, goes_after, Stand, first_asks, rest_stands}
@@ -100,12 +100,12 @@ last_stops bytes s none_yet behind t stand is = tt
 last_stops bytes s (due x) behind t stand is = (behind, first_asks bytes s x [] behind t is stand)
 last_stops bytes s (due_malformed b) behind t stand is = subst (λ (l : List ℕ). Breaks l b) (sym stand.front) is
 
-pub stops : (bytes : List ℕ) (s : LimitedHistory) (ys : List Exchange) (d : Due) (behind : List ℕ) (t : LimitedHistory) → All LeavesOpen ys
+pub stops : (bytes : List ℕ) (s : LimitedHistory) (ys : List Exchange) (d : Due) (behind : List ℕ) (t : LimitedHistory) → All StaysOpen ys
     → Stand bytes s (ys ++ exchange_due d) behind t → DueAt behind d → Stops bytes s ys d
 stops bytes s [] d behind t opens stand is = last_stops bytes s d behind t stand is
 stops bytes s (y ∷ ys) d behind t opens stand is =
-    let now = All-head LeavesOpen y ys opens in
-    let later = stops (texts (ys ++ exchange_due d) ++ behind) (held_after s y.verdict) ys d behind t (All-tail LeavesOpen y ys opens)
+    let now = All-head StaysOpen y ys opens in
+    let later = stops (texts (ys ++ exchange_due d) ++ behind) (held_after s y.verdict) ys d behind t (All-tail StaysOpen y ys opens)
     (rest_stands bytes s y (ys ++ exchange_due d) behind t stand) is in
     (texts (ys ++ exchange_due d) ++ behind, first_asks bytes s y (ys ++ exchange_due d) behind t now.exchange stand, now.open_is, later)
 

@@ -8,7 +8,7 @@ use Rattle.trace_model.specs.Answers.{answer}
 use Rattle.arrival_journal.specs.Journals.{admission_by, refusal_by}
 use Rattle.span_store.specs.NextEntry.{next_entry}
 use Rattle.pipe_session.specs.DirectCalls.{direct_store}
-use Rattle.http_session.specs.SessionRuns.{Devices, EndsWith, FailsWith}
+use Rattle.http_session.specs.SessionRuns.{Devices, EndsOnDevices, FailsOnDevices}
 use Rattle.http_session.specs.Sessions.{Exchange, Moment, last_of, exchange_due}
 use Rattle.http_session.specs.declared.whole_session.Ended.{Ended}
 use Rattle.http_session.specs.declared.whole_session.SessionError.{SessionError}
@@ -56,11 +56,11 @@ IsExact s xs t = HasMemory xs → (map (λ (x : Exchange). x.reply) xs ≡ repli
 -- a session between an input and an output ended, and the store answered exactly so
 abbrev pub EndsExactly : {R W : Type 0} → Devices R W → Moment R W LimitedHistory → Moment R W LimitedHistory → Ended → Type 0
 EndsExactly devices before after ended =
-    (over : EndsWith direct_store devices before after ended)
+    (over : EndsOnDevices direct_store devices before after ended)
     × IsExact before.store (over.0.opens ++ last_of over.0.ending) after.store
 
 -- like EndsExactly, for a session that failed
 abbrev pub FailsExactly : {R W : Type 0} → Devices R W → Moment R W LimitedHistory → Moment R W LimitedHistory → SessionError → Type 0
 FailsExactly devices before after error =
-    (over : FailsWith direct_store devices before after error)
+    (over : FailsOnDevices direct_store devices before after error)
     × IsExact before.store (over.0.opens ++ exchange_due over.0.next) after.store

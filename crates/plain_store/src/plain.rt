@@ -117,7 +117,7 @@ pub fn get_trace(
 fn made(alloc: Global, spans: Seq<Shown>) -> Result<AnsweredTrace, AllocError>
     ensures { IfOk result (λ t. t ≡ spans) }
 {
-    AnsweredTrace::made(alloc, ShownTrace::without_keys(alloc, spans))
+    AnsweredTrace::copied(alloc, ShownTrace::without_keys(alloc, spans))
 }
 
 /// Returns the spans of a trace as they are shown: as reported if `raw` is set, else adjusted.

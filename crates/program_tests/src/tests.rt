@@ -1,7 +1,7 @@
 //! The tests, by their subject, and what they share.
 
 mod devices;
-mod host;
+mod machine;
 mod runs;
 mod serving;
 mod turns;

@@ -1,4 +1,5 @@
--- The query of a request to an endpoint, or the first invalid parameter.
+-- The query of a request to an endpoint, or the first invalid parameter. The defaults are digits on purpose: they state
+-- the values of the constants in src/query.rt a second time.
 use Rattle.std.specs.Prelude.{ℕ, ℤ, pos, List, [], ◌∷◌, ◌++◌, Bool, ◌||◌, Option, Some, None, Result, Ok, Err, unwrap_or, codes, if◌then◌else◌}
 use Rattle.std.specs.Str.{is_utf8}
 use Rattle.percent_encoding.specs.Percent.{percent_decode}
@@ -14,7 +15,7 @@ use Rattle.query_http.specs.declared.fault.Parameter.TheVariants as bad
 use Rattle.query_http.specs.declared.paths.Endpoint.{Endpoint}
 use Rattle.query_http.specs.declared.paths.Endpoint.TheVariants as at
 use Rattle.query_http.specs.Faults.{parameter_name}
-use Rattle.query_http.specs.QueryStrings.{parameter, given_values, split_at, question_mark, colon}
+use Rattle.query_http.specs.QueryStrings.{parameter, given_values, split_once, question_mark, colon}
 use Rattle.query_http.specs.Numbers.{read_number, read_duration}
 
 infixl 10 ◌>>=◌
@@ -75,7 +76,7 @@ limit_at ps = number_parameter bad.Limit ps >>= λ n. Ok (unwrap_or n 100)
 -- each `tag`, split at its first colon into a key and a text
 abbrev pub tags_from : List (List ℕ) → Result Pairs Parameter
 tags_from [] = Ok []
-tags_from (t ∷ ts) = or_bad bad.Tag (split_at colon t) >>= λ p. tags_from ts >>= λ ps. Ok (p ∷ ps)
+tags_from (t ∷ ts) = or_bad bad.Tag (split_once colon t) >>= λ p. tags_from ts >>= λ ps. Ok (p ∷ ps)
 
 -- the members of an object, all of them texts, in the order of their keys
 abbrev pub texts_in : Members → Option Pairs
@@ -166,7 +167,7 @@ query_at at.Dependencies part ps = links_at ps
 
 -- a target, split at its first `?`
 abbrev pub path_of : List ℕ → List ℕ
-path_of target = (unwrap_or (split_at question_mark target) (target, [])).0
+path_of target = (unwrap_or (split_once question_mark target) (target, [])).0
 
 abbrev pub query_string_of : List ℕ → List ℕ
-query_string_of target = (unwrap_or (split_at question_mark target) (target, [])).1
+query_string_of target = (unwrap_or (split_once question_mark target) (target, [])).1

@@ -14,8 +14,8 @@ abbrev pub colon : ℕ
 colon = 58
 
 -- the text before and after the first such byte; None if there is none
-abbrev pub split_at : ℕ → List ℕ → Option (List ℕ × List ℕ)
-split_at c s = if nat_lt (position_or_len (λ b. b == c) s) (length s) then Some (before_first (λ b. b == c) s, after_first (λ b. b == c) s) else None
+abbrev pub split_once : ℕ → List ℕ → Option (List ℕ × List ℕ)
+split_once c s = if nat_lt (position_or_len (λ b. b == c) s) (length s) then Some (before_first (λ b. b == c) s, after_first (λ b. b == c) s) else None
 
 -- the text of a name or of a value
 abbrev pub decoded_text : List ℕ → List ℕ

@@ -1,5 +1,5 @@
 ghost use Rattle.std.specs.Prelude.{◌≡◌, ◌++◌, ℕ, List, IfOk, map, option_copied, option_map, string_bytes};
-ghost use Rattle.query_http.specs.QueryStrings.{pairs_of, is_given, parameter, given_values, split_at, question_mark, colon};
+ghost use Rattle.query_http.specs.QueryStrings.{pairs_of, is_given, parameter, given_values, split_once, question_mark, colon};
 
 use std::alloc::{AllocError, Global};
 use std::marker::Model;
@@ -37,14 +37,14 @@ impl Pair {
 
 /// Splits a text at its first `?`.
 pub(crate) fn split_query(target: &str) -> Option<(&str, &str)>
-    ensures { option_map (λ p. (p.0.now, p.1.now)) result ≡ split_at question_mark target.now }
+    ensures { option_map (λ p. (p.0.now, p.1.now)) result ≡ split_once question_mark target.now }
 {
     target.split_once('?')
 }
 
 /// Splits a text at its first colon.
 pub(crate) fn split_tag(tag: &str) -> Option<(&str, &str)>
-    ensures { option_map (λ p. (p.0.now, p.1.now)) result ≡ split_at colon tag.now }
+    ensures { option_map (λ p. (p.0.now, p.1.now)) result ≡ split_once colon tag.now }
 {
     tag.split_once(':')
 }

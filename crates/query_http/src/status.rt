@@ -1,7 +1,9 @@
 //! The statuses of responses.
 ghost use Rattle.std.specs.Prelude.{◌≡◌};
-ghost use Rattle.query_http.specs.Statuses.{code_of};
+ghost use Rattle.query_http.specs.Statuses.{code_of, refusal_status};
 ghost use Rattle.query_http.specs.Responses as spec;
+
+use trace_model::Refusal;
 
 /// The status of a response (RFC 9110, section 15). For a new one, add a variant, its number in `code_of` of
 /// `specs/Statuses.antt`, and its reason in `reason` of `specs/Responses.antt`.
@@ -30,6 +32,23 @@ pub enum Status {
 }
 
 impl Status {
+    /// Returns the status of a response to a request that the store refused.
+    pub fn of_refusal(refusal: Refusal) -> Status
+        ensures { code_of result ≡ refusal_status refusal }
+    {
+        match refusal {
+            Refusal::JournalFull { .. } | Refusal::Deferred | Refusal::Busy | Refusal::Closed =>
+                Status::ServiceUnavailable,
+            Refusal::Conflict { .. } => Status::Conflict,
+            Refusal::NoMemory
+            | Refusal::Stale { .. }
+            | Refusal::Stranger
+            | Refusal::NoReply
+            | Refusal::Behind { .. }
+            | Refusal::Gone => Status::InternalServerError,
+        }
+    }
+
     /// Returns the number of the status.
     pub fn code(self) -> u16
         ensures { result ≡ code_of self }

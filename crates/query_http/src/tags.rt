@@ -4,7 +4,7 @@ ghost use Rattle.query_http.specs.Queries.{tags_from, or_bad, texts_in, object_t
 ghost use Rattle.serde_json.specs.View.{view, members_view};
 ghost use Rattle.serde_json.specs.Read.{read};
 ghost use Rattle.query_http.specs.declared.fault.Parameter.TheVariants as bad;
-ghost use Rattle.query_http.specs.QueryStrings.{given_values, split_at};
+ghost use Rattle.query_http.specs.QueryStrings.{given_values, split_once, colon};
 
 use crate::fault::{Parameter, QueryFault};
 use crate::query_string::{Pair, find_parameter, split_tag};
@@ -25,7 +25,7 @@ fn tag_values<'a>(alloc: Global, pairs: &'a [Pair]) -> Result<Vec<&'a str>, Allo
 {
     let mut values = Vec::new(alloc);
     for pair in pairs {
-        if pair.is_given("tag") {
+        if pair.is_given(Parameter::Tag.name()) {
             values.push(pair.value())?;
         }
     }
@@ -34,7 +34,7 @@ fn tag_values<'a>(alloc: Global, pairs: &'a [Pair]) -> Result<Vec<&'a str>, Allo
 
 /// Splits a `tag` at its first colon into a key and a text.
 fn read_tag(alloc: Global, tag: &str) -> Result<(Text, Text), QueryFault>
-    ensures { IsAsRead (λ p. p) result (or_bad bad.Tag (split_at 58 tag.now)) }
+    ensures { IsAsRead (λ p. p) result (or_bad bad.Tag (split_once colon tag.now)) }
 {
     let Some((key, value)) = split_tag(tag) else {
         return Err(QueryFault::Bad(Parameter::Tag));
@@ -102,7 +102,7 @@ pub(crate) fn requested_tags(alloc: Global, pairs: &[Pair]) -> Result<Seq<(Text,
 {
     let values = tag_values(alloc, pairs)?;
     let mut tags = single_tags(alloc, &values)?;
-    if let Some(members) = find_parameter(pairs, "tags") {
+    if let Some(members) = find_parameter(pairs, Parameter::Tags.name()) {
         let mut more = member_tags(alloc, members)?;
         tags.append(&mut more)?;
     }

@@ -45,8 +45,8 @@ Adds-then {a = a} {b = b} {c = c} {xs = xs} {ys = ys} p q = record {
   room = omega (arith, p.room, q.room);
   lacks = λ had full. by had full b.full refl;
   counts = λ full small.
-      let last : c.lost ≡ b.lost + length ys = q.counts (stays_full p full) small in
-      let first : b.lost ≡ a.lost + length xs = p.counts full (omega (arith, last, small)) in
+      let last : c.counted ≡ b.counted + length ys = q.counts (stays_full p full) small in
+      let first : b.counted ≡ a.counted + length xs = p.counts full (omega (arith, last, small)) in
       omega (arith, first, last, length-append xs ys);
 }
   where

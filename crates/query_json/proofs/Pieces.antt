@@ -8,7 +8,7 @@ use Rattle.serde_json.specs.Written.{compact_text}
 use Rattle.query_json.specs.declared.items.Items.{Items}
 use Rattle.query_json.specs.declared.items.Items.TheVariants.{Names, Operations, Ids, Links, Traces}
 use Rattle.query_json.specs.declared.writing.trace.TraceItem.{TraceItem}
-use Rattle.query_json.specs.declared.writing.trace.TraceItem.TheVariants.{Lent, Made, One}
+use Rattle.query_json.specs.declared.writing.trace.TraceItem.TheVariants.{Copied, Lent, OneProcess}
 use Rattle.query_json.specs.LentTraces.{IsWritable}
 use Rattle.query_json.specs.NamedProcesses.{first_named}
 use Rattle.query_json.specs.Pieces.{AreWritable, item_pieces, item_trees, one_piece, runs_of}
@@ -26,9 +26,9 @@ one_texts (d ∷ ds) =
     ap (λ (l : List ℕ). l ∷ map joined (map one_piece ds)) (append-nil (compact_text d)) ∙ ap (λ (ls : List (List ℕ)). compact_text d ∷ ls) (one_texts ds)
 
 trace_text_of : (t : TraceItem) → IsWritable t → joined (trace_pieces t) ≡ compact_text (item_tree t)
-trace_text_of (One spans) known = trace_text spans (first_named ∷ []) known.named
+trace_text_of (OneProcess spans) known = trace_text spans (first_named ∷ []) known.named
 trace_text_of (Lent t) known = trace_text t.value.spans t.value.processes.items known.named
-trace_text_of (Made t) known = append-nil (string_bytes t.text) ∙ known
+trace_text_of (Copied t) known = append-nil (string_bytes t.text) ∙ known
 
 trace_texts : (ts : List TraceItem) → All IsWritable ts → map joined (map trace_pieces ts) ≡ map compact_text (map item_tree ts)
 trace_texts [] all = refl

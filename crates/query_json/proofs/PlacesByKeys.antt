@@ -9,7 +9,7 @@ use Rattle.trace_model.specs.declared.answer.Shown.{Shown}
 use Rattle.trace_model.specs.Adjusting.{spans_of}
 use Rattle.trace_model.specs.SharedProcesses.{ShareProcesses}
 use Rattle.query_json.specs.ProcessNames.{among, place}
-use Rattle.trace_adjust.specs.Hosts.{kept_under}
+use Rattle.trace_adjust.specs.KeyedPlaces.{stored_under}
 use Rattle.query_json.specs.ProcessPlaces.{AreKnown, ComesNext, IsKnown}
 use Rattle.query_json.specs.Trees.{processes_of}
 use Rattle.query_json.specs.TraceProcesses.{process_place}
@@ -39,7 +39,7 @@ module _ (spans : List Shown) (keys : List ℕ) (i : ℕ) (s : Shown) (key : Opt
   all_more known all e n found = known_more e n (all e n found)
 
   -- the place of the span's process is inserted for that of its key
-  pub known_put : (n : ℕ) (old new : ℕ → Option ℕ) → n ≡ process_place (processes_of spans) s → ((e : ℕ) → new e ≡ kept_under key n old e)
+  pub known_put : (n : ℕ) (old new : ℕ → Option ℕ) → n ≡ process_place (processes_of spans) s → ((e : ℕ) → new e ≡ stored_under key n old e)
       → AreKnown spans keys i old → AreKnown spans keys (i + 1) new
   known_put n old new found put all e m is = by key refl (sym (put e) ∙ is)
     where
@@ -68,7 +68,7 @@ module _ (spans : List Shown) (keys : List ℕ) (i : ℕ) (s : Shown) (key : Opt
                 ∙ known.place d;
           }
 
-      by : (o : Option ℕ) → key ≡ o → kept_under o n old e ≡ Some m → IsKnown spans keys (i + 1) e m
+      by : (o : Option ℕ) → key ≡ o → stored_under o n old e ≡ Some m → IsKnown spans keys (i + 1) e m
       by None same q = known_more e m (all e m q)
       by (Some k) same q = by_test k (k == e) refl (sym same ∙ next.stands) q
 

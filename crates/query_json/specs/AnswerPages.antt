@@ -1,6 +1,7 @@
 -- The texts of an answer's parts.
 use Rattle.std.specs.Prelude.{◌≡◌, ◌+◌, ◌≤◌, ◌⊎◌, ℕ, false, List, [], length, unwrap_or}
 use Rattle.query_json.specs.declared.paging.PagedAnswer.{PagedAnswer}
+use Rattle.query_json.specs.declared.paging.TheConstants.{PART_BYTES}
 use Rattle.query_json.specs.declared.writing.page.Page.{Page}
 use Rattle.query_json.specs.Pieces.{AreWritable, runs_of}
 use Rattle.query_json.specs.Runs.{AllFit, left_at, runs_text}
@@ -25,11 +26,11 @@ next_page p = unwrap_or p.later p.page
 pub record HasRoom (p : PagedAnswer) : Type 0 where
   pub most : ℕ
   pub fit : AllFit most (left_of p)
-  pub room : 16384 + most ≤ (next_page p).bytes.room
+  pub room : PART_BYTES + most ≤ (next_page p).bytes.room
 
 -- the following text can be made, and there is room for each part of it
 pub record IsReady (p : PagedAnswer) : Type 0 where
   pub open_page : (next_page p).full ≡ false
   pub writable : AreWritable p.items
   pub fits : (left_of p ≡ []) ⊎ HasRoom p
-  pub left : p.left ≡ length (rest_of p)
+  pub rest_len : p.rest_len ≡ length (rest_of p)

@@ -6,7 +6,7 @@ use Rattle.std.specs.Fmt.{decimal}
 abbrev pub head_text : List ℕ
 head_text = 123 ∷ (34 ∷ (codes "data" ++ 34 ∷ 58 ∷ []))
 
--- after n of them, with no errors
+-- after `total` of them, with no errors
 abbrev pub tail_text : ℕ → List ℕ
 tail_text total =
     44 ∷ 34 ∷ (codes "errors" ++ 34 ∷ 58

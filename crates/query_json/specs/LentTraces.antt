@@ -4,7 +4,7 @@ use Rattle.serde_json.specs.Written.{compact_text}
 use Rattle.trace_model.specs.declared.answer.Shown.{Shown}
 use Rattle.query_json.specs.declared.writing.processes.NamedProcess.{NamedProcess}
 use Rattle.query_json.specs.declared.writing.trace.TraceItem.{TraceItem}
-use Rattle.query_json.specs.declared.writing.trace.TraceItem.TheVariants.{Lent, Made, One}
+use Rattle.query_json.specs.declared.writing.trace.TraceItem.TheVariants.{Copied, Lent, OneProcess}
 use Rattle.query_json.specs.NamedProcesses.{AreNamed, first_named}
 use Rattle.query_json.specs.Trees.{processes_of, trace_tree}
 use Rattle.query_json.specs.TraceProcesses.{process_place}
@@ -18,6 +18,6 @@ pub record IsNumbered (ss : List Shown) (stand : List ℕ) (ps : List NamedProce
 
 -- borrowed spans have such places and processes; the text of a trace with spans of its own is that of its tree
 abbrev pub IsWritable : TraceItem → Type 0
-IsWritable (One spans) = IsNumbered spans [] (first_named ∷ [])
+IsWritable (OneProcess spans) = IsNumbered spans [] (first_named ∷ [])
 IsWritable (Lent t) = IsNumbered t.value.spans t.value.places.items t.value.processes.items
-IsWritable (Made t) = string_bytes t.text ≡ compact_text (trace_tree t.spans.value)
+IsWritable (Copied t) = string_bytes t.text ≡ compact_text (trace_tree t.spans.value)

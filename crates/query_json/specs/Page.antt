@@ -10,7 +10,7 @@ pub record Adds (old new : Page) (bytes : List ℕ) : Type 0 where
   pub behind : new.full ≡ false → new.bytes.items ≡ old.bytes.items ++ bytes
   pub room : old.bytes.room ≤ new.bytes.room
   pub lacks : old.full ≡ false → new.full ≡ true → old.bytes.room - length old.bytes.items < length bytes
-  pub counts : old.full ≡ true → new.lost + 1 < 2 ^ 64 → new.lost ≡ old.lost + length bytes
+  pub counts : old.full ≡ true → new.counted + 1 < 2 ^ 64 → new.counted ≡ old.counted + length bytes
 
 -- and they are text
 pub record Puts (old new : Page) (bytes : List ℕ) : Type 0 where

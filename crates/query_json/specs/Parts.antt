@@ -10,6 +10,6 @@ pub record Parted : Type 0 where
 abbrev pub to_come : Parted → List ℕ
 to_come p = p.part ++ p.rest
 
--- the part isn't empty unless nothing follows it
-abbrev pub IsSome : List ℕ → List ℕ → Type 0
-IsSome part rest = part ≡ [] → rest ≡ []
+-- the part is empty only if nothing follows it
+abbrev pub IsEmptyOnlyAtEnd : List ℕ → List ℕ → Type 0
+IsEmptyOnlyAtEnd part rest = part ≡ [] → rest ≡ []

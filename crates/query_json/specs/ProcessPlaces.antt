@@ -1,5 +1,5 @@
 -- The places of the processes of the spans so far.
-use Rattle.std.specs.Prelude.{◌≡◌, ◌==◌, ℕ, ◌+◌, ◌<◌, true, List, Option, Some, None, All, length, map, take, get_or, slice_get, if◌then◌else◌}
+use Rattle.std.specs.Prelude.{◌≡◌, ℕ, ◌<◌, true, List, Option, Some, All, length, map, take, get_or, slice_get}
 use Rattle.std.specs.Ordering.{nat_cmp}
 use Rattle.std.specs.BTreeMap.{get}
 use Rattle.jaeger_model.specs.declared.placed.Placed.{Placed}
@@ -8,7 +8,7 @@ use Rattle.trace_model.specs.Adjusting.{spans_of}
 use Rattle.trace_model.specs.SharedProcesses.{ShareProcesses}
 use Rattle.query_json.specs.declared.naming.Placing.{Placing}
 use Rattle.query_json.specs.ProcessNames.{among, place}
-use Rattle.query_json.specs.ProcessNumbers.{IsByPlace, IsFirst, numbered}
+use Rattle.query_json.specs.ProcessNumbers.{IsByPlace, IsFirst, placed_processes}
 use Rattle.query_json.specs.Trees.{processes_of}
 use Rattle.query_json.specs.TraceProcesses.{process_place}
 
@@ -24,21 +24,20 @@ pub record IsKnown (spans : List Shown) (keys : List ℕ) (i key number : ℕ) :
 abbrev pub AreKnown : List Shown → List ℕ → ℕ → (ℕ → Option ℕ) → Type 0
 AreKnown spans keys i known = (key number : ℕ) → known key ≡ Some number → IsKnown spans keys i key number
 
--- n of the spans have been added
+-- the first i spans have been added
 pub record HasPlaces (spans : List Shown) (keys : List ℕ) (i : ℕ) (p : Placing) : Type 0 where
-  pub by_place : IsByPlace p.numbering
-  pub processes : numbered p.numbering ≡ processes_of (take i spans)
-  pub firsts : All (IsFirst spans) p.numbering.processes.items
+  pub by_place : IsByPlace p.table
+  pub processes : placed_processes p.table ≡ processes_of (take i spans)
+  pub firsts : All (IsFirst spans) p.table.processes.items
   pub places : p.places.items ≡ map (process_place (processes_of spans)) (take i spans)
   pub known : AreKnown spans keys i (get nat_cmp p.known)
 
--- the process of s, the span after n others, has been added, and this is its place
-pub record HasPlace (spans : List Shown) (keys : List ℕ) (i : ℕ) (s : Shown) (p : Placing) (number : ℕ) : Type 0 where
-  pub by_place : IsByPlace p.numbering
-  pub processes : numbered p.numbering ≡ processes_of (take (i + 1) spans)
-  pub firsts : All (IsFirst spans) p.numbering.processes.items
-  pub known : AreKnown spans keys (i + 1) (get nat_cmp p.known)
-  pub place : number ≡ process_place (processes_of spans) s
+-- the processes of the first i spans have been added
+pub record HasProcesses (spans : List Shown) (keys : List ℕ) (i : ℕ) (p : Placing) : Type 0 where
+  pub by_place : IsByPlace p.table
+  pub processes : placed_processes p.table ≡ processes_of (take i spans)
+  pub firsts : All (IsFirst spans) p.table.processes.items
+  pub known : AreKnown spans keys i (get nat_cmp p.known)
 
 -- s is the span at the index, and this is its key
 pub record ComesNext (spans : List Shown) (keys : List ℕ) (i : ℕ) (s : Shown) (key : Option ℕ) : Type 0 where

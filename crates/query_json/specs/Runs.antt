@@ -8,7 +8,7 @@ use Rattle.query_json.specs.Page.{Puts}
 abbrev pub front_text : List ℕ
 front_text = head_text ++ 91 ∷ []
 
--- the text after n items
+-- the text after `total` items
 abbrev pub end_text : ℕ → List ℕ
 end_text total = 93 ∷ tail_text total
 
@@ -27,7 +27,7 @@ abbrev pub runs : List (List (List ℕ)) → List (List (List ℕ))
 runs [] = more_runs 0 []
 runs (r ∷ rs) = ([] ∷ r) ∷ more_runs (suc (length rs)) rs
 
--- without the first n pieces of the first run
+-- without the first `piece` pieces of the first run
 abbrev pub without : ℕ → List (List (List ℕ)) → List (List (List ℕ))
 without piece [] = []
 without piece (r ∷ rs) = drop piece r ∷ rs
@@ -68,7 +68,7 @@ pub record PutsNext (old new : Page) (from to : List (List (List ℕ))) : Type 0
   pub bounds : (most : ℕ) → length piece ≤ most → AllFit most to → AllFit most from
   pub fewer : steps to < steps from
 
--- pieces are written, none of them after the page has n bytes
+-- pieces are written, none of them after the page has `enough` bytes
 pub record Fills (enough : ℕ) (old new : Page) (from to : List (List (List ℕ))) : Type 0 where
   pub bytes : List ℕ
   pub puts : Puts old new bytes

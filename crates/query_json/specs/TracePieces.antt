@@ -5,14 +5,14 @@ use Rattle.serde_json.specs.Written.{compact_text}
 use Rattle.trace_model.specs.declared.answer.Shown.{Shown}
 use Rattle.query_json.specs.declared.writing.processes.NamedProcess.{NamedProcess}
 use Rattle.query_json.specs.declared.writing.trace.TraceItem.{TraceItem}
-use Rattle.query_json.specs.declared.writing.trace.TraceItem.TheVariants.{Lent, Made, One}
+use Rattle.query_json.specs.declared.writing.trace.TraceItem.TheVariants.{Copied, Lent, OneProcess}
 use Rattle.query_json.specs.NamedProcesses.{first_named, named_text}
 use Rattle.query_json.specs.Trees.{processes_of, span_tree, trace_id_text, trace_tree}
 
 abbrev pub item_spans : TraceItem → List Shown
-item_spans (One spans) = spans
+item_spans (OneProcess spans) = spans
 item_spans (Lent t) = t.value.spans
-item_spans (Made t) = t.spans.value
+item_spans (Copied t) = t.spans.value
 
 abbrev pub item_tree : TraceItem → Data
 item_tree t = trace_tree (item_spans t)
@@ -45,6 +45,6 @@ abbrev pub pieces_of : List NamedProcess → List Shown → List (List ℕ)
 pieces_of ps ss = open_text ∷ (with_commas (map (named_text ss) ps) ++ span_pieces ss)
 
 abbrev pub trace_pieces : TraceItem → List (List ℕ)
-trace_pieces (One spans) = pieces_of (first_named ∷ []) spans
+trace_pieces (OneProcess spans) = pieces_of (first_named ∷ []) spans
 trace_pieces (Lent t) = pieces_of t.value.processes.items t.value.spans
-trace_pieces (Made t) = string_bytes t.text ∷ []
+trace_pieces (Copied t) = string_bytes t.text ∷ []

@@ -23,7 +23,7 @@ pub(crate) enum Items {
 }
 
 /// Returns the traces as items.
-fn all_written(alloc: Global, traces: Vec<AnsweredTrace>) -> Result<Vec<TraceItem>, AllocError>
+fn trace_items(alloc: Global, traces: Vec<AnsweredTrace>) -> Result<Vec<TraceItem>, AllocError>
     ensures spans { IfOk result (λ v. map item_spans v.items ≡ traces.items) }
     ensures writable { IfOk result (λ v. All IsWritable v.items) }
 {
@@ -49,7 +49,7 @@ fn of_traces(alloc: Global, traces: Seq<AnsweredTrace>) -> Result<Items, AllocEr
     ensures trees { IfOk result (λ i. item_trees i ≡ map trace_tree traces) }
     ensures writable { IfOk result AreWritable }
 {
-    Ok(Items::Traces(all_written(alloc, traces.into_vec())?))
+    Ok(Items::Traces(trace_items(alloc, traces.into_vec())?))
 }
 
 /// Returns the number of pieces of the trace at the index.

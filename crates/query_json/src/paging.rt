@@ -1,6 +1,7 @@
 //! Makes the text of an answer part by part, on one page.
 ghost use Rattle.std.specs.Prelude.{◌≡◌, ◌+◌, ◌^◌, ◌≤◌, ◌<◌, ◌⊎◌, ◌++◌, [], None, false, true, IfOk, OnOk, get_or, length};
 ghost use Rattle.serde_json.specs.Written.{compact_text};
+ghost use Rattle.query_json.specs.declared.paging.TheConstants.{PART_BYTES};
 ghost use Rattle.query_json.specs.Page.{Puts};
 ghost use Rattle.query_json.specs.Pieces.{AreWritable, item_trees, runs_of};
 ghost use Rattle.query_json.specs.Runs.{AllFit, Fills, PutsNext, end_text, front_text, left_at, runs_text};
@@ -45,7 +46,7 @@ pub(crate) struct PagedAnswer {
     items: Items,
     next: Position,
     /// The number of bytes after the current part.
-    left: u64,
+    rest_len: u64,
 }
 
 /// Writes the text before the pieces.
@@ -61,7 +62,7 @@ fn piece_count(items: &Items, run: usize) -> usize
     requires writable { AreWritable items.now }
     requires run { run < length (runs_of items.now) }
     ensures count { result ≡ length (get_or (runs_of items.now) run []) }
-    ensures bound { run < 2 ^ 63 }
+    ensures run_bound { run < 2 ^ 63 }
 {
     if run < items.count() {
         items.piece_count(run) + 1
@@ -130,43 +131,36 @@ fn fill(page: &mut Page, items: &Items, from: Position, enough: usize) -> Positi
     at
 }
 
-fn larger(size: usize, other: usize) -> usize
-    ensures size { size ≤ result }
-    ensures other { other ≤ result }
-{
-    if size < other { other } else { size }
-}
-
 /// Returns the number of bytes of the pieces from a position on, and that of the largest of them. It stores none.
 fn measure(alloc: Global, items: &Items, from: Position) -> Result<(u64, usize), AllocError>
     requires { AreWritable items.now }
-    ensures left { IfOk result (λ r.
+    ensures rest_len { IfOk result (λ r.
         r.0 ≡ length (runs_text (left_at (runs_of items.now) from.run from.piece))) }
     ensures fit { IfOk result (λ r.
         AllFit r.1 (left_at (runs_of items.now) from.run from.piece)) }
 {
-    let mut left = 0u64;
-    let mut largest = 0;
+    let mut rest_len = 0u64;
+    let mut largest = 0usize;
     let mut at = from;
     while at.run <= items.count() {
-        let mut page = Page::without_room(alloc);
+        let mut page = Page::counting(alloc);
         at = write_next(&mut page, items, at);
-        let size = page.lost()?;
-        let Some(more) = left.checked_add(size as u64) else {
+        let size = page.counted()?;
+        let Some(longer) = rest_len.checked_add(size as u64) else {
             // Impossible: no answer's text has 2^64 bytes.
             return Err(AllocError);
         };
-        left = more;
-        largest = larger(largest, size);
+        rest_len = longer;
+        largest = largest.max(size);
     }
-    Ok((left, largest))
+    Ok((rest_len, largest))
 }
 
 /// Returns a page with room for a part whose pieces aren't larger than this.
 fn page_for(alloc: Global, largest: usize) -> Result<Page, AllocError>
     ensures empty { IfOk result (λ p. p.bytes.items ≡ []) }
     ensures open { IfOk result (λ p. p.full ≡ false) }
-    ensures room { IfOk result (λ p. 16384 + largest ≤ p.bytes.room) }
+    ensures room { IfOk result (λ p. PART_BYTES + largest ≤ p.bytes.room) }
 {
     let Some(room) = largest.checked_add(PART_BYTES) else {
         // Impossible: no piece has nearly 2^64 bytes.
@@ -177,7 +171,7 @@ fn page_for(alloc: Global, largest: usize) -> Result<Page, AllocError>
 
 impl PagedAnswer {
     ghost use Rattle.query_json.specs.AnswerPages.{part_of, rest_of, IsReady};
-    ghost use Rattle.query_json.specs.Parts.{IsSome};
+    ghost use Rattle.query_json.specs.Parts.{IsEmptyOnlyAtEnd};
 
     /// Returns a finished text as one part.
     fn whole(alloc: Global, text: Vec<u8>) -> PagedAnswer
@@ -190,7 +184,7 @@ impl PagedAnswer {
             later: None,
             items: Items::none(alloc),
             next: Position { run: 1, piece: 0 },
-            left: 0,
+            rest_len: 0,
         }
     }
 
@@ -207,14 +201,14 @@ impl PagedAnswer {
         ensures text { IfOk result (λ p. part_of p ++ rest_of p
             ≡ first.bytes.items ++ runs_text (left_at (runs_of items) next.run next.piece)) }
     {
-        let (left, largest) = measure(alloc, &items, next)?;
+        let (rest_len, largest) = measure(alloc, &items, next)?;
         let later = page_for(alloc, largest)?;
         Ok(PagedAnswer {
             page: first,
             later: Some(later),
             items,
             next,
-            left,
+            rest_len,
         })
     }
 
@@ -223,7 +217,7 @@ impl PagedAnswer {
         ensures ready { IfOk result IsReady }
         ensures text { IfOk result (λ p.
             part_of p ++ rest_of p ≡ compact_text (items_tree (item_trees items))) }
-        ensures some { IfOk result (λ p. IsSome (part_of p) (rest_of p)) }
+        ensures some { IfOk result (λ p. IsEmptyOnlyAtEnd (part_of p) (rest_of p)) }
     {
         let mut page = Page::with_room(alloc, INITIAL_CAPACITY)?;
         write_start(&mut page);
@@ -248,7 +242,7 @@ impl PagedAnswer {
         ensures ready { IfOk result IsReady }
         ensures text { IfOk result (λ p.
             part_of p ++ rest_of p ≡ compact_text (answer_tree answer)) }
-        ensures some { IfOk result (λ p. IsSome (part_of p) (rest_of p)) }
+        ensures some { IfOk result (λ p. IsEmptyOnlyAtEnd (part_of p) (rest_of p)) }
     {
         if let Some(items) = Items::of(alloc, answer)? {
             return PagedAnswer::of_items(alloc, items);
@@ -265,11 +259,11 @@ impl PagedAnswer {
     }
 
     /// Returns the number of bytes after the current part.
-    pub(crate) fn left(&self) -> u64
+    pub(crate) fn rest_len(&self) -> u64
         requires { IsReady self.now }
         ensures { result ≡ length (rest_of self.now) }
     {
-        self.left
+        self.rest_len
     }
 
     /// Moves pieces to the part until it is large enough. It doesn't allocate.
@@ -279,11 +273,11 @@ impl PagedAnswer {
         ensures ready { IsReady self.new }
         ensures gives { part_of self.new ++ rest_of self.new
             ≡ part_of self.old ++ rest_of self.old }
-        ensures some { IsSome (part_of self.new) (rest_of self.new) }
+        ensures some { IsEmptyOnlyAtEnd (part_of self.new) (rest_of self.new) }
     {
         let before = self.page.len();
         self.next = fill(&mut self.page, &self.items, self.next, PART_BYTES);
-        self.left -= (self.page.len() - before) as u64;
+        self.rest_len -= (self.page.len() - before) as u64;
     }
 
     /// Replaces the first page by the page of the later parts, and drops the first.
@@ -303,7 +297,7 @@ impl PagedAnswer {
         requires { IsReady self.old }
         ensures ready { IsReady self.new }
         ensures gives { part_of self.new ++ rest_of self.new ≡ rest_of self.old }
-        ensures some { IsSome (part_of self.new) (rest_of self.new) }
+        ensures some { IsEmptyOnlyAtEnd (part_of self.new) (rest_of self.new) }
     {
         self.replace_page();
         self.page.clear();

@@ -2,7 +2,7 @@
 ghost use Rattle.std.specs.Prelude.{◌≡◌, ◌+◌, ◌<◌, ◌^◌, [], ◌++◌, IfOk, length};
 ghost use Rattle.serde_json.specs.Written.{compact_text};
 ghost use Rattle.query_json.specs.AnswerPages.{part_of, rest_of, IsReady};
-ghost use Rattle.query_json.specs.Parts.{to_come, IsSome};
+ghost use Rattle.query_json.specs.Parts.{to_come, IsEmptyOnlyAtEnd};
 ghost use Rattle.query_json.specs.Trees.{answer_tree};
 
 use crate::paging::PagedAnswer;
@@ -22,24 +22,24 @@ pub struct AnswerParts {
 impl Model for AnswerParts {
     ghost use Rattle.std.specs.Prelude.{◌≡◌, ◌<◌, ◌^◌, length};
     ghost use Rattle.query_json.specs.AnswerPages.{part_of, rest_of, IsReady};
-    ghost use Rattle.query_json.specs.Parts.{Parted, to_come, IsSome};
+    ghost use Rattle.query_json.specs.Parts.{Parted, to_come, IsEmptyOnlyAtEnd};
 
     ghost Value = { Parted };
 
     ghost view = { λ s. record { part = part_of s.paged; rest = rest_of s.paged } };
 
-    ghost invariant = { λ s. IsReady s.paged × IsSome (part_of s.paged) (rest_of s.paged)
+    ghost invariant = { λ s. IsReady s.paged × IsEmptyOnlyAtEnd (part_of s.paged) (rest_of s.paged)
         × (s.remaining ≡
         length (to_come (record { part = part_of s.paged; rest = rest_of s.paged })))
         × (s.remaining < 2 ^ 63) };
 }
 
 /// Returns the number of bytes that are still to come. One of 2^63 or more is reported as out of memory.
-fn total(part: usize, left: u64) -> Result<usize, AllocError>
-    ensures total { IfOk result (λ n. n ≡ part + left) }
+fn total(part_len: usize, rest_len: u64) -> Result<usize, AllocError>
+    ensures total { IfOk result (λ n. n ≡ part_len + rest_len) }
     ensures bound { IfOk result (λ n. n < 2 ^ 63) }
 {
-    match (part as u64).checked_add(left) {
+    match (part_len as u64).checked_add(rest_len) {
         Some(total) if total <= i64::MAX as u64 => Ok(total as usize),
         // Impossible: no answer's text has 2^63 bytes.
         _ => Err(AllocError),
@@ -58,7 +58,7 @@ impl AnswerParts {
         ensures { IfOk result (λ p. to_come p ≡ compact_text (answer_tree answer)) }
     {
         let paged = PagedAnswer::new(alloc, answer)?;
-        let remaining = total(paged.part().len(), paged.left())?;
+        let remaining = total(paged.part().len(), paged.rest_len())?;
         Ok(AnswerParts { paged, remaining })
     }
 

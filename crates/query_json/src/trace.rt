@@ -32,24 +32,18 @@ fn span_json(alloc: Global, process: &str, shown: &Shown) -> Result<Value, Alloc
         IfOk result (λ v. view v ≡ span_tree ps shown.now) }
 {
     let span = &shown.placed.span;
-    let logs = list(alloc, span.logs.as_slice())?;
-    let references = list(alloc, span.references.as_slice())?;
-    let id = span_text(alloc, span.id)?;
-    let tags = list(alloc, span.tags.as_slice())?;
-    let trace = trace_text(alloc, span.trace)?;
-    let warnings = warnings_json(alloc, shown.warnings.as_slice())?;
     json!(in alloc; {
         "duration": span.duration,
         "flags": flags_number(span.flags),
-        "logs": logs,
+        "logs": list(alloc, span.logs.as_slice())?,
         "operationName": span.operation.as_str(),
         "processID": process,
-        "references": references,
-        "spanID": id,
+        "references": list(alloc, span.references.as_slice())?,
+        "spanID": span_text(alloc, span.id)?,
         "startTime": span.start,
-        "tags": tags,
-        "traceID": trace,
-        "warnings": warnings
+        "tags": list(alloc, span.tags.as_slice())?,
+        "traceID": trace_text(alloc, span.trace)?,
+        "warnings": warnings_json(alloc, shown.warnings.as_slice())?
     })
 }
 
@@ -134,7 +128,7 @@ impl Tree for AnsweredTrace {
 
     fn to_json(&self, alloc: Global) -> Result<Value, AllocError> {
         match self.form() {
-            TraceForm::Ready(made) => made.to_json(alloc),
+            TraceForm::Copied(copied) => copied.to_json(alloc),
             TraceForm::Lone(span) => show_lone(alloc, span)?.to_json(alloc),
             TraceForm::Kept(kept) => show(alloc, kept)?.to_json(alloc),
         }

@@ -95,6 +95,6 @@ impl WriteJson for Name {
     ghost tree = { λ n. string n };
 
     fn write(&self, out: &mut Page) {
-        out.string(self.as_str());
+        out.push_quoted(self.as_str());
     }
 }

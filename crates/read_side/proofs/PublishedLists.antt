@@ -8,14 +8,15 @@ use Rattle.trace_model.specs.declared.entry.Entry.{Entry}
 use Rattle.trace_model.specs.declared.limits.Limits.{Limits}
 use Rattle.trace_model.specs.declared.refusal.Refusal.{Refusal}
 use Rattle.trace_model.proofs.Prefixes.{prefix_trans}
-use Rattle.read_side.specs.Keepers.{Lists, after_admission, Answers, Admissions}
+use Rattle.read_side.specs.Keepers.{Lists, after_admission, admit_call, Answers, Admissions}
 
 shown-after : (k : Lists) (e : Entry) (a : Admission) → (after_admission k e a).published ≡ k.published
 shown-after k e Added = refl
 shown-after k e (Resent place) = refl
 
 -- one call
-pub grows : (limits : Limits) (k : Lists) (e : Entry) (r : Result ℕ Refusal) (m : Lists) → Answers limits k e r m → IsPrefix k.published m.published
+pub grows : (limits : Limits) (k : Lists) (e : Entry) (r : Result ℕ Refusal) (m : Lists) → Answers (admit_call limits k e m) r
+    → IsPrefix k.published m.published
 grows limits k e (Ok place) m g =
     let behind = (after_admission k e g.0).pending in
     (behind, ap (λ z. z ++ behind) (sym (shown-after k e g.0)) ∙ sym (ap (λ (z : Lists). z.published) g.2))

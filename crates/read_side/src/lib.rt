@@ -34,7 +34,7 @@ pub use counted_log::{CountedLog, EmptyLog};
 pub use held::Held;
 pub use history::{EmptyHistory, StoreName};
 pub use keeper::Keeper;
-pub use opening::open;
+pub use opening::{MAX_READERS, open};
 pub use pass::{Pass, Reading};
 pub use prefix::{HistoryPrefix, longest};
 pub use receipt::Receipt;

@@ -18,16 +18,20 @@ use std::hash::RandomState;
 use std::sync::Wait;
 use trace_model::{Limits, Refusal};
 
+/// The greatest number of readers of a store.
+pub const MAX_READERS: usize = 64;
+
 /// Drops what was made before memory ran out.
 fn without_memory<T: Drop, R>(made: T) -> Result<R, Refusal>
     ensures { result ≡ Err NoMemory }
 {
+    // For the prover: an explicit drop is cheaper than one at the end of the block.
     drop(made);
     Err(Refusal::NoMemory)
 }
 
-/// Opens an empty store over this history, which `N` names, for 1 to 64 readers. The keys are those of the hash by
-/// which it finds traces.
+/// Opens an empty store over this history, which `N` names, for 1 to [`MAX_READERS`] readers. The keys are those of the
+/// hash by which it finds traces.
 ///
 /// # Errors
 ///
@@ -40,7 +44,7 @@ pub fn open<N: StoreName, R: Wait>(
     limits: Limits,
     readers: usize,
 ) -> Result<(Keeper<N>, Vec<Pass<N>>), Refusal>
-    requires readers { (1 ≤ readers) × (readers ≤ 64) }
+    requires readers { (1 ≤ readers) × (readers ≤ MAX_READERS) }
     requires book { history.seen.book ≡ N.book }
     requires limits { limits ≡ N.limits }
     ensures keeper { IfOk result (λ r. r.0 ≡ no_entries) }

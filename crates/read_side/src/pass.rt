@@ -257,9 +257,9 @@ impl<N: StoreName> Pass<N> {
         let Some(inside) = &self.inside else {
             unreachable!();
         };
-        let side = inside.get();
-        let front = side.len();
-        let collected = side.collect(query)?;
+        let copy = inside.get();
+        let front = copy.len();
+        let collected = copy.collect(query)?;
         Ok(Collection { front, collected })
     }
 }

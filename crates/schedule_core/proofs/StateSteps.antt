@@ -28,7 +28,7 @@ use Rattle.schedule_core.specs.declared.readers.ReaderState.{ReaderState}
 use Rattle.schedule_core.specs.Machine.{Machine, Reader, Stepped, Visit, drops, outcome_by, judged_job, takes_by, takes, holds, published, publishes}
 use Rattle.schedule_core.specs.Machine.{publishes_by, with_reader}
 use Rattle.schedule_core.specs.JobNumbers.{IsNumbered}
-use Rattle.schedule_core.specs.CopiedLists.{Copied, after_admission, turned, with_pending}
+use Rattle.schedule_core.specs.CopiedLists.{Copied, after_admission, swapped, with_pending}
 use Rattle.schedule_core.specs.WaitingJobs.{Queued, number_after, next_number, queued}
 use Rattle.schedule_core.specs.ReaderStates.{is_held, visit_at, reader_at, Visits, Stands}
 use Rattle.schedule_core.specs.MachineStates.{IsState, Verdict, machine_of, verdict}
@@ -188,11 +188,11 @@ none_held publishes places e =
     All-from_get_or (λ p. is_held publishes p ≡ false) places outside (λ i lt. fails_before_first (is_held publishes) places i outside (omega arith))
 
 -- a visit to the history is then one to what was the history
-visit_turned : (before h pending : List Entry) (publishes : ℕ) (o : Option Inside)
+visit_swapped : (before h pending : List Entry) (publishes : ℕ) (o : Option Inside)
     → IfSome o (Visits before h publishes) → option_map_or (λ (v : Inside). nat_lt v.publishes publishes) o false ≡ false
     → IfSome o (Visits h (h ++ pending) (publishes + 1))
-visit_turned before h pending publishes None s e = tt
-visit_turned before h pending publishes (Some v) s e =
+visit_swapped before h pending publishes None s e = tt
+visit_swapped before h pending publishes (Some v) s e =
     let stays = take-append-le v.front h pending s.0 in
     let fits : v.front ≤ length (h ++ pending) = omega (arith, length-append h pending, s.0) in
     elim s.1 [
@@ -200,9 +200,9 @@ visit_turned before h pending publishes (Some v) s e =
       | inr late ↦ absurd (false≢true (sym e ∙ lt-ltb v.publishes publishes (omega (arith, late.0))))
     ]
 
-stands_turned : (before h pending : List Entry) (publishes : ℕ) (p : ReaderState)
+stands_swapped : (before h pending : List Entry) (publishes : ℕ) (p : ReaderState)
     → Stands before h publishes p → is_held publishes p ≡ false → Stands h (h ++ pending) (publishes + 1) p
-stands_turned before h pending publishes p s e = (omega (arith, length-append h pending, s.0), visit_turned before h pending publishes p.inside s.1 e)
+stands_swapped before h pending publishes p s e = (omega (arith, length-append h pending, s.0), visit_swapped before h pending publishes p.inside s.1 e)
 
 -- a visit to the history stays one, whatever the other copy holds
 visit_kept : (before other h : List Entry) (publishes : ℕ) (o : Option Inside)
@@ -231,9 +231,9 @@ state_kept c other q fronts places s e = record {
 
 pub state_published : (c : Copied) (q : Queued) (fronts : List ℕ) (places : List ReaderState)
     → IsState c q fronts places → position (is_held (length fronts)) places ≡ None
-    → IsState (turned c) q (fronts ++ length (turned c).history ∷ []) places
+    → IsState (swapped c) q (fronts ++ length (swapped c).history ∷ []) places
 state_published c q fronts places s e =
-    let now = turned c in
+    let now = swapped c in
     record {
       numbered = subst (λ a. IsNumbered a q.waiting q.numbers) (sym (append-nil (c.history ++ c.pending))) s.numbered;
       within = All-push (λ f. f ≤ length now.history) fronts (length now.history)
@@ -241,7 +241,7 @@ state_published c q fronts places s e =
           (omega arith);
       standing = subst (λ n. All (Stands c.history now.history n) places) (sym (length-append fronts (length now.history ∷ [])))
           (both (Stands c.before c.history (length fronts)) (λ p. is_held (length fronts) p ≡ false) (Stands c.history now.history (length fronts + 1))
-          (stands_turned c.before c.history c.pending (length fronts)) places s.standing (none_held (length fronts) places e));
+          (stands_swapped c.before c.history c.pending (length fronts)) places s.standing (none_held (length fronts) places e));
     }
 
 -- ---- what the machine sees of the readers
@@ -272,7 +272,7 @@ readers_same before h pending publishes (p ∷ ps) s =
     ∙ ap (λ xs. reader_at h p ∷ xs) (readers_same before h pending publishes ps (All-tail P p ps s))
 
 pub view_published : (c : Copied) (q : Queued) (fronts : List ℕ) (places : List ReaderState) → IsState c q fronts places
-    → machine_of (turned c) q (fronts ++ length (turned c).history ∷ []) places ≡ published (machine_of c q fronts places)
+    → machine_of (swapped c) q (fronts ++ length (swapped c).history ∷ []) places ≡ published (machine_of c q fronts places)
 view_published c q fronts places s =
     ap (λ (x : List Reader). record (published (machine_of c q fronts places)) { readers = x })
     (readers_same c.before c.history c.pending (length fronts) places s.standing)
@@ -307,24 +307,24 @@ abbrev pub after : Outcome → Machine → Stepped
 after o m = record { outcome = o; machine = m }
 
 pub published_alike : (c now : Copied) (q : Queued) (fronts fronts_now : List ℕ) (places : List ReaderState) (front : ℕ) → IsState c q fronts places
-    → position (is_held (length fronts)) places ≡ None → now ≡ turned c → front ≡ length now.history → fronts_now ≡ fronts ++ front ∷ []
+    → position (is_held (length fronts)) places ≡ None → now ≡ swapped c → front ≡ length now.history → fronts_now ≡ fronts ++ front ∷ []
     → record { outcome = Published front; machine = machine_of now q fronts_now places } ≡ publishes (machine_of c q fronts places)
 published_alike c now q fronts fronts_now places front s e is f grown =
     let top = f ∙ ap (λ (k : Copied). length k.history) is in
     ap (λ fs. after (Published front) (machine_of now q fs places)) grown
     ∙ ap (λ k. after (Published front) (machine_of k q (fronts ++ front ∷ []) places)) is
-    ∙ ap (λ n. after (Published n) (machine_of (turned c) q (fronts ++ n ∷ []) places)) top
+    ∙ ap (λ n. after (Published n) (machine_of (swapped c) q (fronts ++ n ∷ []) places)) top
     ∙ ap (λ m. after (Published (length (c.history ++ c.pending))) m) (view_published c q fronts places s)
     ∙ ap (λ o. publishes_by (machine_of c q fronts places) o) (sym (held_first c q fronts places ∙ e))
 
-pub state_turned : (c now : Copied) (q : Queued) (fronts fronts_now : List ℕ) (places : List ReaderState) (front : ℕ) → IsState c q fronts places
-    → position (is_held (length fronts)) places ≡ None → now ≡ turned c → front ≡ length now.history → fronts_now ≡ fronts ++ front ∷ []
+pub state_swapped : (c now : Copied) (q : Queued) (fronts fronts_now : List ℕ) (places : List ReaderState) (front : ℕ) → IsState c q fronts places
+    → position (is_held (length fronts)) places ≡ None → now ≡ swapped c → front ≡ length now.history → fronts_now ≡ fronts ++ front ∷ []
     → IsState now q fronts_now places
-state_turned c now q fronts fronts_now places front s e is f grown =
+state_swapped c now q fronts fronts_now places front s e is f grown =
     let top = f ∙ ap (λ (k : Copied). length k.history) is in
     subst (λ fs. IsState now q fs places) (sym grown)
     (subst (λ n. IsState now q (fronts ++ n ∷ []) places) (sym top)
-    (subst (λ k. IsState k q (fronts ++ length (turned c).history ∷ []) places) (sym is) (state_published c q fronts places s e)))
+    (subst (λ k. IsState k q (fronts ++ length (swapped c).history ∷ []) places) (sym is) (state_published c q fronts places s e)))
 
 -- ---- the first moment
 

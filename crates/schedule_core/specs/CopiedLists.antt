@@ -37,5 +37,5 @@ after_admission c e (Ok (Resent place)) = c
 after_admission c e (Err why) = c
 
 -- the copies have swapped roles, and the shown one has all
-abbrev pub turned : Copied → Copied
-turned c = record { limits = c.limits; before = c.history; history = c.history ++ c.pending; pending = [] }
+abbrev pub swapped : Copied → Copied
+swapped c = record { limits = c.limits; before = c.history; history = c.history ++ c.pending; pending = [] }

@@ -16,6 +16,9 @@ use Rattle.trace_model.specs.Histories.{span_count}
 use Rattle.trace_model.specs.ResentBatches.{sent_before}
 use Rattle.trace_model.specs.Refusals.{has_room, repeated}
 use Rattle.trace_model.specs.Answers.{answer}
+use Rattle.trace_model.specs.declared.trace_limit.TheConstants.TraceLimit as TraceLimit
+use Rattle.schedule_core.specs.declared.readers.TheConstants.{READERS}
+use Rattle.schedule_core.specs.declared.seats.TheConstants.{SEATS}
 use Rattle.schedule_core.specs.declared.step.Step.{Step}
 use Rattle.schedule_core.specs.declared.step.Step.TheVariants as ask
 use Rattle.schedule_core.specs.declared.outcome.Outcome.{Outcome}
@@ -50,8 +53,8 @@ new_machine limits = record {
   pending = [];
   history = [];
   fronts = [];
-  numbers = replicate 64 0;
-  readers = replicate 64 (record { seen = []; inside = None });
+  numbers = replicate SEATS 0;
+  readers = replicate READERS (record { seen = []; inside = None });
 }
 
 pub record Stepped : Type 0 where
@@ -79,9 +82,9 @@ abbrev pub puts : Machine → ℕ → Work → Option ℕ → Stepped
 puts m seat work None = stays m Unknown
 puts m seat work (Some last) = if nat_lt last 18446744073709551615 then with_submitted m seat work (last + 1) else stays m Unknown
 
--- a limit above 1,000,000 does nothing
+-- a limit above the greatest one does nothing
 abbrev pub limits_by : Machine → ℕ → ℕ → Option ℕ → Stepped
-limits_by m seat n last = if nat_le n 1000000 then puts m seat (brings.TraceLimit n) last else stays m Unknown
+limits_by m seat n last = if nat_le n TraceLimit.MAX then puts m seat (brings.TraceLimit n) last else stays m Unknown
 
 abbrev pub full : Machine → Refusal
 full m = JournalFull (length (accepted m)) (span_count (accepted m))

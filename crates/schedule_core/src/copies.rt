@@ -10,7 +10,7 @@ ghost use Rattle.trace_model.specs.Refusals.{followed_by};
 ghost use Rattle.trace_model.specs.declared.admission.Admission.TheVariants.{Added};
 ghost use Rattle.trace_model.specs.declared.refusal.Refusal.TheVariants.{NoMemory};
 ghost use Rattle.arrival_journal.specs.Journals.{admission_by};
-ghost use Rattle.schedule_core.specs.CopiedLists.{after_admission, all_of, turned};
+ghost use Rattle.schedule_core.specs.CopiedLists.{after_admission, all_of, swapped};
 
 use arrival_journal::Journal;
 use span_store::SpanStore;
@@ -51,6 +51,7 @@ impl Model for Copies {
 pub(crate) fn without_memory<T: Drop, R>(made: T) -> Result<R, AllocError>
     ensures { IsErr result }
 {
+    // For the prover: an explicit drop is cheaper than one at the end of the block.
     drop(made);
     Err(AllocError)
 }
@@ -114,7 +115,7 @@ impl Copies {
     ///
     /// Out of memory, and nothing else. The history and the pending entries are then unchanged.
     pub fn publish(&mut self) -> Result<(), AllocError>
-        ensures turned { OnOk result (self.new ≡ turned self.old) }
+        ensures swapped { OnOk result (self.new ≡ swapped self.old) }
         ensures stays { OnErr result (self.new ≡ record self.old { before = self.new.before }) }
     {
         catch_up(&mut self.spare, self.accepted.entries())?;

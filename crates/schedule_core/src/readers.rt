@@ -46,12 +46,13 @@ pub(crate) struct Readers {
 impl Model for Readers {
     ghost use Rattle.std.specs.Prelude.{◌≡◌, List, length};
     ghost use Rattle.schedule_core.specs.declared.readers.ReaderState.{ReaderState};
+    ghost use Rattle.schedule_core.specs.declared.readers.TheConstants.{READERS};
 
     ghost Value = { List ReaderState };
 
     ghost view = { λ s. s.places.items };
 
-    ghost invariant = { λ s. length s.places.items ≡ 64 };
+    ghost invariant = { λ s. length s.places.items ≡ READERS };
 }
 
 impl Readers {
@@ -61,7 +62,7 @@ impl Readers {
     ///
     /// Out of memory, and nothing else.
     pub fn new(alloc: Global) -> Result<Readers, AllocError>
-        ensures { IfOk result (λ s. s ≡ replicate 64 (record { seen = 0; inside = None })) }
+        ensures { IfOk result (λ s. s ≡ replicate READERS (record { seen = 0; inside = None })) }
     {
         let outside = ReaderState {
             seen: 0,
@@ -97,7 +98,7 @@ impl Readers {
 
     fn place_of_held(&self, publishes: u64) -> Option<usize>
         ensures first { result ≡ position (is_held publishes) self.now }
-        ensures bound { IfSome result (λ first. first < 64) }
+        ensures bound { IfSome result (λ first. first < READERS) }
     {
         self.places
             .iter()

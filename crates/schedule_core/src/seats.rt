@@ -11,7 +11,7 @@ use std::sync::Arc;
 use trace_model::{Entry, Work};
 
 /// The number of seats.
-const MAX_SEATS: usize = 64;
+const SEATS: usize = 64;
 
 /// The jobs that wait, and the last number of each seat.
 #[derive(Drop)]
@@ -25,12 +25,13 @@ impl Model for Seats {
     ghost use Rattle.std.specs.Prelude.{◌≡◌, map, length};
     ghost use Rattle.std.specs.Arc.{arc_value};
     ghost use Rattle.schedule_core.specs.WaitingJobs.{Queued};
+    ghost use Rattle.schedule_core.specs.declared.seats.TheConstants.{SEATS};
 
     ghost Value = { Queued };
 
     ghost view = { λ s. record { waiting = map arc_value s.waiting.items; numbers = s.numbers.items } };
 
-    ghost invariant = { λ s. length s.numbers.items ≡ 64 };
+    ghost invariant = { λ s. length s.numbers.items ≡ SEATS };
 }
 
 impl Seats {
@@ -40,12 +41,12 @@ impl Seats {
     ///
     /// Out of memory, and nothing else.
     pub fn new(alloc: Global) -> Result<Seats, AllocError>
-        ensures { IfOk result (λ s. s ≡ record { waiting = []; numbers = replicate 64 0 }) }
+        ensures { IfOk result (λ s. s ≡ record { waiting = []; numbers = replicate SEATS 0 }) }
     {
         Ok(Seats {
             alloc,
             waiting: VecDeque::new(alloc),
-            numbers: vec![in alloc; 0u64; MAX_SEATS]?,
+            numbers: vec![in alloc; 0u64; SEATS]?,
         })
     }
 

@@ -27,7 +27,7 @@ use Rattle.trace_model.proofs.LastEntries.{last_entry}
 use Rattle.trace_model.proofs.Lists.{map_agree}
 use Rattle.trace_model.proofs.ResentBatches.{sent_as, limit_not_sent, alike}
 use Rattle.sent_batches.specs.BatchHashes.{hash_of, batch_hash}
-use Rattle.sent_batches.specs.SentIndex.{has_number, numbered_from, work_hash, hash_after, is_sent_after, Sent, IsSentKept}
+use Rattle.sent_batches.specs.SentIndex.{has_seq_no, numbered_from, work_hash, hash_after, is_sent_after, Sent, IsSentKept}
 use Rattle.hash_tables.specs.RowPlaces.{LeadsTo}
 
 -- ---- batches that were sent as one another
@@ -36,7 +36,7 @@ pub resend_each_other : (w u v : Work) → resends w u ≡ true → resends w v 
 resend_each_other w u v e f = sym (alike w u e v) ∙ f
 
 -- what a work resends has a number
-pub resent_has : (w u : Work) → resends w u ≡ true → has_number u ≡ true
+pub resent_has : (w u : Work) → resends w u ≡ true → has_seq_no u ≡ true
 resent_has (brings.Batch a) (brings.Batch b) e = let s = sent_as a b e in ap is_some (sym s.number) ∙ s.numbered
 resent_has (brings.Batch a) (brings.TraceLimit n) e = absurd (false≢true e)
 resent_has (brings.TraceLimit m) u e = absurd (false≢true e)
@@ -60,17 +60,17 @@ same_hash keys b (d ∷ h) (suc before) e = same_hash keys b h before e
 
 -- ---- the entries with a number
 pub numbered_push : (n : ℕ) (h : List Entry) (e : Entry)
-    → numbered_from n (h ++ e ∷ []) ≡ numbered_from n h ++ (if has_number e.work then (n + length h) ∷ [] else [])
-numbered_push n [] e = elim (has_number e.work) as (λ b. (if b then n ∷ [] else []) ≡ (if b then (n + 0) ∷ [] else [])) [
+    → numbered_from n (h ++ e ∷ []) ≡ numbered_from n h ++ (if has_seq_no e.work then (n + length h) ∷ [] else [])
+numbered_push n [] e = elim (has_seq_no e.work) as (λ b. (if b then n ∷ [] else []) ≡ (if b then (n + 0) ∷ [] else [])) [
   | true ↦ ap (λ m. m ∷ []) (omega arith)
   | false ↦ refl
 ]
 numbered_push n (d ∷ h) e =
     let rest = numbered_push (n + 1) h e in
-    let last : (if has_number e.work then (n + 1 + length h) ∷ [] else []) ≡ (if has_number e.work then (n + suc (length h)) ∷ [] else []) =
-    ap (λ m. if has_number e.work then m ∷ [] else []) (omega arith) in
-    elim (has_number d.work) as (λ b. (if b then n ∷ numbered_from (n + 1) (h ++ e ∷ []) else numbered_from (n + 1) (h ++ e ∷ []))
-    ≡ (if b then n ∷ numbered_from (n + 1) h else numbered_from (n + 1) h) ++ (if has_number e.work then (n + suc (length h)) ∷ [] else [])) [
+    let last : (if has_seq_no e.work then (n + 1 + length h) ∷ [] else []) ≡ (if has_seq_no e.work then (n + suc (length h)) ∷ [] else []) =
+    ap (λ m. if has_seq_no e.work then m ∷ [] else []) (omega arith) in
+    elim (has_seq_no d.work) as (λ b. (if b then n ∷ numbered_from (n + 1) (h ++ e ∷ []) else numbered_from (n + 1) (h ++ e ∷ []))
+    ≡ (if b then n ∷ numbered_from (n + 1) h else numbered_from (n + 1) h) ++ (if has_seq_no e.work then (n + suc (length h)) ∷ [] else [])) [
       | true ↦ ap (λ ks. n ∷ ks) (rest ∙ ap (λ ks. numbered_from (n + 1) h ++ ks) last)
       | false ↦ rest ∙ ap (λ ks. numbered_from (n + 1) h ++ ks) last
     ]
@@ -79,7 +79,7 @@ numbered_push n (d ∷ h) e =
 pub numbered_below : (n : ℕ) (h : List Entry) (row : ℕ) → row < length (numbered_from n h) → get_or (numbered_from n h) row 0 < n + length h
 numbered_below n [] row l = absurd (omega arith)
 numbered_below n (d ∷ h) row l =
-    elim (has_number d.work) as (λ b. row < length (if b then n ∷ numbered_from (n + 1) h else numbered_from (n + 1) h)
+    elim (has_seq_no d.work) as (λ b. row < length (if b then n ∷ numbered_from (n + 1) h else numbered_from (n + 1) h)
     → get_or (if b then n ∷ numbered_from (n + 1) h else numbered_from (n + 1) h) row 0 < n + suc (length h)) [
       | true ↦ λ m. first (λ r below. numbered_below (n + 1) h r below) row m
       | false ↦ λ m. let r = numbered_below (n + 1) h row m in omega arith
@@ -97,7 +97,7 @@ pub numbered_few : (n : ℕ) (h : List Entry) → length (numbered_from n h) ≤
 numbered_few n [] = omega arith
 numbered_few n (d ∷ h) =
     let rest = numbered_few (n + 1) h in
-    elim (has_number d.work) as (λ b. length (if b then n ∷ numbered_from (n + 1) h else numbered_from (n + 1) h) ≤ suc (length h)) [
+    elim (has_seq_no d.work) as (λ b. length (if b then n ∷ numbered_from (n + 1) h else numbered_from (n + 1) h) ≤ suc (length h)) [
       | true ↦ omega arith
       | false ↦ omega arith
     ]
@@ -108,18 +108,18 @@ pub record IsRow (befores : List ℕ) (before : ℕ) : Type 0 where
   pub within : row < length befores
   pub is : get_or befores row 0 ≡ before
 
-pub row_there : (n : ℕ) (h : List Entry) (i : ℕ) (e : Entry) → slice_get h i ≡ Some e → has_number e.work ≡ true → IsRow (numbered_from n h) (n + i)
+pub row_there : (n : ℕ) (h : List Entry) (i : ℕ) (e : Entry) → slice_get h i ≡ Some e → has_seq_no e.work ≡ true → IsRow (numbered_from n h) (n + i)
 row_there n [] i e at num = absurd (cc at)
 row_there n (d ∷ h) zero e at num =
     let same : d ≡ e = cc at in
-    elim (has_number d.work) as (λ b. has_number d.work ≡ b → IsRow (if b then n ∷ numbered_from (n + 1) h else numbered_from (n + 1) h) (n + zero)) [
+    elim (has_seq_no d.work) as (λ b. has_seq_no d.work ≡ b → IsRow (if b then n ∷ numbered_from (n + 1) h else numbered_from (n + 1) h) (n + zero)) [
       | true ↦ λ t. record { row = 0; within = omega arith; is = omega arith }
-      | false ↦ λ f. absurd (false≢true (sym f ∙ ap (λ (x : Entry). has_number x.work) same ∙ num))
+      | false ↦ λ f. absurd (false≢true (sym f ∙ ap (λ (x : Entry). has_seq_no x.work) same ∙ num))
     ] refl
 row_there n (d ∷ h) (suc i) e at num =
     let r = row_there (n + 1) h i e at num in
     let is : get_or (numbered_from (n + 1) h) r.row 0 ≡ n + suc i = r.is ∙ omega arith in
-    elim (has_number d.work) as (λ b. IsRow (if b then n ∷ numbered_from (n + 1) h else numbered_from (n + 1) h) (n + suc i)) [
+    elim (has_seq_no d.work) as (λ b. IsRow (if b then n ∷ numbered_from (n + 1) h else numbered_from (n + 1) h) (n + suc i)) [
       | true ↦ record { row = suc r.row; within = omega (arith, r.within); is = is }
       | false ↦ record { row = r.row; within = r.within; is = is }
     ]
@@ -198,12 +198,12 @@ found_none h e b brought none =
 
 -- ---- one more entry
 -- a list that is longer by an entry with a number has one row more, and is else unchanged
-pub more_rows : (h : List Entry) (e : Entry) → has_number e.work ≡ true → numbered_from 0 (h ++ e ∷ []) ≡ numbered_from 0 h ++ length h ∷ []
+pub more_rows : (h : List Entry) (e : Entry) → has_seq_no e.work ≡ true → numbered_from 0 (h ++ e ∷ []) ≡ numbered_from 0 h ++ length h ∷ []
 more_rows h e num =
     numbered_push 0 h e ∙ ap (λ b. numbered_from 0 h ++ (if b then (0 + length h) ∷ [] else [])) num
     ∙ ap (λ n. numbered_from 0 h ++ n ∷ []) (none_more (length h))
 
-pub same_rows : (h : List Entry) (e : Entry) → has_number e.work ≡ false → numbered_from 0 (h ++ e ∷ []) ≡ numbered_from 0 h
+pub same_rows : (h : List Entry) (e : Entry) → has_seq_no e.work ≡ false → numbered_from 0 (h ++ e ∷ []) ≡ numbered_from 0 h
 same_rows h e none = numbered_push 0 h e ∙ ap (λ b. numbered_from 0 h ++ (if b then (0 + length h) ∷ [] else [])) none ∙ append-nil (numbered_from 0 h)
 
 -- there is room for the last entry of a list, and for a row of it
@@ -223,7 +223,7 @@ one_more entries a e sent some is value kept room =
     let few : length sent.befores < sent.room = omega (arith, numbered_few 0 h, ap length kept.befores, length-append h (e ∷ [])) in
     record { last = last; within = within; befores = few; hashes = omega (arith, ap length kept.hashes, length-map sent.befores (hash_after sent.keys h)) }
 
-pub kept_same : (h : List Entry) (e : Entry) (sent : Sent) → IsSentKept (before_last h) sent → has_number e.work ≡ false → OneMore h e sent → IsSentKept h sent
+pub kept_same : (h : List Entry) (e : Entry) (sent : Sent) → IsSentKept (before_last h) sent → has_seq_no e.work ≡ false → OneMore h e sent → IsSentKept h sent
 kept_same h e sent kept none more =
     let before = before_last h in
     subst (λ (l : List Entry). IsSentKept l sent) more.last record {
@@ -241,7 +241,7 @@ pub kept_more : (h : List Entry) (e : Entry) (b : Batch) (sent more : Sent) → 
     → more.keys ≡ sent.keys → more.room ≡ sent.room → more.befores ≡ sent.befores ++ length h ∷ [] → more.hashes ≡ sent.hashes ++ batch_hash sent.keys b ∷ []
     → LeadsTo (sent.hashes ++ batch_hash sent.keys b ∷ []) more.slots → IsSentKept (h ++ e ∷ []) more
 kept_more h e b sent more kept brought num room keys rooms befores hashes leads =
-    let has : has_number e.work ≡ true = ap has_number brought ∙ num in
+    let has : has_seq_no e.work ≡ true = ap has_seq_no brought ∙ num in
     let rows : more.befores ≡ numbered_from 0 (h ++ e ∷ []) = befores ∙ ap (λ ks. ks ++ length h ∷ []) kept.befores ∙ sym (more_rows h e has) in
     let last : hash_after sent.keys (h ++ e ∷ []) (length h) ≡ batch_hash sent.keys b = behind_last sent.keys h e ∙ ap (work_hash sent.keys) brought in
     let old : map (hash_after sent.keys (h ++ e ∷ [])) (numbered_from 0 h) ≡ sent.hashes =
@@ -260,10 +260,10 @@ kept_more h e b sent more kept brought num room keys rooms befores hashes leads 
       leads = subst (λ hs. LeadsTo hs more.slots) (sym hashes) leads;
     }
 
-pub limit_has_none : (w : Work) → batch_brought w ≡ None → has_number w ≡ false
+pub limit_has_none : (w : Work) → batch_brought w ≡ None → has_seq_no w ≡ false
 limit_has_none (brings.Batch b) e = absurd (cc e)
 limit_has_none (brings.TraceLimit n) e = refl
 
-pub batch_has : (w : Work) (b : Batch) → batch_brought w ≡ Some b → has_number w ≡ is_some b.seq_no
+pub batch_has : (w : Work) (b : Batch) → batch_brought w ≡ Some b → has_seq_no w ≡ is_some b.seq_no
 batch_has (brings.Batch a) b e = let same : a ≡ b = cc e in ap (λ (x : Batch). is_some x.seq_no) same
 batch_has (brings.TraceLimit n) b e = absurd (cc e)

@@ -1,4 +1,4 @@
--- The index of the batches with a number in a list of entries.
+-- The index of the batches with a `seqNo` in a list of entries.
 use Rattle.std.specs.Prelude.{◌≡◌, ℕ, ◌+◌, ◌<◌, ◌≤◌, ◌^◌, Bool, false, List, [], ◌∷◌, map, length, get_or, slice_get, if◌then◌else◌}
 use Rattle.std.specs.Option.{is_some, option_map_or}
 use Rattle.jaeger_model.specs.declared.batch.Batch.{Batch}
@@ -11,15 +11,15 @@ use Rattle.hash_tables.specs.RowPlaces.{Slots, LeadsTo}
 use Rattle.sent_batches.specs.declared.keys.BatchKeys.{BatchKeys}
 use Rattle.sent_batches.specs.BatchHashes.{batch_hash}
 
--- it brings a batch with a number
-abbrev pub has_number : Work → Bool
-has_number (brings.Batch b) = is_some b.seq_no
-has_number (brings.TraceLimit n) = false
+-- it brings a batch with a `seqNo`
+abbrev pub has_seq_no : Work → Bool
+has_seq_no (brings.Batch b) = is_some b.seq_no
+has_seq_no (brings.TraceLimit n) = false
 
--- for each entry with a batch with a number, the number of entries before it, counted from n at the first of all
+-- for each entry with a batch with a `seqNo`, the number of entries before it, counted from n at the first of all
 abbrev pub numbered_from : ℕ → List Entry → List ℕ
 numbered_from n [] = []
-numbered_from n (e ∷ h) = if has_number e.work then n ∷ numbered_from (n + 1) h else numbered_from (n + 1) h
+numbered_from n (e ∷ h) = if has_seq_no e.work then n ∷ numbered_from (n + 1) h else numbered_from (n + 1) h
 
 -- the hash of the entry's batch; 0 of a limit
 abbrev pub work_hash : BatchKeys → Work → ℕ
@@ -33,7 +33,7 @@ hash_after keys h before = option_map_or (λ (e : Entry). work_hash keys e.work)
 abbrev pub is_sent_after : Batch → List Entry → ℕ → Bool
 is_sent_after b h before = option_map_or (λ (e : Entry). resends (brings.Batch b) e.work) (slice_get h before) false
 
--- the value of an index: for each entry with a number the number of entries before it and the hash; the places that
+-- the value of an index: for each entry with a `seqNo` the number of entries before it and the hash; the places that
 -- lead to them; and the number of entries that there is room for in all
 pub record Sent : Type 0 where
   pub keys : BatchKeys

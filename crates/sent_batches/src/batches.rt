@@ -1,11 +1,11 @@
-//! The batches with a number in a list of entries.
+//! The batches with a `seqNo` in a list of entries.
 
 ghost use Rattle.std.specs.Prelude.{◌≡◌, ◌<◌, ◌≤◌, [], ◌∷◌, ◌++◌, true, map, length, IfOk};
 ghost use Rattle.std.specs.Arc.{arc_value};
 ghost use Rattle.trace_model.specs.ResentBatches.{SentOnceAfter, sent_before};
 ghost use Rattle.trace_model.specs.Histories.{before_last};
 ghost use Rattle.trace_model.specs.declared.entry.Entry.{Entry as EntryValue};
-ghost use Rattle.sent_batches.specs.SentIndex.{IsSentKept, has_number, work_hash};
+ghost use Rattle.sent_batches.specs.SentIndex.{IsSentKept, has_seq_no, work_hash};
 
 use crate::keys::BatchKeys;
 use crate::sought::SoughtBatch;
@@ -15,7 +15,7 @@ use std::marker::Model;
 use std::sync::Arc;
 use trace_model::Entry;
 
-/// The batches with a number in a list of entries that grows at its end.
+/// The batches with a `seqNo` in a list of entries that grows at its end.
 #[derive(Drop)]
 pub struct SentBatches {
     keys: BatchKeys,
@@ -67,12 +67,12 @@ impl SentBatches {
         self.keys
     }
 
-    /// Returns the number of entries before the one that brought a batch with this entry's number and process, or
-    /// None if there is no such entry or this one has no batch with a number. The hash is the one that
+    /// Returns the number of entries before the one that brought a batch with this entry's `seqNo` and process, or
+    /// None if there is no such entry or this one has no batch with a `seqNo`. The hash is the one that
     /// [`BatchKeys::hash`] computes of the entry's work.
     pub fn find(&self, entries: &[Arc<Entry>], entry: &Entry, hash: u64) -> Option<u32>
         requires kept { IsSentKept (map arc_value entries.now) self.now }
-        requires hash { has_number entry.now.work ≡ true →
+        requires hash { has_seq_no entry.now.work ≡ true →
             hash ≡ work_hash self.now.keys entry.now.work }
         requires once { SentOnceAfter [] (map arc_value entries.now) }
         ensures { result ≡ sent_before (map arc_value entries.now) entry.now }
@@ -92,14 +92,14 @@ impl SentBatches {
     }
 
     /// Adds the last entry of the list, which is one entry longer. The hash is that of the entry's batch, if that
-    /// has a number. Allocates nothing.
+    /// has a `seqNo`. Allocates nothing.
     pub fn add(&mut self, entries: &[Arc<Entry>], hash: u64)
         requires some { 0 < length entries.now }
         requires kept { IsSentKept (before_last (map arc_value entries.now)) self.old }
         requires room { length entries.now ≤ self.old.room }
         requires hash { (e : EntryValue) →
             map arc_value entries.now ≡ before_last (map arc_value entries.now) ++ e ∷ [] →
-            has_number e.work ≡ true → hash ≡ work_hash self.old.keys e.work }
+            has_seq_no e.work ≡ true → hash ≡ work_hash self.old.keys e.work }
         ensures kept { IsSentKept (map arc_value entries.now) self.new }
         ensures room { self.new.room ≡ self.old.room }
         ensures keys { self.new.keys ≡ self.old.keys }

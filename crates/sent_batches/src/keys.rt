@@ -3,7 +3,7 @@
 ghost use Rattle.std.specs.Prelude.{◌≡◌, true, fold};
 ghost use Rattle.std.specs.Hash.DefaultHasher as sip;
 ghost use Rattle.sent_batches.specs.BatchHashes.{keys_fed};
-ghost use Rattle.sent_batches.specs.SentIndex.{has_number, work_hash};
+ghost use Rattle.sent_batches.specs.SentIndex.{has_seq_no, work_hash};
 
 use crate::hashing::batch_hash;
 use std::hash::{BuildHasher, DefaultHasher, Hasher, RandomState};
@@ -32,9 +32,9 @@ impl BatchKeys {
         }
     }
 
-    /// Computes the hash by which a batch with a number is found; returns 0 for any other work.
+    /// Computes the hash by which a batch with a `seqNo` is found; returns 0 for any other work.
     pub fn hash(self, work: &Work) -> u64
-        ensures { has_number work.now ≡ true → result ≡ work_hash self work.now }
+        ensures { has_seq_no work.now ≡ true → result ≡ work_hash self work.now }
     {
         match work.batch() {
             Some(batch) if batch.seq_no.is_some() => batch_hash(self, batch),

@@ -3,13 +3,13 @@ use Rattle.std.specs.Prelude.{ℕ, ◌++◌, ◌*◌, List, codes, nat_le, if◌
 use Rattle.std.specs.Fmt.{decimal}
 use Rattle.trace_model.specs.declared.refusal.Refusal.{Refusal}
 use Rattle.trace_model.specs.RefusalTexts.{refusal_text}
-use Rattle.server_notices.specs.declared.lines.Counted.{Counted}
-use Rattle.server_notices.specs.declared.lines.Counted.TheVariants.{Batches, Spans}
+use Rattle.server_notices.specs.declared.lines.LimitUnit.{LimitUnit}
+use Rattle.server_notices.specs.declared.lines.LimitUnit.TheVariants.{Batches, Spans}
 
 -- what a limit counts, which is the name of its option
-abbrev pub counted_name : Counted → List ℕ
-counted_name Batches = codes "batches"
-counted_name Spans = codes "spans"
+abbrev pub unit_name : LimitUnit → List ℕ
+unit_name Batches = codes "batches"
+unit_name Spans = codes "spans"
 
 -- the greatest of 90, 75 and 50 percent that is reached; 0 below
 abbrev pub level_of : ℕ → ℕ → ℕ
@@ -20,16 +20,16 @@ level_of held most =
     else 0
 
 -- 400 of 1000 batches
-abbrev pub held_text : ℕ → ℕ → Counted → List ℕ
-held_text held most counted =
-    decimal held ++ codes " of " ++ decimal most ++ codes " " ++ counted_name counted
+abbrev pub held_text : ℕ → ℕ → LimitUnit → List ℕ
+held_text held most unit =
+    decimal held ++ codes " of " ++ decimal most ++ codes " " ++ unit_name unit
 
-abbrev pub fullness_line : Counted → ℕ → ℕ → ℕ → List ℕ
-fullness_line counted level held most =
-    codes "at least " ++ decimal level ++ codes "% full: " ++ held_text held most counted ++ codes " (--" ++ counted_name counted ++ codes ")"
+abbrev pub fullness_line : LimitUnit → ℕ → ℕ → ℕ → List ℕ
+fullness_line unit level held most =
+    codes "at least " ++ decimal level ++ codes "% full: " ++ held_text held most unit ++ codes " (--" ++ unit_name unit ++ codes ")"
 
 -- what to do once a limit is reached
-abbrev pub advice : Counted → List ℕ
+abbrev pub advice : LimitUnit → List ℕ
 advice Batches = codes ": what doesn't fit is answered 503; restart with a larger --batches"
 advice Spans = codes ": what doesn't fit is answered 503; restart with a larger --spans"
 

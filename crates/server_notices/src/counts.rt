@@ -107,6 +107,7 @@ impl RefusalCounts {
 /// The counts of one worker.
 #[derive(Drop)]
 struct WorkerCounts {
+    /// The number of 202 responses, so a repeated batch counts again.
     acknowledged: AtomicU64,
     queries: AtomicU64,
     refused: RefusalCounts,
@@ -149,7 +150,7 @@ impl Counts {
         self.workers.get(worker as usize)
     }
 
-    /// Counts a batch that was acknowledged.
+    /// Counts a batch that was acknowledged, a repeat too.
     pub(crate) fn acknowledge(&self, worker: u32) {
         if let Some(counts) = self.of(worker) {
             counts.acknowledged.fetch_add(1, Ordering::SeqCst);
@@ -170,7 +171,7 @@ impl Counts {
         }
     }
 
-    /// Returns the number of acknowledged batches.
+    /// Returns the number of batches that were acknowledged, repeats included.
     fn acknowledged(&self) -> u64 {
         let mut all: u64 = 0;
         for counts in &self.workers {

@@ -1,26 +1,26 @@
 //! The lines about a store that are printed for the operator, as functions of numbers.
 
 ghost use Rattle.std.specs.Prelude.{◌≡◌};
-ghost use Rattle.server_notices.specs.Lines.{advice, counted_name, level_of};
+ghost use Rattle.server_notices.specs.Lines.{advice, unit_name, level_of};
 
 use std::fmt;
 use trace_model::Refusal;
 
 /// The unit of a store's limit.
 #[derive(Clone, Copy, Debug)]
-pub enum Counted {
+pub enum LimitUnit {
     Batches,
     Spans,
 }
 
-impl Counted {
+impl LimitUnit {
     /// Returns its name, which is also that of the option.
     pub fn name(self) -> &'static str
-        ensures { result.now ≡ counted_name self }
+        ensures { result.now ≡ unit_name self }
     {
         match self {
-            Counted::Batches => "batches",
-            Counted::Spans => "spans",
+            LimitUnit::Batches => "batches",
+            LimitUnit::Spans => "spans",
         }
     }
 
@@ -29,9 +29,9 @@ impl Counted {
         ensures { result.now ≡ advice self }
     {
         match self {
-            Counted::Batches =>
+            LimitUnit::Batches =>
                 ": what doesn't fit is answered 503; restart with a larger --batches",
-            Counted::Spans => ": what doesn't fit is answered 503; restart with a larger --spans",
+            LimitUnit::Spans => ": what doesn't fit is answered 503; restart with a larger --spans",
         }
     }
 }
@@ -55,7 +55,7 @@ pub fn level_of(held: u64, most: u32) -> u8
 /// The line that tells which percentage of a limit is used.
 #[derive(Clone, Copy, Debug)]
 pub struct FullnessLine {
-    pub counted: Counted,
+    pub unit: LimitUnit,
     pub level: u8,
     pub held: u64,
     pub most: u32,
@@ -65,12 +65,12 @@ impl fmt::Display for FullnessLine {
     ghost use Rattle.std.specs.Prelude.{Some};
     ghost use Rattle.server_notices.specs.Lines.{fullness_line};
 
-    ghost output = { λ l. Some (fullness_line l.counted l.level l.held l.most) };
+    ghost output = { λ l. Some (fullness_line l.unit l.level l.held l.most) };
 
     fn fmt<W: fmt::Write>(&self, f: &mut fmt::Formatter<W>) -> fmt::Result {
-        let name = self.counted.name();
+        let name = self.unit.name();
         let FullnessLine {
-            counted: _,
+            unit: _,
             level,
             held,
             most,
@@ -87,21 +87,21 @@ impl fmt::Display for FullnessLine {
 pub struct HeldText {
     pub held: u64,
     pub most: u32,
-    pub counted: Counted,
+    pub unit: LimitUnit,
 }
 
 impl fmt::Display for HeldText {
     ghost use Rattle.std.specs.Prelude.{Some};
     ghost use Rattle.server_notices.specs.Lines.{held_text};
 
-    ghost output = { λ t. Some (held_text t.held t.most t.counted) };
+    ghost output = { λ t. Some (held_text t.held t.most t.unit) };
 
     fn fmt<W: fmt::Write>(&self, f: &mut fmt::Formatter<W>) -> fmt::Result {
-        let name = self.counted.name();
+        let name = self.unit.name();
         let HeldText {
             held,
             most,
-            counted: _,
+            unit: _,
         } = *self;
         write!(f, "{held} of {most} {name}")
     }

@@ -1,8 +1,9 @@
 //! The counts of a server, and the lines that are printed once or at some counts.
 
-use crate::acknowledged::AcknowledgedCounts;
 use crate::counts::Counts;
-use crate::lines::{Counted, FailureLine, FullnessLine, HeldText, TooLargeLine, level_of};
+use crate::held::HeldCounts;
+use crate::lines::{FailureLine, FullnessLine, HeldText, LimitUnit, TooLargeLine, level_of};
+use query_http::Status;
 use std::alloc::{AllocError, Global};
 use std::io;
 use std::sync::atomic::{AtomicBool, AtomicU32, AtomicU64, Ordering};
@@ -16,12 +17,12 @@ fn held_texts(batches: u64, spans: u64, limits: &Limits) -> (HeldText, HeldText)
     let batches = HeldText {
         held: batches,
         most: limits.batches,
-        counted: Counted::Batches,
+        unit: LimitUnit::Batches,
     };
     let spans = HeldText {
         held: spans,
         most: limits.spans,
-        counted: Counted::Spans,
+        unit: LimitUnit::Spans,
     };
     (batches, spans)
 }
@@ -44,14 +45,14 @@ impl LimitNotices {
     }
 
     /// Prints how much of the limit is used, once at each level.
-    fn print_level<R: Eprint>(&self, rt: &R, counted: Counted, held: u64, most: u32) {
+    fn print_level<R: Eprint>(&self, rt: &R, unit: LimitUnit, held: u64, most: u32) {
         let level = level_of(held, most);
         let reached = u32::from(level);
         if reached > self.level.load(Ordering::SeqCst)
             && reached > self.level.fetch_max(reached, Ordering::SeqCst)
         {
             let line = FullnessLine {
-                counted,
+                unit,
                 level,
                 held,
                 most,
@@ -65,7 +66,7 @@ impl LimitNotices {
 #[derive(Drop)]
 pub struct Notices {
     limits: Limits,
-    acknowledged: AcknowledgedCounts,
+    held: HeldCounts,
     counts: Counts,
     batches: LimitNotices,
     spans: LimitNotices,
@@ -87,7 +88,7 @@ impl Notices {
     pub fn new(alloc: Global, limits: Limits, workers: u16) -> Result<Notices, AllocError> {
         Ok(Notices {
             limits,
-            acknowledged: AcknowledgedCounts::new(alloc, &limits)?,
+            held: HeldCounts::new(alloc, &limits)?,
             counts: Counts::new(alloc, workers)?,
             batches: LimitNotices::new(),
             spans: LimitNotices::new(),
@@ -110,7 +111,7 @@ impl Notices {
         match *place {
             Ok(place) => {
                 self.counts.acknowledge(worker);
-                if self.acknowledged.add(place, spans) {
+                if self.held.add(place, spans) {
                     self.print_levels(rt);
                 }
             }
@@ -125,17 +126,17 @@ impl Notices {
     pub fn count_query<R: Eprint>(&self, rt: &R, worker: u32, answer: &Result<Answer, Refusal>) {
         self.counts.query(worker);
         if let Err(refusal) = answer {
-            self.print_failure(rt, *refusal);
+            self.count_failure(rt, *refusal);
         }
     }
 
     /// Prints how full the store is, once at each level of each limit.
     fn print_levels<R: Eprint>(&self, rt: &R) {
-        let (batches, spans) = (self.acknowledged.batches(), self.acknowledged.spans());
+        let (batches, spans) = (self.held.batches(), self.held.spans());
         self.batches
-            .print_level(rt, Counted::Batches, batches, self.limits.batches);
+            .print_level(rt, LimitUnit::Batches, batches, self.limits.batches);
         self.spans
-            .print_level(rt, Counted::Spans, spans, self.limits.spans);
+            .print_level(rt, LimitUnit::Spans, spans, self.limits.spans);
     }
 
     /// Prints why a batch with this number of spans was refused, if the operator can do something about it.
@@ -151,27 +152,21 @@ impl Notices {
                     self.print_full(rt, batches, held);
                 }
             }
-            Refusal::Deferred | Refusal::Busy | Refusal::Closed | Refusal::Conflict { .. } => {}
-            Refusal::Stale { .. }
-            | Refusal::NoMemory
-            | Refusal::Stranger
-            | Refusal::NoReply
-            | Refusal::Behind { .. }
-            | Refusal::Gone => self.print_failure(rt, refusal),
+            _ => self.count_failure(rt, refusal),
         }
     }
 
     /// Prints that the store is full, unless it did for the limit that is reached.
     fn print_full<R: Eprint>(&self, rt: &R, batches: u64, spans: u64) {
         let limits = self.limits;
-        let (notices, counted) = if batches >= u64::from(limits.batches) {
-            (&self.batches, Counted::Batches)
+        let (notices, unit) = if batches >= u64::from(limits.batches) {
+            (&self.batches, LimitUnit::Batches)
         } else {
-            (&self.spans, Counted::Spans)
+            (&self.spans, LimitUnit::Spans)
         };
         if !notices.printed_full.swap(true, Ordering::SeqCst) {
             let (batches, spans) = held_texts(batches, spans, &limits);
-            let advice = counted.advice();
+            let advice = unit.advice();
             let _lost = eprintln!(rt; "full: {batches} and {spans}{advice}");
         }
     }
@@ -187,8 +182,12 @@ impl Notices {
         }
     }
 
-    /// Counts a request that was answered 500, and prints a line for the first, the tenth, and so on up to the millionth.
-    fn print_failure<R: Eprint>(&self, rt: &R, refusal: Refusal) {
+    /// Counts a refused request if it was answered 500, and prints a line for the first, the tenth, and so on up to the
+    /// millionth.
+    fn count_failure<R: Eprint>(&self, rt: &R, refusal: Refusal) {
+        if Status::of_refusal(refusal) != Status::InternalServerError {
+            return;
+        }
         let failures = self
             .failures
             .fetch_add(1, Ordering::SeqCst)
@@ -201,11 +200,7 @@ impl Notices {
 
     /// Prints what the store holds, and the counts.
     pub fn print_counts<R: Eprint>(&self, rt: &R) {
-        let (batches, spans) = held_texts(
-            self.acknowledged.batches(),
-            self.acknowledged.spans(),
-            &self.limits,
-        );
+        let (batches, spans) = held_texts(self.held.batches(), self.held.spans(), &self.limits);
         let counts = &self.counts;
         let _lost = eprintln!(rt; "{batches} and {spans} held, {counts}");
     }

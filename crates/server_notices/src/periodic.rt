@@ -7,7 +7,7 @@ use std::thread::sleep;
 use std::time::{Clock, Duration};
 
 /// The number of milliseconds between two checks whether the workers have ended.
-const MAX_PAUSE: u64 = 100;
+const MAX_PAUSE_MS: u64 = 100;
 
 /// Prints the counts periodically until the workers have ended. It runs in a thread of its own, so a line that a standard
 /// error doesn't take blocks no worker. Workers print the other lines, which may block them.
@@ -40,7 +40,7 @@ impl PeriodicCounts {
     /// Returns how long to wait, at most until `due`.
     fn pause(now: Duration, due: Duration) -> Duration {
         due.saturating_sub(now)
-            .min(Duration::from_millis(MAX_PAUSE))
+            .min(Duration::from_millis(MAX_PAUSE_MS))
     }
 
     /// Prints the counts whenever a line is due, until the workers have ended.

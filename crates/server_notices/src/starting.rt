@@ -7,10 +7,11 @@ use libc::{RLIMIT_NOFILE, getrlimit};
 use serve_options::Host;
 use trace_model::Limits;
 
-/// The measured size of a span with one tag, in bytes, in batches of ten whose processes have four tags.
+/// An upper bound of the measured size of a span with one tag, in bytes, in batches of 10 and of 100 whose processes have
+/// four tags.
 const BYTES_WITH_ONE_TAG: u64 = 420;
 
-/// The measured size of a span with five tags, in bytes, in the same batches.
+/// An upper bound of the measured size of a span with five tags, in bytes, in the same batches.
 const BYTES_WITH_FIVE_TAGS: u64 = 710;
 
 /// Prints a warning if other machines can reach the host.

@@ -63,18 +63,6 @@ came_in entries entry_of firsts n a e kept asked value =
     value ∙ sym (get_or-map arc_value entries (get_or entry_of n 0) a e (omega arith)) in
     (below, there, λ w is. subst (λ (v : Work). n - get_or firsts (get_or entry_of n 0) 0 < length (spans_brought v)) is (at.within e there))
 
-pub said : (h : List Entry) (entry_of firsts : List ℕ) (n : ℕ) (e : Entry) (b : Batch) (s : Span) → AreOf h entry_of firsts → n < length entry_of
-    → e ≡ get_or h (get_or entry_of n 0) e
-    → e.work ≡ brings.Batch b → s ≡ get_or b.spans (n - get_or firsts (get_or entry_of n 0) 0) s → get_or (reports h) n (service_alone []) ≡ reported b s
-said h entry_of firsts n e b s a below there work here =
-    let many = a.as_many in
-    let p = placed b s in
-    let i = n - get_or firsts (get_or entry_of n 0) 0 in
-    let within : i < length b.spans = subst (λ (w : Work). i < length (spans_brought w)) work ((a.at n below).within e there) in
-    let own : get_or (placed_brought e.work) i p ≡ p =
-    ap (λ (w : Work). get_or (placed_brought w) i p) work ∙ get_or-map (placed b) b.spans i s p within ∙ ap (placed b) (sym here) in
-    get_or-map listed (arrivals h) n p (service_alone []) (omega arith) ∙ ap listed ((a.at n below).is e there p ∙ own) ∙ listed-placed b s
-
 -- one more entry
 pub reports_push : (h : List Entry) (e : Entry) → reports (h ++ e ∷ []) ≡ reports h ++ map listed (placed_brought e.work)
 reports_push h e = ap (map listed) (arrivals_push h e) ∙ map-append listed (arrivals h) (placed_brought e.work)

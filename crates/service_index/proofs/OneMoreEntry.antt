@@ -254,5 +254,5 @@ service_number_none h kept s r k is past =
     sym (ap (λ b. cond b (Some (service_number_in h s)) None) (is_position (same_text s) (reporters h) [] ∙ none_reported h kept s r k is past))
 
 -- as many services as newest places
-pub newest_rows : (h : List Entry) (kept : ServicePlacesValue) → ArePlacesKept h kept → length kept.newest ≡ length kept.services.numbers
-newest_rows h kept k = k.linked.as_many ∙ length-map kept.services.numbers (service_at h)
+pub newest_links : (h : List Entry) (kept : ServicePlacesValue) → ArePlacesKept h kept → length kept.newest ≡ length kept.services.numbers
+newest_links h kept k = k.linked.as_many ∙ length-map kept.services.numbers (service_at h)

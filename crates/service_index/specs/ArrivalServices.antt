@@ -55,8 +55,8 @@ any_arrived p (x ∷ h) e =
     (sym (list_any-append test (placed_brought x.work) (arrivals h)) ∙ sym (ap (list_any test) (flat_map-cons (λ (y : Entry). placed_brought y.work) x h)) ∙ e)
 
 -- ---- the number of a service that some entry has
-pub has_number : (h : List Entry) (s : List ℕ) → list_any (same_text s) (reporters h) ≡ true → service_number_in h s < length (reporters h)
-has_number h s e = ltb-true (service_number_in h s) (length (reporters h)) (is_position (same_text s) (reporters h) [] ∙ e)
+pub service_has_number : (h : List Entry) (s : List ℕ) → list_any (same_text s) (reporters h) ≡ true → service_number_in h s < length (reporters h)
+service_has_number h s e = ltb-true (service_number_in h s) (length (reporters h)) (is_position (same_text s) (reporters h) [] ∙ e)
 
 pub service_of_number : (h : List Entry) (s : List ℕ) → service_number_in h s < length (reporters h) → s ≡ service_at h (service_number_in h s)
 service_of_number h s below = text_is s (service_at h (service_number_in h s)) (passes_at_first (same_text s) (reporters h) [] below)
@@ -65,7 +65,7 @@ pub arrival_number : (h : List Entry) (n : ℕ) → n < length (arrivals h) → 
 arrival_number h n below =
     let s = (reported_at h n).service in
     let m = length-map (arrivals h) listed in
-    has_number h s (any_arrived (same_text s) h (sym (any_map (λ (l : Listed). same_text s l.service) listed (arrivals h))
+    service_has_number h s (any_arrived (same_text s) h (sym (any_map (λ (l : Listed). same_text s l.service) listed (arrivals h))
     ∙ list_any_at (λ (l : Listed). same_text s l.service) (reports h) n (service_alone []) (omega arith) (text_self s)))
 
 -- services that entries have are equal if their numbers are

@@ -9,8 +9,9 @@ use Rattle.service_index.specs.Labels.{Names, operation_labels, service_number_l
 use Rattle.service_index.specs.Probes.{Table, IsLabelTable}
 
 -- the value of an index: a number for each operation of a service with its kind; a number for each service; for
--- each service the row of its newest operation plus one; for each operation the row plus one of the one before it
--- of the same service; the number of numbers that were added, and the number that may be
+-- each service the link to its newest operation; for each operation the link to the one before it of the same
+-- service, a link being a row plus one, or 0 for none; the number of numbers that were added, and the number that
+-- may be
 pub record Index : Type 0 where
   pub operations : Table
   pub services : Table
@@ -52,7 +53,7 @@ operations_at names numbers = map (λ n. (names.at n).operation) numbers
 abbrev pub service_row : Names → Index → List ℕ → ℕ
 service_row names index service = position_or_len (same_text service) (owners names index.services.numbers)
 
--- the newest row of the service below a row, given plus one; 0 if there is none
+-- the link to the newest row of the service below a row; 0 if there is none
 pub record IsNewest (rows : List (List ℕ)) (service : List ℕ) (at below : ℕ) : Type 0 where
   pub within : at ≤ below
   pub own : 0 < at → get_or rows (at - 1) [] ≡ service
@@ -63,12 +64,12 @@ pub record IsChain (rows : List (List ℕ)) (earlier : List ℕ) : Type 0 where
   pub as_many : length earlier ≡ length rows
   pub before : (k : ℕ) → k < length rows → IsNewest rows (get_or rows k []) (get_or earlier k 0) k
 
--- each of the rows leads to an earlier one, given plus one, or to none
+-- each of the rows links to an earlier one, or to none
 pub record LeadsBack (rows : ℕ) (earlier : List ℕ) : Type 0 where
   pub as_many : length earlier ≡ rows
   pub before : (k : ℕ) → k < rows → get_or earlier k 0 ≤ k
 
--- these are the operations of each service whose newest row this is
+-- these are the operations of each service to whose newest row this is the link
 abbrev pub AreFrom : Names → List ℕ → ℕ → List Operation → Type 0
 AreFrom names numbers newest os =
     (service : List ℕ) → IsNewest (owners names numbers) service newest (length numbers)
@@ -89,8 +90,8 @@ pub record IsSized (used room : ℕ) (operations services : Table) (newest earli
   pub fewer : length services.numbers ≤ length operations.numbers
   pub operations_room : operations.room ≡ room
   pub services_room : services.room ≡ room
-  pub newest_rows : length newest ≡ length services.numbers
-  pub earlier_rows : length earlier ≡ length operations.numbers
+  pub newest_links : length newest ≡ length services.numbers
+  pub earlier_links : length earlier ≡ length operations.numbers
 
 -- the index leads to its numbers by these names
 pub record IsIndexed (names : Names) (index : Index) : Type 0 where

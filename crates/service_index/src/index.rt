@@ -7,9 +7,9 @@ ghost use Rattle.service_index.specs.Probes.{AreNumbersBelow};
 ghost use Rattle.service_index.specs.Indexes.{listing_by, listing_with, service_row, has_service, has_operation, own_operations, operations_at};
 ghost use Rattle.service_index.specs.Indexes.{owners, AreFrom, IsChain, IsIndexed, LeadsBack};
 
+use crate::label_table::LabelTable;
 use crate::labels::Label;
 use crate::links::RowLinks;
-use crate::name_table::NameTable;
 use crate::texts::{OperationLabels, ServiceNumberLabels, Texts};
 use std::alloc::{AllocError, Global};
 use std::hash::RandomState;
@@ -27,9 +27,9 @@ pub struct ServiceIndex {
     room: u32,
     used: u32,
     /// For each operation of a service, with its kind, the arrival number of a span.
-    operations: NameTable,
+    operations: LabelTable,
     /// For each service the arrival number of a span, found by the service's number.
-    services: NameTable,
+    services: LabelTable,
     /// The rows of the operations, linked for each service.
     links: RowLinks,
 }
@@ -65,8 +65,8 @@ impl ServiceIndex {
         ensures room { IfOk result (λ index. index.room ≡ room) }
         ensures indexed { IfOk result (λ index. (names : Names) → IsIndexed names index) }
     {
-        let operations = NameTable::with_room(alloc, keys, room)?;
-        let services = NameTable::with_room(alloc, keys, room)?;
+        let operations = LabelTable::with_room(alloc, keys, room)?;
+        let services = LabelTable::with_room(alloc, keys, room)?;
         let links = RowLinks::with_room(alloc, room)?;
         Ok(ServiceIndex {
             alloc,
@@ -116,7 +116,7 @@ impl ServiceIndex {
     }
 
     /// Whether a span of the service of this number with this operation and kind was added.
-    pub fn knows_in<T: Texts>(
+    pub fn knows_operation<T: Texts>(
         &self,
         texts: &T,
         service_number: u32,
@@ -189,8 +189,8 @@ impl ServiceIndex {
         numbers_along(
             self.alloc,
             self.operations.numbers(),
-            self.links.earlier_rows(),
-            self.links.newest_row(row),
+            self.links.earlier_links(),
+            self.links.newest_link(row),
         )
     }
 }
@@ -206,7 +206,7 @@ fn service_number_label(service_number: u32) -> Label<'static>
     }
 }
 
-/// Returns the numbers of a service's operations: that of its newest row, which is given plus one, and those of the
+/// Returns the numbers of a service's operations: that of its newest row, to which a link is given, and those of the
 /// earlier rows that it links to.
 fn numbers_along(
     alloc: Global,

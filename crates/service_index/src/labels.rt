@@ -26,8 +26,7 @@ pub trait Labels {
         ensures { label_value result ≡ (labels self.now).at n };
 }
 
-/// Whether two texts are equal. Names are short, and comparing them byte by byte is faster than `==`, which
-/// compares words.
+/// Whether two texts are equal, as bytes: `==` of `str` reads whole words, which is slower for short names.
 fn is_same(one: &str, other: &str) -> bool
     ensures { result ≡ same_text one.now other.now }
 {

@@ -11,14 +11,14 @@
 //! Its label is first compared with one that was found recently. If that differs, the label is hashed under
 //! keys drawn at the start, and looked up in the few places to which the hash leads, in a table that is at most
 //! half full. Before half of the places are taken, the labels are moved to about four times as many, a few with
-//! each new label, in memory that was allocated at the start. A clause of each call (`IsIndexed`) says that the
-//! index leads to its numbers by the names. Every call keeps it, and it stays true when more spans arrive
-//! (`laws::more_names`).
+//! each new label, in memory that was allocated at the start. No contract speaks of these costs. A clause of each
+//! call (`IsIndexed`) says that the index leads to its numbers by the names. Every call keeps it, and it stays true
+//! when more spans arrive (`laws::more_names`).
 //!
 //! * `index`: the [`ServiceIndex`].
 //! * `texts`: access to the names.
 //! * `labels`: the keys of a table.
-//! * `name_table`: numbers by labels: the [`NameTable`].
+//! * `label_table`: numbers by labels: the [`LabelTable`].
 //! * `guesses`: the rows in which labels were last found.
 //! * `sought_label`: the label to find, and the rows that are searched.
 //! * `links`: the rows of each service, from the newest on: the [`RowLinks`].
@@ -32,10 +32,10 @@
 pub mod arrival_names;
 mod guesses;
 mod index;
+mod label_table;
 mod labels;
 pub mod laws;
 mod links;
-mod name_table;
 mod operation_sets;
 pub mod service_places;
 mod sought_label;
@@ -43,9 +43,9 @@ mod texts;
 
 pub use arrival_names::{ArrivalNames, ArrivalNumbers};
 pub use index::ServiceIndex;
+pub use label_table::LabelTable;
 pub use labels::{Label, Labels};
 pub use links::RowLinks;
-pub use name_table::NameTable;
 pub use operation_sets::{sorted_names, sorted_operation_names, sorted_operations};
 pub use service_places::{Places, ServicePlaces};
 pub use texts::Texts;

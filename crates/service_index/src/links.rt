@@ -7,14 +7,14 @@ use std::alloc::{AllocError, Global};
 use std::marker::Model;
 
 /// Rows in the order of adding, each of one service, with all memory allocated once. The newest row of a service
-/// leads to the others, one after the other. A row is given plus one, so that 0 is none; services have rows of their own
-/// here, from 0 in the order of their first rows.
+/// leads to the others, one after the other. A link is a row plus one, so that 0 is none. Services have rows of their
+/// own here, from 0 in the order of their first rows.
 #[derive(Drop)]
 pub struct RowLinks {
     room: u32,
-    /// For each service its newest row.
+    /// For each service the link to its newest row.
     newest: Vec<u32>,
-    /// For each row the row before it of the same service.
+    /// For each row the link to the row before it of the same service.
     earlier: Vec<u32>,
 }
 
@@ -59,18 +59,18 @@ impl RowLinks {
             self.old.earlier ++ get_or self.old.newest service 0 ∷ [] }
         ensures room { self.new.room ≡ self.old.room }
     {
-        let row = self.earlier.len() as u32 + 1;
-        let before = self.newest_row(service);
+        let link = self.earlier.len() as u32 + 1;
+        let before = self.newest_link(service);
         self.earlier.push_reserved(before);
         if service < self.newest.len() {
-            self.newest[service] = row;
+            self.newest[service] = link;
         } else {
-            self.newest.push_reserved(row);
+            self.newest.push_reserved(link);
         }
     }
 
-    /// Returns the newest row of a service, or 0 if there is no such service.
-    pub fn newest_row(&self, service: usize) -> u32
+    /// Returns the link to the newest row of a service, or 0 if there is no such service.
+    pub fn newest_link(&self, service: usize) -> u32
         ensures { result ≡ get_or self.now.newest service 0 }
     {
         if service < self.newest.len() {
@@ -80,8 +80,8 @@ impl RowLinks {
         }
     }
 
-    /// Returns for each row the row before it of the same service.
-    pub fn earlier_rows(&self) -> &[u32]
+    /// Returns for each row the link to the row before it of the same service.
+    pub fn earlier_links(&self) -> &[u32]
         ensures { result.now ≡ self.now.earlier }
     {
         &self.earlier

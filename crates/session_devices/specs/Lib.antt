@@ -1,2 +1,2 @@
-pub mod ByteTakers
+pub mod ByteTransfers
 pub mod Traffic

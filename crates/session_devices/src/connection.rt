@@ -1,5 +1,5 @@
 ghost use Rattle.std.specs.Prelude.{◌≡◌};
-ghost use Rattle.session_devices.specs.ByteTakers.{LeavesOther};
+ghost use Rattle.session_devices.specs.ByteTransfers.{KeepsOther};
 
 use crate::{Failed, Input, Output};
 
@@ -7,10 +7,10 @@ use crate::{Failed, Input, Output};
 /// before each read.
 pub trait Connection: Input + Output {
     /// A read doesn't change what was written.
-    ghost reads_leave: { LeavesOther Self Self.gives Self.contents Self.Output.has_failed };
+    ghost reads_leave: { KeepsOther Self Self.gives Self.contents Self.Output.has_failed };
 
     /// A write doesn't change what is still to be read.
-    ghost writes_leave: { LeavesOther Self Self.takes Self.remaining Self.Input.has_failed };
+    ghost writes_leave: { KeepsOther Self Self.takes Self.remaining Self.Input.has_failed };
 }
 
 /// An input and an output, joined into one connection.

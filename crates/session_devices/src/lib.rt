@@ -13,7 +13,7 @@
 ghost use Rattle.std.specs.Prelude.{◌≡◌, ℕ, List, Bool, true, Option, ◌<◌, length, take, OnErr, IfOk, []};
 ghost use Rattle.std.specs.Io.KnownBytes.{ReadConsumes, WriteAppends};
 ghost use Rattle.std.specs.Io.{ReadsAtMost, WritesAtMost};
-ghost use Rattle.session_devices.specs.ByteTakers.{TakesNothing, TakesJoined};
+ghost use Rattle.session_devices.specs.ByteTransfers.{TakesNothing, TakesJoined};
 
 mod connection;
 mod limits;

@@ -97,34 +97,34 @@ module _ (q : Find) (time : ℤ) where
 
 -- ---- of a store
 -- the stored starts are those of the traces of the ring
-pub kept_first : (held : LimitedHistory) (shown : Assembled) (starts : Starts) (index : KeptNames) (reported : ServicePlacesValue)
-    → IsStoreKept held shown starts index reported
+pub kept_first : (held : LimitedHistory) (shown : Assembled) (starts : Starts) (index : KeptNames) (by_service : ServicePlacesValue)
+    → IsStoreKept held shown starts index by_service
     → starts.starts ≡ map (λ t. first_start (spans_of_trace held.limits.traces (events held.entries) t)) shown.newest.ids
-kept_first held shown starts index reported k =
+kept_first held shown starts index by_service k =
     let n = held.limits.traces in
     k.first ∙ ap (λ es. map first_start (traces n es)) (events-located held.entries)
     ∙ map-map first_start (spans_of_trace n (events held.entries)) (ring n (events held.entries))
-    ∙ ap (map (λ t. first_start (spans_of_trace n (events held.entries) t))) (sym (kept_ring held shown starts index reported k))
+    ∙ ap (map (λ t. first_start (spans_of_trace n (events held.entries) t))) (sym (kept_ring held shown starts index by_service k))
 
-pub as_many : (held : LimitedHistory) (shown : Assembled) (starts : Starts) (index : KeptNames) (reported : ServicePlacesValue)
-    → IsStoreKept held shown starts index reported
+pub as_many : (held : LimitedHistory) (shown : Assembled) (starts : Starts) (index : KeptNames) (by_service : ServicePlacesValue)
+    → IsStoreKept held shown starts index by_service
     → length starts.starts ≡ length shown.newest.ids
-as_many held shown starts index reported k =
+as_many held shown starts index by_service k =
     let f : TraceId → ℤ = λ t. first_start (spans_of_trace held.limits.traces (events held.entries) t) in
-    ap (λ (l : List ℤ). length l) (kept_first held shown starts index reported k) ∙ length-map shown.newest.ids f
+    ap (λ (l : List ℤ). length l) (kept_first held shown starts index by_service k) ∙ length-map shown.newest.ids f
 
-pub found_latest : (q : Find) (held : LimitedHistory) (shown : Assembled) (starts : Starts) (index : KeptNames) (reported : ServicePlacesValue)
-    → IsStoreKept held shown starts index reported → (time : ℤ) (spots : List (List Spot))
+pub found_latest : (q : Find) (held : LimitedHistory) (shown : Assembled) (starts : Starts) (index : KeptNames) (by_service : ServicePlacesValue)
+    → IsStoreKept held shown starts index by_service → (time : ℤ) (spots : List (List Spot))
     → spots ≡ map (spots_of shown) (filter (λ t. int_lt time (first_start (spans_of_trace held.limits.traces (events held.entries) t))) shown.newest.ids)
     → 0 < q.limit → length (found_in q (traces_named held.entries spots)) ≡ q.limit
     → found_in q (traces_named held.entries spots) ≡ found_in q (traces held.limits.traces (events held.entries))
-found_latest q held shown starts index reported k time spots are some all =
+found_latest q held shown starts index by_service k time spots are some all =
     let f : TraceId → List Placed = spans_of_trace held.limits.traces (events held.entries) in
     let late_ids : List TraceId = filter (λ t. int_lt time (first_start (f t))) shown.newest.ids in
-    let stands = trace_stands held.limits.traces held.entries (spots_of shown) (kept_spots held shown starts index reported k) in
+    let stands = trace_stands held.limits.traces held.entries (spots_of shown) (kept_spots held shown starts index by_service k) in
     let named : traces_named held.entries spots ≡ filter (late q time) (map f shown.newest.ids) =
     ap (map (spans_named held.entries)) are ∙ map-map (spans_named held.entries) (spots_of shown) late_ids ∙ (λ i. map (λ t. stands t i) late_ids)
     ∙ sym (chosen_map f (late q time) shown.newest.ids) in
-    found_kept q held shown starts index reported k late_ids spots are
+    found_kept q held shown starts index by_service k late_ids spots are
     (ap (found_in q) (sym (chosen_map f (late q time) shown.newest.ids))
     ∙ found_late q time (map f shown.newest.ids) some (ap (λ ts. length (found_in q ts)) (sym named) ∙ all))

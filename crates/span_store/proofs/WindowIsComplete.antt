@@ -1,4 +1,4 @@
--- A search finds all matches among the traces whose ranges reach into its window.
+-- A search finds all matches among the traces whose ranges overlap its window.
 use Rattle.std.proofs.Common.{◌≡◌, ℤ, Bool, true, false, ◌||◌, ◌&&◌, List, [], ◌∷◌, map, refl, sym, ap, ◌∙◌, arith, Some, None}
 use Rattle.std.specs.Prelude.{Option, filter, int_lt, option_map, pos, ◌+ℤ◌, ◌-ℤ◌}
 use Rattle.std.specs.List.{AllByRecursion, list_all, list_any}
@@ -15,7 +15,7 @@ use Rattle.trace_assembly.specs.AssembledRows.{Assembled, spots_of}
 use Rattle.trace_assembly.proofs.Lists.{map_filter}
 use Rattle.trace_ring.specs.declared.first_starts.ranges.Range.{Range}
 use Rattle.trace_ring.specs.FirstStarts.{Starts}
-use Rattle.trace_ring.specs.StartRanges.{IsIn, begins_before, ends_after, range_at, reaches}
+use Rattle.trace_ring.specs.StartRanges.{IsIn, begins_before, ends_after, range_at, overlaps}
 use Rattle.service_index.specs.KeptNames.{KeptNames}
 use Rattle.service_index.specs.ServicePlaces.{ServicePlacesValue}
 use Rattle.journal_traces.specs.TraceRanges.{FailsOutside, StartsIn, search_window}
@@ -33,9 +33,9 @@ begins_early : (high : Option ℤ) (r : Range) (time : ℤ) → IsIn r time → 
 begins_early None r time i e = refl
 begins_early (Some high) r time i e = let begun = i.begun in true_from_ne_false (int_lt r.earliest (high +ℤ pos 1)) (λ f. absurd (omega (arith, ints)))
 
--- it starts in the window, so that its range reaches there
-match_reaches : (q : Find) (r : Range) (p : Placed) → StartsIn r p → matches q p ≡ true → reaches (search_window q) r ≡ true
-match_reaches q r p i e =
+-- it starts in the window, so that its range overlaps there
+match_overlaps : (q : Find) (r : Range) (p : Placed) → StartsIn r p → matches q p ≡ true → overlaps (search_window q) r ≡ true
+match_overlaps q r p i e =
     let durations : Bool = at_least (bound q.duration_min) p.span.duration && at_most (bound q.duration_max) p.span.duration in
     let met = and_parts (is_named q p && is_timed q p) (list_all (has_tag p) q.tags) e in
     let timed = and_parts (is_named q p) (is_timed q p) met.0 in
@@ -45,20 +45,20 @@ match_reaches q r p i e =
     let b = begins_early q.start_max r p.span.start i high.1 in
     λ j. a j && b j
 
-no_match : (q : Find) (r : Range) (p : Placed) → reaches (search_window q) r ≡ false → StartsIn r p → matches q p ≡ false
+no_match : (q : Find) (r : Range) (p : Placed) → overlaps (search_window q) r ≡ false → StartsIn r p → matches q p ≡ false
 no_match q r p none i = by (matches q p) refl
   where
     by : (b : Bool) → matches q p ≡ b → b ≡ false
     by false e = refl
-    by true e = absurd (false≢true (sym none ∙ match_reaches q r p i e))
+    by true e = absurd (false≢true (sym none ∙ match_overlaps q r p i e))
 
-none_match : (q : Find) (r : Range) (ps : List Placed) → reaches (search_window q) r ≡ false → AllByRecursion (StartsIn r) ps → list_any (matches q) ps ≡ false
+none_match : (q : Find) (r : Range) (ps : List Placed) → overlaps (search_window q) r ≡ false → AllByRecursion (StartsIn r) ps → list_any (matches q) ps ≡ false
 none_match q r [] none all = refl
 none_match q r (p ∷ ps) none all = ap (λ b. b || list_any (matches q) ps) (no_match q r p none all.0) ∙ none_match q r ps none all.1
 
 -- ---- of a store
-module _ (q : Find) (held : LimitedHistory) (shown : Assembled) (starts : Starts) (index : KeptNames) (reported : ServicePlacesValue)
-    (k : IsStoreKept held shown starts index reported) where
+module _ (q : Find) (held : LimitedHistory) (shown : Assembled) (starts : Starts) (index : KeptNames) (by_service : ServicePlacesValue)
+    (k : IsStoreKept held shown starts index by_service) where
   -- a span at the spots matches
   abbrev pub is_hit : List Spot → Bool
   is_hit ss = list_any (matches q) (spans_named held.entries ss)
@@ -66,7 +66,7 @@ module _ (q : Find) (held : LimitedHistory) (shown : Assembled) (starts : Starts
   pub outside_fails : FailsOutside (search_window q) starts shown is_hit
   outside_fails place t at none =
       none_match q (range_at starts place) (spans_named held.entries (spots_of shown t)) none
-      (named_ranged held.limits.traces held.entries (spots_of shown) shown.newest.ids starts (kept_spots held shown starts index reported k)
+      (named_ranged held.limits.traces held.entries (spots_of shown) shown.newest.ids starts (kept_spots held shown starts index by_service k)
       k.ranged place t at)
 
   pub found_within : (spots : List (List Spot)) → filter is_hit spots ≡ filter is_hit (map (spots_of shown) shown.newest.ids)
@@ -77,4 +77,4 @@ module _ (q : Find) (held : LimitedHistory) (shown : Assembled) (starts : Starts
       let matched : matching q (named spots) ≡ matching q (named all) =
       sym (map_filter (spans_named held.entries) (list_any (matches q)) spots) ∙ ap named same
       ∙ map_filter (spans_named held.entries) (list_any (matches q)) all in
-      ap (λ ts. cut q.limit (ranked_by_start first_start ts)) matched ∙ found_kept q held shown starts index reported k shown.newest.ids all refl refl
+      ap (λ ts. cut q.limit (ranked_by_start first_start ts)) matched ∙ found_kept q held shown starts index by_service k shown.newest.ids all refl refl

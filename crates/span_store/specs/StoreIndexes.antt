@@ -34,13 +34,13 @@ pub record AreNamesOf (held : LimitedHistory) (names : KeptNames) : Type 0 where
   pub index : names.index.room ≡ held.limits.spans
 
 -- the places of services are those of the entries, with room for all that may arrive
-pub record ArePlacesOf (held : LimitedHistory) (reported : ServicePlacesValue) : Type 0 where
-  pub kept : ArePlacesKept held.entries reported
-  pub batches : reported.batches ≡ held.limits.batches
+pub record ArePlacesOf (held : LimitedHistory) (by_service : ServicePlacesValue) : Type 0 where
+  pub kept : ArePlacesKept held.entries by_service
+  pub batches : by_service.batches ≡ held.limits.batches
 
 -- the shown traces with their spots, first starts and ranges, the names and the places of services are those of the
 -- entries, and there is room for all spans that may arrive
-pub record IsStoreKept (held : LimitedHistory) (shown : Assembled) (starts : Starts) (names : KeptNames) (reported : ServicePlacesValue) : Type 0 where
+pub record IsStoreKept (held : LimitedHistory) (shown : Assembled) (starts : Starts) (names : KeptNames) (by_service : ServicePlacesValue) : Type 0 where
   pub room : shown.room ≡ held.limits.spans
   pub used : shown.used ≡ span_count held.entries
   pub follows : FollowsEvents held.limits.traces (located_events held.entries) shown.newest (spots_of shown)
@@ -48,4 +48,4 @@ pub record IsStoreKept (held : LimitedHistory) (shown : Assembled) (starts : Sta
   pub counted : IsCounted shown starts
   pub ranged : IsRanged held.limits.traces (located_events held.entries) shown starts
   pub named : AreNamesOf held names
-  pub placed : ArePlacesOf held reported
+  pub placed : ArePlacesOf held by_service

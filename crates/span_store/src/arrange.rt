@@ -47,7 +47,7 @@ fn drop_evicted(starts: &mut FirstStarts, evicted: Option<Evicted>)
         range_at starts.old (if is_some evicted then k + 1 else k) }
 {
     if evicted.is_some() {
-        starts.drop_oldest();
+        starts.evict_oldest();
     }
 }
 
@@ -145,7 +145,7 @@ fn apply_limit(shown: &mut Assembly, starts: &mut FirstStarts, limit: u32)
     shown.set_limit(limit);
     // A trace is dropped only while there are more than the limit.
     while let Some(_evicted) = shown.drop_oldest() {
-        starts.drop_oldest();
+        starts.evict_oldest();
     }
 }
 

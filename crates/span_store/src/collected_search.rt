@@ -1,15 +1,15 @@
 //! A search whose candidates were collected from the store, and which judges them after the store is left.
 ghost use Rattle.std.specs.Prelude.{◌≡◌, map, IfOk};
-ghost use Rattle.trace_model.specs.Searching.{found_in};
-ghost use Rattle.journal_traces.specs.TagCandidates.{traces_spotted};
-ghost use Rattle.journal_traces.specs.TakenSearch.{IsSearching};
+ghost use Rattle.trace_model.specs.Searching.{found_in, ids_of};
 ghost use Rattle.trace_model.specs.TakenSpans.{placed_taken};
+ghost use Rattle.journal_traces.specs.CollectedCandidates.{traces_spotted};
+ghost use Rattle.journal_traces.specs.TakenTraces.{ShareByNumber};
 ghost use Rattle.span_store.specs.FoundAnswers.{found_answer};
 
 use find_traces::PreparedSearch;
-use jaeger_model::Seq;
+use jaeger_model::{Seq, TraceId};
 use journal_traces::{
-    JudgedEntries, TagCandidates, TakenSearch, TakenTraces, find_kept, find_kept_ids,
+    CollectedCandidates, TakenSearch, TakenTraces, find_taken, find_taken_ids, keep_all,
 };
 use std::alloc::{AllocError, Global};
 use std::marker::Model;
@@ -22,41 +22,59 @@ pub(crate) struct CollectedSearch<'q> {
     ids_alone: bool,
     /// The limits of the store.
     limits: Limits,
-    traces: TagCandidates<'q>,
+    traces: CollectedCandidates<'q>,
 }
 
 impl<'q> Model for CollectedSearch<'q> {
     ghost use Rattle.trace_model.specs.declared.answer.Answer.{Answer};
-    ghost use Rattle.journal_traces.specs.TagCandidates.{traces_spotted};
+    ghost use Rattle.journal_traces.specs.CollectedCandidates.{traces_spotted};
     ghost use Rattle.span_store.specs.FoundAnswers.{found_answer};
 
     ghost Value = { Answer };
 
-    ghost view = { λ s. found_answer s.limits s.traces.query s.ids_alone (traces_spotted s.traces) };
+    ghost view = { λ s.
+        found_answer s.limits s.traces.query s.ids_alone (traces_spotted s.traces) };
 }
 
-/// Collects the traces that have a span of an entry that may meet the search, with what was judged of the entries. The
-/// candidates are dropped: the answer needs none of them, and gets their memory.
-fn taken_from<'a>(
+/// Takes the traces that a search finds among candidates, in the order of its answer. The candidates are dropped, and
+/// what was judged of them: the answer needs none of it, and gets its memory.
+fn found_among(
     alloc: Global,
-    candidates: TagCandidates<'_>,
-    prepared: &'a PreparedSearch<'a>,
-) -> Result<(TakenTraces, JudgedEntries<'a>), AllocError>
+    candidates: CollectedCandidates<'_>,
+    prepared: &PreparedSearch<'_>,
+) -> Result<TakenTraces, AllocError>
     requires { prepared.now ≡ candidates.query }
-    ensures found { IfOk result (λ taken. found_in prepared.now (map placed_taken taken.0) ≡
+    ensures found { IfOk result (λ ts. map placed_taken ts ≡
         found_in prepared.now (traces_spotted candidates.entry)) }
-    ensures judged { IfOk result (λ taken. IsSearching prepared.now taken.0 taken.1) }
+    ensures shared { IfOk result ShareByNumber }
 {
-    let judged = candidates.judge_entries(alloc, prepared)?;
-    let traces = candidates.traces_that_may_meet(alloc, prepared, &judged)?;
-    Ok((traces, judged))
+    let mut search = TakenSearch::new(alloc, &candidates, prepared)?;
+    // For the prover: the binding lets the clauses of `find_taken` be used for the result.
+    let traces = find_taken(alloc, &mut search)?;
+    Ok(traces)
+}
+
+/// Returns the ids of the traces that a search finds among candidates, in the order of its answer.
+fn ids_among(
+    alloc: Global,
+    candidates: CollectedCandidates<'_>,
+    prepared: &PreparedSearch<'_>,
+) -> Result<Vec<TraceId>, AllocError>
+    requires { prepared.now ≡ candidates.query }
+    ensures { IfOk result (λ v. v.items ≡
+        ids_of (found_in prepared.now (traces_spotted candidates.entry))) }
+{
+    let mut search = TakenSearch::new(alloc, &candidates, prepared)?;
+    // For the prover: the binding lets the clauses of `find_taken_ids` be used for the result.
+    let ids = find_taken_ids(alloc, &mut search)?;
+    Ok(ids)
 }
 
 impl<'q> CollectedSearch<'q> {
     pub(crate) fn new(
         ids_alone: bool,
         limits: Limits,
-        traces: TagCandidates<'q>,
+        traces: CollectedCandidates<'q>,
     ) -> CollectedSearch<'q>
         ensures { result ≡
             found_answer limits traces.entry.query ids_alone (traces_spotted traces.entry) }
@@ -78,13 +96,12 @@ impl<'q> CollectedSearch<'q> {
             traces: candidates,
         } = self;
         let prepared = PreparedSearch::new(alloc, candidates.query())?;
-        let (traces, judged) = taken_from(alloc, candidates, &prepared)?;
-        let mut search = TakenSearch::new(&traces, &prepared, judged);
         if ids_alone {
-            let ids = find_kept_ids(alloc, &mut search)?;
+            let ids = ids_among(alloc, candidates, &prepared)?;
             return Ok(Answer::Ids(Seq::from_vec(ids)));
         }
-        let found = find_kept(alloc, &mut search, limits.max_skew)?;
-        Ok(Answer::Traces(Seq::from_vec(found)))
+        let found = found_among(alloc, candidates, &prepared)?;
+        let kept = keep_all(alloc, &found, limits.max_skew)?;
+        Ok(Answer::Traces(Seq::from_vec(kept)))
     }
 }

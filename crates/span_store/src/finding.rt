@@ -29,7 +29,7 @@ fn take_at(
     }
 }
 
-/// Collects the traces at the indices.
+/// Collects the traces at the indices, with room for one span of each.
 fn take_places(
     alloc: Global,
     traces: &CandidateSearch<'_>,
@@ -40,7 +40,7 @@ fn take_places(
         map (λ i. slice_index_or (traces_of traces.now) i []) indices.now) }
     ensures numbers { IfOk result (AreNumberedByPlace traces.now.journal.now.held.entries) }
 {
-    let mut taken = TakenTraces::new(alloc);
+    let mut taken = TakenTraces::with_capacity(alloc, indices.len(), indices.len())?;
     for index in indices {
         take_at(&mut taken, traces, *index)?;
     }

@@ -31,7 +31,9 @@ use crate::window_links::WindowLinks;
 use arrival_journal::{Journal, Record};
 use find_traces::PreparedSearch;
 use jaeger_model::{Batch, Seq, Text, TraceId};
-use journal_traces::{CandidateSearch, WindowTraces, gather, take_candidates, take_within};
+use journal_traces::{
+    CandidateSearch, StoreView, WindowTraces, gather, take_candidates, take_within,
+};
 use service_index::{ArrivalNames, Places, ServicePlaces};
 use std::alloc::{AllocError, Global};
 use std::hash::RandomState;
@@ -59,7 +61,7 @@ pub struct SpanStore {
     /// The names of services and operations.
     names: ArrivalNames,
     /// For each entry the number of its service, and where the entries of each service are.
-    reported: ServicePlaces,
+    by_service: ServicePlaces,
 }
 
 impl Model for SpanStore {
@@ -71,7 +73,7 @@ impl Model for SpanStore {
 
     ghost view = { λ s. s.journal.held };
 
-    ghost invariant = { λ s. IsStoreKept s.journal.held s.shown s.starts s.names s.reported };
+    ghost invariant = { λ s. IsStoreKept s.journal.held s.shown s.starts s.names s.by_service };
 }
 
 /// Allocates the room for the names, and for the places of services.
@@ -84,8 +86,8 @@ fn room_for_names(
     ensures placed { IfOk result (λ r. ArePlacesOf (record { limits = limits; entries = [] }) r.1) }
 {
     let names = ArrivalNames::with_room(alloc, keys, limits.batches, limits.spans)?;
-    let reported = ServicePlaces::with_room(alloc, keys, limits.batches)?;
-    Ok((names, reported))
+    let by_service = ServicePlaces::with_room(alloc, keys, limits.batches)?;
+    Ok((names, by_service))
 }
 
 /// Returns the traces of the ring, the one opened first at the front.
@@ -120,7 +122,7 @@ impl SpanStore {
             shown,
             starts,
             names: named.0,
-            reported: named.1,
+            by_service: named.1,
         })
     }
 
@@ -210,8 +212,8 @@ impl SpanStore {
         let kinds = entry.kinds().again();
         self.journal.append(entry);
         let entries = self.journal.entries();
-        self.reported.add(entries);
-        self.names.add(entries, &self.reported, &kinds);
+        self.by_service.add(entries);
+        self.names.add(entries, &self.by_service, &kinds);
         place
     }
 
@@ -281,7 +283,7 @@ impl SpanStore {
     {
         let names = self
             .names
-            .known_services(self.alloc, self.journal.entries(), &self.reported)?;
+            .known_services(self.alloc, self.journal.entries(), &self.by_service)?;
         Ok(Form::Services(names))
     }
 
@@ -293,7 +295,7 @@ impl SpanStore {
         let entries = self.journal.entries();
         let found = self
             .names
-            .known_operations(self.alloc, entries, &self.reported, service)?;
+            .known_operations(self.alloc, entries, &self.by_service, service)?;
         Ok(Form::OperationNames(found))
     }
 
@@ -305,7 +307,7 @@ impl SpanStore {
         let entries = self.journal.entries();
         let found = self
             .names
-            .known_operations(self.alloc, entries, &self.reported, service)?;
+            .known_operations(self.alloc, entries, &self.by_service, service)?;
         Ok(Form::Operations(found, kind))
     }
 
@@ -313,7 +315,7 @@ impl SpanStore {
     fn service_number(&self, query: &Find) -> Option<u32>
         ensures { result ≡ service_number_of self.now.entries query.now.service }
     {
-        self.reported
+        self.by_service
             .service_number_of(self.journal.entries(), query.service.as_str())
     }
 
@@ -321,7 +323,7 @@ impl SpanStore {
     fn service_places(&self, query: &Find) -> Places<'_>
         ensures { result ≡ places_of self.now.entries query.now.service }
     {
-        self.reported
+        self.by_service
             .places_of(self.journal.entries(), query.service.as_str())
     }
 
@@ -339,8 +341,8 @@ impl SpanStore {
         let _legal = self.journal.len();
         CandidateSearch {
             journal: &self.journal,
-            reported: &self.reported,
-            service: self.service_number(prepared.query()),
+            by_service: &self.by_service,
+            service_number: self.service_number(prepared.query()),
             prepared,
             spots,
         }
@@ -359,15 +361,14 @@ impl SpanStore {
     {
         // For the prover: `len`'s clause `legal` is used below.
         let _legal = self.journal.len();
-        let service = self.service_number(query);
-        let traces = take_candidates(
-            self.alloc,
-            &self.journal,
-            &self.reported,
-            service,
-            query,
-            spots,
-        )?;
+        let service_number = self.service_number(query);
+        let store = StoreView {
+            journal: &self.journal,
+            assembly: &self.shown,
+            starts: &self.starts,
+            by_service: &self.by_service,
+        };
+        let traces = take_candidates(self.alloc, store, service_number, query, spots)?;
         Ok(CollectedSearch::new(ids_alone, self.limits(), traces))
     }
 
@@ -424,16 +425,14 @@ impl SpanStore {
     {
         // For the prover: `len`'s clause `legal` is used below.
         let _legal = self.journal.len();
+        let store = StoreView {
+            journal: &self.journal,
+            assembly: &self.shown,
+            starts: &self.starts,
+            by_service: &self.by_service,
+        };
         // For the prover: the binding lets the clauses of `take_within` be used for the result.
-        let taken = take_within(
-            self.alloc,
-            &self.journal,
-            &self.shown,
-            &self.starts,
-            &self.reported,
-            end_ms,
-            lookback_ms,
-        )?;
+        let taken = take_within(self.alloc, store, end_ms, lookback_ms)?;
         Ok(taken)
     }
 

@@ -3,14 +3,15 @@ use Rattle.std.proofs.Common.{◌≡◌, ℕ, ◌+◌, ◌≤◌, ◌<◌, true,
 use Rattle.std.specs.Prelude.{min}
 use Rattle.std.specs.Io.KnownBytes.{Consumes, IsAtEnd}
 use Rattle.text_lines.specs.LineReads.{Feed, Fills, feed_moment}
+use Rattle.text_lines.specs.declared.line_buffer.TheConstants.{READ_BYTES}
 
 none_taken : (count : ℕ) (piece : List ℕ) → nat_eq count 0 ≡ true → take count piece ≡ []
 none_taken count piece e = let z : count ≡ 0 = search arith in rw z refl
 
 pub fills : (in0 in1 : Option (List ℕ)) (old : Feed) (items piece : List ℕ) (from count left : ℕ) → items ≡ piece
     → Consumes in0 in1 (take count piece) → (count ≡ 0 → 0 < length piece → IsAtEnd in1) → count ≤ length piece
-    → length piece ≡ 65536 → from ≡ 0 → left + 1 ≡ old.left
-    → Fills (feed_moment in0 old) (feed_moment in1 (record { waiting = drop from (take count items); left = left; ended = nat_eq count 0 }))
+    → length piece ≡ READ_BYTES → from ≡ 0 → left + 1 ≡ old.reads_left
+    → Fills (feed_moment in0 old) (feed_moment in1 (record { waiting = drop from (take count items); reads_left = left; ended = nat_eq count 0 }))
 fills in0 in1 old items piece from count left same taken ends bound room start fewer =
     let size : length (take count piece) ≡ count = length-take count piece ∙ least count (length piece) bound in
     rw (same, start) record {

@@ -61,7 +61,7 @@ each_more {S = S} takes s u (l ∷ lines) here result reply e k =
     (e.0, result_at u (joined e.1.reply reply), e.2, each_more takes e.0.held u lines here e.1 reply e.3 last, ap (result_at u) said)
 
 pub begins : {S : Type 0} (takes : HandlesLine S) (in0 out0 : Option (List ℕ)) (i o : Bool) (s : S) (feed : Feed) (buffer : List ℕ)
-    → feed ≡ record { waiting = []; left = MAX_READS; ended = false } → buffer ≡ []
+    → feed ≡ record { waiting = []; reads_left = MAX_READS; ended = false } → buffer ≡ []
     → SoFar (run_of (handling_of takes s s) (moved in0 in0 i) (moved out0 out0 o)) (record { feed = feed; waits = buffer; number = 0; faulty = false })
 begins takes in0 out0 i o s feed buffer is none = rw (is, none) record {
   taken = [];
@@ -119,7 +119,7 @@ module _ {S : Type 0} (takes : HandlesLine S) (in0 in1 in2 out0 out1 out2 out3 :
       goes_before : feed2.ended ≡ false → feed.ended ≡ false
       goes_before e = flag feed.ended (λ b. (l.stays b).1) e
 
-      at_least : feed2.ended ≡ false → feed.ended ≡ false → MAX_READS ≤ length (f.taken ++ l.taken) + feed2.left
+      at_least : feed2.ended ≡ false → feed.ended ≡ false → MAX_READS ≤ length (f.taken ++ l.taken) + feed2.reads_left
       at_least e b = omega (arith, f.least b, l.least e, length-append f.taken l.taken)
 
 none_after : (xs ys : List ℕ) → xs ++ ys ≡ [] → ys ≡ []

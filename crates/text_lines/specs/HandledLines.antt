@@ -3,8 +3,9 @@ use Rattle.std.specs.Prelude.{◌≡◌, ℕ, ◌+◌, ◌*◌, ◌≤◌, ◌||
 use Rattle.std.specs.Io.KnownBytes.{Appends, Consumes, IsAtEnd}
 use Rattle.session_devices.specs.Traffic.{Traffic}
 use Rattle.text_lines.specs.Lines.{lines_of}
-use Rattle.text_lines.specs.LineReads.{Feed, KnowsEnd, MayCome, most_left}
+use Rattle.text_lines.specs.LineReads.{Feed, KnowsEnd, MayCome, most_bytes_left}
 use Rattle.text_lines.specs.RunErrors.{Holds, IsWhy, Moves, WritesSome}
+use Rattle.text_lines.specs.declared.line_buffer.TheConstants.{READ_BYTES}
 use Rattle.text_lines.specs.declared.run_error.RunError.{RunError}
 use Rattle.session_devices.specs.declared.limits.TheConstants.{MAX_READS}
 
@@ -114,8 +115,8 @@ pub record SoFar {S : Type 0} (run : LineRun S) (now : LoopState) : Type 0 where
   pub end : KnowsEnd run.input.after now.feed
   pub split : (more : List ℕ) → MayCome now.feed more → lines_of (taken ++ more) ≡ lines ++ lines_of (now.feed.waiting ++ more)
   pub count : now.number ≡ length lines
-  pub few : now.number + most_left now.feed ≤ 65536 * MAX_READS
-  pub least : now.feed.ended ≡ false → MAX_READS ≤ length taken + now.feed.left
+  pub few : now.number + most_bytes_left now.feed ≤ READ_BYTES * MAX_READS
+  pub least : now.feed.ended ≡ false → MAX_READS ≤ length taken + now.feed.reads_left
   pub each : TakesEach run.handling.takes run.handling.before (numbered 1 lines) (record { reply = reply; held = run.handling.after })
   pub wrote : Moves run.output.before run.output.after reply.text now.waits
   pub faulty_is : now.faulty ≡ reply.faulty

@@ -4,19 +4,16 @@ use Rattle.text_lines.specs.declared.exit_status.ExitStatus.{ExitStatus}
 use Rattle.text_lines.specs.declared.exit_status.ExitStatus.TheVariants.{DeviceFailed}
 use Rattle.text_lines.specs.declared.run_error.RunError.{RunError}
 use Rattle.text_lines.specs.declared.run_error.RunError.TheVariants.{Device, Memory}
+use Rattle.session_devices.specs.ByteTransfers.{ByteTransfer}
 use Rattle.session_devices.specs.declared.limits.TheConstants.{MAX_READS}
 
--- relates the states of an input before and after one read that returns these bytes
-abbrev pub Gives : Type 0 → Type 1
-Gives R = R → List ℕ → R → Type 0
-
--- an input before and after some reads, and what one read of it does
+-- an input before and after some reads, and what one read of it does: the states before and after it, and the bytes it returns
 pub record InputReads (R : Type 0) : Type 1 where
-  pub gives : Gives R
+  pub gives : ByteTransfer R
   pub before : R
   pub after : R
 
-abbrev pub reads_of : {R : Type 0} → Gives R → R → R → InputReads R
+abbrev pub reads_of : {R : Type 0} → ByteTransfer R → R → R → InputReads R
 reads_of gives before after = record { gives = gives; before = before; after = after }
 
 -- the reads returned these pieces, in order

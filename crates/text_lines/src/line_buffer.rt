@@ -7,6 +7,7 @@ ghost use Rattle.text_lines.specs.Lines.{without_return};
 ghost use Rattle.text_lines.specs.LineReads.{Feed, Fills, StopsReading, TakesLine, TakesNone, feed_moment};
 ghost use Rattle.text_lines.specs.ReadCounts.{CountsReads, reads_of};
 ghost use Rattle.text_lines.specs.RunErrors.{BothWork, Moves};
+ghost use Rattle.text_lines.specs.declared.line_buffer.TheConstants.{READ_BYTES};
 
 use crate::output_buffer::OutputBuffer;
 use crate::run_error::RunError;
@@ -24,17 +25,17 @@ pub struct LineBuffer {
     piece: Vec<u8>,
     at: usize,
     end: usize,
-    left: u64,
+    reads_left: u64,
     ended: bool,
 }
 
 impl Model for LineBuffer {
     ghost Value = { Feed };
 
-    ghost view = { λ s. record { waiting = drop s.at (take s.end s.piece.items); left = s.left; ended = s.ended } };
+    ghost view = { λ s. record { waiting = drop s.at (take s.end s.piece.items); reads_left = s.reads_left; ended = s.ended } };
 
     ghost invariant = { λ s. (s.at ≤ s.end) × (s.end ≤ vec_len s.piece)
-        × (vec_len s.piece ≡ 65536) };
+        × (vec_len s.piece ≡ READ_BYTES) };
 }
 
 impl LineBuffer {
@@ -44,14 +45,14 @@ impl LineBuffer {
     ///
     /// Out of memory, and nothing else.
     pub fn new(alloc: Global) -> Result<LineBuffer, AllocError>
-        ensures { IfOk result (λ s. s ≡ record { waiting = []; left = MAX_READS; ended = false }) }
+        ensures { IfOk result (λ s. s ≡ record { waiting = []; reads_left = MAX_READS; ended = false }) }
     {
         let piece = vec![in alloc; 0u8; READ_BYTES]?;
         Ok(LineBuffer {
             piece,
             at: 0,
             end: 0,
-            left: MAX_READS,
+            reads_left: MAX_READS,
             ended: false,
         })
     }
@@ -88,16 +89,16 @@ impl LineBuffer {
         ensures read { OnOk result (Fills (feed_moment (R.remaining input.old) self.old)
             (feed_moment (R.remaining input.new) self.new)) }
         ensures made { CountsReads (reads_of R.gives input.old input.new)
-            self.old.left self.new.left }
+            self.old.reads_left self.new.reads_left }
         ensures works { OnOk result (R.has_failed input.new ≡ false) }
         ensures err { IfErr result (λ h. (h ≡ RunError.Device)
             × Keeps (R.remaining input.old) (R.remaining input.new)
-            × ((R.has_failed input.new ≡ true) ⊎ (self.old.left ≡ 0))) }
+            × ((R.has_failed input.new ≡ true) ⊎ (self.old.reads_left ≡ 0))) }
     {
-        if self.left == 0 {
+        if self.reads_left == 0 {
             return Err(RunError::Device);
         }
-        self.left -= 1;
+        self.reads_left -= 1;
         self.at = 0;
         self.end = 0;
         let count = input.read(self.piece.as_mut_slice())?;
@@ -130,14 +131,14 @@ impl LineBuffer {
             (TakesNone (feed_moment (R.remaining input.old) self.old)
             (feed_moment (R.remaining input.new) self.new))) }
         ensures made { CountsReads (reads_of R.gives input.old input.new)
-            self.old.left self.new.left }
+            self.old.reads_left self.new.reads_left }
         ensures buffer { Moves (W.contents output.old) (W.contents output.new)
             buffer.old buffer.new }
         ensures works { OnOk result (BothWork (R.has_failed input.new) (W.has_failed output.new)) }
         ensures err { IfErr result (StopsReading self.old
             (traffic_of R.remaining R.has_failed input.old input.new) (W.has_failed output.new)) }
         ensures limit { IfErr result (λ h. h ≡ RunError.Device → R.has_failed input.new ≡ false
-            → W.has_failed output.new ≡ false → self.new.left ≡ 0) }
+            → W.has_failed output.new ≡ false → self.new.reads_left ≡ 0) }
     {
         line.clear();
         // For the prover: its proof names the loop by the label.

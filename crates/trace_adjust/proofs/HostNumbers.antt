@@ -10,14 +10,16 @@ use Rattle.std.specs.Cmp.Lexicographic.{texts_ties, bytes_decides}
 use Rattle.std.proofs.lemmas.Bool.{false≢true}
 use Rattle.std.proofs.lemmas.Map.Made.{IfSome-find_same}
 use Rattle.std.proofs.lemmas.Option.{get_or_from_slice_get, slice_get_within, slice_get_past, slice_get-get_or}
-use Rattle.std.proofs.lemmas.List.{map-append, map_more, map_push, get_or-map, get_or_default, length-map, length-take-le, take-append-drop}
+use Rattle.std.proofs.lemmas.List.{map-append, map_more, map_push, get_or-map, length-map, length-take-le, take-append-drop}
 use Rattle.jaeger_model.specs.declared.placed.Placed.{Placed}
 use Rattle.jaeger_model.specs.Texts.{same_text, text_cmp}
 use Rattle.jaeger_model.specs.Tags.{first_text}
 use Rattle.trace_model.specs.Adjusting.{host_of, new_delta, clock_at, clock_below}
 use Rattle.trace_adjust.specs.KnownClocks.{clock_near, clock_with, clocks_with}
 use Rattle.trace_model.specs.SharedProcesses.{ShareProcesses}
-use Rattle.trace_adjust.specs.Hosts.{hosts_of, number_in, kept_under, IsHostKept, AreKept, AreHostNumbers, delta_by}
+use Rattle.trace_adjust.specs.Hosts.{hosts_of, number_in, IsHostKept, AreKept, AreHostNumbers, delta_by}
+use Rattle.trace_adjust.specs.KeyedPlaces.{stored_under}
+use Rattle.trace_adjust.specs.declared.clock.HostedSpan.{HostedSpan}
 use Rattle.trace_adjust.proofs.Places.{place_push, place_found}
 use Rattle.trace_adjust.proofs.KnownClocks.{with_at}
 use Rattle.trace_model.proofs.NameLaws.{same_where, text_is, text_self, text_turned}
@@ -37,21 +39,30 @@ same_number hosts t u n k e f =
     (λ one. let both : Some n ≡ Some k = sym e ∙ ap (number_in hosts) one ∙ f in cc both)
 
 -- ---- deltas by numbers are those of the clocks
-below_is : (m : ℕ) (hosts : List (List ℕ)) (q p : Placed) (nq n : ℕ) (d : ℤ) → number_in hosts [] ≡ Some 0 → number_in hosts (host_of q) ≡ Some nq
-    → number_in hosts (host_of p) ≡ Some n
-    → clock_with m p (delta_by m nq d q.span n p.span) ≡ clock_below m (clock_with m q d) p
-below_is m hosts q p nq n d none above number =
-    let empty : (n == 0) ≡ same_text (host_of p) [] = same_number hosts (host_of p) [] n 0 number none in
-    let other : (n == nq) ≡ same_text (host_of p) (host_of q) = same_number hosts (host_of p) (host_of q) n nq number above in
-    by_tests (n == 0) (n == nq)
-    (λ e. sym (number_there hosts (host_of p) n number) ∙ ap (λ j. get_or hosts j []) (eqb-true n nq e) ∙ number_there hosts (host_of q) nq above)
-    ∙ (λ i. if empty i || not (other i) then clock_at m (host_of p) (new_delta (clock_with m q d) p.span) p.span else clock_at m (host_of q) d p.span)
-  where
-    by_tests : (a b : Bool) → (b ≡ true → host_of p ≡ host_of q) → clock_with m p (if a || not b then new_delta (clock_with m q d) p.span else d)
-        ≡ (if a || not b then clock_at m (host_of p) (new_delta (clock_with m q d) p.span) p.span else clock_at m (host_of q) d p.span)
-    by_tests true b same = refl
-    by_tests false true same = ap (λ h. clock_at m h d p.span) (same refl)
-    by_tests false false same = refl
+module _ (m : ℕ) (hosts : List (List ℕ)) (a b : HostedSpan) (d : ℤ) where
+  abbrev q : Placed
+  q = a.placed.now
+
+  abbrev p : Placed
+  p = b.placed.now
+
+  by_tests : (empty same : Bool) → (same ≡ true → host_of p ≡ host_of q)
+      → clock_with m p (if empty || not same then new_delta (clock_with m q d) p.span else d)
+      ≡ (if empty || not same then clock_at m (host_of p) (new_delta (clock_with m q d) p.span) p.span else clock_at m (host_of q) d p.span)
+  by_tests true same is = refl
+  by_tests false true is = ap (λ h. clock_at m h d p.span) (is refl)
+  by_tests false false is = refl
+
+  below_is : number_in hosts [] ≡ Some 0 → number_in hosts (host_of q) ≡ Some a.host_number → number_in hosts (host_of p) ≡ Some b.host_number
+      → clock_with m p (delta_by m a d b) ≡ clock_below m (clock_with m q d) p
+  below_is none above number =
+      let n = b.host_number in
+      let nq = a.host_number in
+      let empty : (n == 0) ≡ same_text (host_of p) [] = same_number hosts (host_of p) [] n 0 number none in
+      let other : (n == nq) ≡ same_text (host_of p) (host_of q) = same_number hosts (host_of p) (host_of q) n nq number above in
+      by_tests (n == 0) (n == nq)
+      (λ e. sym (number_there hosts (host_of p) n number) ∙ ap (λ j. get_or hosts j []) (eqb-true n nq e) ∙ number_there hosts (host_of q) nq above)
+      ∙ (λ i. if empty i || not (other i) then clock_at m (host_of p) (new_delta (clock_with m q d) p.span) p.span else clock_at m (host_of q) d p.span)
 
 -- ---- the table of numbers, with one more host
 -- a host that is there already changes nothing
@@ -83,20 +94,20 @@ number_read hosts (p ∷ trace) (n ∷ ns) (suc i) d e l are =
     let rest : AreHostNumbers hosts trace ns = cc are in number_read hosts trace ns i d e (omega arith) rest
 
 -- the clock with the delta is the one below the parent's
-pub near_some : (m : ℕ) (trace : List Placed) (ns : List ℕ) (ds : List (Option ℤ)) (i j : ℕ) (p q e : Placed) (d r : ℤ) → i < length trace → j < length trace
-    → p ≡ get_or trace i p → q ≡ get_or trace j q → AreHostNumbers (hosts_of trace) trace ns → length ds ≡ length trace → get_or ds j None ≡ Some d
-    → r ≡ delta_by m (get_or ns j 0) d q.span (get_or ns i 0) p.span
+pub near_some : (m : ℕ) (trace : List Placed) (ds : List (Option ℤ)) (i j : ℕ) (a b : HostedSpan) (e : Placed) (d r : ℤ)
+    → ((x : Placed) → b.placed.now ≡ get_or trace i x) → ((x : Placed) → a.placed.now ≡ get_or trace j x)
+    → number_in (hosts_of trace) (host_of b.placed.now) ≡ Some b.host_number → number_in (hosts_of trace) (host_of a.placed.now) ≡ Some a.host_number
+    → length ds ≡ length trace → get_or ds j None ≡ Some d → r ≡ delta_by m a d b
     → option_map (clock_with m (get_or trace i e)) (Some r) ≡ clock_near m (clocks_with m trace ds) (get_or trace i e) (Some j)
-near_some m trace ns ds i j p q e d r l lj here there are many known is =
-    let hosts = hosts_of trace in
-    let own : number_in hosts (host_of p) ≡ Some (get_or ns i 0) = ap (λ x. number_in hosts (host_of x)) here ∙ number_read hosts trace ns i p 0 l are in
-    let above : number_in hosts (host_of q) ≡ Some (get_or ns j 0) = ap (λ x. number_in hosts (host_of x)) there ∙ number_read hosts trace ns j q 0 lj are in
+near_some m trace ds i j a b e d r here there own above many known is =
+    let p : Placed = b.placed.now in
+    let q : Placed = a.placed.now in
     let clock : get_or (clocks_with m trace ds) j None ≡ Some (clock_with m q d) =
-    with_at m trace ds j q many ∙ ap (option_map (clock_with m (get_or trace j q))) known ∙ ap (λ x. Some (clock_with m x d)) (sym there) in
-    subst (λ x. option_map (clock_with m x) (Some r) ≡ clock_near m (clocks_with m trace ds) x (Some j)) (here ∙ get_or_default trace i p e l)
+    with_at m trace ds j q many ∙ ap (option_map (clock_with m (get_or trace j q))) known ∙ ap (λ x. Some (clock_with m x d)) (sym (there q)) in
+    subst (λ x. option_map (clock_with m x) (Some r) ≡ clock_near m (clocks_with m trace ds) x (Some j)) (here e)
     (ap (λ z. Some (clock_with m p z)) is
-    ∙ ap Some (below_is m hosts q p (get_or ns j 0) (get_or ns i 0) d refl above own)
-    ∙ ap (option_map (λ a. clock_below m a p)) (sym clock))
+    ∙ ap Some (below_is m (hosts_of trace) a b d refl above own)
+    ∙ ap (option_map (λ c. clock_below m c p)) (sym clock))
 
 pub near_none : (m : ℕ) (trace : List Placed) (ds : List (Option ℤ)) (j : ℕ) (p : Placed) → length ds ≡ length trace → get_or ds j None ≡ None
     → None ≡ clock_near m (clocks_with m trace ds) p (Some j)
@@ -160,7 +171,7 @@ module _ (ps : List Placed) (i : ℕ) (p : Placed) (l : i < length ps) (e : p �
   kept_more keys m known key n e = kept_on keys key n (known key n e)
 
   -- one more number, that of this span's host
-  pub kept_put : (keys : List ℕ) (own : Option ℕ) (n : ℕ) (old new : ℕ → Option ℕ) → own ≡ slice_get keys i → ((q : ℕ) → new q ≡ kept_under own n old q)
+  pub kept_put : (keys : List ℕ) (own : Option ℕ) (n : ℕ) (old new : ℕ → Option ℕ) → own ≡ slice_get keys i → ((q : ℕ) → new q ≡ stored_under own n old q)
       → number_in (before ++ host_of p ∷ []) (host_of p) ≡ Some n → AreKept ps keys i old → AreKept ps keys (i + 1) new
   kept_put keys None n old new at put number known key k e = kept_more keys old known key k (sym (put key) ∙ e)
   kept_put keys (Some own) n old new at put number known key k e = by_test (own == key) refl (sym (put key) ∙ e)

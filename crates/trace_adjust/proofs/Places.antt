@@ -95,7 +95,9 @@ pub below_push : {X : Type 0} (P : ℕ → X → Type 0) (xs ys : List X) (x e :
     → ((k : ℕ) → k < i → P k (get_or xs k e)) → P i x → (k : ℕ) → k < i + 1 → P k (get_or ys k e)
 below_push P xs ys x e i many put below here k l = ⊎_elim
     (λ (same : k ≡ i). subst (λ j. P j (get_or ys j e)) (sym same) (subst (P i) (sym (ap (λ zs. get_or zs i e) put ∙ get_or_at xs x [] e i many)) here))
-    (λ (other : k ≡ i → ⊥). subst (P k) (sym (ap (λ zs. get_or zs k e) put ∙ get_or_append_left xs (x ∷ []) e k (omega (arith, many, l, other)))) (below k (omega arith)))
+    (λ (other : k ≡ i → ⊥).
+    let inside : k < length xs = omega (arith, many, l, other) in
+    subst (P k) (sym (ap (λ zs. get_or zs k e) put ∙ get_or_append_left xs (x ∷ []) e k inside)) (below k (omega arith)))
     (cases_eq k i)
 
 -- ---- the spans of what is shown

@@ -1,4 +1,5 @@
 pub mod Hosts
+pub mod KeyedPlaces
 pub mod LentSpans
 pub mod LentReferences
 pub mod KnownClocks

@@ -8,10 +8,17 @@ use crate::lent_placed::LentPlaced;
 use span_steps::delta_between;
 
 /// The number of the empty host: that of a span whose process names none.
-pub(crate) const NO_HOST: usize = 0;
+pub(crate) const NO_HOST: u32 = 0;
+
+/// A span, and the number of its host.
+#[derive(Clone, Copy)]
+pub(crate) struct HostedSpan<'t, 's> {
+    pub(crate) placed: &'t LentPlaced<'s>,
+    pub(crate) host_number: u32,
+}
 
 /// Whether the host is empty, or isn't the one above.
-fn is_elsewhere(above: usize, host: usize) -> bool
+fn is_elsewhere(above: u32, host: u32) -> bool
     ensures { result ≡ ((host == 0) || not (host == above)) }
 {
     host == NO_HOST || host != above
@@ -33,18 +40,15 @@ fn new_delta(above: &LentPlaced, above_delta: i128, placed: &LentPlaced, max_ske
 /// Returns the delta of a span by that of its parent: the parent's if the span is of the same host, else one that
 /// moves the span into its parent's time.
 pub(crate) fn delta_below(
-    above: &LentPlaced,
-    above_host: usize,
+    above: HostedSpan,
     above_delta: i128,
-    placed: &LentPlaced,
-    host: usize,
+    below: HostedSpan,
     max_skew: u64,
 ) -> i128
-    ensures { result ≡ delta_by max_skew above_host above_delta above.now.span
-        host placed.now.span }
+    ensures { result ≡ delta_by max_skew above.entry above_delta below.entry }
 {
-    if is_elsewhere(above_host, host) {
-        return new_delta(above, above_delta, placed, max_skew);
+    if is_elsewhere(above.host_number, below.host_number) {
+        return new_delta(above.placed, above_delta, below.placed, max_skew);
     }
     above_delta
 }

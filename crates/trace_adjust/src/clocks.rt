@@ -1,11 +1,12 @@
 //! The clock of each span of a trace, by its delta.
 
-ghost use Rattle.std.specs.Prelude.{◌≡◌, ◌<◌, ◌≤◌, ◌+◌, ℕ, false, true, IfOk, OnOk, map, option_map, length, get_or, cond};
+ghost use Rattle.std.specs.Prelude.{◌≡◌, ◌<◌, ◌≤◌, ◌+◌, false, true, IfOk, OnOk, Some, map, option_map, length, get_or, cond};
 ghost use Rattle.jaeger_model.specs.declared.placed.Placed.{Placed};
-ghost use Rattle.trace_adjust.specs.KnownClocks.{place_in, unset_count, clock_near, clock_with, clocks_with, IsClosed, AreClosed, AreSet, AreAllSet};
-ghost use Rattle.trace_adjust.specs.Hosts.{hosts_of, AreHostNumbers};
+ghost use Rattle.trace_model.specs.Adjusting.{host_of};
+ghost use Rattle.trace_adjust.specs.KnownClocks.{place_in};
+ghost use Rattle.trace_adjust.specs.Hosts.{hosts_of, number_in, AreHostNumbers};
 
-use crate::clock::delta_below;
+use crate::clock::{HostedSpan, delta_below};
 use crate::known_deltas::KnownDeltas;
 use crate::lent_placed::LentPlaced;
 use std::alloc::{AllocError, Global};
@@ -45,117 +46,108 @@ fn climb(
     Ok(())
 }
 
-/// Returns the delta of the span at the place by that of its parent, if that is known.
-fn delta_near(
-    trace: &[LentPlaced],
-    hosts: &[usize],
-    deltas: &KnownDeltas,
-    place: usize,
-    parent: Option<u32>,
-    max_skew: u64,
-) -> Option<i128>
-    requires hosts { AreHostNumbers (hosts_of trace.now) trace.now hosts.now }
-    requires many { length deltas.now ≡ length trace.now }
-    requires within { place < length trace.now }
-    ensures { (d : Placed) →
-        option_map (clock_with max_skew (get_or trace.now place d)) result ≡
-        clock_near max_skew (clocks_with max_skew trace.now deltas.now)
-        (get_or trace.now place d) parent }
-{
-    let Some(parent) = parent else {
-        return Some(0);
-    };
-    let above = parent as usize;
-    match deltas.get(above) {
-        Some(delta) => Some(delta_below(
-            &trace[above],
-            hosts[above],
-            delta,
-            &trace[place],
-            hosts[place],
-            max_skew,
-        )),
-        None => None,
-    }
+/// A trace with the places of its spans' parents and the numbers of their hosts.
+#[derive(Clone, Copy)]
+pub(crate) struct ClockedTrace<'t, 's> {
+    pub(crate) spans: &'t [LentPlaced<'s>],
+    pub(crate) parents: &'t [Option<u32>],
+    pub(crate) host_numbers: &'t [u32],
+    /// The greatest clock skew that is adjusted, in microseconds.
+    pub(crate) max_skew: u64,
+    ghost parents_found: { parents.now ≡ map (place_in spans.now) spans.now },
+    ghost hosts_numbered: { AreHostNumbers (hosts_of spans.now) spans.now host_numbers.now },
 }
 
-/// Stores the delta of the span at the place, if it is not known and its parent's is. Returns whether it was stored
-/// by this call.
-fn set_delta(
-    trace: &[LentPlaced],
-    parents: &[Option<u32>],
-    hosts: &[usize],
-    deltas: &mut KnownDeltas,
-    place: usize,
-    max_skew: u64,
-) -> bool
-    requires parents { parents.now ≡ map (place_in trace.now) trace.now }
-    requires hosts { AreHostNumbers (hosts_of trace.now) trace.now hosts.now }
-    requires set { AreSet max_skew trace.now deltas.old }
-    requires within { place < length trace.now }
-    ensures set { AreSet max_skew trace.now deltas.new }
-    ensures closed { result ≡ false → (deltas.new ≡ deltas.old)
-        × IsClosed max_skew trace.now place (clocks_with max_skew trace.now deltas.new) }
-    ensures fewer { unset_count deltas.new + cond result 1 0 ≡ unset_count deltas.old }
-{
-    if deltas.is_known(place) {
-        return false;
-    }
-    let delta = delta_near(trace, hosts, deltas, place, parents[place], max_skew);
-    deltas.store(place, delta)
-}
+impl<'t, 's> ClockedTrace<'t, 's> {
+    ghost use Rattle.trace_adjust.specs.KnownClocks.{unset_count, clock_near, clock_with, clocks_with, IsClosed, AreClosed, AreSet, AreAllSet};
 
-/// Stores each delta that can be known, from the first span to the last, and returns whether there was one.
-fn set_all_deltas(
-    trace: &[LentPlaced],
-    parents: &[Option<u32>],
-    hosts: &[usize],
-    deltas: &mut KnownDeltas,
-    max_skew: u64,
-) -> bool
-    requires parents { parents.now ≡ map (place_in trace.now) trace.now }
-    requires hosts { AreHostNumbers (hosts_of trace.now) trace.now hosts.now }
-    requires set { AreSet max_skew trace.now deltas.old }
-    ensures set { AreSet max_skew trace.now deltas.new }
-    ensures closed { result ≡ false → AreClosed max_skew trace.now (length trace.now)
-        (clocks_with max_skew trace.now deltas.new) }
-    ensures fewer { result ≡ true → unset_count deltas.new < unset_count deltas.old }
-{
-    let mut changed = false;
-    for place in 0..trace.len() {
-        if set_delta(trace, parents, hosts, deltas, place, max_skew) {
-            changed = true;
+    /// Returns the span at the place, with the number of its host.
+    fn hosted(&self, place: usize) -> HostedSpan<'t, 's>
+        requires { place < length self.now.spans.now }
+        ensures span { (d : Placed) → result.placed.now ≡ get_or self.now.spans.now place d }
+        ensures number { number_in (hosts_of self.now.spans.now) (host_of result.placed.now)
+            ≡ Some result.host_number }
+    {
+        HostedSpan {
+            placed: &self.spans[place],
+            host_number: self.host_numbers[place],
         }
     }
-    changed
-}
 
-/// Returns the delta of the clock of each span. Spans that reach a root have one; those on a cycle and below one
-/// have none.
-///
-/// The deltas are stored in the order of [`downward_order`], each by its parent's. The pass after that stores none,
-/// which shows that the others have none.
-pub(crate) fn clock_deltas(
-    alloc: Global,
-    trace: &[LentPlaced],
-    parents: &[Option<u32>],
-    hosts: &[usize],
-    max_skew: u64,
-) -> Result<KnownDeltas, AllocError>
-    requires parents { parents.now ≡ map (place_in trace.now) trace.now }
-    requires hosts { AreHostNumbers (hosts_of trace.now) trace.now hosts.now }
-    ensures { IfOk result (λ v. AreAllSet max_skew trace.now v) }
-{
-    let order = downward_order(alloc, parents)?;
-    let mut deltas = KnownDeltas::none(alloc, trace.len())?;
-    for place in order {
-        if place < trace.len() {
-            set_delta(trace, parents, hosts, &mut deltas, place, max_skew);
-        }
+    /// Returns the delta of the span at the place by that of its parent, if that is known.
+    fn delta_near(&self, deltas: &KnownDeltas, place: usize, parent: Option<u32>) -> Option<i128>
+        requires many { length deltas.now ≡ length self.now.spans.now }
+        requires within { place < length self.now.spans.now }
+        ensures { (d : Placed) →
+            option_map (clock_with self.now.max_skew (get_or self.now.spans.now place d)) result ≡
+            clock_near self.now.max_skew
+            (clocks_with self.now.max_skew self.now.spans.now deltas.now)
+            (get_or self.now.spans.now place d) parent }
+    {
+        let Some(parent) = parent else {
+            return Some(0);
+        };
+        let above = parent as usize;
+        let delta = deltas.get(above)?;
+        let above = self.hosted(above);
+        Some(delta_below(above, delta, self.hosted(place), self.max_skew))
     }
-    loop {
-        if !set_all_deltas(trace, parents, hosts, &mut deltas, max_skew) {
-            return Ok(deltas);
+
+    /// Stores the delta of the span at the place, if it is not known and its parent's is. Returns whether it was stored
+    /// by this call.
+    fn set_delta(&self, deltas: &mut KnownDeltas, place: usize) -> bool
+        requires set { AreSet self.now.max_skew self.now.spans.now deltas.old }
+        requires within { place < length self.now.spans.now }
+        ensures set { AreSet self.now.max_skew self.now.spans.now deltas.new }
+        ensures closed { result ≡ false → (deltas.new ≡ deltas.old)
+            × IsClosed self.now.max_skew self.now.spans.now place
+            (clocks_with self.now.max_skew self.now.spans.now deltas.new) }
+        ensures fewer { unset_count deltas.new + cond result 1 0 ≡ unset_count deltas.old }
+    {
+        if deltas.is_known(place) {
+            return false;
+        }
+        let delta = self.delta_near(deltas, place, self.parents[place]);
+        deltas.store(place, delta)
+    }
+
+    /// Stores each delta that can be known, from the first span to the last, and returns whether there was one.
+    fn set_all_deltas(&self, deltas: &mut KnownDeltas) -> bool
+        requires set { AreSet self.now.max_skew self.now.spans.now deltas.old }
+        ensures set { AreSet self.now.max_skew self.now.spans.now deltas.new }
+        ensures closed { result ≡ false → AreClosed self.now.max_skew self.now.spans.now
+            (length self.now.spans.now)
+            (clocks_with self.now.max_skew self.now.spans.now deltas.new) }
+        ensures fewer { result ≡ true → unset_count deltas.new < unset_count deltas.old }
+    {
+        let mut changed = false;
+        for place in 0..self.spans.len() {
+            if self.set_delta(deltas, place) {
+                changed = true;
+            }
+        }
+        changed
+    }
+
+    /// Returns the delta of the clock of each span. Spans that reach a root have one; those on a cycle and below one
+    /// have none.
+    ///
+    /// The deltas are stored in the order of [`downward_order`], each by its parent's. The pass after that stores none,
+    /// which shows that the others have none.
+    pub(crate) fn clock_deltas(&self, alloc: Global) -> Result<KnownDeltas, AllocError>
+        ensures { IfOk result (λ v. AreAllSet self.now.max_skew self.now.spans.now v) }
+    {
+        let order = downward_order(alloc, self.parents)?;
+        let mut deltas = KnownDeltas::none(alloc, self.spans.len())?;
+        for place in order {
+            if place < self.spans.len() {
+                self.set_delta(&mut deltas, place);
+            }
+        }
+        loop {
+            if !self.set_all_deltas(&mut deltas) {
+                return Ok(deltas);
+            }
         }
     }
 }

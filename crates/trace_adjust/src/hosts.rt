@@ -1,25 +1,21 @@
 //! Numbers for the hosts of the spans of a trace, so that no clock has a host's text.
 
-ghost use Rattle.std.specs.Prelude.{◌≡◌, ℕ, List, IfOk, OnOk, cond, Some, unwrap_or, option_and_then};
+ghost use Rattle.std.specs.Prelude.{◌≡◌, ℕ, List, IfOk, OnOk, cond, Some, unwrap_or};
 ghost use Rattle.std.specs.BTreeMap.{get};
 ghost use Rattle.std.specs.Option.{option_or};
-ghost use Rattle.std.specs.Ordering.{nat_cmp};
 ghost use Rattle.jaeger_model.specs.Texts.{same_text, text_cmp};
 ghost use Rattle.trace_model.specs.SharedProcesses.{ShareProcesses};
-ghost use Rattle.trace_adjust.specs.Hosts.{AreHostNumbers, hosts_of, kept_under};
+ghost use Rattle.trace_adjust.specs.Hosts.{AreHostNumbers, hosts_of};
 
 use crate::clock::NO_HOST;
+use crate::keyed_places::{place_by_key, place_u32, store_by_key};
 use crate::lent_placed::LentPlaced;
 use jaeger_model::Text;
 use std::alloc::{AllocError, Global};
 use std::collections::BTreeMap;
 
 /// Returns the number of a host, which gets the fresh one if it has none.
-fn number_of(
-    numbers: &mut BTreeMap<Text, usize>,
-    host: Text,
-    fresh: usize,
-) -> Result<usize, AllocError>
+fn number_of(numbers: &mut BTreeMap<Text, u32>, host: Text, fresh: u32) -> Result<u32, AllocError>
     ensures number { IfOk result (λ n. n ≡ unwrap_or (get text_cmp numbers.old host) fresh) }
     ensures numbers { OnOk result ((t : List ℕ) → get text_cmp numbers.new t ≡
         option_or (get text_cmp numbers.old t) (cond (same_text t host) (Some fresh) None)) }
@@ -31,28 +27,6 @@ fn number_of(
     Ok(fresh)
 }
 
-/// Returns the number that is stored for the key of a span's process, if there is one.
-fn kept_number(kept: &BTreeMap<u64, usize>, key: Option<u64>) -> Option<usize>
-    ensures { result ≡ option_and_then (get nat_cmp kept.now) key }
-{
-    kept.get(&key?).copied()
-}
-
-/// Stores the number of a span's host for the key of its process, if that is known.
-fn keep_number(
-    kept: &mut BTreeMap<u64, usize>,
-    key: Option<u64>,
-    number: usize,
-) -> Result<(), AllocError>
-    ensures { OnOk result ((p : ℕ) →
-        get nat_cmp kept.new p ≡ kept_under key number (get nat_cmp kept.old) p) }
-{
-    if let Some(key) = key {
-        kept.insert(key, number)?;
-    }
-    Ok(())
-}
-
 /// Returns the number of the host of each span: one more than the index of the first span that has it, or
 /// [`NO_HOST`] if it is empty. A host's text is read once for the spans with one key, which have one process, and
 /// else for each span.
@@ -60,7 +34,7 @@ pub(crate) fn host_numbers(
     alloc: Global,
     trace: &[LentPlaced],
     process_keys: &[u64],
-) -> Result<Vec<usize>, AllocError>
+) -> Result<Vec<u32>, AllocError>
     requires { ShareProcesses trace.now process_keys.now }
     ensures { IfOk result (λ v.
         AreHostNumbers (hosts_of trace.now) trace.now v.items) }
@@ -71,11 +45,12 @@ pub(crate) fn host_numbers(
     let mut hosts = Vec::with_capacity(alloc, trace.len())?;
     for (index, placed) in trace.iter().enumerate() {
         let key = process_keys.get(index).copied();
-        let number = match kept_number(&kept, key) {
+        let number = match place_by_key(&kept, key) {
             Some(number) => number,
             None => {
-                let number = number_of(&mut numbers, placed.host(alloc)?, index + 1)?;
-                keep_number(&mut kept, key, number)?;
+                let fresh = place_u32(index + 1)?;
+                let number = number_of(&mut numbers, placed.host(alloc)?, fresh)?;
+                store_by_key(&mut kept, key, number)?;
                 number
             }
         };

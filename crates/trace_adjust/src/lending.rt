@@ -52,7 +52,7 @@ fn hosts_of_trace(
     alloc: Global,
     trace: &KeptTrace,
     lent: &[LentPlaced],
-) -> Result<Vec<usize>, AllocError>
+) -> Result<Vec<u32>, AllocError>
     requires shares { KeptShares trace.now }
     requires lent { lent.now ≡ map with_parent_first (placed_taken trace.now.spans.items) }
     ensures { IfOk result (λ v. AreHostNumbers (hosts_of lent.now) lent.now v.items) }
@@ -85,11 +85,12 @@ fn shown_deltas(alloc: Global, trace: &KeptTrace) -> Result<Vec<i128>, AllocErro
     deltas_of(alloc, trace, &lent)
 }
 
-/// For the prover: each span is read once, which says that it exists.
+/// Reads each span once. For the prover: its clause says that each of the spans exists.
 fn see_each(spans: &[TakenSpan])
     ensures { AreThere spans.now }
 {
     for span in spans {
+        // For the prover: the clause of `reported` says that the span exists.
         let _reported = span.reported();
     }
 }

@@ -46,8 +46,8 @@ impl<'a> Model for LentPlaced<'a> {
     ghost invariant = { λ l. IsReferred l.parent l.span.now };
 }
 
-/// The reference to its parent is among the span's references, as a store keeps it.
-fn among(span: &Span) -> ParentReference
+/// Leaves the reference to the parent where it is among the references, as a store keeps it.
+fn parent_among(span: &Span) -> ParentReference
     ensures span { referred result span.now ≡ with_parent span.now }
     ensures kept { IsReferred result span.now }
 {
@@ -58,7 +58,7 @@ fn among(span: &Span) -> ParentReference
     }
 }
 
-/// The reference to its parent is the first one.
+/// Moves the reference to the parent to the front.
 fn parent_moved_first(span: &Span) -> ParentReference
     ensures span { referred result span.now ≡ parent_first (with_parent span.now) }
     ensures kept { IsReferred result span.now }
@@ -117,7 +117,7 @@ impl<'a> LentPlaced<'a> {
         LentPlaced {
             process: reported.process,
             span: reported.span,
-            parent: among(reported.span),
+            parent: parent_among(reported.span),
         }
     }
 

@@ -115,7 +115,7 @@ impl LentSpans {
         ensures value { result ≡ lone_value span }
         ensures one { length result ≡ 1 }
     {
-        // For the prover: it says that the span exists.
+        // For the prover: the clause of `reported` says that the span exists.
         let _reported = span.reported();
         LentSpans {
             form: LentForm::Lone(span),

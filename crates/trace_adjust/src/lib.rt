@@ -1,11 +1,12 @@
 //! A trace as it is shown, made from the stored one: in each span the reference to its parent is the first one,
 //! and its times are moved into those of its root's host. The answers are those of
 //! `plain_store::adjusted_trace`, in time linear in the spans up to a logarithm and without recursion, however
-//! deep the trace is.
+//! deep the trace is. No contract speaks of these costs.
 //!
 //! * `lent_placed`: a span with its process, borrowed from what keeps both.
 //! * `parents`: the places of parents in a trace.
 //! * `process_keys`: the keys of the processes of spans.
+//! * `keyed_places`: places that are stored by such keys.
 //! * `hosts`: numbers for the hosts of a trace.
 //! * `clock`: the delta of the clock of one span.
 //! * `known_deltas`: the deltas of spans, as far as they are known.
@@ -21,6 +22,7 @@
 mod clock;
 mod clocks;
 mod hosts;
+mod keyed_places;
 mod known_deltas;
 mod lending;
 mod lent_logs;
@@ -33,10 +35,12 @@ mod showing;
 mod skew;
 mod span_deltas;
 
+pub use keyed_places::{place_by_key, place_u32, store_by_key};
 pub use lending::lend;
 pub use lent_logs::{LentLog, LentLogs};
 pub use lent_span::LentSpan;
 pub use lent_spans::LentSpans;
-pub use showing::{show, show_lone, shown};
+pub use showing::{show, show_answered, show_lone};
 pub use skew::{adjust_skew, adjusted};
+// No crate of this repository uses it from here.
 pub use span_steps::parent_first;

@@ -6,13 +6,14 @@ ghost use Rattle.std.specs.BTreeMap.{get};
 ghost use Rattle.trace_adjust.specs.KnownClocks.{first_at, parent_at, place_in};
 ghost use Rattle.trace_adjust.specs.SpanDeltas.{AreRepeated};
 
+use crate::keyed_places::place_u32;
 use crate::lent_placed::LentPlaced;
 use std::alloc::{AllocError, Global};
 use std::collections::BTreeMap;
 
 /// For each span of a trace the place of its parent, and whether a span before it has its id.
 #[derive(Drop)]
-pub(crate) struct Links {
+pub(crate) struct ParentPlaces {
     pub(crate) parents: Vec<Option<u32>>,
     pub(crate) repeated: Vec<bool>,
 }
@@ -22,14 +23,6 @@ pub(crate) struct Links {
 struct FirstPlaces {
     places: BTreeMap<u64, u32>,
     repeated: Vec<bool>,
-}
-
-/// Converts a place to 32 bits, in which it is stored. A place that doesn't fit is reported as out of memory.
-fn place_u32(place: usize) -> Result<u32, AllocError>
-    ensures { IfOk result (λ n. n ≡ place) }
-{
-    // Impossible: a store has at most 10,000,000 spans.
-    u32::try_from(place).map_err(|_| AllocError)
 }
 
 /// Returns the place of the first span with each id, and which ids are repeated.
@@ -78,15 +71,18 @@ fn parent_places(
     Ok(parents)
 }
 
-/// Returns the places of the parents of the spans, and which ids are repeated. The table of first places is dropped.
-pub(crate) fn links_of(alloc: Global, trace: &[LentPlaced]) -> Result<Links, AllocError>
-    ensures parents { IfOk result (λ l. l.parents.items ≡ map (place_in trace.now) trace.now) }
-    ensures repeated { IfOk result (λ l. AreRepeated trace.now l.repeated.items) }
-{
-    let first = first_places(alloc, trace)?;
-    let parents = parent_places(alloc, trace, &first.places)?;
-    Ok(Links {
-        parents,
-        repeated: first.repeated,
-    })
+impl ParentPlaces {
+    /// Finds the places of the parents of the spans, and which ids are repeated. The table of first places is dropped.
+    pub(crate) fn of(alloc: Global, trace: &[LentPlaced]) -> Result<ParentPlaces, AllocError>
+        ensures parents { IfOk result (λ p.
+            p.parents.items ≡ map (place_in trace.now) trace.now) }
+        ensures repeated { IfOk result (λ p. AreRepeated trace.now p.repeated.items) }
+    {
+        let first = first_places(alloc, trace)?;
+        let parents = parent_places(alloc, trace, &first.places)?;
+        Ok(ParentPlaces {
+            parents,
+            repeated: first.repeated,
+        })
+    }
 }

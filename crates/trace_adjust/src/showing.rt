@@ -78,11 +78,11 @@ pub fn show_lone(alloc: Global, span: &TakenSpan) -> Result<ShownTrace, AllocErr
 /// # Errors
 ///
 /// Out of memory, and nothing else.
-pub fn shown(alloc: Global, trace: AnsweredTrace) -> Result<ShownTrace, AllocError>
+pub fn show_answered(alloc: Global, trace: AnsweredTrace) -> Result<ShownTrace, AllocError>
     ensures { IfOk result (λ t. t ≡ trace) }
 {
     match trace.into_form() {
-        TraceForm::Ready(made) => Ok(Box::into_inner(made)),
+        TraceForm::Copied(copied) => Ok(Box::into_inner(copied)),
         TraceForm::Lone(span) => show_lone(alloc, &span),
         TraceForm::Kept(kept) => show(alloc, &kept),
     }

@@ -4,9 +4,9 @@ ghost use Rattle.std.specs.Prelude.{◌≡◌, IfOk, length};
 ghost use Rattle.trace_adjust.specs.Hosts.{hosts_of, AreHostNumbers};
 ghost use Rattle.trace_adjust.specs.SpanDeltas.{AreDeltas, IsZeroWhere};
 
-use crate::clocks::clock_deltas;
+use crate::clocks::ClockedTrace;
 use crate::lent_placed::LentPlaced;
-use crate::parents::links_of;
+use crate::parents::ParentPlaces;
 use std::alloc::{AllocError, Global};
 
 /// Returns the deltas with 0 for each span whose id is repeated.
@@ -27,13 +27,19 @@ fn without_repeated(mut deltas: Vec<i128>, repeated: &[bool]) -> Vec<i128>
 pub(crate) fn all_deltas(
     alloc: Global,
     trace: &[LentPlaced],
-    hosts: &[usize],
+    host_numbers: &[u32],
     max_skew: u64,
 ) -> Result<Vec<i128>, AllocError>
-    requires { AreHostNumbers (hosts_of trace.now) trace.now hosts.now }
+    requires { AreHostNumbers (hosts_of trace.now) trace.now host_numbers.now }
     ensures { IfOk result (λ v. AreDeltas max_skew trace.now v.items) }
 {
-    let links = links_of(alloc, trace)?;
-    let deltas = clock_deltas(alloc, trace, &links.parents, hosts, max_skew)?;
-    Ok(without_repeated(deltas.into_deltas(), &links.repeated))
+    let places = ParentPlaces::of(alloc, trace)?;
+    let clocked = ClockedTrace {
+        spans: trace,
+        parents: &places.parents,
+        host_numbers,
+        max_skew,
+    };
+    let deltas = clocked.clock_deltas(alloc)?;
+    Ok(without_repeated(deltas.into_deltas(), &places.repeated))
 }

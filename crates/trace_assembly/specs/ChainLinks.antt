@@ -13,16 +13,16 @@ abbrev pub chain_in : ℕ → List Mark → List Spot
 chain_in row [] = []
 chain_in row (x ∷ xs) = cond (nat_eq x.row row) (spot_in x ∷ chain_in row xs) (chain_in row xs)
 
--- those from a place on, which is given plus one; 0 is the end
+-- those from the mark at an index on, which is given plus one; 0 is the end
 abbrev pub from : List Mark → ℕ → ℕ → List Spot
 from marks row zero = []
-from marks row (suc place) = chain_in row (drop place marks)
+from marks row (suc at) = chain_in row (drop at marks)
 
 abbrev pub no_mark : Mark
 no_mark = record { row = 0; index = 0; place = 0 }
 
 abbrev pub mark_at : List Mark → ℕ → Mark
-mark_at marks place = get_or marks place no_mark
+mark_at marks at = get_or marks at no_mark
 
 abbrev pub no_ends : Ends
 no_ends = record { first = 0; last = 0 }
@@ -33,7 +33,7 @@ ends_at ends row = get_or ends row no_ends
 abbrev pub chains_of : List Mark → List Ends → List (List Spot)
 chains_of marks ends = map (λ row. from marks row (ends_at ends row).first) (range_with_len 0 (length ends))
 
--- a mark of the row is at this place, given plus one, or it is the end
+-- a mark of the row is at this index, given plus one, or it is the end
 pub record IsPlace (marks : List Mark) (row at : ℕ) : Type 0 where
   pub within : at ≤ length marks
   pub own : 0 < at → (mark_at marks (at - 1)).row ≡ row

@@ -3,7 +3,7 @@ use Rattle.std.specs.Prelude.{List, [], ◌∷◌, map}
 use Rattle.trace_model.specs.declared.answer.Shown.{Shown}
 use Rattle.trace_model.specs.declared.answered_trace.KeptTrace.{KeptTrace}
 use Rattle.trace_model.specs.declared.answered_trace.TraceForm.{TraceForm}
-use Rattle.trace_model.specs.declared.answered_trace.TraceForm.TheVariants.{Ready, Lone, Kept}
+use Rattle.trace_model.specs.declared.answered_trace.TraceForm.TheVariants.{Copied, Lone, Kept}
 use Rattle.trace_model.specs.Adjusting.{shown_as, unadjusted, with_parent_first}
 use Rattle.trace_model.specs.SharedProcesses.{ShareProcesses}
 use Rattle.trace_model.specs.TakenSpans.{Taken, placed_taken, numbers_taken}
@@ -21,11 +21,11 @@ abbrev pub KeptShares : KeptTrace → Type 0
 KeptShares t = ShareProcesses (placed_taken t.spans.items) (numbers_taken t.spans.items)
 
 abbrev pub form_value : TraceForm → List Shown
-form_value (Ready shown) = shown.value
+form_value (Copied shown) = shown.value
 form_value (Lone t) = lone_value t
 form_value (Kept t) = kept_value t.value
 
 abbrev pub FormShares : TraceForm → Type 0
-FormShares (Ready shown) = Unit {0}
+FormShares (Copied shown) = Unit {0}
 FormShares (Lone t) = Unit {0}
 FormShares (Kept t) = KeptShares t.value

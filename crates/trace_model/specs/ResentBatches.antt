@@ -3,14 +3,14 @@ use Rattle.std.specs.Prelude.{◌≡◌, ◌⊎◌, ℕ, Bool, true, false, ◌&
 use Rattle.std.specs.Option.{is_some}
 use Rattle.std.specs.List.{list_any}
 use Rattle.jaeger_model.specs.declared.batch.Batch.{Batch}
-use Rattle.jaeger_model.specs.Sameness.{same_number, same_process}
+use Rattle.jaeger_model.specs.Sameness.{same_seq_no, same_process}
 use Rattle.trace_model.specs.declared.entry.Entry.{Entry}
 use Rattle.trace_model.specs.declared.entry.Work.{Work}
 use Rattle.trace_model.specs.declared.entry.Work.TheVariants as brings
 
 -- both have the same number and the same process
 abbrev pub is_sent_as : Batch → Batch → Bool
-is_sent_as a b = is_some a.seq_no && (same_number a.seq_no b.seq_no && same_process a.process b.process)
+is_sent_as a b = is_some a.seq_no && (same_seq_no a.seq_no b.seq_no && same_process a.process b.process)
 
 -- a limit is never resent
 abbrev pub resends : Work → Work → Bool

@@ -25,7 +25,7 @@ pub struct KeptTrace {
 #[derive(Debug, Drop)]
 pub enum TraceForm {
     /// Its spans are copied and adjusted.
-    Ready(Box<ShownTrace>),
+    Copied(Box<ShownTrace>),
     /// Its only span is in its entry, and is shown adjusted. Nothing is allocated for it.
     Lone(TakenSpan),
     /// Its spans are in their entries.
@@ -58,12 +58,12 @@ impl AnsweredTrace {
     /// # Errors
     ///
     /// Out of memory, and nothing else.
-    pub fn made(alloc: Global, trace: ShownTrace) -> Result<AnsweredTrace, AllocError>
+    pub fn copied(alloc: Global, trace: ShownTrace) -> Result<AnsweredTrace, AllocError>
         ensures { IfOk result (λ t. t ≡ trace) }
     {
         let trace = Box::new(alloc, trace)?;
         Ok(AnsweredTrace {
-            form: TraceForm::Ready(trace),
+            form: TraceForm::Copied(trace),
         })
     }
 

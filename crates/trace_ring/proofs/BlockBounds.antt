@@ -16,12 +16,12 @@ count_more n m k is e = elim (cases_Bool (n / 256 == m)) [
 ]
 
 -- one more start, to which its block's bound was raised
-pub bounded_more : (room left : ℕ) (opened bounds raised : List ℤ) (start : ℤ) → IsBounded room left opened bounds → length opened < room
+pub bounded_more : (room evicted : ℕ) (opened bounds raised : List ℤ) (start : ℤ) → IsBounded room evicted opened bounds → length opened < room
     → length raised ≡ (if length opened / 256 == length bounds then length bounds + 1 else length bounds)
     → int_lt (get_or raised (length opened / 256) (pos 0)) start ≡ false
     → ((k : ℕ) → k < length bounds → int_lt (get_or raised k (pos 0)) (get_or bounds k (pos 0)) ≡ false)
-    → IsBounded room left (opened ++ start ∷ []) raised
-bounded_more room left opened bounds raised start b space count own none_falls =
+    → IsBounded room evicted (opened ++ start ∷ []) raised
+bounded_more room evicted opened bounds raised start b space count own none_falls =
     let long : length (opened ++ start ∷ []) ≡ length opened + 1 = length-append opened (start ∷ []) in
     let within = b.within in
     let few = b.few in

@@ -4,8 +4,9 @@ use Rattle.std.specs.Prelude.{if◌then◌else◌, ◌==◌}
 use Rattle.trace_ring.proofs.BlockBounds.{count_more}
 
 -- the block of a place has one
-pub block_known : (opened : List ℤ) (left blocks k : ℕ) → blocks ≡ (length opened + 255) / 256 → k < length (drop left opened) → (left + k) / 256 < blocks
-block_known opened left blocks k all below = let long = length-drop left opened in omega arith
+pub block_known : (opened : List ℤ) (evicted blocks k : ℕ) → blocks ≡ (length opened + 255) / 256 → k < length (drop evicted opened)
+    → (evicted + k) / 256 < blocks
+block_known opened evicted blocks k all below = let long = length-drop evicted opened in omega arith
 
 -- the block of the next place has one, or is the next block
 pub blocks_more : (opened : List ℤ) (start : ℤ) (blocks more : ℕ) → blocks ≡ (length opened + 255) / 256

@@ -45,22 +45,23 @@ not_later : (time bound start : ℤ) → int_lt time bound ≡ false → int_lt 
 not_later time bound start p q = grind (arith, ints)
 
 -- the remaining starts of a block whose bound is not after the time
-pub block_miss : (room left : ℕ) (opened bounds : List ℤ) (time : ℤ) (at : ℕ) → IsBounded room left opened bounds → left ≤ at → at < length opened
+pub block_miss : (room evicted : ℕ) (opened bounds : List ℤ) (time : ℤ) (at : ℕ) → IsBounded room evicted opened bounds → evicted ≤ at → at < length opened
     → int_lt time (get_or bounds (at / 256) (pos 0)) ≡ false
-    → positions_from time (at - left) (drop at opened) ≡ positions_from time ((at / 256 + 1) * 256 - left) (drop ((at / 256 + 1) * 256) opened)
-block_miss room left opened bounds time at b from below early =
+    → positions_from time (at - evicted) (drop at opened) ≡ positions_from time ((at / 256 + 1) * 256 - evicted) (drop ((at / 256 + 1) * 256) opened)
+block_miss room evicted opened bounds time at b from below early =
     let k : ℕ = (at / 256 + 1) * 256 - at in
     let to : at + k ≡ (at / 256 + 1) * 256 = omega arith in
-    let place : at - left + k ≡ (at / 256 + 1) * 256 - left = omega arith in
-    all_miss time opened k at (at - left) (λ i low high le.
+    let place : at - evicted + k ≡ (at / 256 + 1) * 256 - evicted = omega arith in
+    all_miss time opened k at (at - evicted) (λ i low high le.
     let same : at / 256 ≡ i / 256 = omega arith in
     not_later time (get_or bounds (at / 256) (pos 0)) (get_or opened i (pos 0)) early
     (ap (λ n. int_lt (get_or bounds n (pos 0)) (get_or opened i (pos 0))) same ∙ b.above i le))
     ∙ (λ i. positions_from time (place i) (drop (to i) opened))
 
 -- ---- the places found so far
-pub found_start : (time : ℤ) (opened : List ℤ) (left : ℕ) → [] ++ positions_from time (left - left) (drop left opened) ≡ positions_after time (drop left opened)
-found_start time opened left = let none : left - left ≡ 0 = omega arith in ap (λ n. positions_from time n (drop left opened)) none
+pub found_start : (time : ℤ) (opened : List ℤ) (evicted : ℕ)
+    → [] ++ positions_from time (evicted - evicted) (drop evicted opened) ≡ positions_after time (drop evicted opened)
+found_start time opened evicted = let none : evicted - evicted ≡ 0 = omega arith in ap (λ n. positions_from time n (drop evicted opened)) none
 
 pub found_end : (time : ℤ) (places : List ℕ) (opened : List ℤ) (at place : ℕ) → length opened ≤ at → places ++ positions_from time place (drop at opened) ≡ places
 found_end time places opened at place past = ap (λ xs. places ++ positions_from time place xs) (drop_all at opened past) ∙ append-nil places

@@ -3,12 +3,12 @@ use Rattle.std.specs.Prelude.{◌≡◌, ℕ, suc, ℤ, pos, ◌+◌, ◌/◌, �
 use Rattle.trace_ring.specs.declared.first_starts.ranges.Range.{Range}
 
 -- the starts, that of the trace opened first at the front; the number that was pushed in all, and that may be; the
--- number that left, and the ranges of all blocks
+-- number that was evicted, and the ranges of all blocks
 pub record Starts : Type 0 where
   pub starts : List ℤ
   pub used : ℕ
   pub room : ℕ
-  pub left : ℕ
+  pub evicted : ℕ
   pub ranges : List Range
 
 -- the positions of those after a time, counted from this one at the first
@@ -20,9 +20,9 @@ abbrev pub positions_after : ℤ → List ℤ → List ℕ
 positions_after time ss = positions_from time 0 ss
 
 -- no start is above the bound of its block
-pub record IsBounded (room left : ℕ) (opened bounds : List ℤ) : Type 0 where
+pub record IsBounded (room evicted : ℕ) (opened bounds : List ℤ) : Type 0 where
   pub fits : room < 2 ^ 32
   pub within : length opened ≤ room
-  pub few : left ≤ length opened
+  pub few : evicted ≤ length opened
   pub blocks : length bounds ≡ (length opened + 255) / 256
   pub above : (i : ℕ) → i < length opened → int_lt (get_or bounds (i / 256) (pos 0)) (get_or opened i (pos 0)) ≡ false

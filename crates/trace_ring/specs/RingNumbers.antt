@@ -8,7 +8,7 @@ use Rattle.hash_tables.specs.IdRows.{Rows, no_id, id_at}
 abbrev pub window : List TraceId → List ℕ → List TraceId
 window ids rows = map (λ row. id_at ids row) rows
 
--- the row at a place has the number of the place, counted from first at the oldest one; the greatest number is
+-- the row at a position has the number of the position, counted from first at the oldest one; the greatest number is
 -- followed by 0
 pub record IsRing (room : ℕ) (table : Rows) (rows : List ℕ) (first : ℕ) (numbers : List ℕ) : Type 0 where
   pub fits : room < 2 ^ 32

@@ -17,9 +17,9 @@ pub record IsWider (r s : Range) : Type 0 where
   pub begins : int_lt r.earliest s.earliest ≡ false
   pub ends : int_lt s.latest r.latest ≡ false
 
--- the range of the block of the trace at a place; the oldest one is at 0
+-- the range of the block of the trace at a position; the oldest one is at 0
 abbrev pub range_at : Starts → ℕ → Range
-range_at s k = get_or s.ranges ((s.left + k) / 256) no_range
+range_at s k = get_or s.ranges ((s.evicted + k) / 256) no_range
 
 abbrev pub ends_after : Range → Option ℤ → Bool
 ends_after r None = true
@@ -30,5 +30,5 @@ begins_before r None = true
 begins_before r (Some bound) = int_lt r.earliest bound
 
 -- a time of the range may be in the window
-abbrev pub reaches : Window → Range → Bool
-reaches w r = ends_after r w.after && begins_before r w.before
+abbrev pub overlaps : Window → Range → Bool
+overlaps w r = ends_after r w.after && begins_before r w.before

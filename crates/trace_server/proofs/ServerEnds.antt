@@ -15,7 +15,7 @@ use Rattle.text_lines.specs.declared.run_error.RunError.TheVariants.{Memory}
 use Rattle.text_lines.proofs.Buffers.{moves_nothing, some_written}
 use Rattle.text_lines.proofs.CompleteRuns.{some_after, some_more}
 use Rattle.trace_server.specs.WorkerSeats.{AreNew}
-use Rattle.trace_server.specs.ServerRuns.{StopsIn, Ends, StopsEarly, Serving, Reports, RunsServer, listening_line, served_line, last_lines}
+use Rattle.trace_server.specs.ServerRuns.{StopsIn, Ends, StopsEarly, Serving, EndsAfterListening, RunsServer, listening_line, served_line, last_lines}
 
 none_written : (a : Option (List ℕ)) (text : List ℕ) → WritesSome a a text
 none_written a text = some_written a a text text (moves_nothing a text)
@@ -71,17 +71,18 @@ ended_after : (a b c : Option (List ℕ)) (failed : Bool) (first text : List ℕ
 ended_after a b c failed first text lost status said (inl all) = inl (all.0, Appends-trans a b c first text said all.1, all.2)
 ended_after a b c failed first text lost status said (inr some) = inr (stopped_after a b c failed first text status said some)
 
--- it listened, and then reported
-pub reported : (serving : Serving) (desk : TableId) (opened : List SeatValue) (a b c : Option (List ℕ)) (failed : Bool) (port : ℕ) (status : ExitStatus)
+-- it listened, and then ended
+pub listened_and_ended : (serving : Serving) (desk : TableId) (opened : List SeatValue) (a b c : Option (List ℕ)) (failed : Bool) (port : ℕ)
+    (status : ExitStatus)
     → AreNew desk opened → Appends a b (listening_line serving.host port)
-    → Reports serving opened (passing b c failed) status
+    → EndsAfterListening serving opened (passing b c failed) status
     → RunsServer serving (passing a c failed) status
-reported serving desk opened a b c failed port status new said (inl early) = inr (inl (record {
+listened_and_ended serving desk opened a b c failed port status new said (inl early) = inr (inl (record {
   port = port;
   served = early.0;
   stops = stopped_after a b c failed (listening_line serving.host port) (served_line early.0) status said early.1;
 }))
-reported serving desk opened a b c failed port status new said (inr closes) = inr (inr (record {
+listened_and_ended serving desk opened a b c failed port status new said (inr closes) = inr (inr (record {
   port = port;
   desk = desk;
   opened = opened;
@@ -97,7 +98,7 @@ reported serving desk opened a b c failed port status new said (inr closes) = in
     books = closes.books;
     ends =
         ended_after a b c failed (listening_line serving.host port)
-        (last_lines closes.served closes.counts.acknowledged closes.counts.refused closes.counts.left)
+        (last_lines closes.served closes.counts.acknowledged closes.counts.refused closes.counts.unanswered)
         closes.failed status said closes.ends;
   };
 }))

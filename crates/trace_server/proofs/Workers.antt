@@ -11,7 +11,7 @@ use Rattle.trace_model.specs.declared.limits.Limits.{Limits}
 use Rattle.intake.specs.declared.books.Books.{Books}
 use Rattle.intake.specs.declared.queue.EndedSeat.{EndedSeat}
 use Rattle.intake.specs.Seats.{SeatValue}
-use Rattle.intake.specs.Books.{AllTaken, HasEnded, MovesFor, StillEnded, StaysTaken}
+use Rattle.intake.specs.Books.{AllTaken, HasEnded, desk_jobs, MovesFor, StillEnded, StaysTaken}
 use Rattle.intake.specs.LiveStores.{SeatGoesOn}
 use Rattle.trace_server.specs.ServerRuns.{ClosesBooks, counts_of}
 use Rattle.trace_server.specs.WorkerSeats.{AreNew, AreOpen, HasJudged, MovesJobs, AreSeatsTaken}
@@ -60,7 +60,7 @@ open_still desk (s ∷ ss) (t ∷ ts) g free =
 abbrev pub IsTakenIn : List EndedSeat → List Entry → SeatValue → Type 0
 IsTakenIn ended taken s = HasEnded ended s.seat s.jobs × AllTaken s.seat s.jobs taken
 
--- of these seats those that wait stand in open_desk, and the others were taken in
+-- some of these seats still wait, and the others were taken in
 pub record SomeTakenIn (seats waiting : List SeatValue) (ended : List EndedSeat) (taken : List Entry) : Type 0 where
   pub others : List SeatValue
   pub split : seats ≡ waiting ++ others
@@ -77,11 +77,11 @@ one_taken_in seats waiting fewer s ended ended' taken taken' h last still stays 
       (λ k d lt. let t = h.each k d lt in let o = get_or h.others k d in (still o.seat o.jobs t.0, stays o.seat o.jobs t.0 t.1));
 }
 
-pub moves_more : (s : ℕ) (js t0 l0 t1 l1 t2 l2 : List Entry) → MovesJobs t0 l0 t1 l1 → MovesFor s js t1 l1 t2 l2 → MovesJobs t0 l0 t2 l2
+pub moves_more : (s : ℕ) (js t0 l0 t1 l1 t2 l2 : List Entry) → MovesJobs t0 l0 t1 l1 → MovesFor s js (desk_jobs t1 l1) (desk_jobs t2 l2) → MovesJobs t0 l0 t2 l2
 moves_more s js t0 l0 t1 l1 t2 l2 a b = (
   a.0 ++ b.moved,
   b.taken_is ∙ (ap (λ z. z ++ b.moved) a.1 ∙ append_assoc t0 a.0 b.moved),
-  b.left_is ∙ (ap (λ z. z ++ b.moved) a.2 ∙ append_assoc l0 a.0 b.moved),
+  b.unjudged_is ∙ (ap (λ z. z ++ b.moved) a.2 ∙ append_assoc l0 a.0 b.moved),
 )
 
 pub last_popped : {X : Type 0} (f : X → SeatValue) (old fewer : List X) (x : X) (s : SeatValue) → old ≡ fewer ++ x ∷ [] → s ≡ f x
@@ -119,7 +119,7 @@ books_closed limits books seats before taken left a r l h aa rr none moves whole
   whole = subst (λ z. AreSeatsTaken z seats) moves.1 whole;
   acknowledged_is = aa ∙ h.acknowledged_is;
   refused_is = rr ∙ h.refused_is;
-  left_is = ls ∙ ap length (moves.2 ∙ ap (λ z. z ++ moves.0) none);
+  unanswered_is = ls ∙ ap length (moves.2 ∙ ap (λ z. z ++ moves.0) none);
 }
 
 -- ---- what a call gave

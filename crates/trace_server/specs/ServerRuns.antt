@@ -7,10 +7,10 @@ use Rattle.atomic_table.specs.Seated.{TableId}
 use Rattle.trace_model.specs.declared.entry.Entry.{Entry}
 use Rattle.trace_model.specs.declared.limits.Limits.{Limits}
 use Rattle.session_devices.specs.Traffic.{Traffic}
-use Rattle.read_side.specs.Keepers.{Lists, no_entries}
+use Rattle.read_side.specs.Keepers.{Lists}
 use Rattle.intake.specs.declared.account.Account.{Account}
 use Rattle.intake.specs.Seats.{SeatValue}
-use Rattle.intake.specs.Books.{Ran, AllTaken}
+use Rattle.intake.specs.Books.{nothing_run, run_state, Ran, AllTaken}
 use Rattle.intake.specs.Books.{acknowledged as acknowledged_of, refused as refused_of}
 use Rattle.serve_options.specs.declared.host.Host.{Host}
 use Rattle.serve_options.specs.Hosts.{url_host}
@@ -39,36 +39,36 @@ abbrev pub served_line : ℕ → List ℕ
 served_line served = codes "served " ++ decimal served ++ codes "\n"
 
 abbrev pub books_line : ℕ → ℕ → ℕ → List ℕ
-books_line acknowledged refused left =
-    codes "books " ++ decimal acknowledged ++ codes " " ++ decimal refused ++ codes " " ++ decimal left
+books_line acknowledged refused unanswered =
+    codes "books " ++ decimal acknowledged ++ codes " " ++ decimal refused ++ codes " " ++ decimal unanswered
     ++ codes "\n"
 
 abbrev pub last_lines : ℕ → ℕ → ℕ → ℕ → List ℕ
-last_lines served acknowledged refused left =
-    served_line served ++ books_line acknowledged refused left
+last_lines served acknowledged refused unanswered =
+    served_line served ++ books_line acknowledged refused unanswered
 
 -- ---- what became of the batches
 
--- how many batches were acknowledged, how many were refused, and how many are left, which are neither
+-- how many batches were acknowledged, how many were refused, and how many are unanswered, which are neither
 pub record BatchCounts : Type 0 where
   pub acknowledged : ℕ
   pub refused : ℕ
-  pub left : ℕ
+  pub unanswered : ℕ
 
 abbrev pub counts_of : ℕ → ℕ → ℕ → BatchCounts
-counts_of acknowledged refused left = record { acknowledged = acknowledged; refused = refused; left = left }
+counts_of acknowledged refused unanswered = record { acknowledged = acknowledged; refused = refused; unanswered = unanswered }
 
--- A clerk of an empty store judged some jobs, which led to these lists, and some jobs are left. All jobs of these seats
--- are among them, for each seat complete and in order. The counts are those of the answers, and of the jobs left.
+-- A clerk of an empty store judged some jobs, which led to these lists, and some jobs stay unjudged. All jobs of these
+-- seats are among them, for each seat complete and in order. The counts are those of the answers, and of the unjudged jobs.
 pub record ClosesBooks (limits : Limits) (lists : Lists) (seats : List SeatValue) (counts : BatchCounts) : Type 0 where
   pub judged_jobs : List Entry
   pub accounts : List Account
   pub unjudged_jobs : List Entry
-  pub ran : Ran limits [] [] no_entries judged_jobs accounts lists
+  pub ran : Ran limits nothing_run (run_state judged_jobs accounts lists)
   pub whole : All (λ (s : SeatValue). AllTaken s.seat s.jobs (judged_jobs ++ unjudged_jobs)) seats
   pub acknowledged_is : counts.acknowledged ≡ acknowledged_of accounts
   pub refused_is : counts.refused ≡ refused_of accounts
-  pub left_is : counts.left ≡ length unjudged_jobs
+  pub unanswered_is : counts.unanswered ≡ length unjudged_jobs
 
 -- each worker has one of these seats, the one with its number
 abbrev pub OneForEach : ℕ → List SeatValue → Type 0
@@ -118,11 +118,11 @@ pub record Closes (start : ServerStart) (output : Traffic) (status : ExitStatus)
   pub gone_on : AllZip SeatGoesOn start.opened seats
   pub one_for_each : OneForEach start.serving.workers seats
   pub books : ClosesBooks start.serving.limits lists seats counts
-  pub ends : Ends output (start.written ++ last_lines served counts.acknowledged counts.refused counts.left) failed status
+  pub ends : Ends output (start.written ++ last_lines served counts.acknowledged counts.refused counts.unanswered) failed status
 
--- after the first line: it stopped before its books were closed, or it closed those of the seats that these have become
-abbrev pub Reports : Serving → List SeatValue → Traffic → ExitStatus → Type 0
-Reports serving opened output status =
+-- after the listening line: it stopped before its books were closed, or it closed those of the seats that these have become
+abbrev pub EndsAfterListening : Serving → List SeatValue → Traffic → ExitStatus → Type 0
+EndsAfterListening serving opened output status =
     ((served : ℕ) × StopsIn output (served_line served) status) ⊎ Closes (record { serving = serving; opened = opened; written = [] }) output status
 
 -- it closed its books: its output is the listening line, and at the end the number of connections and the totals of the

@@ -2,7 +2,7 @@
 
 use crate::call_observer::CallObserver;
 use crate::connection_quota::ConnectionQuota;
-use crate::worker::{WorkerContext, WorkerOutcome};
+use crate::worker::{ServerContext, WorkerOutcome};
 use libc::net::listen;
 use libc::{EMFILE, ENOMEM, EPERM};
 use read_side::StoreName;
@@ -15,17 +15,24 @@ use std::sync::Wait;
 use std::time::{Clock, Duration};
 
 /// The number of milliseconds without accepting after the system had no room for one more connection.
-const SHORTAGE_PAUSE: u64 = 100;
+const SHORTAGE_PAUSE_MS: u64 = 100;
+
+/// The number of milliseconds without accepting while as many connections are open as `--connections` allows.
+const ALL_TAKEN_PAUSE_MS: u64 = 100;
+
+/// The number of milliseconds without accepting while all connections of `--sessions` are claimed. A claim may be given
+/// back.
+const QUOTA_PAUSE_MS: u64 = 1;
 
 /// The number of milliseconds for which a worker first leaves a connection to workers that have fewer. Each further
 /// time is twice as long.
-const DEFERRAL: u64 = 1;
+const DEFERRAL_MS: u64 = 1;
 
 /// The number of times that it does so before it accepts the connection itself, after 127 ms in all.
 const MAX_DEFERRALS: u32 = 7;
 
 /// The number of milliseconds without accepting after a connection was lost while it waited to be accepted.
-const LOSS_PAUSE: u64 = 1;
+const LOSS_PAUSE_MS: u64 = 1;
 
 /// The length of the system's queue of connections that wait to be accepted, if the system allows it.
 const LISTEN_BACKLOG: i32 = 4_096;
@@ -134,7 +141,7 @@ pub(crate) fn lengthen_queue(listener: &TcpListener) {
 /// Accepts a waiting connection. Retries after a temporary error.
 fn accept<N: StoreName, G: CallObserver, R: Wait>(
     rt: &R,
-    server: &WorkerContext<'_, N, G>,
+    server: &ServerContext<'_, N, G>,
 ) -> Accepted {
     for _ in rt.forever() {
         match server.listener.accept() {
@@ -196,14 +203,14 @@ impl Acceptor {
     /// Returns whether a worker with this number of connections leaves the next one to a worker that has fewer.
     fn defers<N: StoreName, G: CallObserver>(
         &mut self,
-        server: &WorkerContext<'_, N, G>,
+        server: &ServerContext<'_, N, G>,
         connections: usize,
         now: Duration,
     ) -> bool {
         if self.deferrals >= MAX_DEFERRALS || server.loads.is_least(connections) {
             return false;
         }
-        let deferral = DEFERRAL << self.deferrals;
+        let deferral = DEFERRAL_MS << self.deferrals;
         self.deferrals += 1;
         self.pause(now, deferral);
         true
@@ -213,15 +220,15 @@ impl Acceptor {
     fn accept_one<N: StoreName, G: CallObserver, R: Wait + Eprint>(
         &mut self,
         rt: &R,
-        server: &WorkerContext<'_, N, G>,
+        server: &ServerContext<'_, N, G>,
         worker: u32,
         now: Duration,
     ) -> Option<TcpStream> {
         match accept(rt, server) {
             Accepted::Stream(stream) => {
                 server.notices.end_shortage();
-                // After this number the other workers count as busy: keep it, so that the other waiting connections are
-                // accepted at once.
+                // After MAX_DEFERRALS the count stays, so that the connections still waiting are accepted without
+                // deferral.
                 if self.deferrals < MAX_DEFERRALS {
                     self.deferrals = 0;
                 }
@@ -233,10 +240,10 @@ impl Acceptor {
                 self.deferrals = 0;
                 self.pending = false;
             }
-            Accepted::Lost => self.pause(now, LOSS_PAUSE),
+            Accepted::Lost => self.pause(now, LOSS_PAUSE_MS),
             Accepted::Shortage(error) => {
                 server.notices.print_shortage(rt, &error);
-                self.pause(now, SHORTAGE_PAUSE);
+                self.pause(now, SHORTAGE_PAUSE_MS);
             }
             Accepted::Failed(error) => {
                 print_accepts_no_more(rt, worker, &error);
@@ -254,7 +261,7 @@ impl Acceptor {
     pub(crate) fn next<N: StoreName, G: CallObserver, R: Wait + Clock + Eprint>(
         &mut self,
         rt: &R,
-        server: &WorkerContext<'_, N, G>,
+        server: &ServerContext<'_, N, G>,
         worker: u32,
         connections: usize,
         now: Duration,
@@ -265,12 +272,12 @@ impl Acceptor {
         }
         if !server.loads.take_permit() {
             server.notices.print_all_taken(rt);
-            self.pause(now, SHORTAGE_PAUSE);
+            self.pause(now, ALL_TAKEN_PAUSE_MS);
             return None;
         }
         if !server.quota.claim() {
             server.loads.return_permit();
-            self.pause(now, DEFERRAL);
+            self.pause(now, QUOTA_PAUSE_MS);
             return None;
         }
         self.accept_one(rt, server, worker, now)

@@ -18,7 +18,7 @@ pub(crate) struct Totals {
     pub(crate) acknowledged: u64,
     pub(crate) refused: u64,
     /// The number that were neither acknowledged nor refused.
-    pub(crate) left: u64,
+    pub(crate) unanswered: u64,
 }
 
 /// Takes the workers' seats in, until memory runs out.
@@ -29,19 +29,19 @@ fn take_all_in<N: StoreName, R: Wait>(
 ) -> Result<(), Refusal>
     requires open { AreOpen books.old.inbox.desk (map (λ w. w.live.seat) workers.items) }
     requires books { Balances books.old.inbox.taken books.old.accounts
-        (map arc_value books.old.left.items) }
+        (map arc_value books.old.unjudged.items) }
     ensures accounts { books.new.accounts ≡ books.old.accounts }
     ensures counts { (books.new.acknowledged ≡ books.old.acknowledged)
         × (books.new.refused ≡ books.old.refused) }
-    ensures moved { MovesJobs books.old.inbox.taken (map arc_value books.old.left.items)
-        books.new.inbox.taken (map arc_value books.new.left.items) }
+    ensures moved { MovesJobs books.old.inbox.taken (map arc_value books.old.unjudged.items)
+        books.new.inbox.taken (map arc_value books.new.unjudged.items) }
     ensures whole { OnOk result (AreSeatsTaken books.new.inbox.taken
         (map (λ w. w.live.seat) workers.items)) }
 {
     let mut workers = workers;
     while let Some(EndedWorker { outcome: _, live }) = workers.pop() {
         let (mut seat, _pass) = live.into_parts();
-        books.take_in(rt, &mut seat)?;
+        books.take_in_seat(rt, &mut seat)?;
     }
     Ok(())
 }
@@ -58,19 +58,19 @@ pub(crate) fn close_books<N: StoreName, R: Wait>(
 ) -> Result<Totals, Refusal>
     requires open { AreOpen books.inbox.desk (map (λ w. w.live.seat) workers.items) }
     requires judged { HasJudged N.limits books }
-    requires left { books.left.items ≡ [] }
+    requires left { books.unjudged.items ≡ [] }
     ensures { IfOk result (λ t. ClosesBooks N.limits books.keeper
         (map (λ w. w.live.seat) workers.items)
-        (counts_of t.acknowledged t.refused t.left)) }
+        (counts_of t.acknowledged t.refused t.unanswered)) }
 {
     let mut books = books;
     let taken_in = take_all_in(rt, &mut books, workers);
     let (acknowledged, refused) = (books.acknowledged, books.refused);
-    let left = books.close(rt);
+    let unanswered = books.close(rt);
     taken_in?;
     Ok(Totals {
         acknowledged,
         refused,
-        left,
+        unanswered,
     })
 }

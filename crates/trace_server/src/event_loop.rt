@@ -11,7 +11,7 @@ use crate::connection::{idle_limit, prepare};
 use crate::lingering::{Awaits, Lingering};
 use crate::patient_clock::PatientClock;
 use crate::source::Source;
-use crate::worker::WorkerContext;
+use crate::worker::ServerContext;
 use crate::worker_store::WorkerStore;
 use open_connections::{
     BufferedConnection, ConnectionProgress, ConnectionSet, ConnectionTurn, Event, MAX_EVENTS,
@@ -40,7 +40,7 @@ const MAX_WAITING_BYTES: usize = 2 << 30;
 const MAX_MADE_BYTES: usize = 256 << 20;
 
 /// The number of milliseconds after which a worker checks whether others have accepted all connections.
-const SESSIONS_PAUSE: u64 = 20;
+const SESSIONS_PAUSE_MS: u64 = 20;
 
 /// Returns whether too many bytes wait if these, of one client, are kept beside those of others. The bytes of a single
 /// client may always wait.
@@ -126,7 +126,7 @@ impl EventLoop {
     fn schedule(&mut self, key: usize, progress: ConnectionProgress, peer_closed: bool) -> bool
         ensures open { self.new.connections ≡ self.old.connections }
     {
-        if let ConnectionProgress::HoldsMore = progress {
+        if let ConnectionProgress::HoldsBytes = progress {
             return self.holding.push_back((key, peer_closed)).is_ok();
         }
         let Some(connection) = self.connections.get(key) else {
@@ -140,7 +140,7 @@ impl EventLoop {
                 .reregister_for_writes(socket.raw_fd(), Source::Open(key).token())
                 .is_ok();
         }
-        if peer_closed || connection.is_unread || socket.may_hold_more() {
+        if peer_closed || connection.must_reregister || socket.last_read_was_full() {
             return self
                 .readiness
                 .reregister(socket.raw_fd(), Source::Open(key).token())
@@ -183,8 +183,9 @@ impl EventLoop {
         }
     }
 
-    /// Closes a connection whose session has ended, after the waiting part of its last response was written.
-    fn leave(&mut self, buffered: BufferedConnection<Socket>)
+    /// Lets a connection linger whose session has ended: the waiting part of its last response is written before it is
+    /// closed.
+    fn linger(&mut self, buffered: BufferedConnection<Socket>)
         ensures open { self.new.connections ≡ self.old.connections }
     {
         let own = buffered.waiting_bytes();
@@ -195,11 +196,11 @@ impl EventLoop {
         if let Some(key) = self.lingering.add(buffered) {
             self.advance_lingering(key);
         }
-        self.next_check = self.next_check.min(self.after_pause());
+        self.next_check = self.next_check.min(self.earliest_check());
     }
 
     /// Returns the earliest time of the next check for connections that were silent for too long.
-    fn after_pause(&self) -> Duration {
+    fn earliest_check(&self) -> Duration {
         self.at
             .now
             .saturating_add(Duration::from_secs(CHECK_SECONDS))
@@ -215,8 +216,8 @@ impl EventLoop {
         ensures open { self.new.connections ≡ self.old.connections }
     {
         match progress {
-            ConnectionProgress::Closing => self.leave(buffered),
-            ConnectionProgress::Ended if buffered.has_waiting() => self.leave(buffered),
+            ConnectionProgress::ClosedByResponse => self.linger(buffered),
+            ConnectionProgress::ClosedByClient if buffered.has_waiting() => self.linger(buffered),
             _ => drop(buffered),
         }
     }
@@ -256,7 +257,9 @@ impl EventLoop {
     {
         match self.connections.take_turn(rt, alloc, key, self.at, store) {
             ConnectionTurn::Open(progress) => self.keep(key, progress, peer_closed),
-            ConnectionTurn::Left(progress, buffered) => self.close_connection(progress, buffered),
+            ConnectionTurn::Removed(progress, buffered) => self.close_connection(
+                progress, buffered,
+            ),
             ConnectionTurn::Absent => {}
         }
     }
@@ -348,7 +351,7 @@ impl EventLoop {
     fn open_accepted<N: StoreName, G: CallObserver, R: Wait + Eprint>(
         &mut self,
         rt: &R,
-        server: &WorkerContext<'_, N, G>,
+        server: &ServerContext<'_, N, G>,
         stream: TcpStream,
         store: &mut WorkerStore<'_, N, G, R>,
     )
@@ -388,7 +391,7 @@ impl EventLoop {
             return;
         }
         self.lingering.drop_overdue(now);
-        self.next_check = self.after_pause();
+        self.next_check = self.earliest_check();
         if let Some(idle_limit) = self.idle_limit {
             self.connections.drop_silent(now.saturating_sub(idle_limit));
             self.put_off_check(idle_limit);
@@ -407,17 +410,17 @@ impl EventLoop {
     /// Returns the time of the next action that no event triggers.
     fn due<N: StoreName, G: CallObserver>(
         &self,
-        server: &WorkerContext<'_, N, G>,
+        server: &ServerContext<'_, N, G>,
         acceptor: &Acceptor,
     ) -> Option<Duration> {
         let checks = !self.lingering.is_empty()
             || (self.idle_limit.is_some() && !self.connections.is_empty());
-        let check = if checks { Some(self.next_check) } else { None };
+        let check = checks.then_some(self.next_check);
         let last = if server.quota.is_limited() {
             Some(
                 self.at
                     .now
-                    .saturating_add(Duration::from_millis(SESSIONS_PAUSE)),
+                    .saturating_add(Duration::from_millis(SESSIONS_PAUSE_MS)),
             )
         } else {
             None
@@ -458,7 +461,7 @@ impl EventLoop {
     /// Publishes the number of connections, and returns the permits of those that were closed.
     fn publish_load_and_return_permits<N: StoreName, G: CallObserver>(
         &mut self,
-        server: &WorkerContext<'_, N, G>,
+        server: &ServerContext<'_, N, G>,
         worker: u32,
         accepts: bool,
     )
@@ -478,7 +481,7 @@ impl EventLoop {
     fn accept<N: StoreName, G: CallObserver, R: Wait + Clock + Eprint>(
         &mut self,
         rt: &R,
-        server: &WorkerContext<'_, N, G>,
+        server: &ServerContext<'_, N, G>,
         worker: u32,
         acceptor: &mut Acceptor,
         store: &mut WorkerStore<'_, N, G, R>,
@@ -502,7 +505,7 @@ impl EventLoop {
     fn serve_round<N: StoreName, G: CallObserver, R: Wait + Clock + Eprint>(
         &mut self,
         rt: &R,
-        server: &WorkerContext<'_, N, G>,
+        server: &ServerContext<'_, N, G>,
         worker: u32,
         acceptor: &mut Acceptor,
         store: &mut WorkerStore<'_, N, G, R>,
@@ -525,7 +528,7 @@ impl EventLoop {
     pub(crate) fn run<N: StoreName, G: CallObserver, R: Wait + Clock + Eprint>(
         &mut self,
         rt: &R,
-        server: &WorkerContext<'_, N, G>,
+        server: &ServerContext<'_, N, G>,
         worker: u32,
         acceptor: &mut Acceptor,
         store: &mut WorkerStore<'_, N, G, R>,

@@ -15,7 +15,7 @@
 //!   `connection_quota`: how many may still be accepted, of those that the server is asked to serve.
 //! * `connection`: sockets before and after their sessions. `lingering`: connections after their last response.
 //! * `shared`: a store with its desk and its clerk, which all workers share.
-//! * `ending`: takes in every seat at the end. `reporting`: the lines of the output.
+//! * `ending`: takes in every seat at the end. `output_lines`: the lines of the output.
 //! * `serving`: [`serve_with`].
 //! * `laws`: laws of a worker's connections.
 #![tactic(auto)]
@@ -30,8 +30,8 @@ mod event_loop;
 pub mod laws;
 mod lingering;
 mod loads;
+mod output_lines;
 mod patient_clock;
-mod reporting;
 mod serving;
 mod shared;
 mod source;

@@ -37,18 +37,31 @@ pub(crate) struct Lingering {
 }
 
 impl LingeringConnection {
-    /// Writes the waiting bytes, as far as the client takes them. Returns whether the connection is still useful.
-    fn write(&mut self, now: Duration, idle_limit: Option<Duration>) -> bool {
+    /// Writes the waiting part of the last response, as far as the client takes it. Returns what to wait for, or `None` if
+    /// the connection has failed.
+    fn write(&mut self, now: Duration, idle_limit: Option<Duration>) -> Option<Awaits> {
         if self.buffered.flush().is_err() {
-            return false;
+            return None;
         }
         if self.buffered.has_waiting() {
             self.until = idle_limit.map(|idle_limit| now.saturating_add(idle_limit));
-            return true;
+            return Some(Awaits::Writable);
         }
         self.has_closed_sending = true;
         self.until = Some(now.saturating_add(Duration::from_secs(DISCARD_SECONDS)));
-        close_sending(self.buffered.get_ref().stream()).is_ok()
+        match close_sending(self.buffered.get_ref().stream()) {
+            Ok(()) => Some(Awaits::Readable),
+            Err(_) => None,
+        }
+    }
+
+    /// Discards the input after the last response was written. Returns what to wait for, or `None` if no more input comes.
+    fn discard_input(&self) -> Option<Awaits> {
+        match discard_some(self.buffered.get_ref().stream()) {
+            Discarded::All => Some(Awaits::Nothing),
+            Discarded::Much => Some(Awaits::Readable),
+            Discarded::Last => None,
+        }
     }
 }
 
@@ -102,43 +115,6 @@ impl Lingering {
         }
     }
 
-    /// Writes the waiting part of a connection's last response, as far as its client takes it.
-    fn write(&mut self, key: usize, now: Duration, idle_limit: Option<Duration>) -> Awaits {
-        let Some(lingering) = self.connections.get_mut(key) else {
-            // Impossible: `advance` has just found the key.
-            return Awaits::Nothing;
-        };
-        let before = lingering.buffered.waiting_bytes();
-        let is_of_use = lingering.write(now, idle_limit);
-        let has_closed_sending = lingering.has_closed_sending;
-        let after = lingering.buffered.waiting_bytes();
-        self.waiting = self.waiting.without(before).and(after);
-        match (is_of_use, has_closed_sending) {
-            (false, _) => {
-                self.remove(key);
-                Awaits::Nothing
-            }
-            (true, true) => Awaits::Readable,
-            (true, false) => Awaits::Writable,
-        }
-    }
-
-    /// Discards the input of a connection whose response was written.
-    fn discard_input(&mut self, key: usize) -> Awaits {
-        let Some(socket) = self.get(key) else {
-            // Impossible: `advance` has just found the key.
-            return Awaits::Nothing;
-        };
-        match discard_some(socket.stream()) {
-            Discarded::All => Awaits::Nothing,
-            Discarded::Much => Awaits::Readable,
-            Discarded::Last => {
-                self.remove(key);
-                Awaits::Nothing
-            }
-        }
-    }
-
     /// Writes the waiting part of a connection's last response, or discards its input. Removes a connection that has
     /// failed, or whose client has closed its side after the response.
     pub(crate) fn advance(
@@ -147,10 +123,23 @@ impl Lingering {
         now: Duration,
         idle_limit: Option<Duration>,
     ) -> Awaits {
-        match self.connections.get(key) {
-            Some(lingering) if lingering.has_closed_sending => self.discard_input(key),
-            Some(_) => self.write(key, now, idle_limit),
-            None => Awaits::Nothing,
+        let Some(lingering) = self.connections.get_mut(key) else {
+            return Awaits::Nothing;
+        };
+        let before = lingering.buffered.waiting_bytes();
+        let awaits = if lingering.has_closed_sending {
+            lingering.discard_input()
+        } else {
+            lingering.write(now, idle_limit)
+        };
+        let after = lingering.buffered.waiting_bytes();
+        self.waiting = self.waiting.without(before).and(after);
+        match awaits {
+            Some(awaits) => awaits,
+            None => {
+                self.remove(key);
+                Awaits::Nothing
+            }
         }
     }
 

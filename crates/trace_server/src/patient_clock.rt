@@ -4,10 +4,10 @@
 use std::time::Duration;
 
 /// The number of milliseconds of a round of serving that count at most.
-const MAX_COUNTED: u64 = 100;
+const MAX_COUNTED_MS: u64 = 100;
 
 /// A worker's clock, which has a time for each round. Of the time in which the worker serves it counts at most
-/// [`MAX_COUNTED`] in each round, and it counts all of the time in which it waits.
+/// [`MAX_COUNTED_MS`] in each round, and it counts all of the time in which it waits.
 #[derive(Clone, Copy, Debug)]
 pub(crate) struct PatientClock {
     /// When the round began, by the system's clock.
@@ -28,7 +28,7 @@ impl PatientClock {
     /// Ends the round when the worker has served and is about to wait, at a time of the system's clock.
     pub(crate) fn end_round(&mut self, now: Duration) {
         let served = now.saturating_sub(self.began);
-        let excess = served.saturating_sub(Duration::from_millis(MAX_COUNTED));
+        let excess = served.saturating_sub(Duration::from_millis(MAX_COUNTED_MS));
         self.uncounted = self.uncounted.saturating_add(excess);
     }
 

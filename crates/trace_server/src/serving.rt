@@ -6,7 +6,7 @@ ghost use Rattle.std.specs.Prelude.{◌≡◌, [], Some, false, map, IfOk};
 ghost use Rattle.read_side.specs.Keepers.{no_entries};
 ghost use Rattle.intake.specs.Turns.{IsNewClerk};
 ghost use Rattle.session_devices.specs.Traffic.{traffic_of};
-ghost use Rattle.trace_server.specs.ServerRuns.{OneForEach, Reports, RunsServer, serving_of};
+ghost use Rattle.trace_server.specs.ServerRuns.{EndsAfterListening, OneForEach, RunsServer, serving_of};
 ghost use Rattle.trace_server.specs.WorkerSeats.{AreNew, HasJudged};
 
 use crate::acceptor::lengthen_queue;
@@ -15,11 +15,11 @@ use crate::config::ServerConfig;
 use crate::connection_quota::ConnectionQuota;
 use crate::ending::close_books;
 use crate::loads::Loads;
-use crate::reporting::{report, report_unclosed, total_outcome, write_listening};
+use crate::output_lines::{end_unclosed, end_with_totals, total_outcome, write_listening};
 use crate::shared::SharedStore;
 use crate::threads::{OwnWork, beside, run_each};
-use crate::worker::{EndedWorker, WorkerContext, WorkerSeat};
-use intake::{Books, Clerk, Desk};
+use crate::worker::{EndedWorker, ServerContext, WorkerStart};
+use intake::{Books, Clerk, DeskHandle};
 use read_side::{EmptyHistory, Keeper, StoreName};
 use server_notices::{
     Notices, PeriodicCounts, end_unwritten, end_with, print_few_files, print_limits,
@@ -60,36 +60,36 @@ fn run_workers<
     N: StoreName + Send + Sync,
     G: CallObserver + Sync,
     R: Threads + Wait + Clock + Eprint + Net<Stream = TcpStream, Listener = TcpListener> + Sync,
->(rt: &R, server: &WorkerContext<'_, N, G>, lives: Vec<WorkerSeat<N>>) -> Outcomes<N>
-    ensures { IfOk result (λ v. AllZip SeatGoesOn (map (λ p. p.live.seat) lives.items)
+>(rt: &R, server: &ServerContext<'_, N, G>, starts: Vec<WorkerStart<N>>) -> Outcomes<N>
+    ensures { IfOk result (λ v. AllZip SeatGoesOn (map (λ p. p.live.seat) starts.items)
         (map (λ w. w.live.seat) v.items)) }
 {
-    let outcomes = run_each(rt, server, lives);
+    let outcomes = run_each(rt, server, starts);
     server.periodic.end();
     outcomes
 }
 
 /// Runs the workers until all sessions have ended, with the periodic lines in a thread of their own. If that thread can't be
 /// created, there are none.
-fn run_workers_and_reports<
+fn run_workers_and_periodic_counts<
     N: StoreName + Send + Sync,
     G: CallObserver + Sync,
     R: Threads + Wait + Clock + Eprint + Net<Stream = TcpStream, Listener = TcpListener> + Sync,
->(rt: &R, server: &WorkerContext<'_, N, G>, lives: Vec<WorkerSeat<N>>) -> Outcomes<N>
-    ensures { IfOk result (λ v. AllZip SeatGoesOn (map (λ p. p.live.seat) lives.items)
+>(rt: &R, server: &ServerContext<'_, N, G>, starts: Vec<WorkerStart<N>>) -> Outcomes<N>
+    ensures { IfOk result (λ v. AllZip SeatGoesOn (map (λ p. p.live.seat) starts.items)
         (map (λ w. w.live.seat) v.items)) }
 {
     if server.periodic.is_off() {
-        return run_workers(rt, server, lives);
+        return run_workers(rt, server, starts);
     }
     let (periodic, notices) = (server.periodic, server.notices);
     let (_, outcomes) = join(
         rt,
         || -> () { periodic.run(rt, notices) },
         || -> Outcomes<N>
-            ensures { IfOk result (λ v. AllZip SeatGoesOn (map (λ p. p.live.seat) lives.items)
+            ensures { IfOk result (λ v. AllZip SeatGoesOn (map (λ p. p.live.seat) starts.items)
                 (map (λ w. w.live.seat) v.items)) }
-        { run_workers(rt, server, lives) },
+        { run_workers(rt, server, starts) },
     );
     outcomes
 }
@@ -99,18 +99,18 @@ fn run_workers_then_close_desk<
     N: StoreName + Send + Sync,
     G: CallObserver + Sync,
     R: Threads + Wait + Clock + Eprint + Net<Stream = TcpStream, Listener = TcpListener> + Sync,
->(rt: &R, server: &WorkerContext<'_, N, G>, lives: Vec<WorkerSeat<N>>) -> Outcomes<N>
-    ensures { IfOk result (λ v. AllZip SeatGoesOn (map (λ p. p.live.seat) lives.items)
+>(rt: &R, server: &ServerContext<'_, N, G>, starts: Vec<WorkerStart<N>>) -> Outcomes<N>
+    ensures { IfOk result (λ v. AllZip SeatGoesOn (map (λ p. p.live.seat) starts.items)
         (map (λ w. w.live.seat) v.items)) }
 {
-    let outcomes = run_workers_and_reports(rt, server, lives);
+    let outcomes = run_workers_and_periodic_counts(rt, server, starts);
     server.desk.close();
     outcomes
 }
 
 /// The promise that workers that began with these seats and passes return with these seats.
 #[derive(Drop)]
-struct KeepSeats<N: StoreName>(Snapshot<Vec<WorkerSeat<N>>>);
+struct KeepSeats<N: StoreName>(Snapshot<Vec<WorkerStart<N>>>);
 
 impl<N: StoreName> Promise<Outcomes<N>> for KeepSeats<N> {
     ghost use Rattle.intake.specs.LiveStores.{SeatGoesOn};
@@ -126,7 +126,7 @@ impl<N: StoreName> Promise<Outcomes<N>> for KeepSeats<N> {
 /// isn't: so the keeper stays outside, in the slot, until `run` takes it.
 #[derive(Drop)]
 struct ClerkWork<'d, 's, N: StoreName> {
-    desk: &'d Desk<N>,
+    desk: &'d DeskHandle<N>,
     clerk: Clerk<N>,
     slot: &'s mut Option<Keeper<N>>,
 }
@@ -156,14 +156,14 @@ impl<'d, 's, N: StoreName, R: Wait> OwnWork<R, Books<N>> for ClerkWork<'d, 's, N
 }
 
 /// Returns the state that the workers share.
-fn worker_context<'a, 's: 'a, N: StoreName, G>(
+fn server_context<'a, 's: 'a, N: StoreName, G>(
     alloc: Global,
-    desk: &'a Desk<N>,
+    desk: &'a DeskHandle<N>,
     setup: &ServerSetup<'s, G>,
     quota: &'a ConnectionQuota,
     periodic: &'a PeriodicCounts,
-) -> WorkerContext<'a, N, G> {
-    WorkerContext {
+) -> ServerContext<'a, N, G> {
+    ServerContext {
         alloc,
         listener: setup.listener,
         desk,
@@ -186,23 +186,23 @@ fn serve_sessions<
     requires keeper { shared.keeper ≡ no_entries }
     requires clerk { IsNewClerk shared.clerk }
     ensures judged { HasJudged N.limits result.books }
-    ensures left { result.books.left.items ≡ [] }
+    ensures left { result.books.unjudged.items ≡ [] }
     ensures desk { result.books.inbox.desk ≡ shared.clerk.desk }
     ensures seats { IfOk result.workers (λ v. AllZip SeatGoesOn
-        (map (λ p. p.live.seat) shared.lives.items) (map (λ w. w.live.seat) v.items)) }
+        (map (λ p. p.live.seat) shared.starts.items) (map (λ w. w.live.seat) v.items)) }
 {
     let SharedStore {
         keeper,
         desk,
         clerk,
-        lives,
+        starts,
     } = shared;
     let quota = ConnectionQuota::new(setup.config.options.sessions);
     let periodic = PeriodicCounts::new(setup.config.options.report);
-    let server = worker_context(alloc, &desk, setup, &quota, &periodic);
+    let server = server_context(alloc, &desk, setup, &quota, &periodic);
     let mut slot = Some(keeper);
     // For the prover: the promise that `beside` asks for.
-    let seats = KeepSeats(Snapshot::of(&lives));
+    let seats = KeepSeats(Snapshot::of(&starts));
     let work = ClerkWork {
         desk: &desk,
         clerk,
@@ -212,9 +212,9 @@ fn serve_sessions<
         rt,
         seats,
         || -> Outcomes<N>
-            ensures { IfOk result (λ v. AllZip SeatGoesOn (map (λ p. p.live.seat) lives.items)
+            ensures { IfOk result (λ v. AllZip SeatGoesOn (map (λ p. p.live.seat) starts.items)
                 (map (λ w. w.live.seat) v.items)) }
-        { run_workers_then_close_desk(rt, &server, lives) },
+        { run_workers_then_close_desk(rt, &server, starts) },
         work,
     );
     // Impossible: the clerk has taken the keeper. But no clause of `beside` says so, and a keeper can't be dropped.
@@ -227,7 +227,7 @@ fn serve_sessions<
     }
 }
 
-/// Serves the store, closes its books and the store, writes the report, and returns the exit status.
+/// Serves the store, closes its books and the store, writes the last lines, and returns the exit status.
 fn serve_store<
     N: StoreName + Send + Sync,
     G: CallObserver + Sync,
@@ -242,13 +242,13 @@ fn serve_store<
 ) -> ExitStatus
     requires keeper { shared.keeper ≡ no_entries }
     requires clerk { IsNewClerk shared.clerk }
-    requires new { AreNew shared.clerk.desk (map (λ p. p.live.seat) shared.lives.items) }
+    requires new { AreNew shared.clerk.desk (map (λ p. p.live.seat) shared.starts.items) }
     requires numbers { OneForEach setup.now.config.now.options.workers
-        (map (λ p. p.live.seat) shared.lives.items) }
+        (map (λ p. p.live.seat) shared.starts.items) }
     requires output_works { W.has_failed output.old ≡ false }
-    ensures { Reports (serving_of setup.now.config.now.options.host N.limits
+    ensures { EndsAfterListening (serving_of setup.now.config.now.options.host N.limits
         setup.now.config.now.options.workers)
-        (map (λ p. p.live.seat) shared.lives.items)
+        (map (λ p. p.live.seat) shared.starts.items)
         (traffic_of W.contents W.has_failed output.old output.new) result }
 {
     let ServedSessions { books, workers } = serve_sessions(rt, alloc, shared, setup);
@@ -262,8 +262,8 @@ fn serve_store<
     };
     let all = total_outcome(workers.as_slice());
     match close_books(rt, books, workers) {
-        Ok(totals) => report(rt, alloc, output, all, totals),
-        Err(_) => report_unclosed(rt, alloc, output, all),
+        Ok(totals) => end_with_totals(rt, alloc, output, all, totals),
+        Err(_) => end_unclosed(rt, alloc, output, all),
     }
 }
 
@@ -278,7 +278,8 @@ fn can_start<R: Threads>(rt: &R) -> bool {
     }
 }
 
-/// Opens a store over this history, which `N` names, and serves it.
+/// Opens a store over this history, which `N` names, and serves it. For the prover: `limits` equals
+/// `setup.config.options.limits`.
 fn serve_named<
     N: StoreName + Send + Sync,
     G: CallObserver + Sync,

@@ -7,50 +7,50 @@ ghost use Rattle.trace_server.specs.ServerRuns.{OneForEach};
 ghost use Rattle.trace_server.specs.WorkerSeats.{AreNew};
 
 use crate::config::ServerConfig;
-use crate::worker::WorkerSeat;
-use intake::{Clerk, Desk, Live, desk};
+use crate::worker::WorkerStart;
+use intake::{Clerk, DeskHandle, Live, open_desk};
 use read_side::{EmptyHistory, Keeper, StoreName, open};
 use std::alloc::{AllocError, Global};
 use std::sync::Wait;
 use trace_model::{Limits, Refusal};
 
-/// A store, its desk and its clerk, and the workers' seats and passes. It isn't `Drop`, because the keeper isn't.
+/// A store, its desk and its clerk, and what the workers start with. It isn't `Drop`, because the keeper isn't.
 pub(crate) struct SharedStore<N: StoreName> {
     pub(crate) keeper: Keeper<N>,
-    pub(crate) desk: Desk<N>,
+    pub(crate) desk: DeskHandle<N>,
     pub(crate) clerk: Clerk<N>,
     /// One for each worker.
-    pub(crate) lives: Vec<WorkerSeat<N>>,
+    pub(crate) starts: Vec<WorkerStart<N>>,
 }
 
-/// Returns a seat and a pass for each worker.
-fn pairs<N: StoreName>(
+/// Returns what the workers start with: each has a seat and a pass.
+fn worker_starts<N: StoreName>(
     alloc: Global,
     seats: Vec<intake::Seat<N>>,
     passes: Vec<read_side::Pass<N>>,
-) -> Result<Vec<WorkerSeat<N>>, AllocError>
+) -> Result<Vec<WorkerStart<N>>, AllocError>
     requires { length passes.items ≡ length seats.items }
     ensures { IfOk result (λ v. map (λ p. p.live.seat) v.items ≡ seats.items) }
 {
     let mut passes = passes;
-    let mut lives = Vec::with_capacity(alloc, seats.len())?;
+    let mut starts = Vec::with_capacity(alloc, seats.len())?;
     for seat in seats {
         let Some(pass) = passes.pop() else {
             unreachable!()
         };
-        lives.push(WorkerSeat {
+        starts.push(WorkerStart {
             number: seat.number() as u32,
             live: Live::new(seat, pass),
         })?;
     }
-    Ok(lives)
+    Ok(starts)
 }
 
-/// A desk, its clerk, and the workers' seats and passes.
-type DeskEnds<N> = (Desk<N>, Clerk<N>, Vec<WorkerSeat<N>>);
+/// A desk, its clerk, and what the workers start with.
+type DeskEnds<N> = (DeskHandle<N>, Clerk<N>, Vec<WorkerStart<N>>);
 
-/// Opens a desk of the store, and returns it with its clerk and the workers' seats and passes.
-fn open_desk<N: StoreName>(
+/// Opens a desk of the store, and returns it with its clerk and what the workers start with.
+fn open_for_workers<N: StoreName>(
     alloc: Global,
     keeper: &mut Keeper<N>,
     passes: Vec<read_side::Pass<N>>,
@@ -64,19 +64,19 @@ fn open_desk<N: StoreName>(
         (map (λ p. p.live.seat) f.2.items)) }
 {
     let first = keeper.receipt();
-    let (desk, seats, clerk) = desk(
+    let (desk, seats, clerk) = open_desk(
         alloc,
         config.keys,
         first,
         config.options.queue as usize,
         config.options.workers,
     )?;
-    let lives = pairs(alloc, seats, passes)?;
-    Ok((desk, clerk, lives))
+    let starts = worker_starts(alloc, seats, passes)?;
+    Ok((desk, clerk, starts))
 }
 
 impl<N: StoreName> SharedStore<N> {
-    /// Opens an empty store over this history, which `N` names.
+    /// Opens an empty store over this history, which `N` names. For the prover: `limits` equals `config.options.limits`.
     ///
     /// # Errors
     ///
@@ -93,18 +93,18 @@ impl<N: StoreName> SharedStore<N> {
         ensures keeper { IfOk result (λ h. h.keeper ≡ no_entries) }
         ensures clerk { IfOk result (λ h. IsNewClerk h.clerk) }
         ensures new { IfOk result (λ h.
-            AreNew h.clerk.desk (map (λ p. p.live.seat) h.lives.items)) }
+            AreNew h.clerk.desk (map (λ p. p.live.seat) h.starts.items)) }
         ensures numbers { IfOk result (λ h.
-            OneForEach config.now.options.workers (map (λ p. p.live.seat) h.lives.items)) }
+            OneForEach config.now.options.workers (map (λ p. p.live.seat) h.starts.items)) }
     {
         let workers = config.options.workers as usize;
         let (mut keeper, passes) = open::<N, _>(rt, alloc, config.keys, history, limits, workers)?;
-        match open_desk(alloc, &mut keeper, passes, config) {
-            Ok((desk, clerk, lives)) => Ok(SharedStore {
+        match open_for_workers(alloc, &mut keeper, passes, config) {
+            Ok((desk, clerk, starts)) => Ok(SharedStore {
                 keeper,
                 desk,
                 clerk,
-                lives,
+                starts,
             }),
             Err(why) => {
                 keeper.close(rt);
@@ -119,7 +119,7 @@ impl<N: StoreName> SharedStore<N> {
             keeper,
             desk: _,
             clerk: _,
-            lives: _,
+            starts: _,
         } = self;
         keeper.close(rt);
     }

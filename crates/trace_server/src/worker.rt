@@ -9,7 +9,7 @@ use crate::event_loop::EventLoop;
 use crate::loads::Loads;
 use crate::threads::Task;
 use crate::worker_store::WorkerStore;
-use intake::{Desk, Live};
+use intake::{DeskHandle, Live};
 use read_side::StoreName;
 use server_notices::{Notices, PeriodicCounts, print_accepts_no_more};
 use std::alloc::Global;
@@ -19,10 +19,10 @@ use std::time::Clock;
 
 /// The state that all workers share.
 #[derive(Drop)]
-pub(crate) struct WorkerContext<'a, N: StoreName, G> {
+pub(crate) struct ServerContext<'a, N: StoreName, G> {
     pub(crate) alloc: Global,
     pub(crate) listener: &'a TcpListener,
-    pub(crate) desk: &'a Desk<N>,
+    pub(crate) desk: &'a DeskHandle<N>,
     pub(crate) observer: &'a G,
     pub(crate) notices: &'a Notices,
     pub(crate) periodic: &'a PeriodicCounts,
@@ -31,9 +31,9 @@ pub(crate) struct WorkerContext<'a, N: StoreName, G> {
     pub(crate) idle: u32,
 }
 
-/// A worker's number, and its seat and pass.
+/// What a worker starts with: its number, and its seat and pass.
 #[derive(Drop)]
-pub(crate) struct WorkerSeat<N: StoreName> {
+pub(crate) struct WorkerStart<N: StoreName> {
     pub(crate) number: u32,
     pub(crate) live: Live<N>,
 }
@@ -54,20 +54,20 @@ pub(crate) struct EndedWorker<N: StoreName> {
     pub(crate) live: Live<N>,
 }
 
-impl<'a, N: StoreName, G: CallObserver> WorkerContext<'a, N, G> {
+impl<'a, N: StoreName, G: CallObserver> ServerContext<'a, N, G> {
     /// Runs a worker: serves connections until all were accepted or no more can be, and the open ones have
     /// ended. Returns its seat and pass.
     fn work<R: Wait + Clock + Eprint + Net<Stream = TcpStream, Listener = TcpListener>>(
         &self,
         rt: &R,
-        seat: WorkerSeat<N>,
+        start: WorkerStart<N>,
     ) -> EndedWorker<N>
-        ensures { SeatGoesOn seat.live.seat result.live.seat }
+        ensures { SeatGoesOn start.live.seat result.live.seat }
     {
-        let WorkerSeat {
+        let WorkerStart {
             number: worker,
             live,
-        } = seat;
+        } = start;
         let mut event_loop = match EventLoop::new(rt, self.alloc, self.listener, self.idle) {
             Ok(event_loop) => event_loop,
             Err(error) => {
@@ -95,12 +95,12 @@ impl<
     N: StoreName,
     G: CallObserver,
     R: Wait + Clock + Eprint + Net<Stream = TcpStream, Listener = TcpListener>,
-> Task<R, WorkerSeat<N>, EndedWorker<N>> for WorkerContext<'a, N, G> {
+> Task<R, WorkerStart<N>, EndedWorker<N>> for ServerContext<'a, N, G> {
     ghost use Rattle.intake.specs.LiveStores.{SeatGoesOn};
 
     ghost gives = { λ argument end. SeatGoesOn argument.live.seat end.live.seat };
 
-    fn run(&self, rt: &R, argument: WorkerSeat<N>) -> EndedWorker<N> {
+    fn run(&self, rt: &R, argument: WorkerStart<N>) -> EndedWorker<N> {
         self.work(rt, argument)
     }
 }

@@ -8,7 +8,7 @@ use Rattle.byteorder.specs.Endian.{big_number}
 use Rattle.thrift_binary.specs.declared.fault.WireError.TheVariants.{Truncated, BadLength}
 use Rattle.thrift_binary.specs.Reading.{number_at, signed_at, size_at}
 use Rattle.thrift_binary.proofs.ReadBytesSpell.{big_number-take, size_found}
-use Rattle.wire_pieces.specs.Pieces.{Comes, NeedsMore, Refuses}
+use Rattle.wire_pieces.specs.Pieces.{Comes, NeedsMore, Refuses, moment}
 use Rattle.thrift_binary.proofs.SpellingsAreRead.{signed_again, size_again}
 
 module _ {X E : Type 0} (read : List ℕ → Result X E) where
@@ -18,7 +18,7 @@ module _ {X E : Type 0} (read : List ℕ → Result X E) where
   -- fewer than n bytes have arrived
   pub filled-waits : (short : E) (n : ℕ) → ((w : List ℕ) → length w < n → read w ≡ Err short) → (got new piece left : List ℕ) → (new ≡ got ++ piece)
       × (left ≡ []) → length new < n
-      → NeedsMore short (λ w. read (got ++ w)) (λ w. read (new ++ w)) piece left
+      → NeedsMore short (moment (λ w. read (got ++ w)) piece) (moment (λ w. read (new ++ w)) left)
   filled-waits short n few got new piece left e lt = record {
     comes = record { same = λ rest. ap read (same_bytes got new piece left rest (rw (e.1, append-nil new) e.0)) };
     want = ap read (append-nil new) ∙ few new lt;
@@ -27,11 +27,11 @@ module _ {X E : Type 0} (read : List ℕ → Result X E) where
 
   -- all have arrived
   pub filled-comes : (answer : List ℕ → Result X E) (got g piece left : List ℕ) → g ++ left ≡ got ++ piece → ((rest : List ℕ) → read (g ++ rest) ≡ answer rest)
-      → Comes (λ w. read (got ++ w)) answer piece left
+      → Comes (moment (λ w. read (got ++ w)) piece) (moment answer left)
   filled-comes answer got g piece left e same = record { same = λ rest. ap read (same_bytes got g piece left rest e) ∙ same (left ++ rest) }
 
   pub filled-refuses : (short e : E) (got g piece left : List ℕ) → g ++ left ≡ got ++ piece → (e ≡ short → ⊥) → ((rest : List ℕ) → read (g ++ rest) ≡ Err e)
-      → Refuses short (λ w. read (got ++ w)) piece e
+      → Refuses short (moment (λ w. read (got ++ w)) piece) e
   filled-refuses short e got g piece left parts isnt same =
       record { same = λ rest. ap read (same_bytes got g piece left rest parts) ∙ same (left ++ rest); no_want = isnt }
 

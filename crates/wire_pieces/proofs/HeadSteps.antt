@@ -8,12 +8,12 @@ use Rattle.wire_pieces.specs.declared.heads.FieldHead.{FieldHead}
 use Rattle.wire_pieces.specs.declared.heads.ListStep.TheVariants as list
 use Rattle.wire_pieces.specs.declared.heads.TypedSize.{TypedSize}
 use Rattle.wire_pieces.specs.declared.heads.ListHead.{ListHead}
-use Rattle.wire_pieces.specs.Pieces.{Comes}
+use Rattle.wire_pieces.specs.Pieces.{Comes, moment}
 use Rattle.wire_pieces.specs.Numbers.{size_from}
 use Rattle.wire_pieces.specs.Heads.{id_from, head_from, sized, typed_size_from, list_head}
 
 pub head-typed : (h : FieldHead) (part : TypedId) (w v : List ℕ) → h.step ≡ field.First → w ≡ part.code ∷ v → (part.code ≡ 0 → ⊥) → part.id ≡ []
-    → Comes (head_from h) (id_from part) w v
+    → Comes (moment (head_from h) w) (moment (id_from part) v)
 unfolding field_at
 head-typed h part w v is e some fresh =
     record {
@@ -22,6 +22,6 @@ head-typed h part w v is e some fresh =
     }
 
 pub list-typed : (h : ListHead) (part : TypedSize) (w v : List ℕ) → h.step ≡ list.First → w ≡ part.code ∷ v → ((u : List ℕ) → size_from part.size u ≡ size_at u)
-    → Comes (list_head h) (typed_size_from part) w v
+    → Comes (moment (list_head h) w) (moment (typed_size_from part) v)
 unfolding list_at
 list-typed h part w v is e fresh = record { same = λ rest. rw (is, e) (ap (λ r. r >>= sized part.code) (sym (fresh (v ++ rest)))) }

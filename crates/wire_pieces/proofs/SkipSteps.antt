@@ -18,7 +18,7 @@ use Rattle.wire_pieces.specs.declared.skip.Current.{Current}
 use Rattle.wire_pieces.specs.declared.skip.Current.TheVariants as now
 use Rattle.wire_pieces.specs.declared.fault.PieceError.{PieceError}
 use Rattle.wire_pieces.specs.declared.fault.PieceError.TheVariants.{Wire, Memory}
-use Rattle.wire_pieces.specs.Pieces.{Comes, NeedsMore, Refuses, Refused}
+use Rattle.wire_pieces.specs.Pieces.{Comes, NeedsMore, Refuses, Refused, moment}
 use Rattle.wire_pieces.specs.declared.heads.ListHead.{ListHead}
 use Rattle.wire_pieces.specs.declared.maps.MapHead.{MapHead}
 use Rattle.wire_pieces.specs.declared.numbers.Size.{Size}
@@ -55,32 +55,34 @@ abbrev outside : List Frame → Unit {0} × List ℕ → Read (Unit {0})
 outside around x = frames_at 64 around x.1
 
 -- no container is left
-pub all-skipped : (piece : List ℕ) → Comes (state_at now.Nothing []) (λ w. Ok (tt, w)) piece piece
+pub all-skipped : (piece : List ℕ) → Comes (moment (state_at now.Nothing []) piece) (moment (λ w. Ok (tt, w)) piece)
 unfolding state_at
 all-skipped piece = comes-is _ _ piece (λ w. refl)
 
 module _ (around : List Frame) where
-  pub now-waits : (n next : Current) (w v : List ℕ) → NeedsMore Truncated (now_at (64 - length around) n) (now_at (64 - length around) next) w v
-      → NeedsMore Truncated (state_at n around) (state_at next around) w v
+  pub now-waits : (n next : Current) (w v : List ℕ)
+      → NeedsMore Truncated (moment (now_at (64 - length around) n) w) (moment (now_at (64 - length around) next) v)
+      → NeedsMore Truncated (moment (state_at n around) w) (moment (state_at next around) v)
   unfolding state_at
   now-waits n next w v g = waits-inside (outside around) g
 
-  pub now-refused : (n : Current) (w : List ℕ) (e : PieceError) → Refused (now_at (64 - length around) n) w e → Refused (state_at n around) w e
+  pub now-refused : (n : Current) (w : List ℕ) (e : PieceError) → Refused (moment (now_at (64 - length around) n) w) e
+      → Refused (moment (state_at n around) w) e
   unfolding state_at
   now-refused n w e g = refused-inside (outside around) (now_at (64 - length around) n) w e g
 
-  pub now-next : (n next : Current) (w v : List ℕ) → Comes (now_at (64 - length around) n) (now_at (64 - length around) next) w v
-      → Comes (state_at n around) (state_at next around) w v
+  pub now-next : (n next : Current) (w v : List ℕ) → Comes (moment (now_at (64 - length around) n) w) (moment (now_at (64 - length around) next) v)
+      → Comes (moment (state_at n around) w) (moment (state_at next around) v)
   unfolding state_at
   now-next n next w v g = comes-inside (outside around) g
 
-  pub now-done : (n : Current) (w v : List ℕ) → Comes (now_at (64 - length around) n) (λ u. Ok (tt, u)) w v
-      → Comes (state_at n around) (state_at now.Nothing around) w v
+  pub now-done : (n : Current) (w v : List ℕ) → Comes (moment (now_at (64 - length around) n) w) (moment (λ u. Ok (tt, u)) v)
+      → Comes (moment (state_at n around) w) (moment (state_at now.Nothing around) v)
   now-done n w v g = now-next n now.Nothing w v g
 
   -- a container after its head
-  frame-next : (n : Current) (f : Frame) (w v : List ℕ) → Comes (now_at (64 - length around) n) (frame_at (64 - length around) f) w v
-      → Comes (state_at n around) (state_at now.Nothing (around ++ f ∷ [])) w v
+  frame-next : (n : Current) (f : Frame) (w v : List ℕ) → Comes (moment (now_at (64 - length around) n) w) (moment (frame_at (64 - length around) f) v)
+      → Comes (moment (state_at n around) w) (moment (state_at now.Nothing (around ++ f ∷ [])) v)
   unfolding state_at
   frame-next n f w v g =
       comes-trans (comes-inside (outside around) g)
@@ -88,7 +90,7 @@ module _ (around : List Frame) where
 
   -- what is left of the innermost container
   frame-now : (f : Frame) (n : Current) (piece : List ℕ) → ((w : List ℕ) → frame_at (64 - length around) f w ≡ now_at (64 - length around) n w)
-      → Comes (state_at now.Nothing (around ++ f ∷ [])) (state_at n around) piece piece
+      → Comes (moment (state_at now.Nothing (around ++ f ∷ [])) piece) (moment (state_at n around) piece)
   unfolding state_at
   frame-now f n piece same =
       comes-is _ (state_at n around) piece (λ w. frames_at-push 64 around f w ∙ ap (λ r. r >>= outside around) (same w))
@@ -107,7 +109,7 @@ module _ (around : List Frame) where
 
   value-next : (f rest : Frame) (c : ℕ) (piece : List ℕ)
       → ((w : List ℕ) → frame_at (64 - length around) f w ≡ (value_at (64 - length around) c w >>= λ x. frame_at (64 - length around) rest x.1))
-      → Comes (state_at now.Nothing (around ++ f ∷ [])) (begun c (around ++ rest ∷ [])) piece piece
+      → Comes (moment (state_at now.Nothing (around ++ f ∷ [])) piece) (moment (begun c (around ++ rest ∷ [])) piece)
   unfolding state_at
   value-next f rest c piece same =
       comes-is _ (begun c (around ++ rest ∷ [])) piece
@@ -116,51 +118,53 @@ module _ (around : List Frame) where
   -- ---- between values
 
   pub element-next : (c n : ℕ) (piece : List ℕ)
-      → Comes (state_at now.Nothing (around ++ Elements c (suc n) ∷ [])) (begun c (around ++ Elements c n ∷ [])) piece piece
+      → Comes (moment (state_at now.Nothing (around ++ Elements c (suc n) ∷ [])) piece) (moment (begun c (around ++ Elements c n ∷ [])) piece)
   unfolding times
   element-next c n piece = value-next (Elements c (suc n)) (Elements c n) c piece (λ w. refl)
 
   pub key-next : (k v n : ℕ) (piece : List ℕ)
-      → Comes (state_at now.Nothing (around ++ Pairs k v (suc n) ∷ [])) (begun k (around ++ PairValue k v n ∷ [])) piece piece
+      → Comes (moment (state_at now.Nothing (around ++ Pairs k v (suc n) ∷ [])) piece) (moment (begun k (around ++ PairValue k v n ∷ [])) piece)
   unfolding times
   key-next k v n piece =
       value-next (Pairs k v (suc n)) (PairValue k v n) k piece
       (λ w. assoc (value_at (64 - length around) k w) (λ x. value_at (64 - length around) v x.1) (λ x. times n (pair_at (64 - length around) k v) x.1))
 
   pub pair_value-next : (k v n : ℕ) (piece : List ℕ)
-      → Comes (state_at now.Nothing (around ++ PairValue k v n ∷ [])) (begun v (around ++ Pairs k v n ∷ [])) piece piece
+      → Comes (moment (state_at now.Nothing (around ++ PairValue k v n ∷ [])) piece) (moment (begun v (around ++ Pairs k v n ∷ [])) piece)
   pair_value-next k v n piece = value-next (PairValue k v n) (Pairs k v n) v piece (λ w. refl)
 
-  pub elements-end : (c : ℕ) (piece : List ℕ) → Comes (state_at now.Nothing (around ++ Elements c 0 ∷ [])) (state_at now.Nothing around) piece piece
+  pub elements-end : (c : ℕ) (piece : List ℕ)
+      → Comes (moment (state_at now.Nothing (around ++ Elements c 0 ∷ [])) piece) (moment (state_at now.Nothing around) piece)
   unfolding times
   elements-end c piece = frame-now (Elements c 0) now.Nothing piece (λ w. refl)
 
-  pub pairs-end : (k v : ℕ) (piece : List ℕ) → Comes (state_at now.Nothing (around ++ Pairs k v 0 ∷ [])) (state_at now.Nothing around) piece piece
+  pub pairs-end : (k v : ℕ) (piece : List ℕ)
+      → Comes (moment (state_at now.Nothing (around ++ Pairs k v 0 ∷ [])) piece) (moment (state_at now.Nothing around) piece)
   unfolding times
   pairs-end k v piece = frame-now (Pairs k v 0) now.Nothing piece (λ w. refl)
 
   pub field-begins : (h : FieldHead) (piece : List ℕ) → ((w : List ℕ) → head_from h w ≡ field_at w)
-      → Comes (state_at now.Nothing (around ++ Fields ∷ [])) (state_at (now.Field h) around) piece piece
+      → Comes (moment (state_at now.Nothing (around ++ Fields ∷ [])) piece) (moment (state_at (now.Field h) around) piece)
   field-begins h piece fresh =
       frame-now Fields (now.Field h) piece
       (λ w. sym (head-fresh (λ e. e) (passes (64 - length around)) (λ s c i. value_cut (64 - length around) c) tt h fresh w))
 
   -- ---- the head of a field, a string, a list or a map
 
-  pub field-waits : (h k : FieldHead) (w v : List ℕ) → NeedsMore Truncated (head_from h) (head_from k) w v
-      → NeedsMore Truncated (state_at (now.Field h) around) (state_at (now.Field k) around) w v
+  pub field-waits : (h k : FieldHead) (w v : List ℕ) → NeedsMore Truncated (moment (head_from h) w) (moment (head_from k) v)
+      → NeedsMore Truncated (moment (state_at (now.Field h) around) w) (moment (state_at (now.Field k) around) v)
   field-waits h k w v g = now-waits (now.Field h) (now.Field k) w v (head-waits (λ e. e) (passes (64 - length around)) tt h k w v g)
 
-  pub field-refused : (h : FieldHead) (w : List ℕ) (e : PieceError) → Refused (head_from h) w e → Refused (state_at (now.Field h) around) w e
+  pub field-refused : (h : FieldHead) (w : List ℕ) (e : PieceError) → Refused (moment (head_from h) w) e → Refused (moment (state_at (now.Field h) around) w) e
   field-refused h w (Wire e) g = now-refused (now.Field h) w (Wire e) (head-refuses (λ e. e) (passes (64 - length around)) tt h w e (λ same. same) g)
   field-refused h w Memory g = tt
 
-  pub field-stop : (h : FieldHead) (w v : List ℕ) → Comes (head_from h) (λ u. Ok (None, u)) w v
-      → Comes (state_at (now.Field h) around) (state_at now.Nothing around) w v
+  pub field-stop : (h : FieldHead) (w v : List ℕ) → Comes (moment (head_from h) w) (moment (λ u. Ok (None, u)) v)
+      → Comes (moment (state_at (now.Field h) around) w) (moment (state_at now.Nothing around) v)
   field-stop h w v g = now-done (now.Field h) w v (head-stop (λ e. e) (passes (64 - length around)) tt h w v g)
 
-  pub field-value : (h : FieldHead) (c : ℕ) (i : ℤ) (w v : List ℕ) → Comes (head_from h) (λ u. Ok (Some (c, i), u)) w v
-      → Comes (state_at (now.Field h) around) (begun c (around ++ Fields ∷ [])) w v
+  pub field-value : (h : FieldHead) (c : ℕ) (i : ℤ) (w v : List ℕ) → Comes (moment (head_from h) w) (moment (λ u. Ok (Some (c, i), u)) v)
+      → Comes (moment (state_at (now.Field h) around) w) (moment (begun c (around ++ Fields ∷ [])) v)
   unfolding state_at
   field-value h c i w v g =
       comes-trans
@@ -168,29 +172,30 @@ module _ (around : List Frame) where
       (comes-is _ (begun c (around ++ Fields ∷ [])) v (λ u. value-inside c Fields u))
 
   pub size-next : (p : Size) (next : Current) (n : ℕ) (w v : List ℕ) → ((levels : ℕ) (u : List ℕ) → now_at levels next u ≡ past n u)
-      → Comes (size_from p) (λ u. Ok (n, u)) w v → Comes (state_at (now.Size p) around) (state_at next around) w v
+      → Comes (moment (size_from p) w) (moment (λ u. Ok (n, u)) v) → Comes (moment (state_at (now.Size p) around) w) (moment (state_at next around) v)
   size-next p next n w v same g =
       now-next (now.Size p) next w v
       (comes-trans (comes-inside (λ m. past m.0 m.1) g) (comes-is _ (now_at (64 - length around) next) v (λ u. sym (same (64 - length around) u))))
 
-  pub list-next : (p : ListHead) (c k : ℕ) (w v : List ℕ) → Comes (list_head p) (λ u. Ok ((c, k), u)) w v
-      → Comes (state_at (now.List p) around) (state_at now.Nothing (around ++ Elements c k ∷ [])) w v
+  pub list-next : (p : ListHead) (c k : ℕ) (w v : List ℕ) → Comes (moment (list_head p) w) (moment (λ u. Ok ((c, k), u)) v)
+      → Comes (moment (state_at (now.List p) around) w) (moment (state_at now.Nothing (around ++ Elements c k ∷ [])) v)
   list-next p c k w v g = frame-next (now.List p) (Elements c k) w v (comes-inside (λ h. times h.0.1 (value_at (64 - length around) h.0.0) h.1) g)
 
-  pub map-next : (p : MapHead) (a b k : ℕ) (w v : List ℕ) → Comes (map_head p) (λ u. Ok (((a, b), k), u)) w v
-      → Comes (state_at (now.Map p) around) (state_at now.Nothing (around ++ Pairs a b k ∷ [])) w v
+  pub map-next : (p : MapHead) (a b k : ℕ) (w v : List ℕ) → Comes (moment (map_head p) w) (moment (λ u. Ok (((a, b), k), u)) v)
+      → Comes (moment (state_at (now.Map p) around) w) (moment (state_at now.Nothing (around ++ Pairs a b k ∷ [])) v)
   map-next p a b k w v g =
       frame-next (now.Map p) (Pairs a b k) w v (comes-inside (λ h. times h.0.1 (pair_at (64 - length around) h.0.0.0 h.0.0.1) h.1) g)
 
   -- ---- what is begun
 
   pub begun-leaf : (c : ℕ) (n : Current) (piece : List ℕ) → is_container c ≡ false → ((levels : ℕ) (w : List ℕ) → now_at levels n w ≡ leaf c w)
-      → Comes (begun c around) (state_at n around) piece piece
+      → Comes (moment (begun c around) piece) (moment (state_at n around) piece)
   unfolding state_at begun
   begun-leaf c n piece isnt same =
       comes-is _ _ piece (λ w. ap (λ r. r >>= outside around) (value_at-leaf (65 - length around) c w isnt ∙ sym (same (64 - length around) w)))
 
-  pub begun-bad : (c : ℕ) (piece : List ℕ) → is_container c ≡ false → ((w : List ℕ) → leaf c w ≡ Err BadType) → Refuses Truncated (begun c around) piece BadType
+  pub begun-bad : (c : ℕ) (piece : List ℕ) → is_container c ≡ false → ((w : List ℕ) → leaf c w ≡ Err BadType)
+      → Refuses Truncated (moment (begun c around) piece) BadType
   unfolding begun
   begun-bad c piece isnt bad =
       record {
@@ -198,7 +203,7 @@ module _ (around : List Frame) where
         no_want = λ h. absurd (let k : BadType ≡ Truncated = h in cc);
       }
 
-  pub begun-deep : (c : ℕ) (piece : List ℕ) → is_container c ≡ true → 65 ≤ length around → Refuses Truncated (begun c around) piece TooDeep
+  pub begun-deep : (c : ℕ) (piece : List ℕ) → is_container c ≡ true → 65 ≤ length around → Refuses Truncated (moment (begun c around) piece) TooDeep
   unfolding begun
   begun-deep c piece holds deep =
       record {
@@ -208,26 +213,27 @@ module _ (around : List Frame) where
 
   module _ (c : ℕ) (piece : List ℕ) (holds : is_container c ≡ true) (room : length around < 65) where
     begun-is : (n : Current) → ((w : List ℕ) → container (value_at (64 - length around)) c w ≡ now_at (64 - length around) n w)
-        → Comes (begun c around) (state_at n around) piece piece
+        → Comes (moment (begun c around) piece) (moment (state_at n around) piece)
     unfolding state_at begun
     begun-is n same =
         comes-is _ _ piece (λ w. ap (λ r. r >>= outside around)
         (value_at-inside (65 - length around) (64 - length around) c w holds (omega arith) ∙ same w))
 
     pub begun-struct : (h : FieldHead) → c ≡ 12 → ((w : List ℕ) → head_from h w ≡ field_at w)
-        → Comes (begun c around) (state_at (now.Field h) around) piece piece
+        → Comes (moment (begun c around) piece) (moment (state_at (now.Field h) around) piece)
     unfolding struct
     begun-struct h is fresh =
         begun-is (now.Field h)
         (λ w. rw is (sym (head-fresh (λ e. e) (passes (64 - length around)) (λ s d i. value_cut (64 - length around) d) tt h fresh w)))
 
-    pub begun-map : (p : MapHead) → c ≡ 13 → ((w : List ℕ) → map_head p w ≡ map_at w) → Comes (begun c around) (state_at (now.Map p) around) piece piece
+    pub begun-map : (p : MapHead) → c ≡ 13 → ((w : List ℕ) → map_head p w ≡ map_at w)
+        → Comes (moment (begun c around) piece) (moment (state_at (now.Map p) around) piece)
     unfolding pairs
     begun-map p is fresh =
         begun-is (now.Map p) (λ w. rw is (ap (λ r. r >>= λ h. times h.0.1 (pair_at (64 - length around) h.0.0.0 h.0.0.1) h.1) (sym (fresh w))))
 
     pub begun-list : (p : ListHead) → (c ≡ 12 → ⊥) → (c ≡ 13 → ⊥) → ((w : List ℕ) → list_head p w ≡ list_at w)
-        → Comes (begun c around) (state_at (now.List p) around) piece piece
+        → Comes (moment (begun c around) piece) (moment (state_at (now.List p) around) piece)
     unfolding items
     begun-list p other another fresh =
         let no12 : eqb c 12 ≡ false = ne_eqb c 12 other in
@@ -238,18 +244,19 @@ module _ (around : List Frame) where
 
 module _ (n m : Current) (fs gs : List Frame) (same : n ≡ m) (all : fs ≡ gs) where
   pub progresses-state : (new : Skip) (p q : List ℕ) (r : Result SkipProgress PieceError)
-      → Progresses (state_at m gs) new p q r → Progresses (state_at n fs) new p q r
+      → Progresses (moment (state_at m gs) p) (moment new q) r → Progresses (moment (state_at n fs) p) (moment new q) r
   progresses-state new p q r g = rw (same, all) g
 
-  pub refused-state : (p : List ℕ) (e : PieceError) → Refused (state_at m gs) p e → Refused (state_at n fs) p e
+  pub refused-state : (p : List ℕ) (e : PieceError) → Refused (moment (state_at m gs) p) e → Refused (moment (state_at n fs) p) e
   refused-state p e g = rw (same, all) g
 
-  pub comes-to-state : (old : Skip) (p q : List ℕ) → Comes old (state_at m gs) p q → Comes old (state_at n fs) p q
+  pub comes-to-state : (old : Skip) (p q : List ℕ) → Comes (moment old p) (moment (state_at m gs) q) → Comes (moment old p) (moment (state_at n fs) q)
   comes-to-state old p q g = rw (same, all) g
 
 -- a step after what a step without bytes came to
-pub comes-progress : (old mid new : Skip) (w v left : List ℕ) (r : Result SkipProgress PieceError) → Comes old mid w v → Progresses mid new v left r
-    → Progresses old new w left r
+pub comes-progress : (old mid new : Skip) (w v left : List ℕ) (r : Result SkipProgress PieceError) → Comes (moment old w) (moment mid v)
+    → Progresses (moment mid v) (moment new left) r
+    → Progresses (moment old w) (moment new left) r
 comes-progress old mid new w v left (Ok progress.Continue) f g = comes-trans f g
 comes-progress old mid new w v left (Ok progress.NeedsMore) f g = comes-waits f g
 comes-progress old mid new w v left (Ok progress.Complete) f g = comes-trans f g

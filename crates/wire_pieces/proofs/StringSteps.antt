@@ -7,7 +7,7 @@ use Rattle.thrift_binary.specs.declared.fault.WireError.TheVariants.{Truncated}
 use Rattle.thrift_binary.specs.Reading.{◌>>=◌, Read, bytes_at, size_at, string_at}
 use Rattle.thrift_binary.specs.Skipping.{past, text}
 use Rattle.thrift_binary.proofs.SpellingsAreRead.{bytes_again}
-use Rattle.wire_pieces.specs.Pieces.{Comes, NeedsMore}
+use Rattle.wire_pieces.specs.Pieces.{Comes, NeedsMore, moment}
 use Rattle.wire_pieces.specs.Strings.{bytes_end}
 use Rattle.wire_pieces.proofs.Steps.{comes-trans, comes-inside}
 
@@ -36,7 +36,7 @@ bytes_end-part got beginning w k = by (ltb (length w) k) refl
 waits : {A : Type 0} (f g : ℕ → List ℕ → Read A) (beginning piece left : List ℕ) (n : ℕ)
     → ((w : List ℕ) (k : ℕ) → f (length beginning + k) (beginning ++ w) ≡ g k w) → ((k : ℕ) → ltb 0 k ≡ true → g k [] ≡ Err Truncated)
     → piece ≡ beginning ++ left → length beginning ≡ min n (length piece) → 0 < n - length beginning
-    → NeedsMore Truncated (f n) (g (n - length beginning)) piece left
+    → NeedsMore Truncated (moment (f n) piece) (moment (g (n - length beginning)) left)
 waits f g beginning piece left n goes_on short parts size more =
     let sizes : length piece ≡ length beginning + length left = rw parts (length-append beginning left) in
     let none : length left ≡ 0 = omega arith in
@@ -50,7 +50,7 @@ waits f g beginning piece left n goes_on short parts size more =
 
 pub body-waits : (got new beginning piece left : List ℕ) (n : ℕ) → new ≡ got ++ beginning → piece ≡ beginning ++ left → length beginning ≡ min n (length piece)
     → 0 < n - length beginning
-    → NeedsMore Truncated (bytes_end got n) (bytes_end new (n - length beginning)) piece left
+    → NeedsMore Truncated (moment (bytes_end got n) piece) (moment (bytes_end new (n - length beginning)) left)
 unfolding bytes_end
 body-waits got new beginning piece left n is parts size more =
     rw is (waits (bytes_end got) (bytes_end (got ++ beginning)) beginning piece left n (bytes_end-part got beginning) (λ k few. rw few refl) parts size more)
@@ -58,7 +58,7 @@ body-waits got new beginning piece left n is parts size more =
 -- once all bytes have arrived
 pub body-whole : (got new beginning piece left : List ℕ) (n : ℕ) → new ≡ got ++ beginning → piece ≡ beginning ++ left → length beginning ≡ min n (length piece)
     → n - length beginning ≤ 0
-    → Comes (bytes_end got n) (λ w. Ok (new, w)) piece left
+    → Comes (moment (bytes_end got n) piece) (moment (λ w. Ok (new, w)) left)
 unfolding bytes_end
 body-whole got new beginning piece left n is parts size done =
     let k : n ≡ length beginning + 0 = omega arith in
@@ -74,7 +74,7 @@ past-part : (beginning w : List ℕ) (k : ℕ) → past (length beginning + k) (
 past-part beginning w k = rw (test-part beginning w k, drop-append-add) refl
 
 pub past-waits : (beginning piece left : List ℕ) (n : ℕ) → piece ≡ beginning ++ left → length beginning ≡ min n (length piece) → 0 < n - length beginning
-    → NeedsMore Truncated (past n) (past (n - length beginning)) piece left
+    → NeedsMore Truncated (moment (past n) piece) (moment (past (n - length beginning)) left)
 past-waits beginning piece left n parts size more = waits past past beginning piece left n (past-part beginning) (λ k few. rw few refl) parts size more
 
 no_front : (r : Read (List ℕ)) → (r >>= λ t. Ok ([] ++ t.0, t.1)) ≡ r
@@ -107,9 +107,10 @@ text-is w = by (size_at w)
     by (Err e) = refl
 
 -- all of the bytes after a length, at once
-pub string-at-once : (a : List ℕ → Read ℕ) (p v left beginning got : List ℕ) (n m : ℕ) → m ≡ n → Comes a (λ w. Ok (n, w)) p v → v ≡ beginning ++ left
+pub string-at-once : (a : List ℕ → Read ℕ) (p v left beginning got : List ℕ) (n m : ℕ) → m ≡ n → Comes (moment a p) (moment (λ w. Ok (n, w)) v)
+    → v ≡ beginning ++ left
     → length beginning ≡ m → got ≡ beginning
-    → Comes (λ w. a w >>= λ x. bytes_end [] x.0 x.1) (λ w. Ok (got, w)) p left
+    → Comes (moment (λ w. a w >>= λ x. bytes_end [] x.0 x.1) p) (moment (λ w. Ok (got, w)) left)
 string-at-once a p v left beginning got n m same g parts size is =
     comes-trans (comes-inside (λ x. bytes_end [] x.0 x.1) g)
     (record { same = λ rest. bytes_end-fresh n (v ++ rest) ∙ rw (parts, is, append_assoc) (bytes_again n beginning (left ++ rest) (size ∙ same)) })

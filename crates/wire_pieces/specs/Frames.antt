@@ -7,7 +7,7 @@ use Rattle.thrift_binary.specs.Skipping.{Skip, past, both, times, value_at}
 use Rattle.thrift_binary.specs.declared.fault.WireError.{WireError}
 use Rattle.thrift_binary.specs.declared.fault.WireError.TheVariants.{Truncated}
 use Rattle.wire_pieces.specs.declared.fault.PieceError.{PieceError}
-use Rattle.wire_pieces.specs.Pieces.{Comes, NeedsMore, Refused}
+use Rattle.wire_pieces.specs.Pieces.{Moment, Comes, NeedsMore, Refused, moment}
 use Rattle.wire_pieces.specs.declared.skip.SkipProgress.{SkipProgress}
 use Rattle.wire_pieces.specs.declared.skip.SkipProgress.TheVariants as progress
 use Rattle.wire_pieces.specs.Numbers.{size_from}
@@ -73,11 +73,11 @@ rank (now.List p) = 0
 rank (now.Map p) = 0
 
 -- the result of a step
-abbrev pub Progresses : Skip → Skip → List ℕ → List ℕ → Result SkipProgress PieceError → Type 0
-Progresses old new piece left (Ok progress.Continue) = Comes old new piece left
-Progresses old new piece left (Ok progress.NeedsMore) = NeedsMore Truncated old new piece left
-Progresses old new piece left (Ok progress.Complete) = Comes old (λ w. Ok (tt, w)) piece left
-Progresses old new piece left (Err e) = Refused old piece e
+abbrev pub Progresses : Moment (Unit {0} × List ℕ) WireError → Moment (Unit {0} × List ℕ) WireError → Result SkipProgress PieceError → Type 0
+Progresses before after (Ok progress.Continue) = Comes before after
+Progresses before after (Ok progress.NeedsMore) = NeedsMore Truncated before after
+Progresses before after (Ok progress.Complete) = Comes before (moment (λ w. Ok (tt, w)) after.piece)
+Progresses before after (Err e) = Refused before e
 
 abbrev pub Lightens : ℕ → ℕ → Result SkipProgress PieceError → Type 0
 Lightens old new (Ok progress.Continue) = new < old

@@ -2,7 +2,7 @@ ghost use Rattle.std.specs.Prelude.{◌≡◌, true, false, List, ℕ, None, Ok,
 ghost use Rattle.thrift_binary.specs.declared.fault.WireError.TheVariants.{Truncated};
 ghost use Rattle.thrift_binary.specs.Reading.{field_at, list_at};
 ghost use Rattle.wire_pieces.specs.declared.fault.PieceError.TheVariants.{Memory};
-ghost use Rattle.wire_pieces.specs.Pieces.{Reaches, Continues, TakesBytes, OkTakes};
+ghost use Rattle.wire_pieces.specs.Pieces.{Reaches, Continues, TakesBytes, OkTakes, moment};
 ghost use Rattle.wire_pieces.specs.Numbers.{i16_from};
 ghost use Rattle.wire_pieces.specs.Heads.{IsTyped, head_of, id_from, head_from, typed_size_from, list_head};
 
@@ -25,8 +25,8 @@ pub enum Head {
 /// Continues a signed number of 16 bits with a piece.
 #[inline]
 fn more_i16(bytes: &mut PartialBytes<2>, piece: &mut Cursor<'_>) -> Option<i16>
-    ensures reads { Reaches Truncated (λ x. x) (i16_from bytes.old) (i16_from bytes.new)
-        piece.old piece.new result }
+    ensures reads { Reaches Truncated (moment (i16_from bytes.old) piece.old)
+        (moment (i16_from bytes.new) piece.new) result }
     ensures taken { TakesBytes piece.old piece.new result }
 {
     let whole = bytes.more(piece)?;
@@ -43,8 +43,8 @@ pub(crate) struct TypedId {
 impl TypedId {
     #[inline]
     fn more(&mut self, piece: &mut Cursor<'_>) -> Result<Option<Head>, PieceError>
-        ensures reads { Continues head_of (id_from self.old) (id_from self.new)
-            piece.old piece.new result }
+        ensures reads { Continues head_of (moment (id_from self.old) piece.old)
+            (moment (id_from self.new) piece.new) result }
         ensures taken { OkTakes piece.old piece.new result }
         ensures no_memory { result ≡ Err Memory → ⊥ }
         ensures typed { IsTyped result }
@@ -96,8 +96,8 @@ impl FieldHead {
     #[tactic(auto, unfolding(thrift_binary::specs::Reading::field_at))]
     #[inline]
     pub fn more(&mut self, piece: &mut Cursor<'_>) -> Result<Option<Head>, PieceError>
-        ensures reads { Continues head_of (head_from self.old) (head_from self.new)
-            piece.old piece.new result }
+        ensures reads { Continues head_of (moment (head_from self.old) piece.old)
+            (moment (head_from self.new) piece.new) result }
         ensures taken { OkTakes piece.old piece.new result }
         ensures no_memory { result ≡ Err Memory → ⊥ }
         ensures typed { IsTyped result }
@@ -133,8 +133,8 @@ pub(crate) struct TypedSize {
 impl TypedSize {
     #[inline]
     fn more(&mut self, piece: &mut Cursor<'_>) -> Result<Option<(u8, u32)>, PieceError>
-        ensures reads { Continues (λ x. x) (typed_size_from self.old) (typed_size_from self.new)
-            piece.old piece.new result }
+        ensures reads { Continues (λ x. x) (moment (typed_size_from self.old) piece.old)
+            (moment (typed_size_from self.new) piece.new) result }
         ensures taken { OkTakes piece.old piece.new result }
         ensures no_memory { result ≡ Err Memory → ⊥ }
     {
@@ -175,8 +175,8 @@ impl ListHead {
     #[tactic(auto, unfolding(thrift_binary::specs::Reading::list_at))]
     #[inline]
     pub fn more(&mut self, piece: &mut Cursor<'_>) -> Result<Option<(u8, u32)>, PieceError>
-        ensures reads { Continues (λ x. x) (list_head self.old) (list_head self.new)
-            piece.old piece.new result }
+        ensures reads { Continues (λ x. x) (moment (list_head self.old) piece.old)
+            (moment (list_head self.new) piece.new) result }
         ensures taken { OkTakes piece.old piece.new result }
         ensures no_memory { result ≡ Err Memory → ⊥ }
     {

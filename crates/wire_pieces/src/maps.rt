@@ -1,7 +1,7 @@
 ghost use Rattle.std.specs.Prelude.{◌≡◌, List, ℕ, Err};
 ghost use Rattle.thrift_binary.specs.Reading.{map_at};
 ghost use Rattle.wire_pieces.specs.declared.fault.PieceError.TheVariants.{Memory};
-ghost use Rattle.wire_pieces.specs.Pieces.{Continues, OkTakes};
+ghost use Rattle.wire_pieces.specs.Pieces.{Continues, OkTakes, moment};
 ghost use Rattle.wire_pieces.specs.Heads.{pair_size_from, pair_head, map_head};
 
 use crate::fault::PieceError;
@@ -19,9 +19,9 @@ pub(crate) struct PairSize {
 
 impl PairSize {
     fn more(&mut self, piece: &mut Cursor<'_>) -> Result<Option<(u8, u8, u32)>, PieceError>
-        ensures reads { Continues (λ x. ((x.0, x.1), x.2)) (pair_size_from self.old)
-            (pair_size_from self.new)
-            piece.old piece.new result }
+        ensures reads { Continues (λ x. ((x.0, x.1), x.2))
+            (moment (pair_size_from self.old) piece.old)
+            (moment (pair_size_from self.new) piece.new) result }
         ensures taken { OkTakes piece.old piece.new result }
         ensures no_memory { result ≡ Err Memory → ⊥ }
     {
@@ -50,8 +50,8 @@ pub(crate) struct PairHead {
 
 impl PairHead {
     fn more(&mut self, piece: &mut Cursor<'_>) -> Result<Option<(u8, u8, u32)>, PieceError>
-        ensures reads { Continues (λ x. ((x.0, x.1), x.2)) (pair_head self.old) (pair_head self.new)
-            piece.old piece.new result }
+        ensures reads { Continues (λ x. ((x.0, x.1), x.2)) (moment (pair_head self.old) piece.old)
+            (moment (pair_head self.new) piece.new) result }
         ensures taken { OkTakes piece.old piece.new result }
         ensures no_memory { result ≡ Err Memory → ⊥ }
     {
@@ -99,8 +99,8 @@ impl MapHead {
     /// Continues with a piece. Returns the head once it is complete.
     #[tactic(auto, unfolding(thrift_binary::specs::Reading::map_at))]
     pub fn more(&mut self, piece: &mut Cursor<'_>) -> Result<Option<(u8, u8, u32)>, PieceError>
-        ensures reads { Continues (λ x. ((x.0, x.1), x.2)) (map_head self.old) (map_head self.new)
-            piece.old piece.new result }
+        ensures reads { Continues (λ x. ((x.0, x.1), x.2)) (moment (map_head self.old) piece.old)
+            (moment (map_head self.new) piece.new) result }
         ensures taken { OkTakes piece.old piece.new result }
         ensures no_memory { result ≡ Err Memory → ⊥ }
     {

@@ -1,7 +1,7 @@
 ghost use Rattle.std.specs.Prelude.{◌≡◌, List, ℕ, [], ◌++◌, Some, Ok, Err};
 ghost use Rattle.thrift_binary.specs.Reading.{bool_at, size_at};
 ghost use Rattle.wire_pieces.specs.declared.fault.PieceError.TheVariants.{Memory};
-ghost use Rattle.wire_pieces.specs.Pieces.{Continues, OkTakes};
+ghost use Rattle.wire_pieces.specs.Pieces.{Continues, OkTakes, moment};
 
 use crate::fault::PieceError;
 use crate::partial_bytes::PartialBytes;
@@ -23,7 +23,8 @@ impl Bool {
     #[tactic(auto, unfolding(thrift_binary::specs::Reading::bool_at))]
     #[inline]
     pub fn more(&mut self, piece: &mut Cursor<'_>) -> Result<Option<bool>, PieceError>
-        ensures reads { Continues (λ x. x) bool_at bool_at piece.old piece.new result }
+        ensures reads { Continues (λ x. x) (moment bool_at piece.old)
+            (moment bool_at piece.new) result }
         ensures taken { OkTakes piece.old piece.new result }
         ensures no_memory { result ≡ Err Memory → ⊥ }
     {
@@ -58,8 +59,8 @@ impl Size {
     /// Continues with a piece. Returns the value once it is complete.
     #[inline]
     pub fn more(&mut self, piece: &mut Cursor<'_>) -> Result<Option<u32>, PieceError>
-        ensures reads { Continues (λ x. x) (size_from self.old) (size_from self.new)
-            piece.old piece.new result }
+        ensures reads { Continues (λ x. x) (moment (size_from self.old) piece.old)
+            (moment (size_from self.new) piece.new) result }
         ensures taken { OkTakes piece.old piece.new result }
         ensures no_memory { result ≡ Err Memory → ⊥ }
     {

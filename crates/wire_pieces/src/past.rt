@@ -1,7 +1,7 @@
 ghost use Rattle.std.specs.Prelude.{◌≡◌, ◌<◌};
 ghost use Rattle.thrift_binary.specs.Skipping.{past};
 ghost use Rattle.thrift_binary.specs.declared.fault.WireError.TheVariants.{Truncated};
-ghost use Rattle.wire_pieces.specs.Pieces.{Reaches, TakesBytes};
+ghost use Rattle.wire_pieces.specs.Pieces.{Reaches, TakesBytes, moment};
 
 use thrift_binary::Cursor;
 
@@ -22,8 +22,8 @@ impl SkippedBytes {
 
     /// Continues with a piece. Returns `()` once all have been skipped.
     pub(crate) fn more(&mut self, piece: &mut Cursor<'_>) -> Option<()>
-        ensures reads { Reaches Truncated (λ x. x) (past self.old.left) (past self.new.left)
-            piece.old piece.new result }
+        ensures reads { Reaches Truncated (moment (past self.old.left) piece.old)
+            (moment (past self.new.left) piece.new) result }
         ensures taken { TakesBytes piece.old piece.new result }
     {
         let prefix = piece.at_most(self.left);

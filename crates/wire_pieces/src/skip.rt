@@ -4,7 +4,7 @@ ghost use Rattle.thrift_binary.specs.declared.fault.WireError.TheVariants.{BadTy
 ghost use Rattle.thrift_binary.specs.Skipping.{width, is_container, skip_at, leaf, past};
 ghost use Rattle.wire_pieces.specs.declared.fault.PieceError.TheVariants.{Wire, Memory};
 ghost use Rattle.wire_pieces.specs.declared.skip.Current.TheVariants.{Nothing};
-ghost use Rattle.wire_pieces.specs.Pieces.{Continues};
+ghost use Rattle.wire_pieces.specs.Pieces.{Continues, moment};
 ghost use Rattle.wire_pieces.specs.Frames.{now_at, opens, begun, rank, Progresses, Lightens};
 
 use crate::fault::PieceError;
@@ -137,8 +137,9 @@ impl Skipping {
     fn enter(&mut self, code: u8) -> Result<SkipProgress, PieceError>
         requires now { self.old.now ≡ Nothing }
         requires container { is_container code ≡ true }
-        ensures progress { (piece : List ℕ) → Progresses (begun code self.old.around.items)
-            (skipping self.new) piece piece result }
+        ensures progress { (piece : List ℕ) → Progresses
+            (moment (begun code self.old.around.items) piece)
+            (moment (skipping self.new) piece) result }
         ensures height { OnOk result (height self.new ≤ 2 * length self.old.around.items) }
         ensures no_memory { result ≡ Err Memory → ⊥ }
     {
@@ -158,8 +159,8 @@ impl Skipping {
         requires now { self.old.now ≡ Nothing }
         requires room { length self.old.around.items < 65 }
         ensures progress { (piece : List ℕ) →
-            Progresses (begun code (self.old.around.items ++ rest ∷ []))
-            (skipping self.new) piece piece result }
+            Progresses (moment (begun code (self.old.around.items ++ rest ∷ [])) piece)
+            (moment (skipping self.new) piece) result }
         ensures height { OnOk result (height self.new ≤ 2 * length self.old.around.items + 2) }
         ensures no_memory { result ≡ Err Memory → ⊥ }
     {
@@ -174,8 +175,8 @@ impl Skipping {
     /// Continues between two values.
     fn between_values(&mut self) -> Result<SkipProgress, PieceError>
         requires now { self.old.now ≡ Nothing }
-        ensures progress { (piece : List ℕ) → Progresses (skipping self.old) (skipping self.new)
-            piece piece result }
+        ensures progress { (piece : List ℕ) → Progresses (moment (skipping self.old) piece)
+            (moment (skipping self.new) piece) result }
         ensures lighter { Lightens (height self.old) (height self.new) result }
         ensures no_memory { result ≡ Err Memory → ⊥ }
     {
@@ -201,8 +202,8 @@ impl Skipping {
 
     /// Continues inside a value.
     fn step(&mut self, piece: &mut Cursor<'_>) -> Result<SkipProgress, PieceError>
-        ensures progress { Progresses (skipping self.old) (skipping self.new)
-            piece.old piece.new result }
+        ensures progress { Progresses (moment (skipping self.old) piece.old)
+            (moment (skipping self.new) piece.new) result }
         ensures lighter { Lightens (weight self.old piece.old) (weight self.new piece.new) result }
         ensures no_longer { OnOk result (length piece.new ≤ length piece.old) }
         ensures no_memory { result ≡ Err Memory → ⊥ }
@@ -249,8 +250,8 @@ impl Skipping {
 
     /// Continues with a piece. Returns `()` once the value has been skipped. It takes no memory.
     pub fn more(&mut self, piece: &mut Cursor<'_>) -> Result<Option<()>, PieceError>
-        ensures reads { Continues (λ x. x) (skipping self.old) (skipping self.new)
-            piece.old piece.new result }
+        ensures reads { Continues (λ x. x) (moment (skipping self.old) piece.old)
+            (moment (skipping self.new) piece.new) result }
         ensures no_longer { OnOk result (length piece.new ≤ length piece.old) }
         ensures no_memory { result ≡ Err Memory → ⊥ }
     {

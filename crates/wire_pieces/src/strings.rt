@@ -1,6 +1,6 @@
 ghost use Rattle.std.specs.Prelude.{◌≡◌, ◌≤◌, List, ℕ, [], length, OnOk};
 ghost use Rattle.thrift_binary.specs.Reading.{string_at};
-ghost use Rattle.wire_pieces.specs.Pieces.{Continues};
+ghost use Rattle.wire_pieces.specs.Pieces.{Continues, moment};
 ghost use Rattle.wire_pieces.specs.Strings.{bytes_end, string_from};
 
 use crate::fault::PieceError;
@@ -30,8 +30,9 @@ impl Body {
 
     #[inline]
     fn more(&mut self, alloc: Global, piece: &mut Cursor<'_>) -> Result<Option<Vec<u8>>, PieceError>
-        ensures reads { Continues (λ x. x.items) (bytes_end self.old.got.items self.old.left)
-            (bytes_end self.new.got.items self.new.left) piece.old piece.new result }
+        ensures reads { Continues (λ x. x.items)
+            (moment (bytes_end self.old.got.items self.old.left) piece.old)
+            (moment (bytes_end self.new.got.items self.new.left) piece.new) result }
         ensures no_longer { OnOk result (length piece.new ≤ length piece.old) }
     {
         let prefix = piece.at_most(self.left);
@@ -74,8 +75,8 @@ impl StringPart {
         alloc: Global,
         piece: &mut Cursor<'_>,
     ) -> Result<Option<Vec<u8>>, PieceError>
-        ensures reads { Continues (λ x. x.items) (string_from self.old) (string_from self.new)
-            piece.old piece.new result }
+        ensures reads { Continues (λ x. x.items) (moment (string_from self.old) piece.old)
+            (moment (string_from self.new) piece.new) result }
         ensures no_longer { OnOk result (length piece.new ≤ length piece.old) }
     {
         match &mut self.step {

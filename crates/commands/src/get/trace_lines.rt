@@ -11,7 +11,7 @@ use span_store::SpanStore;
 use std::alloc::{AllocError, Global};
 use std::io::Write;
 use text_lines::{OutputBuffer, RunError, write_text};
-use trace_adjust::shown;
+use trace_adjust::show_answered;
 use trace_model::{Answer, Query, Shown, ShownTrace};
 
 /// Writes the line of a span.
@@ -60,7 +60,7 @@ fn find_trace(
         raw: true,
     };
     match store.answer(&query) {
-        Ok(Answer::Trace(Some(found))) => Ok(Some(shown(alloc, found)?)),
+        Ok(Answer::Trace(Some(found))) => Ok(Some(show_answered(alloc, found)?)),
         Ok(Answer::Trace(None)) => Ok(None),
         Ok(_) => unreachable!(),
         Err(_) => Err(AllocError),

@@ -1,5 +1,5 @@
 //! Devices that fail.
-use crate::tests::host::Host;
+use crate::tests::machine::Machine;
 use crate::tests::runs::{HEAD, SPAN, TAIL};
 use commands::run;
 use session_devices::{Input, MemoryInput, Watched};
@@ -41,7 +41,7 @@ impl Write for Full {
 
 /// Runs the words over the input with a reader that fails at each of its calls, and with a writer of each room below
 /// the output's size. Each run ends with 4 after a prefix of the output.
-fn check_failures<H: Host + Net<Stream = TcpStream, Listener = TcpListener>>(
+fn check_failures<H: Machine + Net<Stream = TcpStream, Listener = TcpListener>>(
     rt: &H,
     alloc: Global,
     words: &[&str],

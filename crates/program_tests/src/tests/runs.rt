@@ -1,5 +1,5 @@
 //! Runs of the program over memory.
-use crate::tests::host::Host;
+use crate::tests::machine::Machine;
 use commands::run;
 use session_devices::Watched;
 use std::alloc::Global;
@@ -15,7 +15,7 @@ pub(crate) const TAIL: &str = "080007000000010a000800000000000003e80a00090000000
 pub(crate) const SPAN: &str = "0000000000000001 0000000000000002 1000 50 a op\n";
 
 /// Runs the words over the input, and checks the status and the output.
-pub(crate) fn check<H: Host + Net<Stream = TcpStream, Listener = TcpListener>>(
+pub(crate) fn check<H: Machine + Net<Stream = TcpStream, Listener = TcpListener>>(
     rt: &H,
     alloc: Global,
     words: &[&str],

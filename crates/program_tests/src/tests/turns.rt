@@ -1,7 +1,7 @@
 //! Runs over an input that waits for the replies to its lines.
 ghost use Rattle.std.specs.Prelude.{None, false};
 
-use crate::tests::host::Host;
+use crate::tests::machine::Machine;
 use crate::tests::runs::{HEAD, SPAN, TAIL};
 use commands::run;
 use session_devices::{Failed, Input, Output};
@@ -80,7 +80,7 @@ impl<'a> Output for Counter<'a> {
 }
 
 /// Runs the words over the parts. Checks the status, that all parts were read, and how much follows at the end.
-fn check_turns<H: Host + Net<Stream = TcpStream, Listener = TcpListener>>(
+fn check_turns<H: Machine + Net<Stream = TcpStream, Listener = TcpListener>>(
     rt: &H,
     alloc: Global,
     words: &[&str],

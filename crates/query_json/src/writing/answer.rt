@@ -17,7 +17,7 @@ pub(crate) fn end_items(out: &mut Page, total: usize)
     ensures { Puts out.old out.new (tail_text total) }
 {
     out.push_str(r#","errors":null,"limit":0,"offset":0,"total":"#);
-    out.count(total as u64);
+    out.push_unsigned(total as u64);
     out.push_str("}");
 }
 
@@ -26,8 +26,8 @@ pub(crate) fn write_error(out: &mut Page, code: u16, msg: &str)
     ensures { Puts out.old out.new (compact_text (error_tree code msg.now)) }
 {
     out.push_str(r#"{"data":null,"errors":[{"code":"#);
-    out.count(u64::from(code));
+    out.push_unsigned(u64::from(code));
     out.push_str(r#","msg":"#);
-    out.string(msg);
+    out.push_quoted(msg);
     out.push_str(r#"}],"limit":0,"offset":0,"total":0}"#);
 }

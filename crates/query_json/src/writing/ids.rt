@@ -11,7 +11,7 @@ impl WriteJson for SpanId {
     ghost tree = { λ id. string (span_text id) };
 
     fn write(&self, out: &mut Page) {
-        out.quoted_number(self.0);
+        out.push_quoted_hex(self.0);
     }
 }
 
@@ -21,8 +21,8 @@ fn write_both(out: &mut Page, id: TraceId)
         (34 ∷ ((low_digits 16 id.high ++ low_digits 16 id.low) ++ 34 ∷ [])) }
 {
     out.push_str("\"");
-    out.digits_of_number(id.high);
-    out.digits_of_number(id.low);
+    out.push_hex_of_number(id.high);
+    out.push_hex_of_number(id.low);
     out.push_str("\"");
 }
 
@@ -31,7 +31,7 @@ impl WriteJson for TraceId {
 
     fn write(&self, out: &mut Page) {
         if self.high == 0 {
-            out.quoted_number(self.low);
+            out.push_quoted_hex(self.low);
             return;
         }
         write_both(out, *self);

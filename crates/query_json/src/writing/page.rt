@@ -9,18 +9,18 @@ ghost use Rattle.jaeger_model.specs.Ids.{low_digits};
 ghost use Rattle.jaeger_model.specs.Tags.{hex_text};
 
 use super::buffer::Buffer;
-use super::plain::is_plain;
+use super::plain::needs_no_escape;
 use std::alloc::{AllocError, Global};
 use std::str;
 
-/// A text that is written piece by piece. If there is no room for a piece, the page is full from then on: it only
-/// counts the bytes that are written to it. [`Page::finish`] reports that it was full.
+/// A text that is written piece by piece. It becomes full if there is no memory for a piece. A full page, or one made
+/// by [`Page::counting`], only counts the bytes that are written to it. [`Page::finish`] reports whether it is full.
 #[derive(Drop)]
 pub(crate) struct Page {
     bytes: Buffer,
     full: bool,
     /// The number of bytes that were written to it while it was full.
-    lost: usize,
+    counted: usize,
 }
 
 impl Page {
@@ -33,7 +33,7 @@ impl Page {
         Page {
             bytes,
             full: false,
-            lost: 0,
+            counted: 0,
         }
     }
 
@@ -55,28 +55,28 @@ impl Page {
     }
 
     /// Returns a full page, which only counts bytes. It doesn't allocate.
-    pub(crate) fn without_room(alloc: Global) -> Page
+    pub(crate) fn counting(alloc: Global) -> Page
         ensures full { result.full ≡ true }
-        ensures lost { result.lost ≡ 0 }
+        ensures counted { result.counted ≡ 0 }
     {
         Page {
             bytes: Buffer::of_bytes(Vec::new(alloc)),
             full: true,
-            lost: 0,
+            counted: 0,
         }
     }
 
     /// Returns the number of bytes that were written to it while it was full. A number that doesn't fit is reported as
     /// out of memory.
-    pub(crate) fn lost(&self) -> Result<usize, AllocError>
-        ensures lost { IfOk result (λ n. n ≡ self.now.lost) }
+    pub(crate) fn counted(&self) -> Result<usize, AllocError>
+        ensures counted { IfOk result (λ n. n ≡ self.now.counted) }
         ensures bound { IfOk result (λ n. n + 1 < 2 ^ 64) }
     {
-        if self.lost == usize::MAX {
+        if self.counted == usize::MAX {
             // Impossible: no piece has 2^64 bytes.
             return Err(AllocError);
         }
-        Ok(self.lost)
+        Ok(self.counted)
     }
 
     /// Returns the text, unless the page is full.
@@ -125,7 +125,7 @@ impl Page {
         ensures { Adds self.old self.new bytes.now }
     {
         if self.is_full() {
-            self.lost = self.lost.saturating_add(bytes.len());
+            self.counted = self.counted.saturating_add(bytes.len());
         } else {
             self.full = !self.bytes.append(bytes);
         }
@@ -136,7 +136,7 @@ impl Page {
         requires { self.old.full ≡ true }
         ensures { (bytes : List ℕ) → length bytes ≡ count → Adds self.old self.new bytes }
     {
-        self.lost = self.lost.saturating_add(count);
+        self.counted = self.counted.saturating_add(count);
     }
 
     /// Writes a text without escapes.
@@ -148,33 +148,33 @@ impl Page {
     }
 
     /// Writes a text as a JSON string.
-    pub(crate) fn string(&mut self, text: &str)
+    pub(crate) fn push_quoted(&mut self, text: &str)
         ensures { Puts self.old self.new (quoted text.now) }
     {
         self.add(b"\"");
-        self.escaped(text.as_bytes());
+        self.add_escaped(text.as_bytes());
         self.add(b"\"");
     }
 
     /// Writes a text inside a JSON string, without the quotes around it.
-    pub(crate) fn in_string(&mut self, text: &str)
+    pub(crate) fn push_escaped(&mut self, text: &str)
         ensures { Puts self.old self.new (escape text.now) }
     {
-        self.escaped(text.as_bytes());
+        self.add_escaped(text.as_bytes());
     }
 
-    fn escaped(&mut self, text: &[u8])
+    fn add_escaped(&mut self, text: &[u8])
         ensures { Adds self.old self.new (escape text.now) }
     {
-        if is_plain(text) {
+        if needs_no_escape(text) {
             self.add(text);
         } else {
-            self.with_escapes(text);
+            self.add_with_escapes(text);
         }
     }
 
     /// Writes a text inside a JSON string, as runs of plain bytes and escapes.
-    fn with_escapes(&mut self, text: &[u8])
+    fn add_with_escapes(&mut self, text: &[u8])
         ensures { Adds self.old self.new (escape text.now) }
     {
         let mut at = 0;
@@ -191,30 +191,31 @@ impl Page {
     }
 
     /// Writes a signed number.
-    pub(crate) fn integer(&mut self, number: i64)
+    pub(crate) fn push_signed(&mut self, number: i64)
         ensures { Puts self.old self.new (signed_decimal number) }
     {
         let mut buffer = itoa::Buffer::new();
         self.push_str(buffer.format(number));
     }
 
-    /// Writes a signed number. For the prover: it is given by reference, so that its caller doesn't read it.
-    pub(crate) fn integer_at(&mut self, number: &i64)
+    /// Does what [`Page::push_signed`] does. For the prover: the number is passed by reference, so that its caller
+    /// doesn't read it.
+    pub(crate) fn push_signed_ref(&mut self, number: &i64)
         ensures { Puts self.old self.new (signed_decimal number.now) }
     {
-        self.integer(*number);
+        self.push_signed(*number);
     }
 
     /// Writes a signed number of 128 bits, such as the delta of a clock.
-    pub(crate) fn delta(&mut self, number: &i128)
+    pub(crate) fn push_delta(&mut self, number: &i128)
         ensures { Puts self.old self.new (signed_decimal number.now) }
     {
         let mut buffer = itoa::Buffer::new();
         self.push_str(buffer.format(*number));
     }
 
-    /// Writes a number without a sign.
-    pub(crate) fn count(&mut self, number: u64)
+    /// Writes an unsigned number.
+    pub(crate) fn push_unsigned(&mut self, number: u64)
         ensures { Puts self.old self.new (decimal number) }
     {
         let mut buffer = itoa::Buffer::new();
@@ -222,41 +223,41 @@ impl Page {
     }
 
     /// Writes the hexadecimal digits of bytes.
-    pub(crate) fn digits(&mut self, bytes: &[u8])
+    pub(crate) fn push_hex(&mut self, bytes: &[u8])
         ensures { Puts self.old self.new (hex_text bytes.now) }
     {
         for &byte in bytes {
-            self.add(&digits_of_byte(byte));
+            self.add(&hex_of_byte(byte));
         }
     }
 
     /// Writes the sixteen hexadecimal digits of eight bytes.
-    pub(crate) fn digits_of_eight(&mut self, bytes: &[u8; 8])
+    pub(crate) fn push_hex_of_eight(&mut self, bytes: &[u8; 8])
         ensures { Puts self.old self.new (hex_text bytes.now) }
     {
         if self.is_full() {
             self.skip(16);
             return;
         }
-        self.add(&digits_of_eight(bytes));
+        self.add(&hex_of_eight(bytes));
     }
 
     /// Writes the sixteen hexadecimal digits of a number.
-    pub(crate) fn digits_of_number(&mut self, number: u64)
+    pub(crate) fn push_hex_of_number(&mut self, number: u64)
         ensures { Puts self.old self.new (low_digits 16 number) }
     {
-        self.digits_of_eight(&number.to_be_bytes());
+        self.push_hex_of_eight(&number.to_be_bytes());
     }
 
     /// Writes the sixteen hexadecimal digits of a number as a JSON string.
-    pub(crate) fn quoted_number(&mut self, number: u64)
+    pub(crate) fn push_quoted_hex(&mut self, number: u64)
         ensures { Puts self.old self.new (34 ∷ (low_digits 16 number ++ 34 ∷ [])) }
     {
         if self.is_full() {
             self.skip(18);
             return;
         }
-        self.add(&quoted_digits(&number.to_be_bytes()));
+        self.add(&quoted_hex(&number.to_be_bytes()));
     }
 }
 
@@ -283,7 +284,7 @@ fn escape_of(byte: u8) -> ([u8; 6], usize)
         return ([b'\\', letter, 0, 0, 0, 0], 2);
     }
     if byte < 0x20 {
-        let [high, low] = digits_of_byte(byte);
+        let [high, low] = hex_of_byte(byte);
         return ([b'\\', b'u', b'0', b'0', high, low], 6);
     }
     ([byte, 0, 0, 0, 0, 0], 1)
@@ -305,7 +306,7 @@ fn escape_letter(byte: u8) -> u8
 }
 
 /// Returns the sixteen hexadecimal digits of eight bytes.
-fn digits_of_eight(bytes: &[u8; 8]) -> [u8; 16]
+fn hex_of_eight(bytes: &[u8; 8]) -> [u8; 16]
     ensures digits { result ≡ hex_text bytes.now }
     ensures ascii { IsAscii result }
 {
@@ -317,7 +318,7 @@ fn digits_of_eight(bytes: &[u8; 8]) -> [u8; 16]
 }
 
 /// Returns the sixteen hexadecimal digits of eight bytes, in quotes.
-fn quoted_digits(bytes: &[u8; 8]) -> [u8; 18]
+fn quoted_hex(bytes: &[u8; 8]) -> [u8; 18]
     ensures digits { result ≡ 34 ∷ (hex_text bytes.now ++ 34 ∷ []) }
     ensures ascii { IsAscii result }
 {
@@ -329,7 +330,7 @@ fn quoted_digits(bytes: &[u8; 8]) -> [u8; 18]
 }
 
 /// Returns the two hexadecimal digits of a byte.
-fn digits_of_byte(byte: u8) -> [u8; 2]
+fn hex_of_byte(byte: u8) -> [u8; 2]
     ensures digits { result ≡ hex_text (byte ∷ []) }
     ensures ascii { IsAscii result }
 {

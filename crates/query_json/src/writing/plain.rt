@@ -61,7 +61,7 @@ fn are_plain(text: &[u8]) -> bool
 }
 
 /// Whether the text needs no escape in a JSON string.
-pub(super) fn is_plain(text: &[u8]) -> bool
+pub(super) fn needs_no_escape(text: &[u8]) -> bool
     ensures { OnTrue result (escape text.now ≡ text.now) }
 {
     if text.len() < 16 {

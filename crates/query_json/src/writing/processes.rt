@@ -11,18 +11,18 @@ ghost use Rattle.query_json.specs.TraceProcesses.{process_names};
 
 use super::values::write_tags;
 use super::{Page, WriteJson};
-use crate::naming::{FirstSpan, names, place_u32};
+use crate::naming::{FirstSpan, names};
 use jaeger_model::Process;
 use std::alloc::{AllocError, Global};
 use std::collections::BTreeMap;
-use trace_adjust::LentSpans;
+use trace_adjust::{LentSpans, place_u32};
 
 impl WriteJson for Process {
     ghost tree = { process_tree };
 
     fn write(&self, out: &mut Page) {
         out.push_str(r#"{"serviceName":"#);
-        out.string(self.service.as_str());
+        out.push_quoted(self.service.as_str());
         out.push_str(r#","tags":"#);
         write_tags(out, self.tags.as_slice());
         out.push_str("}");
@@ -120,7 +120,7 @@ pub(super) fn write_name(out: &mut Page, number: u32)
     ensures { Puts out.old out.new (compact_text (string (112 ∷ decimal number))) }
 {
     out.push_str("\"p");
-    out.count(u64::from(number));
+    out.push_unsigned(u64::from(number));
     out.push_str("\"");
 }
 

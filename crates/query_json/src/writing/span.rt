@@ -22,7 +22,7 @@ impl<'a> WriteJson for LentLog<'a> {
         out.push_str(r#"{"fields":"#);
         write_tags(out, self.fields);
         out.push_str(r#","timestamp":"#);
-        out.integer_at(&self.at);
+        out.push_signed_ref(&self.at);
         out.push_str("}");
     }
 }
@@ -62,19 +62,19 @@ fn write_warning(out: &mut Page, warning: &Warning)
     match warning {
         Warning::Adjusted(delta) => {
             out.push_str("\"clock skew adjusted by ");
-            out.delta(delta);
+            out.push_delta(delta);
             out.push_str(" us\"");
         }
         Warning::PastLimit { delta, max_skew } => {
             out.push_str("\"clock skew of ");
-            out.delta(delta);
+            out.push_delta(delta);
             out.push_str(" us not applied: the limit is ");
-            out.count(*max_skew);
+            out.push_unsigned(*max_skew);
             out.push_str(" us\"");
         }
         Warning::PastTimes(delta) => {
             out.push_str("\"clock skew of ");
-            out.delta(delta);
+            out.push_delta(delta);
             out.push_str(" us not applied: a time would not fit\"");
         }
     }
@@ -99,7 +99,7 @@ fn write_warnings(out: &mut Page, warning: &Option<Warning>)
 fn write_flags(out: &mut Page, flags: &i32)
     ensures { Puts out.old out.new (decimal (flags_number flags.now)) }
 {
-    out.count(u64::from(flags_number(*flags)));
+    out.push_unsigned(u64::from(flags_number(*flags)));
 }
 
 /// Writes a span whose process has this number, counted from 1.
@@ -109,21 +109,21 @@ pub(super) fn write_span(out: &mut Page, number: u64, lent: &LentSpan)
 {
     let span = lent.span();
     out.push_str(r#"{"duration":"#);
-    out.integer_at(&span.duration);
+    out.push_signed_ref(&span.duration);
     out.push_str(r#","flags":"#);
     write_flags(out, &span.flags);
     out.push_str(r#","logs":"#);
     write_list(out, lent.logs());
     out.push_str(r#","operationName":""#);
-    out.in_string(span.operation.as_str());
+    out.push_escaped(span.operation.as_str());
     out.push_str(r#"","processID":"p"#);
-    out.count(number);
+    out.push_unsigned(number);
     out.push_str(r#"","references":"#);
     write_list(out, References(lent));
     out.push_str(r#","spanID":"#);
     span.id.write(out);
     out.push_str(r#","startTime":"#);
-    out.integer(lent.start());
+    out.push_signed(lent.start());
     out.push_str(r#","tags":"#);
     write_tags(out, span.tags.as_slice());
     out.push_str(r#","traceID":"#);

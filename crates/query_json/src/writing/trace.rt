@@ -91,9 +91,9 @@ fn place_at(places: &[u32], index: usize) -> u32
     places.get(index).copied().unwrap_or(0)
 }
 
-/// The data from which the text of a trace is written: its spans and their processes.
+/// Writes the text of a trace piece by piece, from its spans and their processes.
 #[derive(Clone, Copy)]
-struct NumberedSpans<'a> {
+struct TraceWriter<'a> {
     spans: &'a LentSpans,
     /// For each span the number of processes before its own; 0 for the spans after the last place.
     places: &'a [u32],
@@ -101,7 +101,7 @@ struct NumberedSpans<'a> {
     processes: &'a [NamedProcess],
 }
 
-impl<'a> NumberedSpans<'a> {
+impl<'a> TraceWriter<'a> {
     /// Returns the number of pieces: one for each process and each span, and those before, between and after them.
     fn piece_count(&self) -> usize
         requires { IsNumbered self.now.spans.now self.now.places.now self.now.processes.now }
@@ -181,12 +181,12 @@ impl LentTrace {
         ensures count { result ≡ length (pieces_of self.now.processes.items self.now.spans) }
         ensures bound { result < 2 ^ 63 }
     {
-        let numbered = NumberedSpans {
+        let writer = TraceWriter {
             spans: &self.spans,
             places: &self.places,
             processes: &self.processes,
         };
-        numbered.piece_count()
+        writer.piece_count()
     }
 
     /// Writes a piece.
@@ -197,12 +197,12 @@ impl LentTrace {
         ensures { Puts out.old out.new
             (get_or (pieces_of self.now.processes.items self.now.spans) piece []) }
     {
-        let numbered = NumberedSpans {
+        let writer = TraceWriter {
             spans: &self.spans,
             places: &self.places,
             processes: &self.processes,
         };
-        numbered.write_piece(out, piece);
+        writer.write_piece(out, piece);
     }
 }
 
@@ -213,12 +213,12 @@ fn piece_count_of_one(spans: &LentSpans) -> usize
     ensures bound { result < 2 ^ 63 }
 {
     let processes = [NamedProcess::first()];
-    let numbered = NumberedSpans {
+    let writer = TraceWriter {
         spans,
         places: &[],
         processes: &processes,
     };
-    numbered.piece_count()
+    writer.piece_count()
 }
 
 /// Writes a piece of a trace whose spans have one process.
@@ -228,31 +228,31 @@ fn write_piece_of_one(out: &mut Page, spans: &LentSpans, piece: usize)
     ensures { Puts out.old out.new (get_or (pieces_of (first_named ∷ []) spans.now) piece []) }
 {
     let processes = [NamedProcess::first()];
-    let numbered = NumberedSpans {
+    let writer = TraceWriter {
         spans,
         places: &[],
         processes: &processes,
     };
-    numbered.write_piece(out, piece);
+    writer.write_piece(out, piece);
 }
 
 /// A trace with spans of its own, as the text of its tree. Only contracts read the spans. Only the plain store and tests
 /// make such a trace.
 #[derive(Drop)]
-pub(crate) struct MadeTrace {
+pub(crate) struct CopiedTrace {
     spans: Snapshot<ShownTrace>,
     text: String,
 }
 
-impl MadeTrace {
-    fn new(alloc: Global, made: &ShownTrace) -> Result<MadeTrace, AllocError>
-        ensures spans { IfOk result (λ t. t.spans.value ≡ made.now) }
+impl CopiedTrace {
+    fn new(alloc: Global, copied: &ShownTrace) -> Result<CopiedTrace, AllocError>
+        ensures spans { IfOk result (λ t. t.spans.value ≡ copied.now) }
         ensures text { IfOk result (λ t.
-            string_bytes t.text ≡ compact_text (trace_tree made.now)) }
+            string_bytes t.text ≡ compact_text (trace_tree copied.now)) }
     {
-        let text = made.to_json(alloc)?.to_string(alloc)?;
-        Ok(MadeTrace {
-            spans: Snapshot::of(made),
+        let text = copied.to_json(alloc)?.to_string(alloc)?;
+        Ok(CopiedTrace {
+            spans: Snapshot::of(copied),
             text,
         })
     }
@@ -263,9 +263,9 @@ impl MadeTrace {
 pub(crate) enum TraceItem {
     /// Its spans are borrowed, and have one process. Nothing else is stored for it: many answers consist of such traces,
     /// small ones.
-    One(LentSpans),
+    OneProcess(LentSpans),
     Lent(Box<LentTrace>),
-    Made(MadeTrace),
+    Copied(CopiedTrace),
 }
 
 /// Whether each place is 0.
@@ -285,7 +285,7 @@ fn lent_item(alloc: Global, kept: KeptTrace) -> Result<TraceItem, AllocError>
     let (places, processes) = named_processes(alloc, &spans)?;
     check_count(processes.len(), spans.len())?;
     if is_first_alone(&processes) && are_zero(&places) {
-        return Ok(TraceItem::One(spans));
+        return Ok(TraceItem::OneProcess(spans));
     }
     let lent = LentTrace {
         spans,
@@ -302,9 +302,9 @@ impl TraceItem {
         ensures writable { IfOk result IsWritable }
     {
         match trace.into_form() {
-            TraceForm::Lone(span) => Ok(TraceItem::One(LentSpans::lone(span))),
+            TraceForm::Lone(span) => Ok(TraceItem::OneProcess(LentSpans::lone(span))),
             TraceForm::Kept(kept) => lent_item(alloc, Box::into_inner(kept)),
-            TraceForm::Ready(made) => Ok(TraceItem::Made(MadeTrace::new(alloc, &made)?)),
+            TraceForm::Copied(copied) => Ok(TraceItem::Copied(CopiedTrace::new(alloc, &copied)?)),
         }
     }
 
@@ -315,9 +315,9 @@ impl TraceItem {
         ensures bound { result < 2 ^ 63 }
     {
         match self {
-            TraceItem::One(spans) => piece_count_of_one(spans),
+            TraceItem::OneProcess(spans) => piece_count_of_one(spans),
             TraceItem::Lent(lent) => lent.piece_count(),
-            TraceItem::Made(_) => 1,
+            TraceItem::Copied(_) => 1,
         }
     }
 
@@ -328,9 +328,9 @@ impl TraceItem {
         ensures { Puts out.old out.new (get_or (trace_pieces self.now) piece []) }
     {
         match self {
-            TraceItem::One(spans) => write_piece_of_one(out, spans, piece),
+            TraceItem::OneProcess(spans) => write_piece_of_one(out, spans, piece),
             TraceItem::Lent(lent) => lent.write_piece(out, piece),
-            TraceItem::Made(made) => out.push_str(made.text.as_str()),
+            TraceItem::Copied(copied) => out.push_str(copied.text.as_str()),
         }
     }
 }

@@ -61,12 +61,12 @@ fn write_typed(out: &mut Page, value: &TagValue, after: AfterTag)
     match value.get() {
         ValueRef::Text(text) => {
             out.push_str(r#"","type":"string","value":""#);
-            out.in_string(text);
+            out.push_escaped(text);
             after.close_string(out);
         }
         ValueRef::Double(bytes) => {
             out.push_str(r#"","type":"float64","value":""#);
-            out.digits_of_eight(bytes);
+            out.push_hex_of_eight(bytes);
             after.close_string(out);
         }
         ValueRef::Bool(flag) => {
@@ -75,12 +75,12 @@ fn write_typed(out: &mut Page, value: &TagValue, after: AfterTag)
         }
         ValueRef::Long(number) => {
             out.push_str(r#"","type":"int64","value":"#);
-            out.integer(number);
+            out.push_signed(number);
             after.close(out);
         }
         ValueRef::Bytes(bytes) => {
             out.push_str(r#"","type":"binary","value":""#);
-            out.digits(bytes);
+            out.push_hex(bytes);
             after.close_string(out);
         }
     }
@@ -90,7 +90,7 @@ fn write_typed(out: &mut Page, value: &TagValue, after: AfterTag)
 fn write_from_key(out: &mut Page, tag: &Tag, after: AfterTag)
     ensures { Puts out.old out.new (from_key tag.now ++ after_tag after) }
 {
-    out.in_string(tag.key.as_str());
+    out.push_escaped(tag.key.as_str());
     write_typed(out, &tag.value, after);
 }
 
@@ -138,9 +138,9 @@ impl WriteJson for Operation {
 
     fn write(&self, out: &mut Page) {
         out.push_str(r#"{"name":"#);
-        out.string(self.name.as_str());
+        out.push_quoted(self.name.as_str());
         out.push_str(r#","spanKind":"#);
-        out.string(self.kind.as_str());
+        out.push_quoted(self.kind.as_str());
         out.push_str("}");
     }
 }
@@ -150,11 +150,11 @@ impl WriteJson for Link {
 
     fn write(&self, out: &mut Page) {
         out.push_str(r#"{"callCount":"#);
-        out.count(self.calls);
+        out.push_unsigned(self.calls);
         out.push_str(r#","child":"#);
-        out.string(self.child.as_str());
+        out.push_quoted(self.child.as_str());
         out.push_str(r#","parent":"#);
-        out.string(self.parent.as_str());
+        out.push_quoted(self.parent.as_str());
         out.push_str("}");
     }
 }

@@ -4,7 +4,7 @@ ghost use Rattle.std.specs.Prelude.{◌≡◌};
 
 use crate::tests::requests::{CUT, DELETE, NOWHERE, UNTYPED, joined};
 use http_session::session;
-use intake::{Books, Clerk, Desk, Live, desk};
+use intake::{Books, Clerk, DeskHandle, Live, open_desk};
 use pipe_session::{Direct, pipe};
 use read_side::{EmptyHistory, Keeper, StoreName, open};
 use session_devices::{MemoryInput, MemoryOutput};
@@ -42,7 +42,7 @@ fn keep<N: StoreName, R: Wait>(rt: &R, clerk: Clerk<N>, slot: &mut Option<Keeper
             accounts: _,
             acknowledged: _,
             refused: _,
-            left: _,
+            unjudged: _,
             inbox: _,
         } = clerk.run(rt, keeper);
         if let Some(other) = slot.replace(keeper) {
@@ -55,7 +55,7 @@ fn keep<N: StoreName, R: Wait>(rt: &R, clerk: Clerk<N>, slot: &mut Option<Keeper
 fn session_bytes<N: StoreName, R: Wait>(
     rt: &R,
     alloc: Global,
-    desk: &Desk<N>,
+    desk: &DeskHandle<N>,
     live: Option<Live<N>>,
     sent: &[u8],
 ) -> MemoryOutput {
@@ -73,16 +73,16 @@ fn live_bytes<N: StoreName + Send + Sync, R: Threads + Wait + Abort + Sync>(
     rt: &R,
     alloc: Global,
     keys: RandomState,
-    name: EmptyHistory,
+    history: EmptyHistory,
     limits: Limits,
     sent: &[u8],
 ) -> Result<MemoryOutput, Fail>
-    requires book { name.seen.book ≡ N.book }
+    requires book { history.seen.book ≡ N.book }
     requires limits { limits ≡ N.limits }
 {
-    let (mut keeper, mut passes) = open::<N, _>(rt, alloc, keys, name, limits, 1)?;
+    let (mut keeper, mut passes) = open::<N, _>(rt, alloc, keys, history, limits, 1)?;
     let first = keeper.receipt();
-    match desk(alloc, keys, first, 1, 1) {
+    match open_desk(alloc, keys, first, 1, 1) {
         Err(why) => {
             keeper.close(rt);
             Err(Fail::from(why))

@@ -61,9 +61,9 @@ impl ArrivalNames {
         Ok(ArrivalNames { numbers, index })
     }
 
-    /// Adds the last entry of the list, which is one entry longer. `first` has the kinds of its first spans.
-    /// Allocates nothing.
-    pub fn add(&mut self, entries: &[Arc<Entry>], reported: &ServicePlaces, first: &SpanKinds)
+    /// Adds the last entry of the list, which is one entry longer. `span_kinds` has the kinds of its first
+    /// spans. Allocates nothing.
+    pub fn add(&mut self, entries: &[Arc<Entry>], reported: &ServicePlaces, span_kinds: &SpanKinds)
         requires some { 0 < length entries.now }
         requires kept { AreNamesKept (before_last (map arc_value entries.now)) self.old }
         requires placed { ArePlacesKept (map arc_value entries.now) reported.now }
@@ -72,7 +72,7 @@ impl ArrivalNames {
         requires index { length (arrivals (map arc_value entries.now)) ≤ self.old.index.room }
         requires first { (e : EntryValue) →
             map arc_value entries.now ≡ before_last (map arc_value entries.now) ++ e ∷ [] →
-            first.now ≡ kinds_in e }
+            span_kinds.now ≡ kinds_in e }
 
         ensures kept { AreNamesKept (map arc_value entries.now) self.new }
         ensures batches { self.new.numbers.batches ≡ self.old.numbers.batches }
@@ -80,7 +80,7 @@ impl ArrivalNames {
         ensures index { self.new.index.room ≡ self.old.index.room }
     {
         let begin = self.index.used();
-        self.numbers.add(entries, first);
+        self.numbers.add(entries, span_kinds);
         let arrivals = self.numbers.arrivals(entries, reported);
         add_arrivals(&mut self.index, &arrivals, begin, self.numbers.len());
     }
@@ -171,22 +171,22 @@ impl ArrivalNames {
         };
         let plain = self
             .index
-            .knows_in(&arrivals, service_number, operation, "");
+            .knows_operation(&arrivals, service_number, operation, "");
         let client = self
             .index
-            .knows_in(&arrivals, service_number, operation, "client");
+            .knows_operation(&arrivals, service_number, operation, "client");
         let server = self
             .index
-            .knows_in(&arrivals, service_number, operation, "server");
+            .knows_operation(&arrivals, service_number, operation, "server");
         let producer = self
             .index
-            .knows_in(&arrivals, service_number, operation, "producer");
+            .knows_operation(&arrivals, service_number, operation, "producer");
         let consumer = self
             .index
-            .knows_in(&arrivals, service_number, operation, "consumer");
+            .knows_operation(&arrivals, service_number, operation, "consumer");
         let internal = self
             .index
-            .knows_in(&arrivals, service_number, operation, "internal");
+            .knows_operation(&arrivals, service_number, operation, "internal");
         // For the prover: `|` has no branches, and `||` would have one for each kind.
         plain | client | server | producer | consumer | internal
     }

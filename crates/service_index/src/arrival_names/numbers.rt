@@ -17,7 +17,7 @@ use jaeger_model::{Span, Text};
 use std::alloc::{AllocError, Global};
 use std::marker::Model;
 use std::sync::Arc;
-use trace_model::{Entry, Name, Operation, Work};
+use trace_model::{Entry, Name, Operation};
 
 /// Which span has which arrival number.
 #[derive(Drop)]
@@ -79,21 +79,11 @@ impl<'a> Texts for Arrivals<'a> {
     ghost names = { names_of_arrivals };
 
     fn name_at(&self, n: u32) -> (&str, &str, &str) {
-        let before = self.entry_of[n as usize];
-        let entry = &self.entries[before as usize];
-        let index = n - self.firsts[before as usize];
+        let entry_index = self.entry_of[n as usize];
+        let work = &self.entries[entry_index as usize].work;
+        let index = n - self.firsts[entry_index as usize];
         let kind = self.kinds[n as usize];
-        match &entry.work {
-            Work::Batch(batch) => {
-                let span = &batch.spans.as_slice()[index as usize];
-                (
-                    batch.process.get().service.as_str(),
-                    span.operation.as_str(),
-                    kind.text(),
-                )
-            }
-            Work::TraceLimit(_) => unreachable!(),
-        }
+        (work.service(), work.operation(index), kind.text())
     }
 
     fn service_number_at(&self, n: u32) -> u32 {
@@ -117,8 +107,8 @@ impl<'a> Arrivals<'a> {
         requires { n < length (arrivals self.now) }
         ensures { IfOk result (λ s. s ≡ (reported_at self.now n).service) }
     {
-        let before = self.entry_of[n as usize];
-        Name::of_service(&self.entries[before as usize])
+        let entry_index = self.entry_of[n as usize];
+        Name::of_service(&self.entries[entry_index as usize])
     }
 
     /// Returns the operation of the arrival with this number. The name refers to its entry.
@@ -130,10 +120,10 @@ impl<'a> Arrivals<'a> {
         requires { n < length (arrivals self.now) }
         ensures { IfOk result (λ o. o ≡ (reported_at self.now n).operation) }
     {
-        let before = self.entry_of[n as usize];
-        let first = self.firsts[before as usize];
+        let entry_index = self.entry_of[n as usize];
+        let first = self.firsts[entry_index as usize];
         let kind = self.kinds[n as usize];
-        let name = Name::of_operation(&self.entries[before as usize], n - first)?;
+        let name = Name::of_operation(&self.entries[entry_index as usize], n - first)?;
         let kind = Text::from_str(alloc, kind.text())?;
         Ok(Operation { name, kind })
     }
@@ -178,8 +168,8 @@ impl ArrivalNumbers {
         &self.firsts
     }
 
-    /// Numbers the spans of the last entry. `first` has the kinds of its first spans. Allocates nothing.
-    pub fn add(&mut self, entries: &[Arc<Entry>], first: &SpanKinds)
+    /// Numbers the spans of the last entry. `span_kinds` has the kinds of its first spans. Allocates nothing.
+    pub fn add(&mut self, entries: &[Arc<Entry>], span_kinds: &SpanKinds)
         requires some { 0 < length entries.now }
         requires numbers { AreOf (before_last (map arc_value entries.now)) self.old.entry_of
             self.old.firsts }
@@ -188,18 +178,22 @@ impl ArrivalNumbers {
         requires spans { length (arrivals (map arc_value entries.now)) ≤ self.old.spans }
         requires first { (e : EntryValue) →
             map arc_value entries.now ≡ before_last (map arc_value entries.now) ++ e ∷ [] →
-            first.now ≡ kinds_in e }
+            span_kinds.now ≡ kinds_in e }
         ensures numbers { AreOf (map arc_value entries.now) self.new.entry_of self.new.firsts }
         ensures kinds { AreKinds (map arc_value entries.now) self.new.kinds }
         ensures batches { self.new.batches ≡ self.old.batches }
         ensures spans { self.new.spans ≡ self.old.spans }
     {
-        let before = entries.len() - 1;
+        let entry_index = entries.len() - 1;
         self.firsts.push_reserved(self.entry_of.len() as u32);
-        for _span in entries[before].work.spans() {
-            self.entry_of.push_reserved(before as u32);
+        for _span in entries[entry_index].work.spans() {
+            self.entry_of.push_reserved(entry_index as u32);
         }
-        add_kinds(&mut self.kinds, first, entries[before].work.spans());
+        add_kinds(
+            &mut self.kinds,
+            span_kinds,
+            entries[entry_index].work.spans(),
+        );
     }
 
     /// Returns the arrivals of these entries by their numbers, with the numbers of their services.
@@ -247,14 +241,14 @@ fn find_kinds(kinds: &mut Vec<Kind>, spans: &[Span])
 }
 
 /// Appends the kinds of the spans. Those of the first spans are known, so no tag of these is read.
-fn add_kinds(kinds: &mut Vec<Kind>, first: &SpanKinds, spans: &[Span])
+fn add_kinds(kinds: &mut Vec<Kind>, span_kinds: &SpanKinds, spans: &[Span])
     requires room { length kinds.old.items + length spans.now ≤ vec_capacity kinds.old }
-    requires first { first.now ≡ first_kinds spans.now }
+    requires first { span_kinds.now ≡ first_kinds spans.now }
     ensures kinds { map kind_text kinds.new.items ≡
         map kind_text kinds.old.items ++ map kind_of spans.now }
     ensures capacity { vec_capacity kinds.new ≡ vec_capacity kinds.old }
 {
-    let known = first.as_slice();
+    let known = span_kinds.as_slice();
     add_known(kinds, known);
     find_kinds(kinds, &spans[known.len()..]);
 }

@@ -5,8 +5,8 @@ ghost use Rattle.trace_model.specs.Histories.{before_last};
 ghost use Rattle.service_index.specs.ServicePlaces.{ArePlacesKept, places_of, service_number_of};
 ghost use Rattle.service_index.specs.ServicePlaces.{service_label, service_labels};
 
+use crate::label_table::LabelTable;
 use crate::links::RowLinks;
-use crate::name_table::NameTable;
 use crate::service_places::along::Places;
 use crate::service_places::reporters::{Reporters, service_label};
 use std::alloc::{AllocError, Global};
@@ -21,8 +21,8 @@ use trace_model::Entry;
 pub struct ServicePlaces {
     batches: u32,
     /// For each service the number of entries before the first one of it.
-    services: NameTable,
-    /// The places of the entries, linked for each service.
+    services: LabelTable,
+    /// The entries, linked for each service: the link to an entry, which is its row plus one, is its place.
     links: RowLinks,
     /// For each entry the number of its service.
     service_numbers: Vec<u32>,
@@ -57,7 +57,7 @@ impl ServicePlaces {
         ensures kept { IfOk result (λ places. ArePlacesKept [] places) }
         ensures batches { IfOk result (λ places. places.batches ≡ batches) }
     {
-        let services = NameTable::with_room(alloc, keys, batches)?;
+        let services = LabelTable::with_room(alloc, keys, batches)?;
         let links = RowLinks::with_room(alloc, batches)?;
         let service_numbers = Vec::with_capacity(alloc, batches as usize)?;
         Ok(ServicePlaces {
@@ -76,8 +76,8 @@ impl ServicePlaces {
         ensures kept { ArePlacesKept (map arc_value entries.now) self.new }
         ensures batches { self.new.batches ≡ self.old.batches }
     {
-        let before = (entries.len() - 1) as u32;
-        let service = self.services.add(&Reporters { entries }, before) as usize;
+        let entry_index = (entries.len() - 1) as u32;
+        let service = self.services.add(&Reporters { entries }, entry_index) as usize;
         self.service_numbers
             .push_reserved(self.services.numbers()[service]);
         self.links.add_row(service);
@@ -90,17 +90,17 @@ impl ServicePlaces {
     {
         let row = self.row_of(entries, service);
         Places {
-            earlier: self.links.earlier_rows(),
-            at: self.links.newest_row(row),
+            earlier: self.links.earlier_links(),
+            at: self.links.newest_link(row),
         }
     }
 
-    /// Returns the number of the service of the entry that has `before` entries before it.
-    pub fn service_number_at(&self, before: u32) -> u32
-        requires { before < length self.now.service_numbers }
-        ensures { result ≡ get_or self.now.service_numbers before 0 }
+    /// Returns the number of the service of the entry at an index, which counts from 0.
+    pub fn service_number_at(&self, entry_index: u32) -> u32
+        requires { entry_index < length self.now.service_numbers }
+        ensures { result ≡ get_or self.now.service_numbers entry_index 0 }
     {
-        self.service_numbers[before as usize]
+        self.service_numbers[entry_index as usize]
     }
 
     /// Returns the number of a service, or none if no entry is of it.

@@ -23,7 +23,7 @@ fn shown(alloc: Global, service: &str, span: Span) -> Result<Shown, AllocError> 
 fn found(alloc: Global, span: Shown) -> Result<Answer, AllocError> {
     let spans = list_of(alloc, span)?;
     let shown = ShownTrace::without_keys(alloc, spans);
-    Ok(Answer::Trace(Some(AnsweredTrace::made(alloc, shown)?)))
+    Ok(Answer::Trace(Some(AnsweredTrace::copied(alloc, shown)?)))
 }
 
 /// Appends the parts to the text.

@@ -1,7 +1,7 @@
 use crate::tests::pipes::{Seen, joined, played};
 use crate::tests::requests::{ReadOutcome, look};
 use http_requests::ReadError;
-use http_session::{Ended, SessionError, SessionErrorKind};
+use http_session::{EndReason, Ended, SessionError, SessionErrorKind};
 use session_devices::MemoryOutput;
 use std::alloc::Global;
 use std::hash::RandomState;
@@ -112,14 +112,14 @@ fn is_written(
 const fn open(answered: u64) -> Ended {
     Ended {
         answered,
-        clean: true,
+        reason: EndReason::ClosedByClient,
     }
 }
 
 /// The end of a session that one response closes.
 const CLOSED: Ended = Ended {
     answered: 1,
-    clean: false,
+    reason: EndReason::ClosedByResponse,
 };
 
 /// The responses to a batch, and then to a query for the services.

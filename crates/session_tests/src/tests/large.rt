@@ -1,5 +1,5 @@
 use crate::tests::pipes::{joined, played};
-use http_session::{Ended, SessionError, SessionErrorKind};
+use http_session::{EndReason, Ended, SessionError, SessionErrorKind};
 use std::alloc::Global;
 use std::hash::RandomState;
 use std::test::*;
@@ -37,7 +37,7 @@ fn ended_at(room: usize, all: usize) -> Result<Ended, SessionError> {
     if room >= all {
         return Ok(Ended {
             answered: 2,
-            clean: true,
+            reason: EndReason::ClosedByClient,
         });
     }
     Err(SessionError {

@@ -1,5 +1,5 @@
 use crate::tests::pipes::{empty_store, joined};
-use http_session::{Ended, Session};
+use http_session::{EndReason, Ended, Session};
 use query_http::endpoints;
 use session_devices::{Join, MemoryInput, MemoryOutput};
 use std::hash::RandomState;
@@ -41,7 +41,7 @@ fn two_sessions_take_turns(rt: HostRuntime) -> Result<(), Fail> {
     assert_eq!(rt; (asking.answered(), sending.answered()), (2, 2));
     let ended = Ended {
         answered: 2,
-        clean: true,
+        reason: EndReason::ClosedByClient,
     };
     assert_eq!(rt;
         asking.answer_next(&(), alloc, &router, &mut asker, &mut store),

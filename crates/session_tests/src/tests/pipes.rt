@@ -1,5 +1,5 @@
 use batch_codec::decode;
-use http_session::{Ended, SessionError, SessionErrorKind};
+use http_session::{EndReason, Ended, SessionError, SessionErrorKind};
 use pipe_session::{Direct, pipe};
 use session_devices::{MemoryInput, MemoryOutput, Output};
 use span_store::SpanStore;
@@ -152,7 +152,7 @@ fn has_the_batch(alloc: Global, entries: &[Arc<Entry>]) -> Result<bool, Fail> {
 /// The three requests were answered, and the input ended after them.
 const ALL_ANSWERED: Ended = Ended {
     answered: 3,
-    clean: true,
+    reason: EndReason::ClosedByClient,
 };
 
 /// Returns whether a session with the three requests answers them, with these numbers of bytes read and written at a

@@ -1,7 +1,7 @@
 //! Each refusal of a store has its response.
 
 use crate::tests::pipes::joined;
-use http_session::{Ended, session};
+use http_session::{EndReason, Ended, session};
 use jaeger_model::Batch;
 use session_devices::{MemoryInput, MemoryOutput};
 use std::alloc::Global;
@@ -93,7 +93,7 @@ const ROWS: [Row; 11] = [
 /// Two requests were answered, and the input ended after them.
 const BOTH_ANSWERED: Ended = Ended {
     answered: 2,
-    clean: true,
+    reason: EndReason::ClosedByClient,
 };
 
 /// Whether a batch and a query that are refused so are each answered by this response.

@@ -41,7 +41,7 @@ pub(crate) struct Taken {
 #[derive(Drop)]
 pub(crate) enum ReadOutcome {
     One(Taken),
-    Clean,
+    EndOfInput,
     Malformed(RequestFault),
 }
 
@@ -54,19 +54,19 @@ pub(crate) fn look(alloc: Global, bytes: &[u8], step: usize) -> Result<ReadOutco
 fn look_in(alloc: Global, source: MemoryInput<'_>) -> Result<ReadOutcome, ReadError> {
     let mut input = source;
     let mut received = ReadBuffer::new(alloc);
-    let (length, size) = match next_head(&mut input, &mut received)? {
-        Next::One(_, length, size) => (length, size),
-        Next::Clean => return Ok(ReadOutcome::Clean),
+    let found = match next_head(&mut input, &mut received)? {
+        Next::One(found) => found,
+        Next::EndOfInput => return Ok(ReadOutcome::EndOfInput),
         Next::NoHead => return Ok(ReadOutcome::Malformed(RequestFault::Head)),
     };
-    let head = received.as_slice()[..length].to_vec(alloc)?;
-    received.take(length);
+    let head = received.as_slice()[..found.len].to_vec(alloc)?;
+    received.take(found.len);
     let mut sink = Joined {
         bytes: Vec::new(alloc),
         largest_piece: 0,
         lacks_memory: false,
     };
-    if let Err(fault) = read_body(&mut input, &mut received, &mut sink, size)? {
+    if let Err(fault) = read_body(&mut input, &mut received, &mut sink, found.body_length)? {
         return Ok(ReadOutcome::Malformed(fault));
     }
     if sink.lacks_memory {

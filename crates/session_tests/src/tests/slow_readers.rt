@@ -76,7 +76,7 @@ struct Served<'a> {
     waits: u32,
 }
 
-/// Gives one connection turns until it leaves the set.
+/// Gives one connection turns until it is removed from the set.
 fn serve_alone<'a, B: Backend<()>>(
     alloc: Global,
     client: SlowClient<'a>,
@@ -93,7 +93,7 @@ fn serve_alone<'a, B: Backend<()>>(
         match connections.take_turn(&(), alloc, key, at, store) {
             ConnectionTurn::Open(ConnectionProgress::Writing) => waits = waits.saturating_add(1),
             ConnectionTurn::Open(_) => {}
-            ConnectionTurn::Left(progress, buffered) => {
+            ConnectionTurn::Removed(progress, buffered) => {
                 return Ok(Served {
                     buffered,
                     progress,
@@ -140,7 +140,7 @@ fn a_few_bytes_at_a_time(rt: HostRuntime) -> Result<(), Fail> {
         let client = slow_client(alloc, &bytes, step, usize::MAX);
         let mut served = serve_alone(alloc, client, &mut store)?;
         assert!(rt; served.waits > 0, "{step}");
-        assert_eq!(rt; served.progress, ConnectionProgress::Ended);
+        assert_eq!(rt; served.progress, ConnectionProgress::ClosedByClient);
         assert!(rt; is_flushed(&mut served.buffered), "{step}");
         let taken = served.buffered.get_ref().taken.as_slice();
         assert!(rt; taken == wanted.as_slice(), "{step}");
@@ -148,7 +148,8 @@ fn a_few_bytes_at_a_time(rt: HostRuntime) -> Result<(), Fail> {
     Ok(())
 }
 
-/// A connection that fails while its response waits leaves the set, and has taken the first bytes of the responses.
+/// A connection that fails while its response waits is removed from the set, and has taken the first bytes of the
+/// responses.
 #[test]
 fn a_failure_while_a_response_waits(rt: HostRuntime) -> Result<(), Fail> {
     let alloc = rt.alloc();

@@ -1,6 +1,7 @@
 ghost use Rattle.std.specs.Prelude.{None, false};
 
 use crate::tests::pipes::empty_store;
+use http_session::EndReason;
 use pipe_session::pipe;
 use session_devices::{Failed, Input, Output};
 use std::cell::Cell;
@@ -99,7 +100,7 @@ fn answers_before_it_reads_on(rt: HostRuntime) -> Result<(), Fail> {
     let mut store = empty_store(alloc, RandomState::new(&rt)?)?;
     let ended = pipe(alloc, &mut input, &mut output, &mut store).expect(&rt, "ended");
     assert_eq!(rt; ended.answered, 3);
-    assert!(rt; ended.clean);
+    assert_eq!(rt; ended.reason, EndReason::ClosedByClient);
     assert_eq!(rt; written.get(), again);
     Ok(())
 }

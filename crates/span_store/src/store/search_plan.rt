@@ -22,7 +22,9 @@ ghost use Rattle.span_store.specs.FoundAnswers.{FindsTheSame};
 use super::SpanStore;
 use crate::finding;
 use find_traces::PreparedSearch;
-use journal_traces::{search_window, spots_after, spots_along, spots_reported, spots_within};
+use journal_traces::{
+    StoreView, search_window, spots_after, spots_along, spots_reported, spots_within,
+};
 use std::alloc::AllocError;
 use trace_assembly::Spots;
 use trace_model::Find;
@@ -113,10 +115,10 @@ impl SpanStore {
         let service = query.service.as_str();
         let operation = query.operation.as_str();
         if operation == "" {
-            return self.names.knows_service(entries, &self.reported, service);
+            return self.names.knows_service(entries, &self.by_service, service);
         }
         self.names
-            .knows_operation(entries, &self.reported, service, operation)
+            .knows_operation(entries, &self.by_service, service, operation)
     }
 
     /// Returns the number of the service of a search that has no other condition, if many entries are of it: most
@@ -146,7 +148,7 @@ impl SpanStore {
             self.alloc,
             &self.shown,
             &self.journal,
-            &self.reported,
+            &self.by_service,
             service,
         )?;
         Ok(spots)
@@ -158,15 +160,14 @@ impl SpanStore {
         ensures { IfOk result (λ v. FindsTheSame self.now query.now v.items) }
     {
         let places = self.service_places(query);
+        let store = StoreView {
+            journal: &self.journal,
+            assembly: &self.shown,
+            starts: &self.starts,
+            by_service: &self.by_service,
+        };
         // For the prover: the binding lets the clauses of `spots_along` be used for the result.
-        let spots = spots_along(
-            self.alloc,
-            &self.shown,
-            self.names.firsts(),
-            &self.journal,
-            places,
-            query,
-        )?;
+        let spots = spots_along(self.alloc, store, self.names.firsts(), places, query)?;
         Ok(spots)
     }
 
@@ -190,7 +191,7 @@ impl SpanStore {
         if !has_window(query) || !self.may_find(query) {
             return false;
         }
-        let count = self.starts.count_within(search_window(query));
+        let count = self.starts.estimate_within(search_window(query));
         self.service_places(query)
             .nth(count.saturating_mul(ENTRIES_PER_TRACE))
             .is_some()

@@ -37,7 +37,7 @@ fn entries_of(alloc: Global, many: u32) -> Result<Vec<Arc<Entry>>, AllocError> {
 /// Returns the number of spans of a trace of an answer.
 fn span_count(trace: &AnsweredTrace) -> usize {
     match trace.form() {
-        TraceForm::Ready(made) => made.len(),
+        TraceForm::Copied(copied) => copied.len(),
         TraceForm::Lone(_) => 1,
         TraceForm::Kept(kept) => kept.spans.len(),
     }

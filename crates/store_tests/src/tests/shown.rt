@@ -10,7 +10,7 @@ fn spans_text(alloc: Global, trace: &ShownTrace) -> Result<String, AllocError> {
 
 /// The spans of a trace of an answer, copied or not.
 fn trace_text(alloc: Global, trace: AnsweredTrace) -> Result<String, AllocError> {
-    let made = trace_adjust::shown(alloc, trace)?;
+    let made = trace_adjust::show_answered(alloc, trace)?;
     let text = spans_text(alloc, &made);
     drop(made);
     text

@@ -1,7 +1,7 @@
 //! The ranges of the starts of spans, one for each block of traces.
 
 ghost use Rattle.std.specs.Prelude.{◌≡◌, ◌+◌, ◌<◌, ◌≤◌, ◌==◌, ◌&&◌, ℕ, int_lt, length, get_or, vec_capacity, if◌then◌else◌};
-ghost use Rattle.trace_ring.specs.StartRanges.{no_range, IsIn, IsWider, ends_after, begins_before, reaches};
+ghost use Rattle.trace_ring.specs.StartRanges.{no_range, IsIn, IsWider, ends_after, begins_before, overlaps};
 
 /// Times in microseconds since 1970, from the earliest to the latest.
 #[derive(Clone, Copy)]
@@ -38,8 +38,8 @@ fn begins_before(range: Range, bound: Option<i128>) -> bool
 }
 
 /// Whether a time of the range may be in the window.
-pub(crate) fn reaches(range: Range, window: Window) -> bool
-    ensures { result ≡ reaches window range }
+pub(crate) fn overlaps(range: Range, window: Window) -> bool
+    ensures { result ≡ overlaps window range }
 {
     ends_after(range, window.after) && begins_before(range, window.before)
 }

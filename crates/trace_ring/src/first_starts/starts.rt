@@ -12,10 +12,10 @@ use std::marker::Model;
 #[derive(Drop)]
 pub struct FirstStarts {
     pub(crate) room: u32,
-    /// The start of each trace that was opened, including those that left.
+    /// The start of each trace that was opened, including the evicted ones.
     pub(crate) opened: Vec<i64>,
-    /// The number of them that left.
-    pub(crate) left: usize,
+    /// The number of evicted traces: those opened first.
+    pub(crate) evicted: usize,
     /// For each block of them an upper bound.
     pub(crate) bounds: Vec<i64>,
     /// For each block of them the range of the starts of all spans of its traces.
@@ -28,17 +28,23 @@ impl Model for FirstStarts {
 
     ghost Value = { Starts };
 
-    ghost view = { λ s. record { starts = drop s.left s.opened.items; used = length s.opened.items; room = s.room; left = s.left; ranges = s.ranges.items } };
+    ghost view = { λ s. record {
+      starts = drop s.evicted s.opened.items;
+      used = length s.opened.items;
+      room = s.room;
+      evicted = s.evicted;
+      ranges = s.ranges.items;
+    } };
 
     ghost invariant = { λ s. (s.room ≤ vec_capacity s.opened)
         × (s.room / 256 + 2 ≤ vec_capacity s.bounds)
-        × IsBounded s.room s.left s.opened.items s.bounds.items
+        × IsBounded s.room s.evicted s.opened.items s.bounds.items
         × (s.room / 256 + 2 ≤ vec_capacity s.ranges)
         × (length s.ranges.items ≡ (length s.opened.items + 255) / 256) };
 }
 
 impl FirstStarts {
-    /// Makes an empty list with room for `room` starts in all, including those of traces that left.
+    /// Makes an empty list with room for `room` starts in all, including those of evicted traces.
     ///
     /// # Errors
     ///
@@ -54,7 +60,7 @@ impl FirstStarts {
         Ok(FirstStarts {
             room,
             opened,
-            left: 0,
+            evicted: 0,
             bounds,
             ranges,
         })
@@ -64,7 +70,7 @@ impl FirstStarts {
     pub fn len(&self) -> usize
         ensures { result ≡ length self.now.starts }
     {
-        self.opened.len() - self.left
+        self.opened.len() - self.evicted
     }
 
     /// Appends the start of a trace that was opened, and widens the range of its block to it. Allocates nothing.
@@ -83,29 +89,29 @@ impl FirstStarts {
         self.opened.push_reserved(start);
     }
 
-    /// Widens the range of the trace at a place to the start of one more of its spans. The oldest trace is at 0.
-    pub fn widen(&mut self, place: usize, start: i64)
-        requires { place < length self.old.starts }
+    /// Widens the range of the trace at a position to the start of one more of its spans. The oldest trace is at 0.
+    pub fn widen(&mut self, position: usize, start: i64)
+        requires { position < length self.old.starts }
         ensures starts { self.new.starts ≡ self.old.starts }
         ensures used { self.new.used ≡ self.old.used }
         ensures room { self.new.room ≡ self.old.room }
-        ensures own { IsIn (range_at self.new place) start }
+        ensures own { IsIn (range_at self.new position) start }
         ensures none_narrows { (k : ℕ) → k < length self.old.starts →
             IsWider (range_at self.old k) (range_at self.new k) }
     {
-        widen(&mut self.ranges, (self.left + place) / BLOCK, start);
+        widen(&mut self.ranges, (self.evicted + position) / BLOCK, start);
     }
 
     /// Removes the trace that was opened first. The others keep their ranges.
-    pub fn drop_oldest(&mut self)
+    pub fn evict_oldest(&mut self)
         ensures starts { self.new.starts ≡ drop 1 self.old.starts }
         ensures used { self.new.used ≡ self.old.used }
         ensures room { self.new.room ≡ self.old.room }
         ensures ranges { 0 < length self.old.starts →
             (k : ℕ) → range_at self.new k ≡ range_at self.old (k + 1) }
     {
-        if self.left < self.opened.len() {
-            self.left += 1;
+        if self.evicted < self.opened.len() {
+            self.evicted += 1;
         }
     }
 
@@ -119,14 +125,14 @@ impl FirstStarts {
         ensures { IfOk result (λ v. v.items ≡ positions_after time self.now.starts) }
     {
         let mut positions = Vec::new(alloc);
-        let mut at = self.left;
+        let mut at = self.evicted;
         while at < self.opened.len() {
             if !is_later(&self.bounds, at / BLOCK, time) {
                 at = (at / BLOCK + 1) * BLOCK;
                 continue;
             }
             if is_later(&self.opened, at, time) {
-                positions.push(at - self.left)?;
+                positions.push(at - self.evicted)?;
             }
             at += 1;
         }

@@ -18,14 +18,14 @@ struct BoundedBlock {
     block: usize,
 }
 
-/// Returns the blocks, except for those whose traces all left.
+/// Returns the blocks, except for those whose traces were all evicted.
 #[tactic(auto, using(crate::proofs::BlockCounts::no_block))]
 fn blocks_of(alloc: Global, starts: &FirstStarts) -> Result<BinaryHeap<BoundedBlock>, AllocError>
     ensures { IfOk result (λ blocks.
         length starts.now.starts ≤ starts_in starts.now.used (heap_items blocks)) }
 {
     let mut blocks = Vec::with_capacity(alloc, starts.bounds.len())?;
-    for block in starts.left / BLOCK..starts.bounds.len() {
+    for block in starts.evicted / BLOCK..starts.bounds.len() {
         let bound = starts.bounds[block];
         blocks.push(BoundedBlock { bound, block })?;
     }
@@ -66,7 +66,7 @@ impl Latest {
         Ok(())
     }
 
-    /// Adds the starts of a block, including those of traces that left.
+    /// Adds the starts of a block, including those of evicted traces.
     fn add_block(&mut self, starts: &FirstStarts, block: usize) -> Result<(), AllocError>
         ensures count { self.new.count ≡ self.old.count }
         ensures added { OnOk result (heap_len self.new.starts ≤ self.old.count →
@@ -85,7 +85,7 @@ impl Latest {
 
 impl FirstStarts {
     /// Returns a time after which `count` traces start. They are fewer if some start at that very time, or if traces
-    /// of the oldest block left the ring, since these count too. Returns `None` only if there are at most `count`
+    /// of the oldest block were evicted, since these count too. Returns `None` only if there are at most `count`
     /// traces. Reads the bounds, and the starts of at most `count + 1` blocks.
     ///
     /// # Errors

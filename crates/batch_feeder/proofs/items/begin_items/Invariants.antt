@@ -1,11 +1,11 @@
 use Rattle.std.proofs.Common.{◌≤◌, length}
-use Rattle.wire_pieces.specs.Pieces.{Comes}
+use Rattle.wire_pieces.specs.Pieces.{Comes, moment}
 use Rattle.batch_feeder.specs.Lists.{items_behind}
 use Rattle.batch_feeder.proofs.items.begin_items.Given as goal
 
 abbrev pub invariant-loop-left : goal.invariant-loop-left
 invariant-loop-left g l =
-    Comes (items_behind g.P.Item.reads l.fn.items.items l.fn.left) (items_behind g.P.Item.reads l.items.items l.left) l.fn.piece l.piece
+    Comes (moment (items_behind g.P.Item.reads l.fn.items.items l.fn.left) l.fn.piece) (moment (items_behind g.P.Item.reads l.items.items l.left) l.piece)
     × (length l.piece ≤ length l.fn.piece)
 
 abbrev pub decreases-loop-left : goal.decreases-loop-left

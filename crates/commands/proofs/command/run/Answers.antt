@@ -1,6 +1,6 @@
 use Rattle.std.proofs.Common.{inl, inr, refl, subst, map, List, Option, ℕ}
-use Rattle.commands.specs.GetRuns.{output_of as get_output, status_of as get_status}
-use Rattle.commands.specs.PlayRuns.{output_of as play_output, status_of as play_status}
+use Rattle.commands.specs.GetRuns.{output_of as get_output, status_for as get_status}
+use Rattle.commands.specs.PlayRuns.{output_of as play_output, status_for as play_status}
 use Rattle.session_devices.specs.Traffic.{traffic_of}
 use Rattle.text_lines.specs.RunErrors.{RunsAs, expected_of}
 use Rattle.commands.specs.CommandWords.{AsksCommand}

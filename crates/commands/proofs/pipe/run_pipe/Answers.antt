@@ -42,7 +42,7 @@ returns-in-Ok-pipe-clause-pipes g c =
       refl,
       record {
         answered = _;
-        clean = _;
+        reason = _;
         last = _;
         ends = both.0.0;
         exact = both.1;

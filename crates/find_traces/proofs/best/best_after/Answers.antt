@@ -17,7 +17,7 @@ loop-index-preserved-in-Continue-branch-2 g c =
     let back : i + 1 ≡ c.loop-index.index = omega (arith, c.loop-index-test.true) in
     let below : i < length ts = omega (arith, c.loop-index-test.true, c.loop-index.auto.index, c.count-index.ensures) in
     let was = c.loop-index.invariant in
-    let n = c.args.most in
+    let n = c.args.limit in
     let old = c.loop-index.best.keys.keys in
     let kept = was.keys ∙ ap (λ p. take n (best_of (filter (is_wanted q ts c.args.last) (from_place ts p)))) (sym back) in
     let key = c.key_at-key.ensures ∙ ap (λ l. key_of (i, trace_at l i)) was.same_traces in
@@ -29,9 +29,9 @@ loop-index-preserved-in-Continue-branch-2 g c =
     record {
       keys =
           c.in_ok-offer.ensures.keys
-          ∙ (λ j. take (was.most j) (insert_key reverse_key_cmp old (reversed (key j))))
+          ∙ (λ j. take (was.limit j) (insert_key reverse_key_cmp old (reversed (key j))))
           ∙ match_offered q ts c.args.last n old i below kept wanted;
-      most = c.in_ok-offer.ensures.most ∙ was.most;
+      limit = c.in_ok-offer.ensures.limit ∙ was.limit;
       same_traces = c.in_ok-is_chosen.ensures.same_traces ∙ was.same_traces;
       same_query = c.in_ok-is_chosen.ensures.same_query ∙ was.same_query;
     }
@@ -44,22 +44,22 @@ loop-index-preserved g c =
     let back : i + 1 ≡ c.loop-index.index = omega (arith, c.loop-index-test.true) in
     let below : i < length ts = omega (arith, c.loop-index-test.true, c.loop-index.auto.index, c.count-index.ensures) in
     let was = c.loop-index.invariant in
-    let n = c.args.most in
+    let n = c.args.limit in
     let old = c.loop-index.best.keys.keys in
     let kept = was.keys ∙ ap (λ p. take n (best_of (filter (is_wanted q ts c.args.last) (from_place ts p)))) (sym back) in
     let key = c.key_at-key.ensures ∙ ap (λ l. key_of (i, trace_at l i)) was.same_traces in
     let is_later =
     is_match_after (g.T.Searched.query c.loop-index.traces) (g.T.Searched.traces c.loop-index.traces) c.args.last (reversed c.key_at-key.result) in
     let left =
-    subst (λ b. OnFalse b (is_later ≡ true → take c.loop-index.best.most (insert_key reverse_key_cmp old (reversed c.key_at-key.result)) ≡ old))
+    subst (λ b. OnFalse b (is_later ≡ true → take c.loop-index.best.limit (insert_key reverse_key_cmp old (reversed c.key_at-key.result)) ≡ old))
     c.if-branch.false c.in_ok-is_chosen.ensures.left in
     let same : is_wanted q ts c.args.last (i, trace_at ts i) ≡ true
     → take n (insert_key reverse_key_cmp old (reverse_key_of (i, trace_at ts i))) ≡ old = λ wanted.
-    sym (λ j. take (was.most j) (insert_key reverse_key_cmp old (reversed (key j))))
+    sym (λ j. take (was.limit j) (insert_key reverse_key_cmp old (reversed (key j))))
     ∙ left ((λ j. is_match_after (was.same_query j) (was.same_traces j) c.args.last (reversed (key j))) ∙ wanted) in
     record {
       keys = none_offered q ts c.args.last n old i below kept same;
-      most = was.most;
+      limit = was.limit;
       same_traces = c.in_ok-is_chosen.ensures.same_traces ∙ was.same_traces;
       same_query = c.in_ok-is_chosen.ensures.same_query ∙ was.same_query;
     }
@@ -70,5 +70,5 @@ returns-clause-keys g c =
     let ts = g.T.Searched.traces c.args.traces.now in
     let none : c.loop-index.index ≡ 0 = omega (arith, c.loop-index-test.false) in
     c.loop-index.invariant.keys
-    ∙ ap (λ p. take c.args.most (best_of (filter (is_wanted q ts c.args.last) (from_place ts p)))) none
-    ∙ ap (take c.args.most) (wanted_ranked q ts c.args.last)
+    ∙ ap (λ p. take c.args.limit (best_of (filter (is_wanted q ts c.args.last) (from_place ts p)))) none
+    ∙ ap (take c.args.limit) (wanted_ranked q ts c.args.last)

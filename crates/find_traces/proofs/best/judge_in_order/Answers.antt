@@ -6,8 +6,8 @@ use Rattle.find_traces.specs.BestKeys.{is_match}
 use Rattle.find_traces.proofs.LimitedAnswers.{one_more, one_match, no_match}
 use Rattle.find_traces.proofs.best.judge_in_order.Goals as goal
 
-pub loop-key-preserved-in-Continue-branch-2 : goal.loop-key-preserved-in-Continue-branch-2
-loop-key-preserved-in-Continue-branch-2 g c =
+pub loop-key-preserved-in-Continue-branch-3 : goal.loop-key-preserved-in-Continue-branch-3
+loop-key-preserved-in-Continue-branch-3 g c =
     let p = is_match (g.T.Searched.query c.args.traces.now) (g.T.Searched.traces c.args.traces.now) in
     let i = c.loop-key.invariant in
     let x : Reverse Key = reversed c.in-Some.key in

@@ -12,14 +12,14 @@ loop-index-preserved g c =
     let back : i + 1 ≡ c.loop-index.index = omega (arith, c.loop-index-test.true) in
     let below : i < length ts = omega (arith, c.loop-index-test.true, c.loop-index.auto.index, c.count-index.ensures) in
     let was = c.loop-index.invariant in
-    let n = c.args.most in
+    let n = c.args.limit in
     let old = c.loop-index.latest.keys.keys in
     let kept = was.keys ∙ ap (λ p. take n (best_of (from_place ts p))) (sym back) in
     record {
       keys =
           c.in_ok-offer.ensures.keys
-          ∙ (λ j. take (was.most j) (insert_key reverse_key_cmp old (reversed (c.key_at.ensures j))))
+          ∙ (λ j. take (was.limit j) (insert_key reverse_key_cmp old (reversed (c.key_at.ensures j))))
           ∙ offered n old (i, trace_at ts i) (from_place ts (i + 1)) (all_after ts i) kept
           ∙ ap (λ l. take n (best_of l)) (sym (one_before ts i below));
-      most = c.in_ok-offer.ensures.most ∙ was.most;
+      limit = c.in_ok-offer.ensures.limit ∙ was.limit;
     }

@@ -5,6 +5,6 @@ use Rattle.find_traces.proofs.best.latest_keys.Given as goal
 
 abbrev pub invariant-loop-index : goal.invariant-loop-index
 invariant-loop-index g l = record {
-  keys : l.latest.keys.keys ≡ take l.most (best_of (enumerate_from l.index (drop l.index (g.T.Searched.traces l.traces))));
-  most : l.latest.most ≡ l.most;
+  keys : l.latest.keys.keys ≡ take l.limit (best_of (enumerate_from l.index (drop l.index (g.T.Searched.traces l.traces))));
+  limit : l.latest.limit ≡ l.limit;
 }

@@ -6,4 +6,4 @@ use Rattle.find_traces.proofs.prepared.keys_of.Given as goal
 
 abbrev pub invariant-loop-pair : goal.invariant-loop-pair
 invariant-loop-pair l =
-    (k : List ℕ) → list_any (eq_by_cmp text_cmp k) l.keys.keys ≡ list_any (λ (a : List ℕ × List ℕ). eq_by_cmp text_cmp k a.0) (take l.pair-index l.asked)
+    (k : List ℕ) → list_any (eq_by_cmp text_cmp k) l.keys.keys ≡ list_any (λ (a : List ℕ × List ℕ). eq_by_cmp text_cmp k a.0) (take l.pair-index l.requested)

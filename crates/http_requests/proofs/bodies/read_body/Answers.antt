@@ -23,16 +23,16 @@ returns-in-More-clause-body g c =
     g.met.S.Sink.takes_joined _ _ _ _ _ _ _ _ _ _ _ c.reads.invariant.0 c.in-More.ensures.took in
     let at_end = part.reads.on.end c.requires.end (sym c.has_ended.ensures ∙ c.if-has_ended.true) in
     ended_body g.S.Sink.takes (source_of g.R.Input.remaining g.R.Input.gives)
-    _ _ c.reads.input _ _ c.take_from.new.received _ _ _ _ part c.in-More.ensures.leaves at_end
+    _ _ c.reads.input _ _ c.take_from.new.received _ _ _ _ part c.in-More.ensures.awaits at_end
 
 pub reads-preserved : goal.reads-preserved
 reads-preserved g c =
     let part = more_body g.S.Sink.takes (source_of g.R.Input.remaining g.R.Input.gives)
     g.met.S.Sink.takes_joined _ _ _ _ _ _ _ _ _ _ _ c.reads.invariant.0 c.in-More-2.ensures.took in
     let read = c.in_ok-read_more-in-More-2.ensures in (
-      body_read_on g.S.Sink.takes (source_of g.R.Input.remaining g.R.Input.gives) _ _ _ _ _ _ _ _ _ _ part c.in-More-2.ensures.leaves read.ok read.read,
+      body_read_on g.S.Sink.takes (source_of g.R.Input.remaining g.R.Input.gives) _ _ _ _ _ _ _ _ _ _ part c.in-More-2.ensures.awaits read.ok read.read,
       read.same ∙ c.reads.invariant.1,
-      has_looked c.take_from.new.self c.take_from.new.received.held c.read_more.new.self.held read.read.0 read.read.2 c.in-More-2.ensures.leaves,
+      has_looked c.take_from.new.self c.take_from.new.received.held c.read_more.new.self.held read.read.0 read.read.2 c.in-More-2.ensures.awaits,
     )
 
 pub returns-in_err-read_more-in-More-2-clause-err : goal.returns-in_err-read_more-in-More-2-clause-err
@@ -41,4 +41,4 @@ returns-in_err-read_more-in-More-2-clause-err g c =
     g.met.S.Sink.takes_joined _ _ _ _ _ _ _ _ _ _ _ c.reads.invariant.0 c.in-More-2.ensures.took in
     let p = err_from_is_err_and c.from_residual.result c.from_residual.ensures.1 in
     rw (p.1, p.2) (body_stops_there g.S.Sink.takes (source_of g.R.Input.remaining g.R.Input.gives)
-    _ _ _ _ _ c.take_from.new.received _ _ _ _ part c.in-More-2.ensures.leaves _ _ c.in_err-read_more-in-More-2.ensures.err)
+    _ _ _ _ _ c.take_from.new.received _ _ _ _ part c.in-More-2.ensures.awaits _ _ c.in_err-read_more-in-More-2.ensures.err)

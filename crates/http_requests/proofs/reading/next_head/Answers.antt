@@ -18,7 +18,7 @@ reads-init g c = (
 
 pub returns-in-Whole-clause-found : goal.returns-in-Whole-clause-found
 returns-in-Whole-clause-found g c =
-    finds_head (source_of g.R.Input.remaining g.R.Input.gives) _ _ _ _ _ _ _ _ c.reads.invariant.0 c.in-Whole.ensures.found c.as_slice.ensures
+    finds_head (source_of g.R.Input.remaining g.R.Input.gives) _ _ _ _ _ _ c.reads.invariant.0 c.in-Whole.ensures.found c.as_slice.ensures
 
 pub reads-preserved : goal.reads-preserved
 reads-preserved g c =

@@ -13,4 +13,4 @@ invariant-reads g l =
     × HasSeen l.wait l.received.held
 
 abbrev pub decreases-reads : goal.decreases-reads
-decreases-reads g l = l.received.left
+decreases-reads g l = l.received.reads_left

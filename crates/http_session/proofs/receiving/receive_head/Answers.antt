@@ -8,10 +8,10 @@ use Rattle.http_session.proofs.receiving.receive_head.Goals as goal
 pub returns-in_ok-question-in-Whole-clause-incoming : goal.returns-in_ok-question-in-Whole-clause-incoming
 returns-in_ok-question-in-Whole-clause-incoming c =
     let old = c.args.received.now in
-    let n = c.in-Whole.length in
+    let n = c.in-Whole.found.len in
     let frames = rw c.as_slice.ensures at c.in-Whole.ensures.found in
     let asks = rw c.as_slice-in-Whole.ensures at c.in_ok-question-in-Whole.ensures.asks in
-    let part = begins_request old.held n c.in-Whole.request c.in-Whole.size c.in_ok-question-in-Whole.question c.new-partial.result frames asks
+    let part = begins_request old.held c.in-Whole.found c.in_ok-question-in-Whole.question c.new-partial.result frames asks
     c.new-partial.ensures.part c.new-partial.ensures.judged c.new-partial.ensures.closes in
     let incoming = subst (λ (s : SessionStage). HasReceived s (take n old.held)) (sym c.assign.ensures) part in
     subst (λ (b : ReadBuffer). ReceivesOf b c.receive_body.new.received c.receive_body.new.stage c.receive_body.result)

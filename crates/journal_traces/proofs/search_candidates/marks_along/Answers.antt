@@ -18,11 +18,11 @@ mark_entry-requires-clause-once c = c.len.ensures.once
 pub mark_entry-requires-clause-size : goal.mark_entry-requires-clause-size
 mark_entry-requires-clause-size c =
     ap length (c.deref_mut.ensures.value ∙ c.loop-place.invariant.2)
-    ∙ length-map c.ring-ring.result.now.ids (any_of (near_along c.new-filter.result c.args.journal.now.held.entries c.loop-place.invariant.0))
+    ∙ length-map c.ring-ring.result.now.ids (any_of (near_along c.new-filter.result c.args.store.journal.now.held.entries c.loop-place.invariant.0))
 
 pub loop-place-preserved : goal.loop-place-preserved
 loop-place-preserved c =
-    let h = c.args.journal.now.held.entries in
+    let h = c.args.store.journal.now.held.entries in
     let done = c.loop-place.invariant.0 in
     let place = c.in-Some.place in
     let marks = c.mark_entry.new.marks in
@@ -39,4 +39,4 @@ returns c =
     let done = c.loop-place.invariant.0 in
     let all : c.args.places ≡ done = c.loop-place.invariant.1 ∙ ap (λ (r : List ℕ). done ++ r) c.in-None.ensures.steps.0 ∙ append-nil done in
     c.loop-place.invariant.2
-    ∙ (λ i. map (any_of (near_along (c.new-filter.ensures i) c.args.journal.now.held.entries (sym all i))) ((c.ring-ring.ensures i).ids))
+    ∙ (λ i. map (any_of (near_along (c.new-filter.ensures i) c.args.store.journal.now.held.entries (sym all i))) ((c.ring-ring.ensures i).ids))

@@ -6,10 +6,10 @@ use Rattle.journal_traces.proofs.search_candidates.spots_along.Goals as goal
 
 pub marked_spots-requires : goal.marked_spots-requires
 marked_spots-requires c =
-    let p : TraceId → Bool = any_of (near_along c.args.query.now c.args.journal.now.held.entries c.args.places) in
-    sym (ap length (c.deref.ensures.value ∙ c.in_ok-marks.ensures) ∙ length-map c.args.assembly.now.newest.ids p)
+    let p : TraceId → Bool = any_of (near_along c.args.query.now c.args.store.journal.now.held.entries c.args.places) in
+    sym (ap length (c.deref.ensures.value ∙ c.in_ok-marks.ensures) ∙ length-map c.args.store.assembly.now.newest.ids p)
 
 pub returns : goal.returns
 returns c =
-    let p : TraceId → Bool = any_of (near_along c.args.query.now c.args.journal.now.held.entries c.args.places) in
+    let p : TraceId → Bool = any_of (near_along c.args.query.now c.args.store.journal.now.held.entries c.args.places) in
     c.marked_spots.ensures p (c.deref.ensures.value ∙ c.in_ok-marks.ensures)

@@ -4,5 +4,5 @@ use Rattle.journal_traces.proofs.service_candidates.are_reported.Given as goal
 
 abbrev pub invariant-loop-spot : goal.invariant-loop-spot
 invariant-loop-spot l =
-    are_reported l.journal.held.entries l.reported.service_numbers l.service l.spot-iterator
-    ≡ are_reported l.journal.held.entries l.reported.service_numbers l.service l.fn.spots
+    are_reported l.journal.held.entries l.by_service.service_numbers l.service_number l.spot-iterator
+    ≡ are_reported l.journal.held.entries l.by_service.service_numbers l.service_number l.fn.spots

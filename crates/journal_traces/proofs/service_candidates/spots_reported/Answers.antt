@@ -12,7 +12,7 @@ use Rattle.journal_traces.proofs.service_candidates.spots_reported.Goals.{then-a
 pub loop-index-preserved : goal.loop-index-preserved
 loop-index-preserved c =
     let f = spots_of c.args.assembly.now in
-    let own : List Spot → Bool = are_reported c.args.journal.now.held.entries c.args.reported.now.service_numbers c.args.service in
+    let own : List Spot → Bool = are_reported c.args.journal.now.held.entries c.args.by_service.now.service_numbers c.args.service_number in
     let p : TraceId → Bool = λ t. own (f t) in
     let ids = c.args.assembly.now.newest.ids in
     let i = c.loop-index.index in

@@ -5,7 +5,7 @@ use Rattle.trace_model.specs.Places.{entry_at}
 use Rattle.trace_model.specs.TakenSpans.{Taken}
 use Rattle.trace_assembly.specs.LocatedSpans.{span_at}
 use Rattle.journal_traces.specs.declared.taken_spot.TakenSpot.{TakenSpot}
-use Rattle.journal_traces.specs.TagCandidates.{AddsSpan}
+use Rattle.journal_traces.specs.CollectedCandidates.{AddsSpan}
 use Rattle.journal_traces.specs.WindowTraces.{ServedEntry, entry_seen, entries_seen, entries_in, traces_reported}
 use Rattle.journal_traces.proofs.Numbering.{below_got}
 use Rattle.journal_traces.proofs.TracesOfWindows.{pushed_known, pushed_adds, placed_there}
@@ -13,7 +13,7 @@ use Rattle.journal_traces.proofs.window_taking.take_spot.Goals as goal
 
 pub returns-in_ok-push_spot-clause-taken : goal.returns-in_ok-push_spot-clause-taken
 returns-in_ok-push_spot-clause-taken c =
-    let h = c.args.journal.now.held.entries in
+    let h = c.args.store.journal.now.held.entries in
     let mid = c.number_of.new.taken in
     let s : TakenSpot = record { number = c.in_ok-number.number; index = c.args.spot.index } in
     let es = entries_seen mid.entries.items in
@@ -24,7 +24,7 @@ returns-in_ok-push_spot-clause-taken c =
 
 pub returns-in_ok-push_spot-clause-traces : goal.returns-in_ok-push_spot-clause-traces
 returns-in_ok-push_spot-clause-traces c =
-    let h = c.args.journal.now.held.entries in
+    let h = c.args.store.journal.now.held.entries in
     let mid = c.number_of.new.taken in
     let new = c.push_spot.new.taken in
     let e = arc_value c.in-Some.entry.now in

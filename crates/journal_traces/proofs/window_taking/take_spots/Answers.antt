@@ -8,7 +8,7 @@ use Rattle.journal_traces.proofs.window_taking.take_spots.Goals as goal
 
 pub loop-spot-init : goal.loop-spot-init
 loop-spot-init c =
-    let h = c.args.journal.now.held.entries in
+    let h = c.args.store.journal.now.held.entries in
     let old = c.args.taken.now in
     let now = c.begin.new.taken in
     let left : List Spot → Type 0 = λ ss. IsTaking Anything h (traces_reported old) (traces_reported now) ss c.args.spots in
@@ -22,7 +22,7 @@ loop-spot-init c =
 
 pub loop-spot-preserved : goal.loop-spot-preserved
 loop-spot-preserved c =
-    let h = c.args.journal.now.held.entries in
+    let h = c.args.store.journal.now.held.entries in
     record {
       taken = c.in_ok-take_spot.ensures.taken;
       taking =

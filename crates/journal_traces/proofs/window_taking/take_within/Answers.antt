@@ -24,9 +24,9 @@ use Rattle.journal_traces.proofs.window_taking.take_within.Goals.{then-reaches_w
 
 pub loop-index-init : goal.loop-index-init
 loop-index-init c =
-    let h = c.args.journal.now.held.entries in
-    let starts = c.args.starts.now in
-    let ids = c.args.assembly.now.newest.ids in
+    let h = c.args.store.journal.now.held.entries in
+    let starts = c.args.store.starts.now in
+    let ids = c.args.store.assembly.now.newest.ids in
     let e = to_z-of_z w64 c.args.end_ms c.ranges.end_ms in
     let l = to_z-of_z w64 c.args.lookback_ms c.ranges.lookback_ms in
     let first = c.next_within-index.ensures in
@@ -38,7 +38,7 @@ loop-index-init c =
       place = within;
       within = rw (e, l) (
           ap (map placed_taken) none
-          ∙ sym (skipped c.args.end_ms c.args.lookback_ms starts ids (trace_named h (spots_of c.args.assembly.now)) c.requires.ranged c.window_of-window.result
+          ∙ sym (skipped c.args.end_ms c.args.lookback_ms starts ids (trace_named h (spots_of c.args.store.assembly.now)) c.requires.ranged c.window_of-window.result
           (rw (e, l) at c.window_of-window.ensures)
           0 c.next_within-index.result first.from within first.skipped));
       taken =
@@ -48,11 +48,11 @@ loop-index-init c =
 
 pub loop-index-preserved : goal.loop-index-preserved
 loop-index-preserved c =
-    let h = c.args.journal.now.held.entries in
-    let starts = c.args.starts.now in
-    let f : TraceId → List Placed = trace_named h (spots_of c.args.assembly.now) in
+    let h = c.args.store.journal.now.held.entries in
+    let starts = c.args.store.starts.now in
+    let f : TraceId → List Placed = trace_named h (spots_of c.args.store.assembly.now) in
     let w : List Placed → Bool = list_any (in_window c.args.end_ms c.args.lookback_ms) in
-    let ids = c.args.assembly.now.newest.ids in
+    let ids = c.args.store.assembly.now.newest.ids in
     let i = c.loop-index.index in
     let many = c.requires.as_many in
     let le : i < length ids = omega (arith, c.loop-index-test.true, c.len.ensures) in
@@ -92,17 +92,17 @@ new-requires-2 c = c.loop-index.invariant.taken.ordered
 
 pub returns-clause-numbered : goal.returns-clause-numbered
 returns-clause-numbered c =
-    let h = c.args.journal.now.held.entries in
+    let h = c.args.store.journal.now.held.entries in
     let taken = c.loop-index.taken in
     subst (AreNumberedByService h) (sym c.new-2.ensures)
     (traces_numbered h (entries_seen taken.entries.items) (cut_at taken.spots.items taken.starts.items) c.loop-index.invariant.taken.services)
 
 pub returns-clause-within : goal.returns-clause-within
 returns-clause-within c =
-    let h = c.args.journal.now.held.entries in
-    let f : TraceId → List Placed = trace_named h (spots_of c.args.assembly.now) in
+    let h = c.args.store.journal.now.held.entries in
+    let f : TraceId → List Placed = trace_named h (spots_of c.args.store.assembly.now) in
     let w : List Placed → Bool = list_any (in_window c.args.end_ms c.args.lookback_ms) in
-    let ids = c.args.assembly.now.newest.ids in
+    let ids = c.args.store.assembly.now.newest.ids in
     let many = c.requires.as_many in
     let all : length ids ≤ c.loop-index.index = omega (arith, c.loop-index-test.false, c.len.ensures) in
     let e = to_z-of_z w64 c.args.end_ms c.ranges.end_ms in

@@ -10,12 +10,12 @@ use Rattle.journal_traces.proofs.window_taking.take_within.Given as goal
 
 abbrev pub invariant-loop-index : goal.invariant-loop-index
 invariant-loop-index l = record {
-  place : l.index ≤ length l.assembly.newest.ids;
+  place : l.index ≤ length l.store.assembly.now.newest.ids;
   within : map placed_taken (traces_reported l.taken)
       ≡ filter (list_any (in_window l.end_ms l.lookback_ms))
-      (map (trace_named l.journal.held.entries (spots_of l.assembly)) (take l.index l.assembly.newest.ids));
-  taken : AreWindowSpots l.journal.held.entries l.taken l.numbers;
+      (map (trace_named l.store.journal.now.held.entries (spots_of l.store.assembly.now)) (take l.index l.store.assembly.now.newest.ids));
+  taken : AreWindowSpots l.store.journal.now.held.entries l.taken l.numbers;
 }
 
 abbrev pub decreases-loop-index : goal.decreases-loop-index
-decreases-loop-index l = length l.assembly.newest.ids - l.index
+decreases-loop-index l = length l.store.assembly.now.newest.ids - l.index

@@ -1,4 +1,4 @@
-use Rattle.std.proofs.Common.{◌≡◌, ◌∙◌, []}
+use Rattle.std.proofs.Common.{◌≡◌, []}
 use Rattle.query_json.proofs.Pages.{finished, finished_utf8}
 use Rattle.query_json.proofs.answer.error_bytes.Goals as goal
 

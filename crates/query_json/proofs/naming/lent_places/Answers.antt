@@ -3,7 +3,6 @@ use Rattle.std.specs.Prelude.{All}
 use Rattle.std.specs.Bool.{OnFalse, OnTrue}
 use Rattle.std.proofs.lemmas.List.{take_all}
 use Rattle.std.proofs.lemmas.Option.{get_or_from_slice_get}
-use Rattle.trace_model.specs.declared.answer.Shown.{Shown}
 use Rattle.query_json.specs.ProcessNumbers.{IsFirst, first_process}
 use Rattle.query_json.specs.ProcessPlaces.{ComesNext, HasPlaces}
 use Rattle.query_json.specs.Trees.{processes_of}

@@ -8,7 +8,7 @@ invariant-loop-at l =
     let rs = left_at (runs_of l.items) l.fn.from.run l.fn.from.piece in
     let now = left_at (runs_of l.items) l.at.run l.at.piece in
     record {
-      left : l.left + length (runs_text now) ≡ length (runs_text rs);
+      rest_len : l.rest_len + length (runs_text now) ≡ length (runs_text rs);
       bounds : (most : ℕ) → l.largest ≤ most → AllFit most now → AllFit most rs;
     }
 

@@ -15,5 +15,6 @@ returns-else-run-count-clause-count c =
     let last : c.args.run ≡ length rs = omega (arith, c.requires.run, length_runs rs, c.count.ensures.count, c.if-run-count.false) in
     sym (ap length (run_end rs c.args.run last))
 
-pub returns-else-run-count-clause-bound : goal.returns-else-run-count-clause-bound
-returns-else-run-count-clause-bound c = omega (arith, c.requires.run, length_runs (item_pieces c.args.items.now), c.count.ensures.count, c.count.ensures.bound)
+pub returns-else-run-count-clause-run_bound : goal.returns-else-run-count-clause-run_bound
+returns-else-run-count-clause-run_bound c =
+    omega (arith, c.requires.run, length_runs (item_pieces c.args.items.now), c.count.ensures.count, c.count.ensures.bound)

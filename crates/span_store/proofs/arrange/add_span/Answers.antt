@@ -33,7 +33,7 @@ pub widen-requires : goal.widen-requires
 widen-requires c =
     let came = c.arrive_with_guess-arrived.ensures in
     let arrived = c.arrive_with_guess-arrived.result in
-    let within = slice_get_within c.arrive_with_guess-arrived.new.self.newest.ids arrived.position c.args.span.now.trace came.place in
+    let within = slice_get_within c.arrive_with_guess-arrived.new.self.newest.ids arrived.position c.args.span.now.trace came.found in
     let many =
     counted_came c.args.shown.now.newest.ids c.arrive_with_guess-arrived.new.self.newest.ids c.args.span.now.trace arrived.opened arrived.evicted _
     c.args.starts.now.starts c.add_opened.new.starts.starts c.drop_evicted.new.starts.starts c.requires.counted.as_many came.opened came.evicted
@@ -83,7 +83,7 @@ returns-clause-ranged c = λ n es p f ranged same start_is.
       wider_still = c.widen.ensures.none_narrows;
       own = λ k at.
           let once : NoneTwice after.newest.ids = subst (λ (w : RingValue). NoneTwice w.ids) c.ring.ensures c.len-once.ensures.once in
-          let place = one_place after.newest.ids arrived.position k c.args.span.now.trace once came.place at in
+          let place = one_place after.newest.ids arrived.position k c.args.span.now.trace once came.found at in
           let own = subst (IsIn (range_at c.widen.new.self arrived.position)) start c.widen.ensures.own in
           subst (λ n. IsIn (range_at c.widen.new.self n) c.args.span.now.start) place own;
     } in

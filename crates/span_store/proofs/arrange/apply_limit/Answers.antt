@@ -13,16 +13,16 @@ loop-evicted-preserved c =
     record {
       lowering = lowering_more c.args.limit c.args.shown.now before.shown c.drop_oldest.new.self c.in-Some._evicted.trace before.invariant.lowering
           out.limit out.ids many.0 many.1 out.not_held out.spots out.used out.room;
-      starts = λ first are. c.drop_oldest-in-Some.ensures.starts ∙ ap (drop 1) (before.invariant.starts first are ∙ ap (map first) out.ids);
-      used = c.drop_oldest-in-Some.ensures.used ∙ before.invariant.used;
-      room = c.drop_oldest-in-Some.ensures.room ∙ before.invariant.room;
+      starts = λ first are. c.evict_oldest.ensures.starts ∙ ap (drop 1) (before.invariant.starts first are ∙ ap (map first) out.ids);
+      used = c.evict_oldest.ensures.used ∙ before.invariant.used;
+      room = c.evict_oldest.ensures.room ∙ before.invariant.room;
       as_many =
           one_fewer before.shown.newest.ids c.drop_oldest.new.self.newest.ids c.in-Some._evicted.trace before.starts.starts
-          c.drop_oldest-in-Some.new.self.starts
-          before.invariant.as_many out.ids c.drop_oldest-in-Some.ensures.starts;
+          c.evict_oldest.new.self.starts
+          before.invariant.as_many out.ids c.evict_oldest.ensures.starts;
       ranged = λ spans ranged.
-          ranged_dropped before.starts c.drop_oldest-in-Some.new.self before.shown.newest.ids c.drop_oldest.new.self.newest.ids c.in-Some._evicted.trace
-          out.ids before.invariant.as_many c.drop_oldest-in-Some.ensures.ranges spans (before.invariant.ranged spans ranged);
+          ranged_dropped before.starts c.evict_oldest.new.self before.shown.newest.ids c.drop_oldest.new.self.newest.ids c.in-Some._evicted.trace
+          out.ids before.invariant.as_many c.evict_oldest.ensures.ranges spans (before.invariant.ranged spans ranged);
     }
 
 pub returns-clause-ranged : goal.returns-clause-ranged

@@ -11,7 +11,8 @@ pub returns-in_err-lines-clause-some : goal.returns-in_err-lines-clause-some
 returns-in_err-lines-clause-some g c =
     let p = err_from_is_err_and c.from_residual.result c.from_residual.ensures.1 in
     rw (p.1, p.2) (stops g.T.LineHandler.takes _ _ _ _ _ _ false _ false _ _ _ _ _ _ _ _ _ Memory
-    (begins g.T.LineHandler.takes _ _ _ _ c.args.handler.now (record { waiting = []; left = MAX_READS; ended = false }) c.args.buffer.now refl c.requires.empty)
+    (begins g.T.LineHandler.takes _ _ _ _ c.args.handler.now (record { waiting = []; reads_left = MAX_READS; ended = false })
+    c.args.buffer.now refl c.requires.empty)
     (stays _ _ _ _ Memory (c.requires.input_works, c.requires.output_works)) (moves_nothing _ c.args.buffer.now))
 
 pub lines-init : goal.lines-init

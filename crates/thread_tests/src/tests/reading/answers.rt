@@ -5,7 +5,7 @@ use trace_model::{Answer, AnsweredTrace, Link, Name, Operation};
 
 /// The spans of a trace of an answer, copied or not.
 fn trace_text(alloc: Global, trace: AnsweredTrace) -> Result<String, AllocError> {
-    let made = trace_adjust::shown(alloc, trace)?;
+    let made = trace_adjust::show_answered(alloc, trace)?;
     let text = format!(in alloc; "{:?}", made.as_slice());
     drop(made);
     Ok(text?)

@@ -8,7 +8,7 @@ ghost use Rattle.intake.specs.Seats.{IsNewSeat};
 ghost use Rattle.thread_tests.specs.Seats.{AllMaySubmit, KeepsSeat};
 
 use crate::tests::submitting::fixture::{Fixture, batch, opened};
-use intake::{Books, Clerk, Desk, Seat, Ticket, Turn};
+use intake::{Books, Clerk, DeskHandle, Seat, Ticket, Turn};
 use read_side::{EmptyHistory, Keeper, StoreName};
 use std::alloc::Global;
 use std::marker::Brand;
@@ -82,7 +82,7 @@ fn submit_batches<N: StoreName, R: Wait>(
 }
 
 /// Closes the desk a while after each of the four seats has a job in.
-fn close_soon<N: StoreName>(desk: &Desk<N>, turns: u64, begun: &AtomicU64) {
+fn close_soon<N: StoreName>(desk: &DeskHandle<N>, turns: u64, begun: &AtomicU64) {
     for _ in 0..PATIENCE {
         if begun.load(Ordering::SeqCst) == 4 {
             break;
@@ -182,7 +182,7 @@ fn four_submit<N: StoreName + Send + Sync, R: Threads + Wait + Sync>(
 #[derive(Drop)]
 struct Floor<N: StoreName> {
     four: Four<N>,
-    desk: Desk<N>,
+    desk: DeskHandle<N>,
     turns: u64,
     /// The number of seats that have a job in.
     begun: AtomicU64,
@@ -232,7 +232,7 @@ fn keep<N: StoreName, R: Wait>(rt: &R, office: &mut Office<N>)
     ensures desk { IfSome office.old.clerk (λ k.
         IfSome office.new.books (λ l. l.inbox.desk ≡ k.desk)) }
     ensures books { IfSome office.new.books (λ l.
-        Balances l.inbox.taken l.accounts (map arc_value l.left.items)) }
+        Balances l.inbox.taken l.accounts (map arc_value l.unjudged.items)) }
 {
     if let Some(earlier) = office.books.take() {
         earlier.close(rt);
@@ -258,7 +258,7 @@ fn all_day<N: StoreName + Send + Sync, R: Threads + Wait + Sync>(
     ensures desk { IfSome office.old.clerk (λ k.
         IfSome office.new.books (λ l. l.inbox.desk ≡ k.desk)) }
     ensures books { IfSome office.new.books (λ l.
-        Balances l.inbox.taken l.accounts (map arc_value l.left.items)) }
+        Balances l.inbox.taken l.accounts (map arc_value l.unjudged.items)) }
     ensures a { KeepsSeat floor.old.four.a.seat floor.new.four.a.seat }
     ensures b { KeepsSeat floor.old.four.b.seat floor.new.four.b.seat }
     ensures c { KeepsSeat floor.old.four.c.seat floor.new.four.c.seat }
@@ -275,14 +275,14 @@ fn all_day<N: StoreName + Send + Sync, R: Threads + Wait + Sync>(
 fn take_in<N: StoreName, R: Wait>(rt: &R, books: &mut Books<N>, seat: &mut Seat<N>)
     requires desk { books.old.inbox.desk ≡ seat.old.desk }
     requires books { Balances books.old.inbox.taken books.old.accounts
-        (map arc_value books.old.left.items) }
+        (map arc_value books.old.unjudged.items) }
     requires seat { seat.old.may_submit ≡ true }
     ensures desk { books.new.inbox.desk ≡ books.old.inbox.desk }
     ensures books { Balances books.new.inbox.taken books.new.accounts
-        (map arc_value books.new.left.items) }
+        (map arc_value books.new.unjudged.items) }
 {
     for _ in rt.forever() {
-        if books.take_in(rt, seat).is_ok() {
+        if books.take_in_seat(rt, seat).is_ok() {
             break;
         }
     }
@@ -291,7 +291,7 @@ fn take_in<N: StoreName, R: Wait>(rt: &R, books: &mut Books<N>, seat: &mut Seat<
 /// Whether the seat's job with this number is left.
 fn is_left<N: StoreName>(books: &Books<N>, seat: u16, number: u64) -> bool {
     books
-        .left
+        .unjudged
         .iter()
         .any(|job| job.seat == seat && job.number == number)
 }
@@ -401,7 +401,7 @@ fn left_over<N: StoreName, R: Wait>(
     submitters: Four<N>,
 ) -> Option<Leftover>
     requires books { Balances books.inbox.taken books.accounts
-        (map arc_value books.left.items) }
+        (map arc_value books.unjudged.items) }
     requires seats { AllMaySubmit books.inbox.desk submitters.a.seat submitters.b.seat
         submitters.c.seat submitters.d.seat }
 {
@@ -420,7 +420,7 @@ fn left_over<N: StoreName, R: Wait>(
     for submitter in [&a, &b, &c, &d] {
         all = all.saturating_add(submitter.tickets.len() as u64);
     }
-    let left = books.left.len() as u64;
+    let left = books.unjudged.len() as u64;
     let answered = books.acknowledged.saturating_add(books.refused);
     let counted = all == answered.saturating_add(left)
         && books.keeper.receipt().front() == books.acknowledged;

@@ -1,10 +1,10 @@
-//! A store with a desk of four seats, whose queue has room for one job.
+//! A store with a desk of four seats, whose queue has the given room.
 
 ghost use Rattle.std.specs.Prelude.{◌≡◌, ◌≤◌, All, IfOk};
 ghost use Rattle.intake.specs.Seats.{IsNewSeat};
 
 use crate::tests::submitting::rows::Row;
-use intake::{Clerk, Desk, Seat, desk};
+use intake::{Clerk, DeskHandle, Seat, open_desk};
 use jaeger_model::Batch;
 use read_side::{EmptyHistory, Keeper, Pass, StoreName, open};
 use std::alloc::{AllocError, Global};
@@ -21,7 +21,7 @@ use trace_samples::{list_of, span};
 pub struct Fixture<N: StoreName> {
     pub keeper: Keeper<N>,
     pub passes: Vec<Pass<N>>,
-    pub desk: Desk<N>,
+    pub desk: DeskHandle<N>,
     pub seats: Vec<Seat<N>>,
     pub clerk: Clerk<N>,
 }
@@ -67,7 +67,7 @@ pub(crate) fn opened<N: StoreName, R: Wait + RandomSource>(
     let keys = RandomState::new(rt)?;
     let (mut keeper, passes) = open::<N, _>(rt, alloc, keys, name, limits, readers)?;
     let first = keeper.receipt();
-    match desk(alloc, keys, first, capacity, 4) {
+    match open_desk(alloc, keys, first, capacity, 4) {
         Err(why) => {
             drop(passes);
             keeper.close(rt);

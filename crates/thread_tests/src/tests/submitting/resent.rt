@@ -139,7 +139,7 @@ pub(crate) fn a_resent_job_is_acknowledged<N: StoreName + Send + Sync, R: Wait>(
     drop(seats);
     let books = clerk.run(rt, keeper);
     let booked = are_booked(&books)
-        && (books.acknowledged, books.refused, books.left.len()) == (5, 2, 0);
+        && (books.acknowledged, books.refused, books.unjudged.len()) == (5, 2, 0);
     books.close(rt);
     as_wanted && booked
 }

@@ -6,7 +6,7 @@ use crate::tests::submitting::closed::closed_for_both;
 use crate::tests::submitting::fixture::{Fixture, batch, played};
 use crate::tests::submitting::limits::a_limit_is_in_force;
 use crate::tests::submitting::resent::a_resent_job_is_acknowledged;
-use intake::{Books, Clerk, Desk, Seat, Ticket, Turn};
+use intake::{Books, Clerk, DeskHandle, Seat, Ticket, Turn};
 use jaeger_model::Batch;
 use read_side::{EmptyHistory, Keeper, Pass, Receipt, StoreName};
 use std::alloc::{AllocError, Global};
@@ -264,7 +264,7 @@ fn is_settled<N: StoreName>(pass: &mut Pass<N>, receipt: &Receipt<N>) -> bool {
 /// Returns the number of passes that settle on what the desk vouches for, if that is this number of entries.
 fn settled<N: StoreName, R: Wait>(
     rt: &R,
-    desk: &Desk<N>,
+    desk: &DeskHandle<N>,
     passes: &mut Vec<Pass<N>>,
     kept: u64,
 ) -> Result<u64, Refusal> {
@@ -326,7 +326,7 @@ fn seat_and_clerk<N: StoreName + Send + Sync, R: Threads + Wait + Sync>(
         books.accounts.count(),
         books.acknowledged,
         books.refused,
-        books.left.len(),
+        books.unjudged.len(),
     );
     books.close(rt);
     served && counts == (5, 3, 2, 0) && (kept, settled) == (3, Ok(2))
@@ -365,7 +365,7 @@ fn is_closed<N: StoreName, R: Wait>(
 fn full_then_closed_at<N: StoreName, R: Wait>(
     rt: &R,
     alloc: Global,
-    desk: &Desk<N>,
+    desk: &DeskHandle<N>,
     (seat, other): (&mut Seat<N>, &mut Seat<N>),
     (clerk, keeper): (&mut Clerk<N>, &mut Keeper<N>),
 ) -> bool {

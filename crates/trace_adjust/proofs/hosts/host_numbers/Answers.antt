@@ -10,7 +10,8 @@ use Rattle.trace_adjust.specs.Hosts.{hosts_of, number_in, AreHostNumbers, AreKep
 use Rattle.trace_adjust.proofs.HostNumbers.{table_more, numbers_more, kept_more, kept_put, own_number, key_read, fresh_is, number_again, number_stays}
 use Rattle.trace_adjust.proofs.HostNumbers.{number_given, table_given}
 use Rattle.trace_adjust.proofs.hosts.host_numbers.Goals as goal
-use Rattle.trace_adjust.proofs.hosts.host_numbers.Goals.{in-Some, in-None+in_ok-host-in-None+in_ok-number-in-None+in_ok-keep_number-in-None}
+use Rattle.trace_adjust.proofs.hosts.host_numbers.Goals.{in-Some}
+use Rattle.trace_adjust.proofs.hosts.host_numbers.Goals.{in-None+in_ok-fresh-in-None+in_ok-host-in-None+in_ok-number-in-None+in_ok-store_by_key-in-None}
 
 pub loop-index-preserved : goal.loop-index-preserved
 loop-index-preserved c =
@@ -23,41 +24,42 @@ loop-index-preserved c =
     let host = host_of p in
     let keys = c.args.process_keys.now in
     let key : c.copied-key.result ≡ slice_get keys i = c.copied-key.ensures ∙ key_read keys i c.get.result c.get.ensures.lookup in
-    elim c.match-kept_number.branch [
-      | in-None+in_ok-host-in-None+in_ok-number-in-None+in_ok-keep_number-in-None w ↦
+    elim c.match-place_by_key.branch [
+      | in-None+in_ok-fresh-in-None+in_ok-host-in-None+in_ok-number-in-None+in_ok-store_by_key-in-None w ↦
           let old = get text_cmp c.loop-index.numbers in
           let new = get text_cmp w.number_of.new.numbers in
           let same = w.in_ok-host-in-None.ensures in
-          let long = fresh_is ps i p l here in
-          let put : (t : List ℕ) → new t ≡ option_or (old t) (cond (same_text t host) (Some (i + 1)) None) =
-          λ t. w.in_ok-number-in-None.ensures.numbers t ∙ ap (λ h. option_or (old t) (cond (same_text t h) (Some (i + 1)) None)) same in
-          let given = number_given before host (old host) w.in_ok-number-in-None.number (i + 1) (c.loop-index.invariant.table host)
-          (w.in_ok-number-in-None.ensures.number ∙ ap (λ h. unwrap_or (old h) (i + 1)) same) long in
-          let known : number_in (before ++ host ∷ []) host ≡ Some c.match-kept_number.number = given ∙ ap Some (sym w.number-is) in
+          let fresh = w.in_ok-fresh-in-None.fresh in
+          let long : length before ≡ fresh = fresh_is ps i p l here ∙ sym w.in_ok-fresh-in-None.ensures in
+          let put : (t : List ℕ) → new t ≡ option_or (old t) (cond (same_text t host) (Some fresh) None) =
+          λ t. w.in_ok-number-in-None.ensures.numbers t ∙ ap (λ h. option_or (old t) (cond (same_text t h) (Some fresh) None)) same in
+          let given = number_given before host (old host) w.in_ok-number-in-None.number fresh (c.loop-index.invariant.table host)
+          (w.in_ok-number-in-None.ensures.number ∙ ap (λ h. unwrap_or (old h) fresh) same) long in
+          let known : number_in (before ++ host ∷ []) host ≡ Some c.match-place_by_key.number = given ∙ ap Some (sym w.number-is) in
           record {
             table =
                 λ t. ap (λ m. get text_cmp m t) w.numbers-is
-                ∙ table_more ps i p l here new (table_given before host old new (i + 1) c.loop-index.invariant.table long put) t;
+                ∙ table_more ps i p l here new (table_given before host old new fresh c.loop-index.invariant.table long put) t;
             hosts =
-                numbers_more ps i p l here c.loop-index.hosts.items c.push.new.self.items c.match-kept_number.number c.loop-index.invariant.hosts
+                numbers_more ps i p l here c.loop-index.hosts.items c.push.new.self.items c.match-place_by_key.number c.loop-index.invariant.hosts
                 c.in_ok-push.ensures.items known;
             kept = subst (λ m. AreKept ps keys (i + 1) (get nat_cmp m)) (sym w.kept-is)
                 (kept_put ps i p l here keys c.copied-key.result w.in_ok-number-in-None.number (get nat_cmp c.loop-index.kept)
-                (get nat_cmp w.keep_number.new.kept) key w.in_ok-keep_number-in-None.ensures given c.loop-index.invariant.kept);
+                (get nat_cmp w.store_by_key.new.places) key w.in_ok-store_by_key-in-None.ensures given c.loop-index.invariant.kept);
           }
       | in-Some w ↦
-          let own : number_in before host ≡ Some c.match-kept_number.number =
+          let own : number_in before host ≡ Some c.match-place_by_key.number =
           own_number ps i p l here keys c.copied-key.result (get nat_cmp c.loop-index.kept)
-          c.match-kept_number.number c.requires key c.loop-index.invariant.kept (sym w.in-Some.ensures ∙ ap Some (sym w.number-is)) in
-          let known : number_in (before ++ host ∷ []) host ≡ Some c.match-kept_number.number =
-          number_stays before (host ∷ []) host c.match-kept_number.number own in
+          c.match-place_by_key.number c.requires key c.loop-index.invariant.kept (sym w.in-Some.ensures ∙ ap Some (sym w.number-is)) in
+          let known : number_in (before ++ host ∷ []) host ≡ Some c.match-place_by_key.number =
+          number_stays before (host ∷ []) host c.match-place_by_key.number own in
           record {
             table =
                 λ t. ap (λ m. get text_cmp m t) w.numbers-is
                 ∙ table_more ps i p l here (get text_cmp c.loop-index.numbers)
-                (λ u. c.loop-index.invariant.table u ∙ sym (number_again before host c.match-kept_number.number own u)) t;
+                (λ u. c.loop-index.invariant.table u ∙ sym (number_again before host c.match-place_by_key.number own u)) t;
             hosts =
-                numbers_more ps i p l here c.loop-index.hosts.items c.push.new.self.items c.match-kept_number.number c.loop-index.invariant.hosts
+                numbers_more ps i p l here c.loop-index.hosts.items c.push.new.self.items c.match-place_by_key.number c.loop-index.invariant.hosts
                 c.in_ok-push.ensures.items known;
             kept =
                 subst (λ m. AreKept ps keys (i + 1) (get nat_cmp m)) (sym w.kept-is)

@@ -5,7 +5,7 @@ use Rattle.trace_adjust.proofs.span_deltas.all_deltas.Goals as goal
 
 pub returns : goal.returns
 returns c =
-    let marks = c.in_ok-links.links.repeated.items in
+    let marks = c.in_ok-places.places.repeated.items in
     let zeros = subst (λ bs. IsZeroWhere bs c.into_deltas.result.items c.without_repeated.result.items) c.deref-2.ensures.value c.without_repeated.ensures in
     deltas_are c.args.max_skew c.args.trace.now c.in_ok-deltas.deltas marks c.into_deltas.result.items c.without_repeated.result.items c.in_ok-deltas.ensures
-    c.in_ok-links.ensures.repeated c.into_deltas.ensures zeros
+    c.in_ok-places.ensures.repeated c.into_deltas.ensures zeros

@@ -7,8 +7,8 @@ use Rattle.trace_server.proofs.ending.take_all_in.Given as goal
 
 abbrev pub invariant-loop-live : goal.invariant-loop-live
 invariant-loop-live g l = AreOpen l.books.inbox.desk (map (λ w. w.live.seat) l.workers.items)
-    × Balances l.books.inbox.taken l.books.accounts (map arc_value l.books.left.items)
-    × MovesJobs l.fn.books.inbox.taken (map arc_value l.fn.books.left.items) l.books.inbox.taken (map arc_value l.books.left.items)
+    × Balances l.books.inbox.taken l.books.accounts (map arc_value l.books.unjudged.items)
+    × MovesJobs l.fn.books.inbox.taken (map arc_value l.fn.books.unjudged.items) l.books.inbox.taken (map arc_value l.books.unjudged.items)
     × SomeTakenIn (map (λ w. w.live.seat) l.fn.workers.items) (map (λ w. w.live.seat) l.workers.items) l.books.inbox.ended l.books.inbox.taken
     × (l.books.accounts ≡ l.fn.books.accounts) × (l.books.acknowledged ≡ l.fn.books.acknowledged) × (l.books.refused ≡ l.fn.books.refused)
 

@@ -1,7 +1,7 @@
 use Rattle.std.proofs.Common.{inl, inr, map, subst, sym}
 use Rattle.trace_model.specs.declared.limits.Limits.{Limits}
 use Rattle.trace_server.specs.ServerRuns.{RunsServer, serving_of}
-use Rattle.trace_server.proofs.ServerEnds.{reported, unheard}
+use Rattle.trace_server.proofs.ServerEnds.{listened_and_ended, unheard}
 use Rattle.trace_server.proofs.serving.serve_named.Goals as goal
 
 pub returns-in-Err : goal.returns-in-Err
@@ -16,6 +16,6 @@ returns g c =
     let new = g.W.Output.contents c.serve_store.new.output in
     subst (λ (l : Limits). RunsServer (serving_of host l workers) (record { before = old; after = new; failed = failed }) c.serve_store.result)
     (sym c.requires.limits)
-    (reported (serving_of host g.N.StoreName.limits workers) c.in-Ok-open.shared.clerk.desk (map (λ p. p.live.seat) c.in-Ok-open.shared.lives.items)
+    (listened_and_ended (serving_of host g.N.StoreName.limits workers) c.in-Ok-open.shared.clerk.desk (map (λ p. p.live.seat) c.in-Ok-open.shared.starts.items)
     old _ new failed _ c.serve_store.result
     c.in-Ok-open.ensures.new c.in_default-write_listening.ensures.0 c.serve_store.ensures)

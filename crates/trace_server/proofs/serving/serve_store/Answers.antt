@@ -22,11 +22,11 @@ returns-in-Ok-close_books g c =
     inr (record {
       served = c.total_outcome-all.result.served;
       failed = c.total_outcome-all.result.failed;
-      counts = counts_of totals.acknowledged totals.refused totals.left;
+      counts = counts_of totals.acknowledged totals.refused totals.unanswered;
       lists = c.serve_sessions-books.result.books.keeper;
       seats = map (λ w. w.live.seat) c.in-Ok.workers.items;
       gone_on = on;
       one_for_each = numbers_stay _ _ on ∙ c.requires.numbers;
       books = c.in-Ok-close_books.ensures;
-      ends = c.report.ensures;
+      ends = c.end_with_totals.ensures;
     })

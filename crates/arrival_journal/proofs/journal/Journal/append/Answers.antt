@@ -1,7 +1,7 @@
 use Rattle.std.proofs.Common.{◌≡◌, ℕ, true, get_or, [], ◌∷◌, ◌++◌, length, length-append, map, List, Ok, ap, ◌∙◌, subst, sym, arith, rules}
 use Rattle.std.proofs.lemmas.List.{map_push, length-map, append_cancel_left}
 use Rattle.trace_model.specs.Histories.{before_last}
-use Rattle.sent_batches.specs.SentIndex.{has_number, work_hash}
+use Rattle.sent_batches.specs.SentIndex.{has_seq_no, work_hash}
 use Rattle.trace_model.proofs.LastEntries.{before_last-push}
 use Rattle.std.specs.Global.{Global}
 use Rattle.trace_model.proofs.Admissions.{MayFollow, IsSaid, admission_says}
@@ -100,6 +100,6 @@ add-requires-clause-hash c = λ e is numbered.
     let behind : h ++ x ∷ [] ≡ h ++ e ∷ [] =
     sym pushed ∙ is ∙ ap (λ (l : List Entry). before_last l ++ e ∷ []) pushed ∙ ap (λ (l : List Entry). l ++ e ∷ []) (before_last-push h x) in
     let same : x ≡ e = let last : x ∷ [] ≡ e ∷ [] = append_cancel_left h (x ∷ []) (e ∷ []) behind in cc in
-    let sent : c.args.entry ≡ e = sym c.into_entry-entry.ensures ∙ same in
-    subst (λ (y : Entry). has_number y.work ≡ true → c.hash-hash.result ≡ work_hash c.keys.result y.work) sent c.hash-hash.ensures numbered
+    let sent : c.args.recorded ≡ e = sym c.into_entry-entry.ensures ∙ same in
+    subst (λ (y : Entry). has_seq_no y.work ≡ true → c.hash-hash.result ≡ work_hash c.keys.result y.work) sent c.hash-hash.ensures numbered
     ∙ ap (λ k. work_hash k e.work) c.keys.ensures

@@ -1,5 +1,5 @@
 use Rattle.batch_codec.specs.CanonicalTexts.{front_text, span_fields, span_fits, canon_span}
-use Rattle.batch_codec.proofs.CanonTexts.{span_stop, ends}
+use Rattle.batch_codec.proofs.TextParts.{span_stop, ends}
 use Rattle.batch_codec.proofs.writer.SpanSpelled.write.Goals as goal
 
 pub returns-clause-writes : goal.returns-clause-writes

@@ -1,7 +1,7 @@
 use Rattle.std.proofs.Common.{rules, ◌≡◌, true, false, Ok, ap}
 use Rattle.std.specs.Str.{is_utf8}
 use Rattle.std.proofs.lemmas.Str.{is_utf8-from_IsUtf8, IsUtf8-string_bytes}
-use Rattle.wire_pieces.specs.Pieces.{Comes}
+use Rattle.wire_pieces.specs.Pieces.{Comes, moment}
 use Rattle.batch_feeder.specs.Values.{partial_text}
 use Rattle.batch_feeder.proofs.ReceivedTexts.{text-whole, text-bad, not_text}
 use Rattle.batch_feeder.proofs.texts.PartialTextPartial.more.Goals as goal
@@ -10,7 +10,7 @@ pub returns-in-Ok-clause-continues : goal.returns-in-Ok-clause-continues
 returns-in-Ok-clause-continues c =
     let same : c.in-Ok.text.bytes.items ≡ c.in-Ok-Some.bytes.items = ap (λ v. v.items) c.in-Ok.ensures.ok in
     let is : is_utf8 c.in-Ok-Some.bytes.items ≡ true = rw (← same) (is_utf8-from_IsUtf8 c.in-Ok.text.bytes.items (IsUtf8-string_bytes c.in-Ok.text)) in
-    let whole : Comes (partial_text c.args.self.now) (λ w. Ok (c.in-Ok-Some.bytes.items, w)) c.args.piece.now c.more.new.piece =
+    let whole : Comes (moment (partial_text c.args.self.now) c.args.piece.now) (moment (λ w. Ok (c.in-Ok-Some.bytes.items, w)) c.more.new.piece) =
     text-whole _ _ _ _ is (rw c.in-Ok-Some.field-0-is at c.in-Ok-Some.ensures.reads) in
     search (rules, whole, same)
 

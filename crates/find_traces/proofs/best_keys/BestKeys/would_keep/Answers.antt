@@ -11,7 +11,7 @@ use Rattle.find_traces.proofs.best_keys.BestKeys.would_keep.Goals as goal
 pub returns-in-Some : goal.returns-in-Some
 returns-in-Some c =
     let keys = c.args.self.now.keys.keys in
-    let n = c.args.self.now.most in
+    let n = c.args.self.now.limit in
     let w = c.in-Some.worst.now in
     let less : c.lt.result ≡ is_lt (key_cmp w.0 c.args.key) = search rules in
     elim c.lt.result as (λ b. c.lt.result ≡ b → OnFalse b (take n (insert_key reverse_key_cmp keys (reversed c.args.key)) ≡ keys)) [

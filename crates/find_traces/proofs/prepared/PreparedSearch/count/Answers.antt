@@ -7,5 +7,5 @@ use Rattle.find_traces.proofs.prepared.PreparedSearch.count.Goals as goal
 pub returns : goal.returns
 returns c =
     c.len.ensures.len ∙ length-from_keys pair_laws c.self.inside.pairs.keys c.self.inside.query.now.tags
-    (distinct_pairs c.self.inside.pairs.keys c.len.ensures.ordered) c.self.invariant.pairs_asked
+    (distinct_pairs c.self.inside.pairs.keys c.len.ensures.ordered) c.self.invariant.pairs_requested
     ∙ ap requested_count c.self.view_is

@@ -19,8 +19,8 @@ returns-else-put-count-clause-took g c =
     (λ of front fed part. data_then of front fed _ _ c.args.count _ (at_stage of front fed c.args.self.now _ c.requires.stage part)
     (omega (arith, long, c.push_some-put.ensures.count)))
 
-pub returns-else-put-count-clause-leaves : goal.returns-else-put-count-clause-leaves
-returns-else-put-count-clause-leaves g c =
+pub returns-else-put-count-clause-awaits : goal.returns-else-put-count-clause-awaits
+returns-else-put-count-clause-awaits g c =
     shorter _ _ (omega (
       arith,
       c.push_some-put.ensures.count,

@@ -9,4 +9,4 @@ returns-in-Some-clause-took g c = taken_in_turn g.S.Sink.takes g.met.S.Sink.take
 
 pub steps-preserved : goal.steps-preserved
 steps-preserved g c =
-    (taken_in_turn g.S.Sink.takes g.met.S.Sink.takes_joined _ _ _ _ c.steps.invariant.0 c.in_default.ensures.took, c.in_default.ensures.leaves)
+    (taken_in_turn g.S.Sink.takes g.met.S.Sink.takes_joined _ _ _ _ c.steps.invariant.0 c.in_default.ensures.took, c.in_default.ensures.awaits)

@@ -8,7 +8,7 @@ pub returns-then-size-self-clause-took : goal.returns-then-size-self-clause-took
 returns-then-size-self-clause-took c =
     let line = rw c.as_slice.ensures at c.in-Whole.ensures in
     text_taken _ _ _ _ _ c.in-Whole.length c.take.ensures
-    (λ of front fed part. line_passes of front fed _ _ c.args.self.now.left c.in-Whole.size (at_stage of front fed c.args.self.now _ c.requires.stage part)
+    (λ of front fed part. line_passes of front fed _ _ c.args.self.now.data_left c.in-Whole.size (at_stage of front fed c.args.self.now _ c.requires.stage part)
     line.0 c.if-size-self.true)
 
 pub returns-then-size-eq0-clause-took : goal.returns-then-size-eq0-clause-took
@@ -22,7 +22,7 @@ pub returns-else-size-eq0-clause-took : goal.returns-else-size-eq0-clause-took
 returns-else-size-eq0-clause-took c =
     let line = rw c.as_slice.ensures at c.in-Whole.ensures in
     let some : 0 < c.in-Whole.size = omega (arith, c.if-size-eq0.false) in
-    let fits : c.in-Whole.size ≤ c.args.self.now.left = omega (arith, c.if-size-self.false) in
+    let fits : c.in-Whole.size ≤ c.args.self.now.data_left = omega (arith, c.if-size-self.false) in
     text_taken _ _ _ _ _ c.in-Whole.length c.take.ensures
     (λ of front fed part. line_then_data of front fed _ _ c.in-Whole.size (at_stage of front fed c.args.self.now _ c.requires.stage part) line.0 some fits)
 

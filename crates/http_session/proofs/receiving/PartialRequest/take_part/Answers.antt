@@ -12,7 +12,7 @@ returns-in-Fault-clause-part c =
 
 pub returns-in-More-clause-part : goal.returns-in-More-clause-part
 returns-in-More-clause-part c = λ text part.
-    receives_end_inside c.args.self.now c.take_from.new.self text _ _ part c.in-More.ensures.closes c.in-More.ensures.took c.in-More.ensures.leaves
+    receives_end_inside c.args.self.now c.take_from.new.self text _ _ part c.in-More.ensures.closes c.in-More.ensures.took c.in-More.ensures.awaits
     (sym c.has_ended.ensures ∙ c.if-has_ended.true)
 
 pub returns-in-More-2-clause-part : goal.returns-in-More-2-clause-part

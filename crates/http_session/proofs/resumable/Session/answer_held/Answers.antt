@@ -34,16 +34,16 @@ returns-in-Ok-None-clause-paused g c =
     let part = found c.requires.ready.text c.requires.ready.incoming in (
       awaits_more (record { received = c.receive.new.received; stage = c.receive.new.stage; answered = c.args.self.now.answered }) waits.0 waits.1,
       refl,
-      sym (ap (λ (b : ReadBuffer). b.left) part.cut),
+      sym (ap (λ (b : ReadBuffer). b.reads_left) part.cut),
       refl,
       refl,
     )
 
-pub returns-in-Clean-clause-goes_on : goal.returns-in-Clean-clause-goes_on
-returns-in-Clean-clause-goes_on g c =
+pub returns-in-EndOfInput-clause-goes_on : goal.returns-in-EndOfInput-clause-goes_on
+returns-in-EndOfInput-clause-goes_on g c =
     let two = two_way g.met.C.Connection.reads_leave g.met.C.Connection.writes_leave in
     let kept = promises_of g.met.B.Backend.submit_knows g.met.B.Backend.read_knows in
-    let found = rw (c.in-Ok-Some.field-0-is, c.in-Clean.is) at c.in-Ok-Some.ensures.incoming in
+    let found = rw (c.in-Ok-Some.field-0-is, c.in-EndOfInput.is) at c.in-Ok-Some.ensures.incoming in
     receives_end _ kept _ two _ _ _ _ _ found
 
 pub returns-in-Err-write_reply-clause-goes_on : goal.returns-in-Err-write_reply-clause-goes_on
@@ -72,8 +72,8 @@ returns-in-Err-clause-asks g c = inl refl
 pub returns-in-Ok-None-clause-asks : goal.returns-in-Ok-None-clause-asks
 returns-in-Ok-None-clause-asks g c = inl refl
 
-pub returns-in-Clean-clause-asks : goal.returns-in-Clean-clause-asks
-returns-in-Clean-clause-asks g c = inl refl
+pub returns-in-EndOfInput-clause-asks : goal.returns-in-EndOfInput-clause-asks
+returns-in-EndOfInput-clause-asks g c = inl refl
 
 pub returns-in-Err-write_reply-clause-asks : goal.returns-in-Err-write_reply-clause-asks
 returns-in-Err-write_reply-clause-asks g c = inl refl

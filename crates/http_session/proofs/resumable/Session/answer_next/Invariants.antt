@@ -15,4 +15,4 @@ invariant-pauses g l =
     × (l.self.answered ≡ l.initial.self.answered)
 
 abbrev pub decreases-pauses : goal.decreases-pauses
-decreases-pauses g l = l.self.received.left
+decreases-pauses g l = l.self.received.reads_left

@@ -11,7 +11,7 @@ returns c = λ process there.
     let j = c.self.inside in
     let q = j.prepared.now in
     let h = j.journal.now.held.entries in
-    let service_numbers = j.reported.now.service_numbers in
+    let service_numbers = j.by_service.now.service_numbers in
     let own = there ∙ sym (ap (λ (v : Find × List Entry). process_at v.1 c.args.place) c.self.view_is) in
-    c.is_of_service.ensures ∙ is_requested_service q h service_numbers j.service c.args.place process c.self.invariant own
+    c.is_of_service.ensures ∙ is_requested_service q h service_numbers j.service_number c.args.place process c.self.invariant own
     ∙ ap (λ (v : Find × List Entry). same_text v.0.service process.service) c.self.view_is

@@ -1,27 +1,15 @@
-use Rattle.std.proofs.Common.{◌≡◌, ◌∙◌, ℕ, Some, sym, nat_cmp}
-use Rattle.std.specs.Prelude.{Option}
+use Rattle.std.proofs.Common.{◌∙◌, sym, nat_cmp}
 use Rattle.std.specs.BTreeMap.{get}
-use Rattle.jaeger_model.specs.declared.batch.Process.{Process}
-use Rattle.journal_traces.specs.TakenTraces.{HasProcess}
 use Rattle.journal_traces.proofs.KeyClasses.{key_put}
-use Rattle.journal_traces.proofs.TakenSpans.{process_seen}
 use Rattle.journal_traces.proofs.process_classes.ProcessClasses.find_class.Goals as goal
-use Rattle.journal_traces.proofs.process_classes.ProcessClasses.find_class.Goals.{In_ok-keep}
 
 pub returns-in-Some-clause-class : goal.returns-in-Some-clause-class
-returns-in-Some-clause-class c = λ process_of has leads. leads.by_key c.args.key c.in-Some.class (sym c.known.ensures ∙ c.in-Some.is)
-
--- the number leads to the process of the span
-own : (c : In_ok-keep) (process_of : ℕ → Option Process) → HasProcess process_of c.args.span.now → process_of c.args.key ≡ Some c.reported.result.process.now
-own c process_of has = sym (process_seen process_of c.args.span.now c.reported.result c.args.key c.reported.ensures c.requires has)
-
-pub returns-clause-class : goal.returns-clause-class
-returns-clause-class c = λ process_of has leads. c.in_ok-class.ensures.class process_of (own c process_of has) leads
+returns-in-Some-clause-class c = λ process_of own leads. leads.by_key c.args.key c.in-Some.class (sym c.known.ensures ∙ c.in-Some.is)
 
 pub returns-clause-leads : goal.returns-clause-leads
-returns-clause-leads c = λ process_of has leads.
-    let next = c.in_ok-class.ensures.leads process_of (own c process_of has) leads in
-    let same = c.in_ok-class.ensures.class process_of (own c process_of has) leads in
+returns-clause-leads c = λ process_of own leads.
+    let next = c.in_ok-class.ensures.leads process_of own leads in
+    let same = c.in_ok-class.ensures.class process_of own leads in
     record {
       by_process = next.by_process;
       by_key = λ n class e.
@@ -31,8 +19,7 @@ returns-clause-leads c = λ process_of has leads.
     }
 
 pub returns-in_err-keep-clause-leads : goal.returns-in_err-keep-clause-leads
-returns-in_err-keep-clause-leads c = λ process_of has leads.
-    let own = sym (process_seen process_of c.args.span.now c.reported.result c.args.key c.reported.ensures c.requires has) in
+returns-in_err-keep-clause-leads c = λ process_of own leads.
     let next = c.in_ok-class.ensures.leads process_of own leads in
     record {
       by_process = next.by_process;

@@ -18,15 +18,15 @@ returns-in-Answered-clause-comes g c =
     (moved_open _ _ _ c.run_piece-taken.new.self c.after_response.new.self c.after_response.ensures.connection
     (c.after_response.ensures.session ∙ c.return_room.ensures) c.after_response.ensures.began is)
 
-pub returns-in-Ended-clause-comes : goal.returns-in-Ended-clause-comes
-returns-in-Ended-clause-comes g c =
+pub returns-in-ClosedByClient-clause-comes : goal.returns-in-ClosedByClient-clause-comes
+returns-in-ClosedByClient-clause-comes g c =
     came_to_end _ _ _ _ c.args.self.now _ _ _ c.borrow_room.ensures c.return_room.ensures c.run_piece-taken.ensures.began c.requires.underway _
     c.in-Ended.ended c.in-Ended.is c.in-Ok.ensures.goes_on
 
-pub returns-in-Ended-2-clause-comes : goal.returns-in-Ended-2-clause-comes
-returns-in-Ended-2-clause-comes g c =
+pub returns-in-ClosedByResponse-clause-comes : goal.returns-in-ClosedByResponse-clause-comes
+returns-in-ClosedByResponse-clause-comes g c =
     came_to_end _ _ _ _ c.args.self.now _ _ _ c.borrow_room.ensures c.return_room.ensures c.run_piece-taken.ensures.began c.requires.underway _
-    c.in-Ended-2.field-0 c.in-Ended-2.is c.in-Ok.ensures.goes_on
+    c.in-Ended.ended c.in-Ended.is c.in-Ok.ensures.goes_on
 
 pub returns-in_default-clause-comes : goal.returns-in_default-clause-comes
 returns-in_default-clause-comes g c =

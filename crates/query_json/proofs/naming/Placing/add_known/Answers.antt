@@ -11,7 +11,7 @@ returns-clause-added c = λ spans keys i s next before.
     let key = c.args.key in
     let n = c.in-Some.place in
     let known = get nat_cmp old.known in
-    let found : option_and_then known key ≡ Some n = sym c.known_place.ensures ∙ c.in-Some.is in
+    let found : option_and_then known key ≡ Some n = sym c.place_by_key.ensures ∙ c.in-Some.is in
     let place = known_place spans keys i s key next known n before.known found in
     record {
       by_place = before.by_place;

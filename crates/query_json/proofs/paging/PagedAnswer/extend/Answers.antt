@@ -1,6 +1,7 @@
 use Rattle.std.proofs.Common.{◌≡◌, ◌+◌, ◌≤◌, ◌++◌, ◌∙◌, ℕ, List, None, false, length, length-append, ap, inl, inr, sym, append_assoc, arith}
 use Rattle.std.specs.Prelude.{unwrap_or}
 use Rattle.query_json.specs.declared.paging.PagedAnswer.{PagedAnswer}
+use Rattle.query_json.specs.declared.paging.TheConstants.{PART_BYTES}
 use Rattle.query_json.specs.declared.writing.page.Page.{Page}
 use Rattle.query_json.specs.AnswerPages.{HasRoom, IsReady, left_of}
 use Rattle.query_json.specs.Pieces.{runs_of}
@@ -9,7 +10,7 @@ use Rattle.query_json.proofs.Runs.{left_none, open_still}
 use Rattle.query_json.proofs.paging.PagedAnswer.extend.Goals as goal
 
 module _ (p : PagedAnswer) (new : Page) (to : List (List (List ℕ))) (ready : IsReady p) (later : p.later ≡ None)
-    (f : Fills 16384 p.page new (left_of p) to) where
+    (f : Fills PART_BYTES p.page new (left_of p) to) where
   -- without a page for later parts, pieces are written to the page of the part
   same_page : (q : Page) → unwrap_or p.later q ≡ q
   same_page q = ap (λ o. unwrap_or o q) later
@@ -17,7 +18,7 @@ module _ (p : PagedAnswer) (new : Page) (to : List (List (List ℕ))) (ready : I
   was_open : p.page.full ≡ false
   was_open = sym (ap (λ (q : Page). q.full) (same_page p.page)) ∙ ready.open_page
 
-  has_room : (h : HasRoom p) → 16384 + h.most ≤ p.page.bytes.room
+  has_room : (h : HasRoom p) → PART_BYTES + h.most ≤ p.page.bytes.room
   has_room h = omega (arith, h.room, ap (λ (q : Page). q.bytes.room) (same_page p.page))
 
   stays_open : new.full ≡ false
@@ -32,8 +33,8 @@ module _ (p : PagedAnswer) (new : Page) (to : List (List (List ℕ))) (ready : I
   put_count : length new.bytes.items ≡ length p.page.bytes.items + length f.bytes
   put_count = omega (arith, ap length (f.puts.adds.behind stays_open), length-append p.page.bytes.items f.bytes)
 
-  left_count : p.left ≡ length f.bytes + length (runs_text to)
-  left_count = omega (arith, ready.left, ap length f.text, length-append f.bytes (runs_text to))
+  left_count : p.rest_len ≡ length f.bytes + length (runs_text to)
+  left_count = omega (arith, ready.rest_len, ap length f.text, length-append f.bytes (runs_text to))
 
 pub overflow_sub-self : goal.overflow_sub-self
 overflow_sub-self c =
@@ -67,7 +68,7 @@ returns-clause-ready c =
           room = omega (arith, has_room p new _ c.requires.ready c.requires.later f h, f.puts.adds.room, ap (λ (q : Page). q.bytes.room) same);
         })
       ];
-      left = omega (arith, put, left, c.len.ensures, c.len-before.ensures);
+      rest_len = omega (arith, put, left, c.len.ensures, c.len-before.ensures);
     }
 
 pub returns-clause-gives : goal.returns-clause-gives

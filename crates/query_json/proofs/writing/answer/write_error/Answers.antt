@@ -8,5 +8,6 @@ use Rattle.query_json.proofs.writing.answer.write_error.Goals as goal
 pub returns : goal.returns
 unfolding escape_byte digits
 returns c =
-    Puts-is (c.push_str.ensures ▸ Puts-is c.count.ensures (ap decimal c.from.ensures) ▸ c.push_str-2.ensures ▸ c.string.ensures ▸ c.push_str-3.ensures)
+    Puts-is (c.push_str.ensures ▸ Puts-is c.push_unsigned.ensures (ap decimal c.from.ensures) ▸ c.push_str-2.ensures ▸ c.push_quoted.ensures ▸
+    c.push_str-3.ensures)
     (error_text c.args.code c.args.msg.now)

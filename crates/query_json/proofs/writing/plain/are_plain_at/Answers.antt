@@ -1,4 +1,3 @@
-use Rattle.std.proofs.Common.{arith}
 use Rattle.json.proofs.Printed.Plain.{plain_from_lanes}
 use Rattle.query_json.proofs.writing.plain.are_plain_at.Goals as goal
 

@@ -1,4 +1,4 @@
-use Rattle.std.proofs.Common.{◌≡◌, ◌∷◌, ◌+◌, ◌∙◌, ap, map, rules, sym, to_z, of_z, w64}
+use Rattle.std.proofs.Common.{◌≡◌, ◌+◌, ◌∙◌, ap, map, rules, sym, to_z, of_z, w64}
 use Rattle.std.specs.Fmt.{decimal, signed_decimal}
 use Rattle.json.specs.Print.{escape, escape_byte, quoted}
 use Rattle.serde_json.specs.Written.{compact_text}
@@ -16,14 +16,14 @@ returns c = λ ps is.
     let shown = c.args.lent.now in
     let span = shown.placed.span in
     let lent = c.span-span.ensures in
-    let duration = Puts-is c.integer_at.ensures (ap signed_decimal lent.duration ∙ sym (integer_text span.duration)) in
+    let duration = Puts-is c.push_signed_ref.ensures (ap signed_decimal lent.duration ∙ sym (integer_text span.duration)) in
     let flags = Puts-is c.write_flags.ensures (ap (λ f. decimal (flags_number f)) lent.flags) in
     let logs = Puts-is c.write_list.ensures (ap (λ ls. compact_text (list (map log_tree ls))) c.logs.ensures) in
-    let operation = Puts-is c.in_string.ensures (ap escape (c.as_str.ensures.value ∙ lent.operation)) in
-    let number = Puts-is c.count.ensures (ap decimal is) in
+    let operation = Puts-is c.push_escaped.ensures (ap escape (c.as_str.ensures.value ∙ lent.operation)) in
+    let number = Puts-is c.push_unsigned.ensures (ap decimal is) in
     let id = Puts-is c.write.ensures (ap (λ i. quoted (span_text i)) lent.id) in
     let read : to_z w64 (of_z w64 c.start.result) ≡ span.start = search rules in
-    let start = Puts-is c.integer.ensures (ap signed_decimal read ∙ sym (integer_text span.start)) in
+    let start = Puts-is c.push_signed.ensures (ap signed_decimal read ∙ sym (integer_text span.start)) in
     let tags = Puts-is c.write_tags.ensures (ap (λ ts. compact_text (list (map tag_tree ts))) (c.as_slice.ensures ∙ lent.tags)) in
     let trace = Puts-is c.write-2.ensures (ap (λ t. quoted (trace_text t)) lent.trace) in
     let warnings = Puts-is c.write_warnings.ensures (ap (λ ws. compact_text (warnings_tree ws)) (sym c.warning.ensures)) in

@@ -7,5 +7,5 @@ use Rattle.query_json.proofs.writing.values.write_from_key.Goals as goal
 pub returns : goal.returns
 returns c =
     let tag = c.args.tag.now in
-    Puts-is (Puts-is c.in_string.ensures (ap escape c.as_str.ensures.value) ▸ c.write_typed.ensures)
+    Puts-is (Puts-is c.push_escaped.ensures (ap escape c.as_str.ensures.value) ▸ c.write_typed.ensures)
     (sym (append_assoc (escape tag.key) (behind_key tag.value) (after_tag c.args.after)))

@@ -13,13 +13,13 @@ shown e = ap (λ r. behind_key (borrowed_value r)) e
 pub returns-in-Text : goal.returns-in-Text
 returns-in-Text c =
     let more = after_tag c.args.after in
-    Puts-is (c.push_str.ensures ▸ c.in_string.ensures ▸ c.close_string.ensures)
+    Puts-is (c.push_str.ensures ▸ c.push_escaped.ensures ▸ c.close_string.ensures)
     (text_then c.in-Text.text.now more ∙ ap (λ (l : List ℕ). l ++ more) (shown (sym c.in-Text.is) ∙ ap behind_key c.get.ensures))
 
 pub returns-in-Double : goal.returns-in-Double
 returns-in-Double c =
     let more = after_tag c.args.after in
-    Puts-is (c.push_str-in-Double.ensures ▸ c.digits_of_eight.ensures ▸ c.close_string-in-Double.ensures)
+    Puts-is (c.push_str-in-Double.ensures ▸ c.push_hex_of_eight.ensures ▸ c.close_string-in-Double.ensures)
     (double_then c.in-Double.bytes.now more ∙ ap (λ (l : List ℕ). l ++ more) (shown (sym c.in-Double.is) ∙ ap behind_key c.get.ensures))
 
 pub returns-in-Bool : goal.returns-in-Bool
@@ -32,11 +32,11 @@ pub returns-in-Long : goal.returns-in-Long
 returns-in-Long c =
     let more = after_tag c.args.after in
     let read : to_z w64 (of_z w64 c.in-Long.number) ≡ c.in-Long.number = search rules in
-    Puts-is (c.push_str-in-Long.ensures ▸ Puts-is c.integer.ensures (ap signed_decimal read) ▸ c.close-in-Long.ensures)
+    Puts-is (c.push_str-in-Long.ensures ▸ Puts-is c.push_signed.ensures (ap signed_decimal read) ▸ c.close-in-Long.ensures)
     (long_then c.in-Long.number more ∙ ap (λ (l : List ℕ). l ++ more) (shown (sym c.in-Long.is) ∙ ap behind_key c.get.ensures))
 
 pub returns-in-Bytes : goal.returns-in-Bytes
 returns-in-Bytes c =
     let more = after_tag c.args.after in
-    Puts-is (c.push_str-in-Bytes.ensures ▸ c.digits.ensures ▸ c.close_string-in-Bytes.ensures)
+    Puts-is (c.push_str-in-Bytes.ensures ▸ c.push_hex.ensures ▸ c.close_string-in-Bytes.ensures)
     (bytes_then c.in-Bytes.bytes.now more ∙ ap (λ (l : List ℕ). l ++ more) (shown (sym c.in-Bytes.is) ∙ ap behind_key c.get.ensures))

@@ -4,7 +4,7 @@ use Rattle.schedule_core.specs.declared.outcome.Outcome.TheVariants.{Held, Publi
 use Rattle.schedule_core.specs.Machine.{Machine, publishes}
 use Rattle.schedule_core.specs.ReaderStates.{is_held}
 use Rattle.schedule_core.specs.MachineStates.{IsState, machine_of}
-use Rattle.schedule_core.proofs.StateSteps.{after, held_alike, published_alike, state_kept, state_turned}
+use Rattle.schedule_core.proofs.StateSteps.{after, held_alike, published_alike, state_kept, state_swapped}
 use Rattle.schedule_core.proofs.machine_state.MachineState.publish.Goals as goal
 
 pub returns-in-Some : goal.returns-in-Some
@@ -30,8 +30,8 @@ invariant_of-self-2 c =
     let count = c.publishes.ensures ∙ ap (λ (m : Machine). length m.fronts) (sym c.self.view_is) in
     let none = ap (λ n. position (is_held n) was.readers) (sym count) ∙ sym c.first_held.ensures ∙ c.in_default.is in
     let grown = c.push_reserved.ensures.items ∙ ap (λ fronts. fronts ++ c.front-front.result ∷ []) c.reserve.ensures.items in
-    state_turned was.copies c.publish.new.self was.seats was.fronts.items c.push_reserved.new.self.items was.readers c.front-front.result
-    c.self.invariant none c.in_ok-publish.ensures.turned c.front-front.ensures grown
+    state_swapped was.copies c.publish.new.self was.seats was.fronts.items c.push_reserved.new.self.items was.readers c.front-front.result
+    c.self.invariant none c.in_ok-publish.ensures.swapped c.front-front.ensures grown
 
 pub returns : goal.returns
 returns c =
@@ -42,4 +42,4 @@ returns c =
     subst (λ (m : Machine). after (Published c.front-front.result) (machine_of c.publish.new.self was.seats c.push_reserved.new.self.items was.readers)
     ≡ publishes m) c.self.view_is
     (published_alike was.copies c.publish.new.self was.seats was.fronts.items c.push_reserved.new.self.items was.readers c.front-front.result
-    c.self.invariant none c.in_ok-publish.ensures.turned c.front-front.ensures grown)
+    c.self.invariant none c.in_ok-publish.ensures.swapped c.front-front.ensures grown)

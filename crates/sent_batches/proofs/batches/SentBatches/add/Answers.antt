@@ -8,7 +8,7 @@ use Rattle.trace_model.specs.Histories.{before_last}
 use Rattle.trace_model.specs.EntryWork.{batch_brought}
 use Rattle.hash_tables.specs.RowPlaces.{LeadsTo}
 use Rattle.sent_batches.specs.BatchHashes.{batch_hash}
-use Rattle.sent_batches.specs.SentIndex.{Sent, IsSentKept, AreAfterEntries, has_number, hash_after, numbered_from}
+use Rattle.sent_batches.specs.SentIndex.{Sent, IsSentKept, AreAfterEntries, has_seq_no, hash_after, numbered_from}
 use Rattle.sent_batches.proofs.SentIndex.{hash_is, limit_has_none, batch_has, brought_is, one_more, kept_same, kept_more, numbered_within}
 use Rattle.sent_batches.proofs.batches.SentBatches.add.Goals as goal
 
@@ -91,7 +91,7 @@ returns-clause-kept c =
       room = c.mark.new.self.room;
     } in
     let keys : c.self.inside.keys ≡ sent.keys = ap (λ (v : Sent). v.keys) c.self.view_is in
-    let has : has_number e.work ≡ true = batch_has e.work b brought ∙ numbered in
+    let has : has_seq_no e.work ≡ true = batch_has e.work b brought ∙ numbered in
     let hash : c.args.hash ≡ batch_hash sent.keys b = c.requires.hash e (sym one.last) has ∙ hash_is sent.keys e.work b brought in
     let befores : more.befores ≡ sent.befores ++ length (before_last h) ∷ [] =
     c.push_reserved-2.ensures.items ∙ ap (λ (v : Sent). v.befores ++ (length c.args.entries.now - 1) ∷ []) c.self.view_is

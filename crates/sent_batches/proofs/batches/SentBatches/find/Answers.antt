@@ -6,7 +6,7 @@ use Rattle.trace_model.specs.ResentBatches.{resends}
 use Rattle.trace_model.specs.EntryWork.{batch_brought}
 use Rattle.trace_model.proofs.ResentBatches.{nothing_sent, unnumbered_not_sent}
 use Rattle.hash_tables.specs.RowPlaces.{Found}
-use Rattle.sent_batches.specs.SentIndex.{Sent, has_number, hash_after, is_sent_after, AreAfterEntries, numbered_from}
+use Rattle.sent_batches.specs.SentIndex.{Sent, has_seq_no, hash_after, is_sent_after, AreAfterEntries, numbered_from}
 use Rattle.sent_batches.proofs.SentIndex.{hash_is, batch_has, nothing_resent, numbered_within, same_hash, found_some, found_none, brought_is}
 use Rattle.sent_batches.proofs.batches.SentBatches.find.Goals as goal
 
@@ -43,7 +43,7 @@ find-requires-clause-hash c row l sought =
     let b = c.in_ok-batch.batch.now in
     let brought : batch_brought c.args.entry.now.work ≡ Some b = search rules in
     let numbered : is_some b.seq_no ≡ true = search rules in
-    let has : has_number c.args.entry.now.work ≡ true = batch_has c.args.entry.now.work b brought ∙ numbered in
+    let has : has_seq_no c.args.entry.now.work ≡ true = batch_has c.args.entry.now.work b brought ∙ numbered in
     let befores : c.deref.result.now ≡ c.args.self.now.befores = c.deref.ensures.value ∙ ap (λ (v : Sent). v.befores) c.self.view_is in
     let hashes : c.deref-2.result.now ≡ map (hash_after keys h) c.args.self.now.befores =
     c.deref-2.ensures.value ∙ ap (λ (v : Sent). v.hashes) c.self.view_is ∙ kept.hashes in

@@ -23,7 +23,7 @@ returns-then-row-rows-clause-listed g c =
     } in
     let indexed : IsIndexed names old = subst (IsIndexed names) (sym c.self.view_is) c.requires.indexed in
     let numbers = c.self.inside.operations.numbers in
-    let rows = c.self.invariant.1.earlier_rows in
+    let rows = c.self.invariant.1.earlier_links in
     let row = c.add-row.ensures.row in
     let below : row_of (operation_labels names) numbers ((operation_labels names).at c.args.n) < length numbers = omega (arith, c.if-row-rows.true) in
     ap (λ xs. sorted_set listed_cmp (map names.at xs)) (c.add-row.ensures.numbers ∙ number_known (operation_labels names) numbers c.args.n below)
@@ -46,7 +46,7 @@ returns-clause-indexed g c =
     } in
     let indexed : IsIndexed names old = subst (IsIndexed names) (sym c.self.view_is) c.requires.indexed in
     let sized = c.self.invariant.1 in
-    let rows = sized.earlier_rows in
+    let rows = sized.earlier_links in
     let services_numbered = g.met.T.Texts.services_numbered c.args.texts.now in
     let s = c.add-service.result in
     let within = row_within (operation_labels names) inside.operations.numbers ((operation_labels names).at c.args.n) in

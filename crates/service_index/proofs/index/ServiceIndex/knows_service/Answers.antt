@@ -9,6 +9,6 @@ returns g c =
     let sized = c.self.invariant.1 in
     let index = c.args.self.now in
     let rows : c.services.result ≡ length index.services.numbers =
-    c.services.ensures ∙ sized.newest_rows ∙ ap (λ (i : Index). length i.services.numbers) c.self.view_is in
+    c.services.ensures ∙ sized.newest_links ∙ ap (λ (i : Index). length i.services.numbers) c.self.view_is in
     ap (λ n. nat_lt c.service_row.result n) rows ∙ ap (λ r. nat_lt r (length index.services.numbers)) c.service_row.ensures
     ∙ service_known names index c.args.service.now c.requires

@@ -22,7 +22,7 @@ returns-then-row-services-clause-operations g c =
     let names = g.T.Texts.names c.args.texts.now in
     let index = c.args.self.now in
     let rows : c.services.result ≡ length index.services.numbers =
-    c.services.ensures ∙ c.self.invariant.1.newest_rows ∙ ap (λ (i : Index). length i.services.numbers) c.self.view_is in
+    c.services.ensures ∙ c.self.invariant.1.newest_links ∙ ap (λ (i : Index). length i.services.numbers) c.self.view_is in
     let row = c.service_row-row.ensures in
     let none = sym (service_known names index c.args.service.now c.requires) ∙ ap (λ r. nat_lt r (length index.services.numbers)) (sym row)
     ∙ le-ltb c.service_row-row.result (length index.services.numbers) (omega (arith, c.if-row-services.true)) in
@@ -34,8 +34,8 @@ numbers_along-requires-clause-falls g c =
     let names = g.T.Texts.names c.args.texts.now in
     let index = c.args.self.now in
     let numbers = c.numbers.ensures ∙ ap (λ (i : Index). i.operations.numbers) c.self.view_is in
-    let earlier = c.earlier_rows.ensures ∙ ap (λ (i : Index). i.earlier) c.self.view_is in
-    subst (λ (ns : List ℕ). LeadsBack (length ns) c.earlier_rows.result.now) (sym numbers)
+    let earlier = c.earlier_links.ensures ∙ ap (λ (i : Index). i.earlier) c.self.view_is in
+    subst (λ (ns : List ℕ). LeadsBack (length ns) c.earlier_links.result.now) (sym numbers)
     (subst (LeadsBack (length index.operations.numbers)) (sym earlier) (leads_back names index.operations.numbers index.earlier c.requires.linked.chain))
 
 pub returns-clause-held : goal.returns-clause-held
@@ -53,17 +53,17 @@ returns-clause-operations g c =
     let index = c.args.self.now in
     let s = c.args.service.now in
     let rows : c.services.result ≡ length index.services.numbers =
-    c.services.ensures ∙ c.self.invariant.1.newest_rows ∙ ap (λ (i : Index). length i.services.numbers) c.self.view_is in
+    c.services.ensures ∙ c.self.invariant.1.newest_links ∙ ap (λ (i : Index). length i.services.numbers) c.self.view_is in
     let below : c.service_row-row.result < length index.services.numbers = omega (arith, c.if-row-services.false) in
     let numbers = c.numbers.ensures ∙ ap (λ (i : Index). i.operations.numbers) c.self.view_is in
-    let earlier = c.earlier_rows.ensures ∙ ap (λ (i : Index). i.earlier) c.self.view_is in
-    let newest = c.newest_row.ensures ∙ ap (λ (i : Index). get_or i.newest c.service_row-row.result 0) c.self.view_is in
+    let earlier = c.earlier_links.ensures ∙ ap (λ (i : Index). i.earlier) c.self.view_is in
+    let newest = c.newest_link.ensures ∙ ap (λ (i : Index). get_or i.newest c.service_row-row.result 0) c.self.view_is in
     let h = newest_of names index s c.service_row-row.result _ c.numbers.result.now c.requires c.service_row-row.ensures below numbers newest in
-    let chain : IsChain (owners names c.numbers.result.now) c.earlier_rows.result.now =
-    subst (λ (ns : List ℕ). IsChain (owners names ns) c.earlier_rows.result.now) (sym numbers)
+    let chain : IsChain (owners names c.numbers.result.now) c.earlier_links.result.now =
+    subst (λ (ns : List ℕ). IsChain (owners names ns) c.earlier_links.result.now) (sym numbers)
     (subst (IsChain (owners names index.operations.numbers)) (sym earlier) c.requires.linked.chain) in
     IfOk-weaker c.numbers_along.result
-    (λ (v : Vec ℕ Global). (names : Names) → IsChain (owners names c.numbers.result.now) c.earlier_rows.result.now → (service : List ℕ)
+    (λ (v : Vec ℕ Global). (names : Names) → IsChain (owners names c.numbers.result.now) c.earlier_links.result.now → (service : List ℕ)
     → IsNewest (owners names c.numbers.result.now) service _ (length c.numbers.result.now)
     → sorted_set operation_cmp (operations_at names v.items) ≡ sorted_set operation_cmp (operations_of service (map names.at c.numbers.result.now)))
     (λ (v : Vec ℕ Global). sorted_set operation_cmp (operations_at names v.items) ≡ sorted_set operation_cmp (operations_of s (listing_by names index)))

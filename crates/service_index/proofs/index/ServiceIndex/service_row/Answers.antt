@@ -19,5 +19,5 @@ returns-in-None g c =
     let names = g.T.Texts.names c.args.texts.now in
     let none = subst (IsServiceNumberOf names c.args.service.now) c.in-None.is c.service_number_of.ensures in
     let rows : c.services.result ≡ length c.args.self.now.services.numbers =
-    c.services.ensures ∙ c.self.invariant.1.newest_rows ∙ ap (λ (i : Index). length i.services.numbers) c.self.view_is in
+    c.services.ensures ∙ c.self.invariant.1.newest_links ∙ ap (λ (i : Index). length i.services.numbers) c.self.view_is in
     rows ∙ service_missing names c.args.self.now c.args.service.now c.requires none

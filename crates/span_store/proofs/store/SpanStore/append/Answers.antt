@@ -19,7 +19,7 @@ use Rattle.span_store.proofs.store.SpanStore.append.Goals as goal
 pub apply_entry-requires-clause-within : goal.apply_entry-requires-clause-within
 apply_entry-requires-clause-within c =
     let was = c.self.inside in
-    kept_within was.journal.held was.shown was.starts was.names was.reported c.self.invariant
+    kept_within was.journal.held was.shown was.starts was.names was.by_service c.self.invariant
 
 pub apply_entry-requires-clause-fits : goal.apply_entry-requires-clause-fits
 apply_entry-requires-clause-fits c =
@@ -35,7 +35,7 @@ apply_entry-requires-clause-room c =
     let e : Entry = c.args.entry in
     let may : admission_by was.journal.held e ≡ Ok Added = ap (λ (v : LimitedHistory). admission_by v e) c.self.view_is ∙ c.requires in
     let room : was.shown.used + length (spans_brought e.work) ≤ was.shown.room =
-    kept_room was.journal.held e was.shown was.starts was.names was.reported c.self.invariant may in
+    kept_room was.journal.held e was.shown was.starts was.names was.by_service c.self.invariant may in
     search rules
 
 pub invariant_of-self : goal.invariant_of-self
@@ -71,7 +71,7 @@ invariant_of-self c =
       kept = subst (λ (h : List Entry). ArePlacesKept h c.add.new.self) list c.add.ensures.kept;
       batches = c.add.ensures.batches ∙ c.self.invariant.placed.batches;
     } in
-    kept_more was.journal.held c.append.new.self.held e was.shown after was.starts c.apply_entry.new.starts was.names c.add-2.new.self was.reported
+    kept_more was.journal.held c.append.new.self.held e was.shown after was.starts c.apply_entry.new.starts was.names c.add-2.new.self was.by_service
     c.add.new.self c.self.invariant held grows follows first c.apply_entry.ensures.counted ranged names placed
 
 pub add-requires-2-clause-numbers : goal.add-requires-2-clause-numbers

@@ -22,7 +22,7 @@ returns c =
     let at : c.service_places-places.result ≡ places_of h.entries q.service =
     c.service_places-places.ensures ∙ sym (ap (λ (v : LimitedHistory). places_of v.entries q.service) c.self.view_is) in
     let all : found_in q (traces_named h.entries c.in_ok-spots.spots.items) ≡ found_in q (traces h.limits.traces (events h.entries)) =
-    found_kept q h was.shown was.starts was.names was.reported c.self.invariant ids c.in_ok-spots.spots.items c.in_ok-spots.ensures (
+    found_kept q h was.shown was.starts was.names was.by_service c.self.invariant ids c.in_ok-spots.spots.items c.in_ok-spots.ensures (
     ap (λ (ps : List ℕ). found_in q (map f (filter (any_of (near_along q h.entries ps)) was.shown.newest.ids))) at
     ∙ found_near q h.limits.traces h.entries was.shown.newest.ids) in
     subst (λ (v : LimitedHistory). found_in q (traces_named v.entries c.in_ok-spots.spots.items) ≡ found_in q (traces v.limits.traces (events v.entries)))

@@ -24,13 +24,13 @@ returns c =
     let h = was.journal.held in
     let q = c.args.query.now in
     let spots = spots_of was.shown in
-    let stands = trace_stands h.limits.traces h.entries spots (kept_spots h was.shown was.starts was.names was.reported c.self.invariant) in
-    let ids : List TraceId = filter (λ t. are_reported h.entries was.reported.service_numbers c.args.service (spots t)) was.shown.newest.ids in
+    let stands = trace_stands h.limits.traces h.entries spots (kept_spots h was.shown was.starts was.names was.by_service c.self.invariant) in
+    let ids : List TraceId = filter (λ t. are_reported h.entries was.by_service.service_numbers c.args.service (spots t)) was.shown.newest.ids in
     let known : Some c.args.service ≡ service_number_of h.entries q.service =
     c.requires ∙ sym (ap (λ (v : LimitedHistory). service_number_of v.entries q.service) c.self.view_is) in
     let all : found_in q (traces_named h.entries c.in_ok-spots.spots.items) ≡ found_in q (traces h.limits.traces (events h.entries)) =
-    found_kept q h was.shown was.starts was.names was.reported c.self.invariant ids c.in_ok-spots.spots.items c.in_ok-spots.ensures (
-    found_reported q h.entries was.reported.service_numbers c.args.service c.self.invariant.placed.kept.services_numbered known h.limits.traces spots
+    found_kept q h was.shown was.starts was.names was.by_service c.self.invariant ids c.in_ok-spots.spots.items c.in_ok-spots.ensures (
+    found_reported q h.entries was.by_service.service_numbers c.args.service c.self.invariant.placed.kept.services_numbered known h.limits.traces spots
     was.shown.newest.ids
     stands) in
     subst (λ (v : LimitedHistory). found_in q (traces_named v.entries c.in_ok-spots.spots.items) ≡ found_in q (traces v.limits.traces (events v.entries)))

@@ -18,9 +18,9 @@ returns c =
     let h = was.journal.held in
     let q = c.args.query.now in
     let spots : List (List Spot) = c.in_ok-spots.spots.items in
-    let p = is_hit q h was.shown was.starts was.names was.reported c.self.invariant in
+    let p = is_hit q h was.shown was.starts was.names was.by_service c.self.invariant in
     let fails = subst (λ (w : Window). FailsOutside w was.starts was.shown p) (sym c.search_window-window.ensures)
-    (outside_fails q h was.shown was.starts was.names was.reported c.self.invariant) in
+    (outside_fails q h was.shown was.starts was.names was.by_service c.self.invariant) in
     let all : found_in q (traces_named h.entries spots) ≡ found_in q (traces h.limits.traces (events h.entries)) =
-    found_within q h was.shown was.starts was.names was.reported c.self.invariant spots (c.in_ok-spots.ensures p fails) in
+    found_within q h was.shown was.starts was.names was.by_service c.self.invariant spots (c.in_ok-spots.ensures p fails) in
     subst (λ (v : LimitedHistory). found_in q (traces_named v.entries spots) ≡ found_in q (traces v.limits.traces (events v.entries))) c.self.view_is all

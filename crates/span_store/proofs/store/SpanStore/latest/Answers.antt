@@ -14,7 +14,7 @@ use Rattle.span_store.proofs.store.SpanStore.latest.Goals as goal
 pub spots_after-requires : goal.spots_after-requires
 spots_after-requires c =
     let was = c.self.inside in
-    as_many was.journal.held was.shown was.starts was.names was.reported c.self.invariant
+    as_many was.journal.held was.shown was.starts was.names was.by_service c.self.invariant
 
 pub returns-then-is_full : goal.returns-then-is_full
 returns-then-is_full c =
@@ -24,7 +24,7 @@ returns-then-is_full c =
     let first : TraceId → ℤ = λ t. first_start (spans_of_trace h.limits.traces (events h.entries) t) in
     let spots : List (List Spot) = c.in_ok-spots.spots.items in
     let full = OnTrue_at c.if-is_full.true c.is_full.ensures in
-    let are = c.in_ok-spots.ensures first (kept_first h was.shown was.starts was.names was.reported c.self.invariant) in
+    let are = c.in_ok-spots.ensures first (kept_first h was.shown was.starts was.names was.by_service c.self.invariant) in
     let candidate_search = c.candidate_search-latest.ensures in
     let count : length (found_in q (traces_named h.entries spots)) ≡ c.in_ok-found.found =
     sym (c.in_ok-found.ensures
@@ -33,5 +33,5 @@ returns-then-is_full c =
     ∙ ap (λ (f : Find). length (found_in f (traces_named h.entries c.deref.result.now))) c.in_ok-prepared.ensures
     ∙ ap (λ (ss : List (List Spot)). length (found_in q (traces_named h.entries ss))) c.deref.ensures.value) in
     let all : found_in q (traces_named h.entries spots) ≡ found_in q (traces h.limits.traces (events h.entries)) =
-    found_latest q h was.shown was.starts was.names was.reported c.self.invariant _ spots are full.0 (count ∙ full.1) in
+    found_latest q h was.shown was.starts was.names was.by_service c.self.invariant _ spots are full.0 (count ∙ full.1) in
     subst (λ (v : LimitedHistory). found_in q (traces_named v.entries spots) ≡ found_in q (traces v.limits.traces (events v.entries))) c.self.view_is all

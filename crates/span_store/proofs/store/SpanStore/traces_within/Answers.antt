@@ -26,13 +26,13 @@ returns-clause-links c =
     let lookback_ms = c.args.lookback_ms in
     let spots = spots_of was.shown in
     let taken = c.in_ok-taken.taken in
-    let stands = trace_stands h.limits.traces h.entries spots (kept_spots h was.shown was.starts was.names was.reported c.self.invariant) in
+    let stands = trace_stands h.limits.traces h.entries spots (kept_spots h was.shown was.starts was.names was.by_service c.self.invariant) in
     let seen : map placed_taken taken ≡ filter (list_any (in_window end_ms lookback_ms)) (map (trace_named h.entries spots) was.shown.newest.ids) =
     rw (e, l) at c.in_ok-taken.ensures.within in
     let all : links_in (map placed_taken taken) ≡ links end_ms lookback_ms (traces h.limits.traces (events h.entries)) =
     ap links_in seen ∙ links_chosen end_ms lookback_ms (map (trace_named h.entries spots) was.shown.newest.ids)
     ∙ ap (links end_ms lookback_ms)
-    ((λ i. map (λ t. stands t i) was.shown.newest.ids) ∙ kept_traces h was.shown was.starts was.names was.reported c.self.invariant) in
+    ((λ i. map (λ t. stands t i) was.shown.newest.ids) ∙ kept_traces h was.shown was.starts was.names was.by_service c.self.invariant) in
     subst (λ (v : LimitedHistory). links_in (map placed_taken taken) ≡ links end_ms lookback_ms (traces v.limits.traces (events v.entries))) c.self.view_is all
 
 pub returns-clause-numbered : goal.returns-clause-numbered
@@ -54,4 +54,4 @@ take_within-requires-clause-ranged c =
     let was = c.self.inside in
     let h = was.journal.held in
     named_ranged h.limits.traces h.entries (spots_of was.shown) was.shown.newest.ids was.starts
-    (kept_spots h was.shown was.starts was.names was.reported c.self.invariant) c.self.invariant.ranged
+    (kept_spots h was.shown was.starts was.names was.by_service c.self.invariant) c.self.invariant.ranged

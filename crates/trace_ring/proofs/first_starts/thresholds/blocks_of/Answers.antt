@@ -16,11 +16,11 @@ returns c =
     let s = c.starts.inside in
     let used : ℕ = length s.opened.items in
     let same = in_any_order used c.loop-block.blocks.items (heap_items c.from.result) c.from.ensures.1 in
-    let all : length (drop s.left s.opened.items) ≤ starts_in used (heap_items c.from.result) =
+    let all : length (drop s.evicted s.opened.items) ≤ starts_in used (heap_items c.from.result) =
     omega (
       arith,
       same,
-      length-drop s.left s.opened.items,
+      length-drop s.evicted s.opened.items,
       c.loop-block.invariant,
       c.loop-block-test.false,
       c.len-block-end.ensures,

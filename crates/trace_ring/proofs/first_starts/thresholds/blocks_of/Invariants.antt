@@ -6,4 +6,4 @@ use Rattle.trace_ring.proofs.first_starts.thresholds.blocks_of.Given as goal
 abbrev pub invariant-loop-block : goal.invariant-loop-block
 invariant-loop-block l =
     let used : ℕ = length l.starts-inside.opened.items in
-    min used (l.block * 256) ≤ starts_in used l.blocks.items + l.starts-inside.left / 256 * 256
+    min used (l.block * 256) ≤ starts_in used l.blocks.items + l.starts-inside.evicted / 256 * 256

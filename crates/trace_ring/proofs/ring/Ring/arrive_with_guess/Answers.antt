@@ -8,8 +8,8 @@ use Rattle.hash_tables.specs.IdRows.{id_at, no_id}
 use Rattle.trace_ring.proofs.ring.Ring.arrive_with_guess.Goals as goal
 use Rattle.trace_ring.proofs.ring.Ring.arrive_with_guess.Goals.{then-is_full, else-is_full}
 
-pub returns-clause-place : goal.returns-clause-place
-returns-clause-place c =
+pub returns-clause-found : goal.returns-clause-found
+returns-clause-found c =
     let ids = c.if-is_full.self.ids in
     let id = id_at c.if-is_full.self.seen c.enter_with_guess-row.result in
     let all = ids ++ id ∷ [] in

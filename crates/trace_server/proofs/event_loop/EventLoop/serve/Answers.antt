@@ -13,12 +13,12 @@ returns-in-Open-clause-underway g c =
 pub returns-in-Open-clause-goes_on : goal.returns-in-Open-clause-goes_on
 returns-in-Open-clause-goes_on g c = asking_goes_on g.N.StoreName.limits c.args.store.now c.take_turn.new.backend c.take_turn.ensures.asks
 
-pub returns-in-Left-clause-underway : goal.returns-in-Left-clause-underway
-returns-in-Left-clause-underway g c =
+pub returns-in-Removed-clause-underway : goal.returns-in-Removed-clause-underway
+returns-in-Removed-clause-underway g c =
     subst (AllUnderway g.N.StoreName.limits c.take_turn.new.backend) (sym c.close_connection.ensures.open) c.take_turn.ensures.underway
 
-pub returns-in-Left-clause-goes_on : goal.returns-in-Left-clause-goes_on
-returns-in-Left-clause-goes_on g c = asking_goes_on g.N.StoreName.limits c.args.store.now c.take_turn.new.backend c.take_turn.ensures.asks
+pub returns-in-Removed-clause-goes_on : goal.returns-in-Removed-clause-goes_on
+returns-in-Removed-clause-goes_on g c = asking_goes_on g.N.StoreName.limits c.args.store.now c.take_turn.new.backend c.take_turn.ensures.asks
 
 pub returns-in-Absent-clause-goes_on : goal.returns-in-Absent-clause-goes_on
 returns-in-Absent-clause-goes_on g c = asking_goes_on g.N.StoreName.limits c.args.store.now c.take_turn.new.backend c.take_turn.ensures.asks

@@ -14,7 +14,7 @@ pub returns-then-is_none-clause-progress : goal.returns-then-is_none-clause-prog
 returns-then-is_none-clause-progress c =
     let none : is_some c.more.result ≡ false = c.if-is_none.ensures in
     progresses-state _ _ _ _ c.in-Past.is refl _ _ _ (Ok progress.NeedsMore)
-    (now-waits _ _ _ _ _ (reaches-none (λ x. x) _ _ _ _ _ none c.more.ensures.reads))
+    (now-waits _ _ _ _ _ (reaches-none _ _ _ _ _ none c.more.ensures.reads))
 
 pub returns-else-is_none-clause-progress : goal.returns-else-is_none-clause-progress
 returns-else-is_none-clause-progress c =

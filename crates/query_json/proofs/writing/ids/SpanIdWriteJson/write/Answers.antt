@@ -6,4 +6,4 @@ use Rattle.query_json.proofs.writing.ids.SpanIdWriteJson.write.Goals as goal
 
 pub returns : goal.returns
 unfolding span_text
-returns c = Puts-is c.quoted_number.ensures (ap (λ (t : List ℕ). 34 ∷ (t ++ 34 ∷ [])) (sym (escape_low_digits 16 c.args.self.now.0)))
+returns c = Puts-is c.push_quoted_hex.ensures (ap (λ (t : List ℕ). 34 ∷ (t ++ 34 ∷ [])) (sym (escape_low_digits 16 c.args.self.now.0)))

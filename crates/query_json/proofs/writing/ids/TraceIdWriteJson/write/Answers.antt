@@ -7,7 +7,7 @@ use Rattle.query_json.proofs.writing.ids.TraceIdWriteJson.write.Goals as goal
 pub returns-then-self-eq0 : goal.returns-then-self-eq0
 returns-then-self-eq0 c =
     let t = c.args.self.now in
-    Puts-is c.quoted_number.ensures (ap (λ (ds : List ℕ). 34 ∷ (ds ++ 34 ∷ [])) (short_text t c.if-self-eq0.true ∙ sym (escape_trace_text t)))
+    Puts-is c.push_quoted_hex.ensures (ap (λ (ds : List ℕ). 34 ∷ (ds ++ 34 ∷ [])) (short_text t c.if-self-eq0.true ∙ sym (escape_trace_text t)))
 
 pub returns : goal.returns
 returns c =

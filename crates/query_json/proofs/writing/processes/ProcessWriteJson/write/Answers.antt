@@ -6,5 +6,5 @@ use Rattle.query_json.proofs.writing.processes.ProcessWriteJson.write.Goals as g
 pub returns : goal.returns
 unfolding escape_byte
 returns c =
-    Puts-is (c.push_str.ensures ▸ c.string.ensures ▸ c.push_str-2.ensures ▸ c.write_tags.ensures ▸ c.push_str-3.ensures)
+    Puts-is (c.push_str.ensures ▸ c.push_quoted.ensures ▸ c.push_str-2.ensures ▸ c.write_tags.ensures ▸ c.push_str-3.ensures)
     (rw (c.as_str.ensures.value, c.as_slice.ensures) (put_tree-text (process_tree c.args.self.now)))

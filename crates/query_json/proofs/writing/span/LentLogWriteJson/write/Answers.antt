@@ -9,6 +9,6 @@ use Rattle.query_json.proofs.writing.span.LentLogWriteJson.write.Goals as goal
 pub returns : goal.returns
 unfolding escape_byte
 returns c =
-    Puts-is (c.push_str.ensures ▸ c.write_tags.ensures ▸ c.push_str-2.ensures ▸ Puts-is c.integer_at.ensures (sym (integer_text c.args.self.now.at))
+    Puts-is (c.push_str.ensures ▸ c.write_tags.ensures ▸ c.push_str-2.ensures ▸ Puts-is c.push_signed_ref.ensures (sym (integer_text c.args.self.now.at))
     ▸ c.push_str-3.ensures)
     (put_tree-text (log_tree (lent_log c.args.self.now)))

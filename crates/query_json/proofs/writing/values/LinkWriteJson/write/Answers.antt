@@ -6,5 +6,6 @@ use Rattle.query_json.proofs.writing.values.LinkWriteJson.write.Goals as goal
 pub returns : goal.returns
 unfolding escape_byte
 returns c =
-    Puts-is (c.push_str.ensures ▸ c.count.ensures ▸ c.push_str-2.ensures ▸ c.string.ensures ▸ c.push_str-3.ensures ▸ c.string-2.ensures ▸ c.push_str-4.ensures)
+    Puts-is (c.push_str.ensures ▸ c.push_unsigned.ensures ▸ c.push_str-2.ensures ▸ c.push_quoted.ensures ▸ c.push_str-3.ensures ▸ c.push_quoted-2.ensures ▸
+    c.push_str-4.ensures)
     (rw (c.as_str.ensures, c.as_str-2.ensures) (put_tree-text (link_tree c.args.self.now)))

@@ -6,5 +6,5 @@ use Rattle.query_json.proofs.writing.values.OperationWriteJson.write.Goals as go
 pub returns : goal.returns
 unfolding escape_byte
 returns c =
-    Puts-is (c.push_str.ensures ▸ c.string.ensures ▸ c.push_str-2.ensures ▸ c.string-2.ensures ▸ c.push_str-3.ensures)
+    Puts-is (c.push_str.ensures ▸ c.push_quoted.ensures ▸ c.push_str-2.ensures ▸ c.push_quoted-2.ensures ▸ c.push_str-3.ensures)
     (rw (c.as_str.ensures, c.as_str-2.ensures.value) (put_tree-text (operation_tree c.args.self.now)))

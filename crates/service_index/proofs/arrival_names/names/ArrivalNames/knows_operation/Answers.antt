@@ -38,12 +38,12 @@ returns c =
     ap (λ (x : List Entry). has_operation s o k (listing_by (names_of_arrivals x) c.self.inside.index)) c.arrivals-arrivals.ensures
     ∙ ap (λ (v : KeptNames). has_operation s o k (listing_by (names_of_arrivals h) v.index)) c.self.view_is
     ∙ ap (has_operation s o k) c.requires.kept.listed in
-    let plain = c.knows_in-plain.ensures s is ∙ reported [] in
-    let client = c.knows_in-client.ensures s is ∙ reported (codes "client") in
-    let server = c.knows_in-server.ensures s is ∙ reported (codes "server") in
-    let producer = c.knows_in-producer.ensures s is ∙ reported (codes "producer") in
-    let consumer = c.knows_in-consumer.ensures s is ∙ reported (codes "consumer") in
-    let internal = c.knows_in-internal.ensures s is ∙ reported (codes "internal") in
-    six_along c.knows_in-plain.result c.knows_in-client.result c.knows_in-server.result c.knows_in-producer.result c.knows_in-consumer.result
-    c.knows_in-internal.result
+    let plain = c.knows_operation-plain.ensures s is ∙ reported [] in
+    let client = c.knows_operation-client.ensures s is ∙ reported (codes "client") in
+    let server = c.knows_operation-server.ensures s is ∙ reported (codes "server") in
+    let producer = c.knows_operation-producer.ensures s is ∙ reported (codes "producer") in
+    let consumer = c.knows_operation-consumer.ensures s is ∙ reported (codes "consumer") in
+    let internal = c.knows_operation-internal.ensures s is ∙ reported (codes "internal") in
+    six_along c.knows_operation-plain.result c.knows_operation-client.result c.knows_operation-server.result c.knows_operation-producer.result
+    c.knows_operation-consumer.result c.knows_operation-internal.result
     ∙ (λ i. plain i || (client i || (server i || (producer i || (consumer i || internal i))))) ∙ all_kinds s o (arrivals h)

@@ -25,11 +25,11 @@ returns-clause-numbers c =
     let entries = c.args.entries.now in
     let h : List Entry = map (arc_value {X = Entry} {Z = Global}) entries in
     let before = before_last h in
-    let a = c.index-entries-before.result in
+    let a = c.index-entries-entry_index.result in
     let e = arc_value a in
     let l : length h ≡ length entries = length-map entries (arc_value {X = Entry} {Z = Global}) in
     let last : length before ≡ length h - 1 = length-take-le (length h - 1) h (omega arith) in
-    let whole : before ++ e ∷ [] ≡ h = last_entry entries a e (omega arith) c.index-entries-before.is refl in
+    let whole : before ++ e ∷ [] ≡ h = last_entry entries a e (omega arith) c.index-entries-entry_index.is refl in
     let old = c.self.inside in
     let numbers : AreOf before old.entry_of.items old.firsts.items =
     subst (λ (v : Numbered). AreOf before v.entry_of v.firsts) (sym c.self.view_is) c.requires.numbers in
@@ -51,9 +51,9 @@ returns-clause-kinds c =
     let entries = c.args.entries.now in
     let h : List Entry = map (arc_value {X = Entry} {Z = Global}) entries in
     let before = before_last h in
-    let a = c.index-entries-before-2.result in
+    let a = c.index-entries-entry_index-2.result in
     let e = arc_value a in
-    let whole : before ++ e ∷ [] ≡ h = last_entry entries a e (omega arith) c.index-entries-before-2.is refl in
+    let whole : before ++ e ∷ [] ≡ h = last_entry entries a e (omega arith) c.index-entries-entry_index-2.is refl in
     let old = c.self.inside in
     let kinds : AreKinds before old.kinds.items = subst (λ (v : Numbered). AreKinds before v.kinds) (sym c.self.view_is) c.requires.kinds in
     let spans : c.spans.result.now ≡ spans_brought e.work = c.spans.ensures ∙ ap (λ (x : Entry). spans_brought x.work) c.deref-2.ensures in
@@ -67,8 +67,8 @@ pub add_kinds-requires-clause-first : goal.add_kinds-requires-clause-first
 add_kinds-requires-clause-first c =
     let entries = c.args.entries.now in
     let h : List Entry = map (arc_value {X = Entry} {Z = Global}) entries in
-    let a = c.index-entries-before-2.result in
+    let a = c.index-entries-entry_index-2.result in
     let e = arc_value a in
-    let whole : before_last h ++ e ∷ [] ≡ h = last_entry entries a e (omega arith) c.index-entries-before-2.is refl in
+    let whole : before_last h ++ e ∷ [] ≡ h = last_entry entries a e (omega arith) c.index-entries-entry_index-2.is refl in
     let spans : c.spans.result.now ≡ spans_brought e.work = c.spans.ensures ∙ ap (λ (x : Entry). spans_brought x.work) c.deref-2.ensures in
     c.requires.first e (sym whole) ∙ ap first_kinds (sym spans)

@@ -19,7 +19,7 @@ returns c =
     let a = c.self.inside in
     let h : List Entry = map (arc_value {X = Entry} {Z = Global}) a.entries.now in
     let asked : c.args.n < length (arrivals h) = subst (λ (x : List Entry). c.args.n < length (arrivals x)) (sym c.self.view_is) c.requires in
-    let r = c.index-self-before.result in
+    let r = c.index-self-entry_index.result in
     let k = get_or a.entry_of.now c.args.n 0 in
     let e : Entry = arc_value (get_or a.entries.now k r) in
     let came = came_in a.entries.now a.entry_of.now a.firsts.now c.args.n r e c.self.invariant.0 asked refl in

@@ -8,5 +8,5 @@ abbrev pub invariant-loop : goal.invariant-loop
 invariant-loop g l = (goal.iterator-loop g).can_next l.iterator' × (goal.iterator-loop g).is_finite l.iterator'
     × (l.books.inbox.desk ≡ l.initial.books.inbox.desk)
     × (l.books.inbox.desk ≡ l.seat.desk)
-    × Balances l.books.inbox.taken l.books.accounts (map arc_value l.books.left.items)
+    × Balances l.books.inbox.taken l.books.accounts (map arc_value l.books.unjudged.items)
     × ((l.seat.may_submit ≡ true) ⊎ HasEnded l.books.inbox.ended l.seat.seat l.seat.jobs)

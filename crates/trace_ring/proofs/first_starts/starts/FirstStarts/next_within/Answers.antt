@@ -1,7 +1,7 @@
 use Rattle.std.proofs.Common.{◌≡◌, ◌+◌, ◌/◌, ◌<◌, ◌∙◌, get_or, length, sym, ap, arith, inl, inr}
 use Rattle.std.proofs.lemmas.Bool.{cases_lt}
 use Rattle.std.proofs.lemmas.List.{get_or_read}
-use Rattle.trace_ring.specs.StartRanges.{no_range, reaches}
+use Rattle.trace_ring.specs.StartRanges.{no_range, overlaps}
 use Rattle.trace_ring.proofs.BlockRanges.{block_before}
 use Rattle.trace_ring.proofs.first_starts.starts.FirstStarts.next_within.Goals as goal
 
@@ -16,11 +16,11 @@ loop-at-preserved c =
     c.index.ensures no_range in
     record {
       from = omega (arith, from);
-      skipped = λ k low high. elim (cases_lt (s.left + k) at) [
+      skipped = λ k low high. elim (cases_lt (s.evicted + k) at) [
         | inl before ↦ i.skipped k low before
         | inr here ↦
-            let same : (s.left + k) / 256 ≡ at / 256 = omega (arith, here, high) in
-            ap (λ n. reaches c.args.window (get_or s.ranges.items n no_range)) same
-            ∙ sym (c.reaches.ensures ∙ ap (reaches c.args.window) range) ∙ c.if-reaches.false
+            let same : (s.evicted + k) / 256 ≡ at / 256 = omega (arith, here, high) in
+            ap (λ n. overlaps c.args.window (get_or s.ranges.items n no_range)) same
+            ∙ sym (c.overlaps.ensures ∙ ap (overlaps c.args.window) range) ∙ c.if-overlaps.false
       ];
     }

@@ -1,12 +1,12 @@
 use Rattle.std.proofs.Common.{◌≡◌, ℕ, ◌+◌, ◌-◌, ◌/◌, ◌<◌, ◌≤◌, false, length, get_or}
-use Rattle.trace_ring.specs.StartRanges.{no_range, reaches}
+use Rattle.trace_ring.specs.StartRanges.{no_range, overlaps}
 use Rattle.trace_ring.proofs.first_starts.starts.FirstStarts.next_within.Given as goal
 
 abbrev pub invariant-loop-at : goal.invariant-loop-at
 invariant-loop-at l = record {
-  from : l.self-inside.left + l.from ≤ l.at;
-  skipped : (k : ℕ) → l.from ≤ k → l.self-inside.left + k < l.at
-      → reaches l.window (get_or l.self-inside.ranges.items ((l.self-inside.left + k) / 256) no_range) ≡ false;
+  from : l.self-inside.evicted + l.from ≤ l.at;
+  skipped : (k : ℕ) → l.from ≤ k → l.self-inside.evicted + k < l.at
+      → overlaps l.window (get_or l.self-inside.ranges.items ((l.self-inside.evicted + k) / 256) no_range) ≡ false;
 }
 
 abbrev pub decreases-loop-at : goal.decreases-loop-at

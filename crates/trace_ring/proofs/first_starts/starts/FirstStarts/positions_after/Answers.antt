@@ -19,7 +19,7 @@ loop-at-preserved-then-not-is_later c =
     record {
       from = omega (arith, from);
       found =
-          ap (λ l. c.loop-at.positions.items ++ l) (sym (block_miss s.room s.left s.opened.items s.bounds.items time at c.self.invariant.2 from below early))
+          ap (λ l. c.loop-at.positions.items ++ l) (sym (block_miss s.room s.evicted s.opened.items s.bounds.items time at c.self.invariant.2 from below early))
           ∙ i.found;
     }
 
@@ -28,13 +28,13 @@ loop-at-preserved c =
     let time : ℤ = to_z w64 (of_z w64 c.args.time) in
     let s = c.self.inside in
     let at = c.loop-at.at in
-    let place : ℕ = at - s.left in
+    let place : ℕ = at - s.evicted in
     let before : List ℕ = c.loop-at.positions.items in
-    let rest : List ℕ = positions_from time (at + 1 - s.left) (drop (at + 1) s.opened.items) in
+    let rest : List ℕ = positions_from time (at + 1 - s.evicted) (drop (at + 1) s.opened.items) in
     let i = c.loop-at.invariant in
     let from = i.from in
     let below : at < length s.opened.items = omega arith in
-    let next : place + 1 ≡ at + 1 - s.left = omega (arith, from) in
+    let next : place + 1 ≡ at + 1 - s.evicted = omega (arith, from) in
     let read : c.is_later-in-loop-at.result ≡ int_lt time (get_or s.opened.items at (pos 0)) =
     c.is_later-in-loop-at.ensures ∙ ap (λ os. int_lt time (get_or os at (pos 0))) c.deref-in-loop-at.ensures.value in
     record {

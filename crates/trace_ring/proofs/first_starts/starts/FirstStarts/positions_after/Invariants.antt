@@ -4,9 +4,9 @@ use Rattle.trace_ring.proofs.first_starts.starts.FirstStarts.positions_after.Giv
 
 abbrev pub invariant-loop-at : goal.invariant-loop-at
 invariant-loop-at l = record {
-  from : l.self-inside.left ≤ l.at;
-  found : l.positions.items ++ positions_from l.time (l.at - l.self-inside.left) (drop l.at l.self-inside.opened.items)
-      ≡ positions_after l.time (drop l.self-inside.left l.self-inside.opened.items);
+  from : l.self-inside.evicted ≤ l.at;
+  found : l.positions.items ++ positions_from l.time (l.at - l.self-inside.evicted) (drop l.at l.self-inside.opened.items)
+      ≡ positions_after l.time (drop l.self-inside.evicted l.self-inside.opened.items);
 }
 
 abbrev pub decreases-loop-at : goal.decreases-loop-at

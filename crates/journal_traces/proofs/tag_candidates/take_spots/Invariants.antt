@@ -1,9 +1,0 @@
-use Rattle.std.proofs.Common.{map, drop}
-use Rattle.journal_traces.specs.TagCandidates.{spot_of, entries_shared, IsTakenFrom}
-use Rattle.journal_traces.proofs.TakingSpans.{IsTaking}
-use Rattle.journal_traces.proofs.tag_candidates.take_spots.Given as goal
-
-abbrev pub invariant-loop-spot : goal.invariant-loop-spot
-invariant-loop-spot l =
-    IsTaking (IsTakenFrom (entries_shared l.entries)) (entries_shared l.entries) l.fn.traces l.traces
-    (map spot_of (drop l.spot-index l.spots)) (map spot_of l.spots)
