@@ -477,16 +477,18 @@ def speed(found):
     mine, plain = (cell(found.of("compare --count", name)) for name in ("rattle", "rust"))
     mine_full, plain_full = found.of("growth", "the longest POST, ms", 10_000_000)
     rounds = re.search(r"--rounds (\d+)", found.series["growth"]["command"])[1]
+    beside = max(it[5] for it in found.rows("held") if it[1:3] == [1_000_000, "spans"])
     rows = [
         ["decoding, instructions a byte", mine, plain, decoders(found)[0]],
         *([f"spans taken in a second from {writers} writer{'s' * (writers > 1)}", *of_both(ALONE, writers)] for writers in (1, 4)),
         ["a POST of one of four writers, beside two readers at full speed, p99, ms", *of_both(POST, 4)],
         ["20 traces with their JSON among 100,000 spans, ms", f"{store_ms:.2f}", f"{scan_ms:.0f}", two(scan_ms / store_ms)],
+        ["the longest POST beside any kind of query of 1,000,000 spans, ms", f"{beside:.0f}", "not compared", ""],
         [f"the longest POST while a store fills to 10,000,000 spans, the least of {rounds} rounds, ms", cell(mine_full), cell(plain_full), two(plain_full / mine_full)],
         ["memory at 100,000 spans, bytes a span, by its tags", per_span, "not compared", ""],
     ]
     heads = ["What", "Kiwibismuth", "Plain Rust", "Times as good"]
-    return table(heads, rows) + found.days("compare --count", "serve", "searches", "growth", "memory")
+    return table(heads, rows) + found.days("compare --count", "serve", "searches", "held", "growth", "memory")
 
 
 memory_processes = printed("memory --process-tags", [
