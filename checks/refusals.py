@@ -201,9 +201,14 @@ def fits_nothing(status, said):
     return status == 2 and not re.search(r"^only=", said, re.M) and ("only" in said or "has no function" in said)
 
 
+def whole_lines(said):
+    """Returns the lines of what a check said, each with the indented ones below it, which continue it."""
+    return re.sub(r"\n {2,}(?=\S)", " ", said).splitlines()
+
+
 def outcome_of(status, said, edited):
     """Returns what a check with an edit of these files came to, and the line that says why; None if what it checked is proved."""
-    lines = said.splitlines()
+    lines = whole_lines(said)
     errors = [(found["file"], found["said"], line) for line in lines if (found := ERROR.match(line))]
     has_ended = any(line.startswith(("only=", "logic=")) for line in lines)
     if status == 0:
@@ -237,9 +242,10 @@ class Check:
     def __init__(self, status, said, seconds, names):
         """Reads the verdicts and the errors."""
         self.status, self.said, self.seconds, self.names = status, said, seconds, names
-        self.errors = [found for line in said.splitlines() if (found := ERROR.match(line))]
+        lines = whole_lines(said)
+        self.errors = [found for line in lines if (found := ERROR.match(line))]
         self.verdicts = {}
-        for found in filter(None, map(VERDICT.match, said.splitlines())):
+        for found in filter(None, map(VERDICT.match, lines)):
             self.verdicts.setdefault(owner_of(found["name"]), []).append(found)
 
     def is_of(self, error, change):

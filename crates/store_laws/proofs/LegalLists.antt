@@ -1,13 +1,12 @@
 -- A history is legal with one more entry exactly if that is added; its prefixes are legal; its splits.
-use Rattle.std.proofs.Common.{◌≡◌, ℕ, ◌+◌, ◌<◌, ◌≤◌, List, [], ◌∷◌, ◌++◌, length, refl, sym, ap, ◌∙◌, subst, append_assoc, arith, length-append}
-use Rattle.std.specs.Prelude.{◌==◌, ◌↔◌, Ok}
+use Rattle.std.proofs.Common.{◌≡◌, ◌<◌, List, [], ◌∷◌, ◌++◌, refl, sym, ap, subst, append_assoc, arith}
+use Rattle.std.specs.Prelude.{◌↔◌, Ok}
 use Rattle.std.proofs.lemmas.List.{append-nil}
 use Rattle.trace_model.specs.declared.entry.Entry.{Entry}
 use Rattle.trace_model.specs.declared.limits.Limits.{Limits}
 use Rattle.trace_model.specs.declared.admission.Admission.TheVariants.{Added}
 use Rattle.trace_model.specs.Refusals.{admission}
-use Rattle.trace_model.specs.EntryWork.{spans_brought}
-use Rattle.trace_model.specs.Histories.{last_number, span_count, IsLegal, AboveEach, RisesAfter}
+use Rattle.trace_model.specs.Histories.{last_number, IsLegal, AboveEach, RisesAfter}
 use Rattle.trace_model.proofs.Admissions.{MayFollow, IsSaid, admission_says}
 use Rattle.trace_model.proofs.Legality.{last_is_added, rises_pushed, above_last, above_each, legal_push, rises_front, legal_front}
 use Rattle.store_laws.specs.Splits.{RisesBySplits}

@@ -1,6 +1,6 @@
 -- No batch with a number is in a legal list twice; the answer to one that is submitted again.
 use Rattle.std.proofs.Common.{◌≡◌, ℕ, suc, ◌+◌, ◌<◌, Bool, true, false, Some, None, List, [], ◌∷◌, ◌++◌, length, fold, refl, sym, ap, ◌∙◌, subst, append_assoc}
-use Rattle.std.proofs.Common.{add-one, inl, inr, get_or, zero}
+use Rattle.std.proofs.Common.{add-one, inl, inr, zero}
 use Rattle.std.specs.Prelude.{Result, Ok, Err, position, if◌then◌else◌}
 use Rattle.std.specs.Option.{is_some}
 use Rattle.std.specs.List.{list_any}
