@@ -17,7 +17,8 @@ check takes 0.5 to 2 GB. Libraries below a crate that aren't built are built fir
 
 What came of an edit is a line of wrong-bodies/results.tsv, written after each check, so the script may be stopped and started again: an edit is
 passed over if its own text and its crate's src/, specs/ and proofs/ are those of its line. The columns: crate; edit; outcome; what was checked,
-functions or `crate`; the first line that says why; seconds of a processor, of a round its share; the commit; sums of the crate's text and of the edit's.
+functions or `crate`; the first line that says why; seconds of a processor, of a round its share; the commit; sums of the crate's text, without
+comments, and of the edit's.
 
     refused       a changed function, or of an edit that is tried alone one that it calls, is not proved: a clause, a call's premise or an
                   invariant fails
@@ -84,10 +85,16 @@ def sum_of(*texts):
     return made.hexdigest()[:12]
 
 
+def uncommented(file):
+    """Returns the lines of a file that are neither blank nor comments."""
+    mark = b"//" if file.suffix == ".rt" else b"--"
+    return b"\n".join(line for line in file.read_bytes().splitlines() if line.strip() and not line.lstrip().startswith(mark))
+
+
 def crate_sum(crate):
-    """Returns the sum of what a check reads of the crate."""
+    """Returns the sum of what a check reads of the crate, without lines that are comments."""
     files = sorted(file for part in ("src", "specs", "proofs") for file in (crate / part).rglob("*") if file.is_file())
-    return sum_of(*(part for file in files for part in (str(file.relative_to(crate)).encode(), file.read_bytes())))
+    return sum_of(*(part for file in files for part in (str(file.relative_to(crate)).encode(), uncommented(file))))
 
 
 class Rows:
