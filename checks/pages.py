@@ -36,7 +36,7 @@ proxy_next_upstream proxy_pass proxy_read_timeout worker_connections worker_rlim
 proxy_request_buffering SPAN_STORAGE_TYPE OOMKilled busybox chroot docker healthcheck healthy htpasswd inactive jq ldd openssl podman ports shareProcessNamespace systemctl tini wget listening.txt urls.txt
 --admin --cacert --cap-drop --collector --disable-dns --init --log-level --memory --memory-swap --metrics-backend --name --network --now --previous --query --read-only --restart --sampling --security-opt
 --anew --exclude-dir --fail-alloc --fail-early --help --retry --test --version
-PORT Type::function minLogs sha256sum path/file.rt probe
+PORT Type::function minLogs sha256sum path/file.rt probe RT_JOBS
 """.split())
 PLACEHOLDER = re.compile(r"\b[A-Z]{3,}\b")
 
