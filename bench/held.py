@@ -146,14 +146,16 @@ ASKED_AT_ONCE = {
 
 
 def plain_bodies(spans):
-    """Traces of ten spans of ten services that call one another, in batches of a service; each tenth trace has an error."""
+    """Traces of ten spans of ten services that call one another, in batches of a service; each tenth trace has an error, and each thousandth a rare
+    operation."""
     bad = wire.structs(10, [tag("error", "true")])
     traces = min(spans, MOST_SPANS - FREE) // 10
     for first in range(0, traces, IN_BATCH):
         numbers = range(first, min(first + IN_BATCH, traces))
         for service in range(10):
             yield wire.batch(f"s{service}", [
-                wire.span(1 + k, 1 + service, service, start=1_600_000_000_000_000 + 1000 * k, more=bad if k % 10 == 0 else b"")
+                wire.span(1 + k, 1 + service, service, "rare" if k % 1000 == 0 else "op", start=1_600_000_000_000_000 + 1000 * k,
+                          more=bad if k % 10 == 0 else b"")
                 for k in numbers], [tag("ip", f"10.0.0.{service}"), tag("host", "a")])
 
 
@@ -165,6 +167,8 @@ PLAIN = {
     "all dependencies": DEPENDENCIES,
     **LATEST,
     "the 100,000 latest of a service": search("&limit=100000", "s3"),
+    "the 20 latest of an operation": search("&operation=op&limit=20", "s3"),
+    "all of a rare operation": search("&operation=rare&limit=0", "s3"),
     "the 20 latest of a service with a tag": search("&tag=error:true&limit=20", "s3"),
     "all of a service with no such tag": search("&tag=error:maybe&limit=20", "s3"),
     "a trace": get("/api/traces/7"),

@@ -4,6 +4,7 @@ ghost use Rattle.std.specs.Prelude.{◌≡◌, IfOk, map};
 ghost use Rattle.find_traces.specs.FoundIndices.{hits, indices_found};
 ghost use Rattle.find_traces.specs.Keys.{reverse_key_of, reverse_key_index};
 
+use crate::growth::push_tightly;
 use crate::key::{Key, key_at};
 use crate::searched::Searched;
 use std::alloc::{AllocError, Global};
@@ -20,7 +21,7 @@ fn all_hits<T: Searched>(alloc: Global, traces: &mut T) -> Result<Vec<Reverse<Ke
     let mut found = Vec::new(alloc);
     for index in 0..traces.count() {
         if traces.is_found_at(alloc, index)? {
-            found.push(Reverse(key_at(traces, index)))?;
+            push_tightly(&mut found, Reverse(key_at(traces, index)))?;
         }
     }
     Ok(found)

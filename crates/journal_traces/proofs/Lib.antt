@@ -17,5 +17,6 @@ pub mod OutlineBounds
 pub mod WindowBounds
 pub mod TracesOfWindows
 pub mod RequestedService
+pub mod RequestedOperation
 pub mod SkippedTraces
 pub mod KeyClasses

@@ -9,10 +9,10 @@ use Rattle.trace_model.specs.Searching.{matches}
 use Rattle.trace_model.specs.ServiceLinks.{in_window}
 use Rattle.journal_traces.specs.AdoptedSpans.{adopted}
 
-abbrev with_if : Bool → Span → Span
+abbrev pub with_if : Bool → Span → Span
 with_if b s = if b then s else record s { references = parent_reference s ∷ s.references }
 
-abbrev placed_if : Bool → Placed → Placed
+abbrev pub placed_if : Bool → Placed → Placed
 placed_if b p = record { process = p.process; span = with_if b p.span }
 
 -- ---- searches

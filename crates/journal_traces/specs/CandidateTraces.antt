@@ -6,7 +6,7 @@ use Rattle.journal_traces.specs.declared.candidates.CandidateSearch.{CandidateSe
 use Rattle.journal_traces.specs.SpansAtSpots.{traces_named}
 
 abbrev pub traces_of : CandidateSearch → List (List Placed)
-traces_of c = traces_named c.journal.now.held.entries c.spots.now
+traces_of c = traces_named c.store.journal.now.held.entries c.spots.now
 
 -- the search that considers them
 abbrev pub query_of : CandidateSearch → Find

@@ -4,6 +4,8 @@ use Rattle.std.specs.Option.{option_and_then}
 use Rattle.jaeger_model.specs.declared.batch.Batch.{Batch}
 use Rattle.jaeger_model.specs.declared.batch.Process.{Process}
 use Rattle.jaeger_model.specs.declared.ids.TraceId.{TraceId}
+use Rattle.jaeger_model.specs.declared.span.Span.{Span}
+use Rattle.jaeger_model.specs.Parents.{with_parent}
 use Rattle.jaeger_model.specs.declared.placed.Placed.{Placed}
 use Rattle.trace_model.specs.declared.entry.Entry.{Entry}
 use Rattle.trace_model.specs.Places.{entry_at}
@@ -29,6 +31,10 @@ trace_named h spots t = spans_named h (spots t)
 -- the traces that have these spots
 abbrev pub traces_named : List Entry → List (List Spot) → List (List Placed)
 traces_named h ss = map (spans_named h) ss
+
+-- a span of this process as a store keeps it
+abbrev pub placed_in : Process → Span → Placed
+placed_in process s = record { process = process; span = with_parent s }
 
 -- the process of the batch at a place
 abbrev pub process_at : List Entry → ℕ → Option Process

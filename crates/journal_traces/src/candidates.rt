@@ -1,29 +1,29 @@
-ghost use Rattle.journal_traces.specs.Told.{AreTold};
+ghost use Rattle.journal_traces.specs.Told.{AreTold, AreOperationsTold};
 ghost use Rattle.std.proofs.Props.{props};
 
 use crate::judging::Judging;
+use crate::requested_numbers::RequestedNumbers;
 use crate::spotted_spans::{first_id, first_start, is_found};
-use arrival_journal::Journal;
+use crate::store_view::StoreView;
 use find_traces::{PreparedSearch, Searched};
 use jaeger_model::TraceId;
-use service_index::ServicePlaces;
 use std::alloc::{AllocError, Global};
 use trace_assembly::Spots;
 
 /// A search, and the traces that it considers, by the spots of their spans in the journal. Numbers tell which
-/// entries are of its service.
+/// entries are of its service, and which spans have its operation.
 #[derive(Clone, Copy)]
 pub struct CandidateSearch<'a> {
-    pub journal: &'a Journal,
-    /// The numbers of the services of the journal's entries.
-    pub by_service: &'a ServicePlaces,
-    /// The number of the search's service; none if no entry is of it.
-    pub service_number: Option<u32>,
+    pub store: StoreView<'a>,
+    pub requested: RequestedNumbers,
     pub prepared: &'a PreparedSearch<'a>,
     /// The spots of each trace, those of the one opened first at the front.
     pub spots: &'a [Spots<'a>],
-    pub ghost correct: { AreTold prepared.now journal.now.held.entries
-        by_service.now.service_numbers service_number } by { Prim.hlevel props },
+    pub ghost correct: { AreTold prepared.now store.journal.now.held.entries
+        store.by_service.now.service_numbers requested.service } by { Prim.hlevel props },
+    pub ghost operations: { AreOperationsTold prepared.now store.journal.now.held.entries
+        store.names.now.numbers.firsts store.names.now.operation_rows
+        requested.operation } by { Prim.hlevel props },
 }
 
 impl<'a> Searched for CandidateSearch<'a> {
@@ -43,14 +43,14 @@ impl<'a> Searched for CandidateSearch<'a> {
 
     fn start_at(&self, index: usize) -> i64 {
         match self.spots.get(index) {
-            Some(spots) => first_start(self.journal, spots.again()),
+            Some(spots) => first_start(self.store.journal, spots.again()),
             None => 0,
         }
     }
 
     fn id_at(&self, index: usize) -> Option<TraceId> {
         match self.spots.get(index) {
-            Some(spots) => first_id(self.journal, spots.again()),
+            Some(spots) => first_id(self.store.journal, spots.again()),
             None => None,
         }
     }
@@ -58,12 +58,7 @@ impl<'a> Searched for CandidateSearch<'a> {
     fn is_found_at(&mut self, alloc: Global, index: usize) -> Result<bool, AllocError> {
         match self.spots.get(index) {
             Some(spots) => {
-                let judging = Judging::new(
-                    self.journal,
-                    self.by_service,
-                    self.prepared,
-                    self.service_number,
-                );
+                let judging = Judging::new(self.store, self.prepared, self.requested);
                 is_found(alloc, &judging, spots.again())
             }
             None => Ok(false),

@@ -18,7 +18,7 @@ use crate::judged_entries::JudgedEntries;
 use crate::process_conditions::{has_tags, judge};
 use crate::taken_spot::TakenSpot;
 use crate::trace_parts::trace_part;
-use find_traces::{JudgedProcess, PreparedSearch};
+use find_traces::{JudgedProcess, PreparedSearch, push_tightly};
 use jaeger_model::{Batch, Seen};
 use span_steps::meets_span_conditions;
 use std::alloc::{AllocError, Global};
@@ -266,7 +266,7 @@ impl<'q> CollectedCandidates<'q> {
         ensures traces { self.new.traces ≡ self.old.traces }
     {
         let entry = Arc::try_clone(entry)?;
-        self.entries.push(TakenEntry { entry, may_meet })?;
+        push_tightly(&mut self.entries, TakenEntry { entry, may_meet })?;
         Ok(())
     }
 
@@ -298,7 +298,7 @@ impl<'q> CollectedCandidates<'q> {
             self.old.traces ≡ ts ++ t ∷ [] → self.new.traces ≡
             ts ++ (t ++ taken_spotted self.old.entries spot ∷ []) ∷ []) }
     {
-        self.spots.push(spot)?;
+        push_tightly(&mut self.spots, spot)?;
         Ok(())
     }
 

@@ -10,6 +10,8 @@
 //! * `latest_candidates`: the traces that start latest, after some time.
 //! * `process_conditions`: the conditions of a search that need a span's process.
 //! * `entry_services`: which entries are of a service.
+//! * `requested_numbers`: what a search requests, by numbers.
+//! * `number_conditions`: the conditions of a search but those on tags, by numbers.
 //! * `judging`: spans judged one after the other.
 //! * `candidates`: the traces that a search considers, as it reads them.
 //! * `window`: a window of time in microseconds.
@@ -44,11 +46,13 @@ mod gathering;
 mod judged_entries;
 mod judging;
 mod latest_candidates;
+mod number_conditions;
 mod picked_candidates;
 mod process_classes;
 mod process_conditions;
 mod pruning;
 mod recurring;
+mod requested_numbers;
 mod search_candidates;
 mod service_candidates;
 mod spotted_spans;
@@ -70,6 +74,7 @@ pub use collected_candidates::CollectedCandidates;
 pub use found_taken::{find_taken, find_taken_ids};
 pub use gathering::gather;
 pub use latest_candidates::spots_after;
+pub use requested_numbers::RequestedNumbers;
 pub use search_candidates::spots_along;
 pub use service_candidates::spots_reported;
 pub use store_view::StoreView;

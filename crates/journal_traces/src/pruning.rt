@@ -88,13 +88,6 @@ impl<'q> EntryFilter<'q> {
         }
     }
 
-    /// Returns the search.
-    pub(crate) fn query(&self) -> &Find
-        ensures { result.now ≡ self.now }
-    {
-        self.query
-    }
-
     /// Whether spans of an entry with this outline may meet the search. If not, the entry's spans can be skipped.
     pub(crate) fn may_meet(&self, outline: Outline) -> bool
         ensures { result ≡ may_meet self.now outline }

@@ -1,22 +1,26 @@
 //! The traces that a search by a service has to consider.
 
-ghost use Rattle.std.specs.Prelude.{◌≡◌, Bool, true, ◌||◌, ◌&&◌, not, [], IfOk, map, filter, length};
+ghost use Rattle.std.specs.Prelude.{◌≡◌, ℕ, ◌<◌, ◌^◌, Bool, true, ◌||◌, ◌&&◌, not, [], Some, IfOk, map, filter, length, slice_get, option_map};
 ghost use Rattle.std.specs.Bool.{OnTrue, OnFalse};
 ghost use Rattle.jaeger_model.specs.Parents.{same_trace};
 ghost use Rattle.jaeger_model.specs.Texts.{same_text};
 ghost use Rattle.jaeger_model.specs.declared.ids.TraceId.{TraceId as TraceIdValue};
+ghost use Rattle.trace_model.specs.BorrowedSpans.{placed_by_its_entry};
 ghost use Rattle.trace_assembly.specs.AssembledRows.{spots_of};
+ghost use Rattle.trace_assembly.specs.LocatedSpans.{span_at};
 ghost use Rattle.trace_ring.specs.RingValues.{NoneTwice};
 ghost use Rattle.journal_traces.specs.MatchingSpans.{any_of, meets, met, met_or_none, without_tags, near_at, near_along, same_before};
-ghost use Rattle.journal_traces.specs.SpansAtSpots.{batch_at};
+ghost use Rattle.journal_traces.specs.SpansAtSpots.{batch_at, placed_in};
+ghost use Rattle.journal_traces.specs.Told.{AreTold, AreOperationsTold};
 
+use crate::number_conditions::{NumberConditions, first_of};
 use crate::pruning::EntryFilter;
+use crate::requested_numbers::RequestedNumbers;
 use crate::spotted_spans::batch_at;
 use crate::store_view::StoreView;
 use arrival_journal::Journal;
 use jaeger_model::{Process, Seen, Span, TraceId};
 use service_index::Places;
-use span_steps::meets_span_conditions;
 use std::alloc::{AllocError, Global};
 use trace_assembly::{Assembly, Spots};
 use trace_model::Find;
@@ -32,7 +36,8 @@ struct RowGuesses<'a> {
 
 impl RowGuesses<'_> {
     /// Returns the guess for the span at an index of the entry.
-    fn at(self, index: u32) -> u32 {
+    fn at(self, index: usize) -> u32 {
+        let index = index.min(u32::MAX as usize) as u32;
         self.assembly.row_guess_at(self.before.wrapping_add(index))
     }
 }
@@ -60,49 +65,72 @@ fn is_trace_before(before: Option<TraceId>, trace: TraceId) -> bool
     }
 }
 
-/// Whether a span of the requested service meets every condition of the search but those on tags.
-fn is_met_without_tags(query: &Find, at: Seen<'_>) -> bool
-    requires { same_text query.now.service at.process.now.service ≡ true }
-    ensures { result ≡ meets (without_tags query.now) at.entry.process.now at.entry.span.now }
+/// Whether the span at an index of an entry of the requested service meets every condition of the search but those on
+/// tags.
+fn is_met_without_tags(
+    conditions: &NumberConditions<'_>,
+    place: u64,
+    index: usize,
+    at: Seen<'_>,
+) -> bool
+    requires small { index < 2 ^ 63 }
+    requires there { Some (placed_by_its_entry at) ≡
+        span_at conditions.now.1 (record { place = place; index = index }) }
+    requires service { same_text conditions.now.0.service at.process.now.service ≡ true }
+    ensures { result ≡
+        meets (without_tags conditions.now.0) at.entry.process.now at.entry.span.now }
 {
-    meets_span_conditions(at, query)
+    conditions.is_met(place, index, at)
 }
 
 /// Whether the span meets these conditions, and its trace is not the one of the span before.
-fn is_new_match(before: Option<TraceId>, query: &Find, at: Seen<'_>) -> bool
-    requires { same_text query.now.service at.process.now.service ≡ true }
+fn is_new_match(
+    before: Option<TraceId>,
+    conditions: &NumberConditions<'_>,
+    place: u64,
+    index: usize,
+    at: Seen<'_>,
+) -> bool
+    requires small { index < 2 ^ 63 }
+    requires there { Some (placed_by_its_entry at) ≡
+        span_at conditions.now.1 (record { place = place; index = index }) }
+    requires service { same_text conditions.now.0.service at.process.now.service ≡ true }
     ensures { result ≡ (not (same_before before at.entry.span.now.trace)
-        && meets (without_tags query.now) at.entry.process.now at.entry.span.now) }
+        && meets (without_tags conditions.now.0) at.entry.process.now at.entry.span.now) }
 {
-    !is_trace_before(before, at.span.trace) && is_met_without_tags(query, at)
+    !is_trace_before(before, at.span.trace) && is_met_without_tags(conditions, place, index, at)
 }
 
-/// Marks the traces of the ring of which one of the spans of this process meets these conditions. The process is of
-/// the requested service, so its name is compared once for all its spans.
+/// Marks the traces of the ring of which one of these spans meets these conditions. They are those of the entry at the
+/// place, which is of the requested service.
 fn mark_spans(
     marks: &mut [bool],
     ring: &Ring,
     rows: RowGuesses<'_>,
-    query: &Find,
+    conditions: &NumberConditions<'_>,
+    place: u64,
     process: &Process,
     spans: &[Span],
 )
     requires once { NoneTwice ring.now.ids }
     requires size { length marks.old ≡ length ring.now.ids }
-    requires service { same_text query.now.service process.now.service ≡ true }
+    requires there { (index : ℕ) → option_map (placed_in process.now) (slice_get spans.now index) ≡
+        span_at conditions.now.1 (record { place = place; index = index }) }
+    requires service { same_text conditions.now.0.service process.now.service ≡ true }
     ensures { (p : TraceIdValue → Bool) → marks.old ≡ map p ring.now.ids →
         marks.new ≡ map (λ t. p t ||
-        any_of (met (without_tags query.now) process.now spans.now) t) ring.now.ids }
+        any_of (met (without_tags conditions.now.0) process.now spans.now) t) ring.now.ids }
 {
     let mut before = None;
-    let mut index: u32 = 0;
+    let mut index: usize = 0;
     for span in spans {
-        let is_new_match = is_new_match(before, query, Seen { process, span });
+        let at = Seen { process, span };
+        let is_new_match = is_new_match(before, conditions, place, index, at);
         if is_new_match {
             mark_trace(marks, ring, rows.at(index), span.trace);
             before = Some(span.trace);
         }
-        index = index.wrapping_add(1);
+        index += 1;
     }
 }
 
@@ -127,9 +155,11 @@ fn mark_entry(
     journal: &Journal,
     place: u64,
     filter: &EntryFilter<'_>,
+    conditions: &NumberConditions<'_>,
 )
     requires once { NoneTwice ring.now.ids }
     requires size { length marks.old ≡ length ring.now.ids }
+    requires conditions { conditions.now ≡ (filter.now, journal.now.held.entries) }
     ensures { (p : TraceIdValue → Bool) → marks.old ≡ map p ring.now.ids →
         marks.new ≡ map (λ t. p t || any_of (near_at filter.now journal.now.held.entries place) t)
         ring.now.ids }
@@ -138,19 +168,12 @@ fn mark_entry(
         return;
     }
     if let Some(batch) = batch_at(journal, place) {
-        let process = batch.process.get();
-        let query = filter.query();
-        if query.service == process.service {
-            mark_spans(marks, ring, rows, query, process, batch.spans.as_slice());
+        if conditions.is_requested(place) {
+            let process = batch.process.get();
+            let spans = batch.spans.as_slice();
+            mark_spans(marks, ring, rows, conditions, place, process, spans);
         }
     }
-}
-
-/// Returns the number of spans before the entry at a place, which counts from 1, by those before each entry.
-fn spans_before(firsts: &[u32], place: u64) -> u32 {
-    let index = place.saturating_sub(1) as usize;
-    // Impossible: a place without a number. Any number would do, since it only leads to guesses of rows.
-    firsts.get(index).copied().unwrap_or(0)
 }
 
 /// Returns for each trace of the ring whether an entry at these places, unless it is skipped, has a span of it that
@@ -158,23 +181,36 @@ fn spans_before(firsts: &[u32], place: u64) -> u32 {
 fn marks_along(
     alloc: Global,
     store: StoreView<'_>,
-    firsts: &[u32],
+    requested: RequestedNumbers,
     places: Places<'_>,
     query: &Find,
 ) -> Result<Vec<bool>, AllocError>
+    requires service { AreTold query.now store.journal.now.held.entries
+        store.by_service.now.service_numbers requested.service }
+    requires operation { AreOperationsTold query.now store.journal.now.held.entries
+        store.names.now.numbers.firsts store.names.now.operation_rows requested.operation }
     ensures { IfOk result (λ v. v.items ≡
         map (any_of (near_along query.now store.entry.journal.now.held.entries places.entry))
         store.entry.assembly.now.newest.ids) }
 {
     let ring = store.assembly.ring();
     let filter = EntryFilter::new(query);
+    let conditions = NumberConditions::new(store, query, requested);
     let mut marks = vec![in alloc; false; ring.len()]?;
     for place in places {
         let rows = RowGuesses {
             assembly: store.assembly,
-            before: spans_before(firsts, place),
+            before: first_of(store, place),
         };
-        mark_entry(&mut marks, ring, rows, store.journal, place, &filter);
+        mark_entry(
+            &mut marks,
+            ring,
+            rows,
+            store.journal,
+            place,
+            &filter,
+            &conditions,
+        );
     }
     Ok(marks)
 }
@@ -212,8 +248,8 @@ fn marked_spots<'a>(
 
 /// Returns the spots of each trace of the ring of which the entries at these places have a span that meets every
 /// condition of the search except for those on tags, those of the one opened first at the front. Entries whose
-/// outlines don't meet the search, with its tags, are skipped, and no tag is read. `firsts` has the number of spans
-/// before each entry; by this guess most traces are found in the ring without a lookup.
+/// outlines don't meet the search, with its tags, are skipped, and no text is read. By the number of spans before each
+/// entry most traces are found in the ring without a lookup.
 ///
 /// # Errors
 ///
@@ -221,14 +257,18 @@ fn marked_spots<'a>(
 pub fn spots_along<'a>(
     alloc: Global,
     store: StoreView<'a>,
-    firsts: &[u32],
+    requested: RequestedNumbers,
     places: Places<'_>,
     query: &Find,
 ) -> Result<Vec<Spots<'a>>, AllocError>
+    requires service { AreTold query.now store.journal.now.held.entries
+        store.by_service.now.service_numbers requested.service }
+    requires operation { AreOperationsTold query.now store.journal.now.held.entries
+        store.names.now.numbers.firsts store.names.now.operation_rows requested.operation }
     ensures { IfOk result (λ v. v.items ≡ map (spots_of store.entry.assembly.now)
         (filter (any_of (near_along query.now store.entry.journal.now.held.entries places.entry))
         store.entry.assembly.now.newest.ids)) }
 {
-    let marks = marks_along(alloc, store, firsts, places, query)?;
+    let marks = marks_along(alloc, store, requested, places, query)?;
     marked_spots(alloc, store.assembly, &marks)
 }

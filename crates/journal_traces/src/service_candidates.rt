@@ -8,6 +8,7 @@ ghost use Rattle.journal_traces.specs.ReportedSpots.{is_reported, are_reported};
 
 use crate::entry_services::is_of_service;
 use arrival_journal::Journal;
+use find_traces::push_tightly;
 use service_index::ServicePlaces;
 use std::alloc::{AllocError, Global};
 use trace_assembly::{Assembly, Spot, Spots};
@@ -72,7 +73,7 @@ pub fn spots_reported<'a>(
     for index in 0..assembly.ring().len() {
         let spots = assembly.spots_at(index);
         if are_reported(journal, by_service, service_number, spots.again()) {
-            found.push(spots)?;
+            push_tightly(&mut found, spots)?;
         }
     }
     Ok(found)

@@ -1,7 +1,7 @@
 //! What queries read of a store.
 
 use arrival_journal::Journal;
-use service_index::ServicePlaces;
+use service_index::{ArrivalNames, ServicePlaces};
 use trace_assembly::Assembly;
 use trace_ring::FirstStarts;
 
@@ -15,4 +15,6 @@ pub struct StoreView<'a> {
     pub starts: &'a FirstStarts,
     /// The numbers of the services of the journal's entries.
     pub by_service: &'a ServicePlaces,
+    /// The numbers of the spans of these entries, and the rows of their operations.
+    pub names: &'a ArrivalNames,
 }

@@ -5,6 +5,7 @@ ghost use Rattle.trace_assembly.specs.declared.spot.Spot.{Spot as SpotValue};
 ghost use Rattle.trace_assembly.specs.AssembledRows.{spots_of};
 ghost use Rattle.journal_traces.specs.TraceRanges.{FailsOutside};
 
+use find_traces::push_tightly;
 use std::alloc::{AllocError, Global};
 use trace_assembly::{Assembly, Spots};
 use trace_ring::{FirstStarts, Window};
@@ -29,7 +30,7 @@ pub fn spots_within<'a>(
     let mut spots = Vec::new(alloc);
     let mut index = starts.next_within(0, window);
     while index < starts.len() {
-        spots.push(assembly.spots_at(index))?;
+        push_tightly(&mut spots, assembly.spots_at(index))?;
         index = starts.next_within(index + 1, window);
     }
     Ok(spots)

@@ -131,8 +131,8 @@ impl<C: TryConnection> OpenConnection<C> {
         ensures began { self.new.began.value ≡ self.old.began.value }
     {
         let connection = &mut self.connection;
-        // For the prover: each match takes the cases of the clause `goes_on` apart, and returns them as they are.
         if self.holds_request_bytes {
+            // For the prover: the match takes the cases of the clause `goes_on` apart, and returns them as they are.
             match self
                 .session
                 .answer_held(rt, alloc, router, connection, backend)
@@ -141,6 +141,7 @@ impl<C: TryConnection> OpenConnection<C> {
                 Err(error) => Err(error),
             }
         } else {
+            // For the prover: as above.
             match self.session.advance(rt, alloc, router, connection, backend) {
                 Ok(piece) => Ok(piece),
                 Err(error) => Err(error),

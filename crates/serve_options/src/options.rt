@@ -16,7 +16,7 @@ pub const MAX_CONNECTIONS: u32 = 65_536;
 /// The greatest number of seconds of an option: a day.
 pub const MAX_SECONDS: u32 = 86_400;
 
-/// The options that are asked for: those of [`ServeOptions`], of which some may be out of their ranges.
+/// The options that are asked for: those of [`ServeOptions`], and some of them may be out of their ranges.
 #[derive(Clone, Copy, Debug)]
 pub struct RequestedOptions {
     pub limits: Limits,

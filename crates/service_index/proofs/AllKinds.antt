@@ -21,7 +21,7 @@ any_or f g (x ∷ xs) = elim (f x) as (λ b. ((b || list_any f xs) || (g x || li
   | false ↦ or_swap (list_any f xs) (g x) (list_any g xs) ∙ ap (λ b. g x || b) (any_or f g xs)
 ]
 
-abbrev six : (List ℕ → Bool) → Bool
+abbrev pub six : (List ℕ → Bool) → Bool
 six is = is [] || (is (codes "client") || (is (codes "server") || (is (codes "producer") || (is (codes "consumer") || is (codes "internal")))))
 
 five : (a b c d e : Bool) → (a || b || c || d || e) ≡ (a || (b || (c || (d || e))))
@@ -39,7 +39,7 @@ six_along false false false true e f = refl
 six_along false false false false true f = refl
 six_along false false false false false f = refl
 
-some_kind : (t : List ℕ) → six (λ k. same_text k (kind_in t)) ≡ true
+pub some_kind : (t : List ℕ) → six (λ k. same_text k (kind_in t)) ≡ true
 some_kind t = elim (is_kind t) as (λ b. is_kind t ≡ b → six (λ k. same_text k (if b then t else [])) ≡ true) [
   | true ↦ λ e.
       ap (λ b. same_text [] t || b) ((λ i. text_turned (codes "client") t i

@@ -13,7 +13,6 @@ use Rattle.jaeger_model.specs.declared.span.Span.{Span}
 use Rattle.jaeger_model.specs.Parents.{placed, needs_no_reference, parent_reference}
 use Rattle.jaeger_model.specs.Tags.{kind_of}
 use Rattle.jaeger_model.specs.Texts.{same_text, sorted_set}
-use Rattle.trace_model.specs.declared.answer.Operation.{Operation}
 use Rattle.trace_model.specs.declared.entry.Entry.{Entry}
 use Rattle.trace_model.specs.declared.entry.Work.{Work}
 use Rattle.trace_model.specs.declared.entry.Work.TheVariants as brings
@@ -107,7 +106,7 @@ name_came : (w : Work) (i : ℕ) (d : Placed) → i < length (spans_brought w) �
 name_came (brings.Batch b) i d below = name_placed b b.spans i d below
 name_came (brings.TraceLimit n) i d below = absurd (omega arith)
 
-some_of : {X : Type 0} (xs : List X) (n : ℕ) → n < length xs → X
+pub some_of : {X : Type 0} (xs : List X) (n : ℕ) → n < length xs → X
 some_of [] n below = absurd (omega arith)
 some_of (x ∷ xs) n below = x
 

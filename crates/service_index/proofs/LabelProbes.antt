@@ -1,5 +1,5 @@
 -- Labels among the rows of a table.
-use Rattle.std.proofs.Common.{◌≡◌, ℕ, ◌^◌, ◌<◌, Bool, true, false, List, [], ◌∷◌, ◌++◌, map, length, get_or, Option, Some, None, refl, sym, ap, subst, ◌∙◌, inl}
+use Rattle.std.proofs.Common.{◌≡◌, ℕ, ◌^◌, ◌<◌, Bool, true, List, [], ◌∷◌, ◌++◌, map, length, get_or, Option, Some, None, refl, sym, ap, subst, ◌∙◌, inl}
 use Rattle.std.proofs.Common.{inr, arith, length-append}
 use Rattle.std.specs.Prelude.{◌==◌}
 use Rattle.std.specs.Ordering.{is_eq}
@@ -32,6 +32,9 @@ same_label-decides a b =
 
 pub same_is : (a b : LabelValue) → same_label a b ≡ true → a ≡ b
 same_is a b = (same_label-decides a b).0
+
+pub label_self : (l : LabelValue) → same_label l l ≡ true
+label_self l = (same_label-decides l l).1 refl
 
 -- the labels of numbers
 pub label_of : (labels : Labelling) (numbers : List ℕ) (r : ℕ) → r < length numbers → label_at (map labels.at numbers) r ≡ labels.at (get_or numbers r 0)

@@ -8,6 +8,7 @@ pub mod SortedLists
 pub mod ServiceNumbers
 pub mod PlaceChains
 pub mod OneMoreEntry
+pub mod RowsOfOperations
 pub mod NumbersOfEntry
 pub mod ArrivalReports
 pub mod AllKinds

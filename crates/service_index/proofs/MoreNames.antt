@@ -1,5 +1,5 @@
 -- An index doesn't change when more numbers have names.
-use Rattle.std.proofs.Common.{◌≡◌, ℕ, ◌<◌, ◌≤◌, List, [], map, length, get_or, sym, ap, subst, arith}
+use Rattle.std.proofs.Common.{◌≡◌, ℕ, ◌<◌, ◌≤◌, List, map, length, get_or, sym, ap, subst, arith}
 use Rattle.std.proofs.lemmas.List.Elements.{All-from_get_or}
 use Rattle.jaeger_model.specs.Texts.{sorted_set}
 use Rattle.trace_model.proofs.Lists.{map_agree}
@@ -31,7 +31,7 @@ named_extends labels more t e h =
       leads = subst (λ (xs : List LabelValue). LeadsTo (hashes_of t.keys xs) t.slots) same h.leads;
     }
 
-operations_grow : (names more : Names) → Extends names more → Grows (operation_labels names) (operation_labels more)
+pub operations_grow : (names more : Names) → Extends names more → Grows (operation_labels names) (operation_labels more)
 operations_grow names more e = record {
   count = e.count;
   same = λ n below.

@@ -1,7 +1,7 @@
 -- The numbers of one more entry.
 use Rattle.std.proofs.Common.{◌≡◌, ℕ, ◌+◌, ◌-◌, ◌<◌, ◌≤◌, List, [], ◌∷◌, ◌++◌, length, get_or, refl, sym, ap, subst, ◌∙◌, inl, inr, arith, length-append}
 use Rattle.std.proofs.lemmas.Bool.{cases_lt}
-use Rattle.std.proofs.lemmas.List.{length-map, get_or_append_left, get_or-append_right, get_or_push, flat_map_more}
+use Rattle.std.proofs.lemmas.List.{length-map, get_or_append_left, get_or-append_right, get_or_push, flat_map_more, take-append-le, take_all}
 use Rattle.std.proofs.lemmas.List.Sums.{sum_by-cons}
 use Rattle.std.proofs.lemmas.List.Concat.{flat_map-cons}
 use Rattle.jaeger_model.specs.declared.placed.Placed.{Placed}
@@ -66,6 +66,14 @@ numbers_more h e entry_of firsts now a f =
     record {
       as_many = omega arith;
       starts = omega arith;
+      first = λ k below. elim (cases_lt k (length h)) [
+        | inl old ↦
+            get_or_append_left firsts (length entry_of ∷ []) 0 k (omega arith) ∙ a.first k old
+            ∙ sym (ap (λ (x : List Entry). length (arrivals x)) (take-append-le k h (e ∷ []) (omega arith)))
+        | inr new ↦
+            get_or_push firsts (length entry_of) 0 k (omega arith) ∙ many
+            ∙ sym (ap (λ (x : List Entry). length (arrivals x)) (take-append-le k h (e ∷ []) (omega arith) ∙ take_all k h new))
+      ];
       at = λ n below. elim (cases_lt n (length entry_of)) [
         | inl old ↦
             let there = a.at n old in

@@ -58,18 +58,6 @@ first_old : (h0 h : List Entry) (e : Entry) (numbers : List ℕ) (r : ℕ) → h
     → r < length numbers → service_number_in h (service_at h (get_or numbers r 0)) ≡ get_or numbers r 0
 first_old h0 h e numbers r is held first below = service_number_old h0 h e (get_or numbers r 0) is (held.held r below) ∙ first r below
 
--- the row of a number that was added
-pub row_added : (h : List Entry) (numbers now : List ℕ) (n r : ℕ) → now ≡ with_number (service_labels h) numbers n
-    → r ≡ row_of (service_labels h) numbers ((service_labels h).at n) → r < length now
-row_added h numbers now n r more row =
-    let labels = service_labels h in
-    let w = row_within labels numbers (labels.at n) in
-    let one = length-append numbers (n ∷ []) in
-    subst (λ (x : List ℕ). r < length x) (sym more) (elim (cases_lt (row_of labels numbers (labels.at n)) (length numbers)) [
-      | inl below ↦ subst (λ (x : List ℕ). r < length x) (sym (number_known labels numbers n below)) (omega arith)
-      | inr past ↦ subst (λ (x : List ℕ). r < length x) (sym (number_new labels numbers n (omega arith))) (omega arith)
-    ])
-
 -- One more entry, e: its number n is among the services, in row s, and the number of its service is stored.
 pub record HasOneMore (h0 h : List Entry) (e : Entry) (old : ServicePlacesValue) (services : Table) (service_numbers : List ℕ)
     (s n service_number : ℕ) : Type 0 where

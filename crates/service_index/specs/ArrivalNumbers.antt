@@ -1,5 +1,5 @@
 -- The spans of entries by their arrival numbers, which count from 0.
-use Rattle.std.specs.Prelude.{◌≡◌, ℕ, ◌-◌, ◌<◌, ◌≤◌, List, length, get_or}
+use Rattle.std.specs.Prelude.{◌≡◌, ℕ, ◌-◌, ◌<◌, ◌≤◌, List, length, get_or, take}
 use Rattle.jaeger_model.specs.declared.placed.Placed.{Placed}
 use Rattle.trace_model.specs.declared.entry.Entry.{Entry}
 use Rattle.arrival_journal.specs.declared.kind.Kind.{Kind}
@@ -27,4 +27,5 @@ pub record IsAt (h : List Entry) (before first n : ℕ) : Type 0 where
 pub record AreOf (h : List Entry) (entry_of firsts : List ℕ) : Type 0 where
   pub as_many : length entry_of ≡ length (arrivals h)
   pub starts : length firsts ≡ length h
+  pub first : (k : ℕ) → k < length h → get_or firsts k 0 ≡ length (arrivals (take k h))
   pub at : (n : ℕ) → n < length entry_of → IsAt h (get_or entry_of n 0) (get_or firsts (get_or entry_of n 0) 0) n

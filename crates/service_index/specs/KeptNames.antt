@@ -1,5 +1,5 @@
 -- The index of the arrivals of a list of entries.
-use Rattle.std.specs.Prelude.{◌≡◌, ℕ, Bool, ◌&&◌, List, [], map, filter, length, get_or}
+use Rattle.std.specs.Prelude.{◌≡◌, ℕ, ◌<◌, Bool, true, ◌&&◌, List, [], map, filter, length, get_or}
 use Rattle.std.specs.List.{list_any}
 use Rattle.jaeger_model.specs.declared.placed.Placed.{Placed}
 use Rattle.jaeger_model.specs.Texts.{same_text, sorted_set}
@@ -15,6 +15,7 @@ use Rattle.service_index.specs.ServicePlaces.{service_number_in}
 use Rattle.arrival_journal.specs.declared.kind.Kind.{Kind}
 use Rattle.arrival_journal.specs.KindTexts.{kind_text}
 use Rattle.service_index.specs.ArrivalNumbers.{Numbered, AreOf}
+use Rattle.service_index.specs.OperationRows.{AreOperationRows, is_among}
 
 -- what the arrivals report, one after the other
 abbrev pub reports : List Entry → List Listed
@@ -32,10 +33,11 @@ AreKinds h kinds = map kind_text kinds ≡ map (λ (l : Listed). l.operation.kin
 abbrev pub names_of_arrivals : List Entry → Names
 names_of_arrivals h = record { count = length (arrivals h); at = reported_at h; service_number = λ n. service_number_in h (reported_at h n).service }
 
--- the value of the index
+-- the value of the index, and for each arrival the row of its operation
 pub record KeptNames : Type 0 where
   pub numbers : Numbered
   pub index : Index
+  pub operation_rows : List ℕ
 
 -- the index is that of the arrivals of these entries
 pub record AreNamesKept (h : List Entry) (kept : KeptNames) : Type 0 where
@@ -44,6 +46,8 @@ pub record AreNamesKept (h : List Entry) (kept : KeptNames) : Type 0 where
   pub indexed : IsIndexed (names_of_arrivals h) kept.index
   pub listed : listing_by (names_of_arrivals h) kept.index ≡ listed_in (arrivals h)
   pub used : kept.index.used ≡ length (arrivals h)
+  pub rows : AreOperationRows (names_of_arrivals h) kept.index.operations.numbers kept.operation_rows
+  pub all_rows : length kept.operation_rows ≡ length (arrivals h)
 
 -- an arrival is of the service
 abbrev pub reports_service : List ℕ → List Placed → Bool
@@ -52,6 +56,11 @@ reports_service service ps = list_any (λ (p : Placed). same_text service p.proc
 -- an arrival is of the service and of this operation
 abbrev pub reports_operation : List ℕ → List ℕ → List Placed → Bool
 reports_operation service name ps = list_any (λ (p : Placed). same_text service p.process.service && same_text name p.span.operation) ps
+
+-- an arrival of the service has the operation exactly if its row is among the requested ones
+pub record TellOperation (h : List Entry) (rows : List ℕ) (service operation requested : List ℕ) : Type 0 where
+  pub tells : (n : ℕ) → n < length (arrivals h) → same_text service (reported_at h n).service ≡ true
+      → is_among requested (get_or rows n 0) ≡ same_text operation (reported_at h n).operation.name
 
 -- sorted, these are the operations of the service, of any kind, and their names
 pub record AreOperations (service : List ℕ) (ps : List Placed) (found : List Operation) : Type 0 where

@@ -53,6 +53,10 @@ pub record Labelling : Type 0 where
 abbrev pub service_number_alone : ℕ → LabelValue
 service_number_alone service_number = record { service_number = service_number; name = []; kind = [] }
 
+-- the label of an operation with its kind
+abbrev pub operation_label : ℕ → List ℕ → List ℕ → LabelValue
+operation_label service_number name kind = record { service_number = service_number; name = name; kind = kind }
+
 -- each number by its operation and the number of its service
 abbrev pub operation_labels : Names → Labelling
 operation_labels names =

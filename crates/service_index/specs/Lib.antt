@@ -6,5 +6,6 @@ pub mod Indexes
 pub mod ServicePlaces
 pub mod PlaceChains
 pub mod ArrivalNumbers
+pub mod OperationRows
 pub mod KeptNames
 pub mod ArrivalServices

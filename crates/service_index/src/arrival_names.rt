@@ -9,7 +9,7 @@
 //! allocates nothing. The answers are those of the plain store of the list.
 //!
 //! * `numbers`: which span has which arrival number.
-//! * `names`: the services and operations.
+//! * `names`: the services and operations, and for each arrival the row of its operation.
 
 mod names;
 mod numbers;

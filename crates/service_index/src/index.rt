@@ -3,13 +3,16 @@ ghost use Rattle.jaeger_model.specs.Texts.{text_cmp, sorted_set};
 ghost use Rattle.trace_model.specs.Names.{operation_cmp};
 ghost use Rattle.service_index.specs.ListedNames.{services_in};
 ghost use Rattle.service_index.specs.Labels.{Names, IsServiceNumberOf, label_value, service_number_alone};
-ghost use Rattle.service_index.specs.Probes.{AreNumbersBelow};
+ghost use Rattle.service_index.specs.Labels.{operation_label, operation_labels};
+ghost use Rattle.service_index.specs.Probes.{AreNumbersBelow, row_of, with_number};
+ghost use Rattle.service_index.specs.OperationRows.{rows_in, rows_of_kinds};
 ghost use Rattle.service_index.specs.Indexes.{listing_by, listing_with, service_row, has_service, has_operation, own_operations, operations_at};
 ghost use Rattle.service_index.specs.Indexes.{owners, AreFrom, IsChain, IsIndexed, LeadsBack};
 
 use crate::label_table::LabelTable;
 use crate::labels::Label;
 use crate::links::RowLinks;
+use crate::operation_rows::OperationRows;
 use crate::texts::{OperationLabels, ServiceNumberLabels, Texts};
 use std::alloc::{AllocError, Global};
 use std::hash::RandomState;
@@ -86,8 +89,9 @@ impl ServiceIndex {
         self.used
     }
 
-    /// Adds a number: what its span reports is listed from now on. Allocates nothing.
-    pub fn add_at<T: Texts>(&mut self, n: u32, texts: &T)
+    /// Adds a number: what its span reports is listed from now on. Returns the row of its operation, which no later
+    /// call changes. Allocates nothing.
+    pub fn add_at<T: Texts>(&mut self, n: u32, texts: &T) -> u32
         requires indexed { IsIndexed (T.names texts.now) self.old }
         requires held { n < (T.names texts.now).count }
         requires room { self.old.used < self.old.room }
@@ -97,14 +101,19 @@ impl ServiceIndex {
         ensures used { self.new.used ≡ self.old.used + 1 }
         ensures room { self.new.room ≡ self.old.room }
         ensures indexed { IsIndexed (T.names texts.now) self.new }
+        ensures operations { self.new.operations.numbers ≡ with_number
+            (operation_labels (T.names texts.now)) self.old.operations.numbers n }
+        ensures row { result ≡ row_of (operation_labels (T.names texts.now))
+            self.new.operations.numbers ((operation_labels (T.names texts.now)).at n) }
     {
         self.used += 1;
         let row = self.operations.add(&OperationLabels { texts }, n);
         if (row as usize) < self.links.rows() {
-            return;
+            return row;
         }
         let service = self.services.add(&ServiceNumberLabels { texts }, n);
         self.links.add_row(service as usize);
+        row
     }
 
     /// Whether a span of the service was added.
@@ -129,13 +138,51 @@ impl ServiceIndex {
             result ≡ has_operation service operation.now kind.now
             (listing_by (T.names texts.now) self.now) }
     {
+        let row = self.row_of_operation(texts, service_number, operation, kind);
+        (row as usize) < self.links.rows()
+    }
+
+    /// Returns the row of an operation with this kind of the service of this number, or the number of operations if
+    /// no such span was added.
+    pub fn row_of_operation<T: Texts>(
+        &self,
+        texts: &T,
+        service_number: u32,
+        operation: &str,
+        kind: &str,
+    ) -> u32
+        requires { IsIndexed (T.names texts.now) self.now }
+        ensures { result ≡ row_of (operation_labels (T.names texts.now))
+            self.now.operations.numbers
+            (operation_label service_number operation.now kind.now) }
+    {
         let label = Label {
             service_number,
             name: operation,
             kind,
         };
-        let row = self.operations.row_of(&OperationLabels { texts }, label);
-        (row as usize) < self.links.rows()
+        self.operations.row_of(&OperationLabels { texts }, label)
+    }
+
+    /// Returns the rows of an operation of the service of this number, one for each kind.
+    pub(crate) fn rows_of_operation<T: Texts>(
+        &self,
+        texts: &T,
+        service_number: u32,
+        operation: &str,
+    ) -> OperationRows
+        requires { IsIndexed (T.names texts.now) self.now }
+        ensures { rows_in result ≡ rows_of_kinds (operation_labels (T.names texts.now))
+            self.now.operations.numbers service_number operation.now }
+    {
+        OperationRows {
+            plain: self.row_of_operation(texts, service_number, operation, ""),
+            client: self.row_of_operation(texts, service_number, operation, "client"),
+            server: self.row_of_operation(texts, service_number, operation, "server"),
+            producer: self.row_of_operation(texts, service_number, operation, "producer"),
+            consumer: self.row_of_operation(texts, service_number, operation, "consumer"),
+            internal: self.row_of_operation(texts, service_number, operation, "internal"),
+        }
     }
 
     /// Returns the number of one span of each service, in no particular order.

@@ -22,6 +22,7 @@
 //! * `guesses`: the rows in which labels were last found.
 //! * `sought_label`: the label to find, and the rows that are searched.
 //! * `links`: the rows of each service, from the newest on: the [`RowLinks`].
+//! * `operation_rows`: the rows of an operation of a service, one for each kind: the [`OperationRows`].
 //! * `operation_sets`: services and operations, sorted and without duplicates.
 //! * `service_places`: the places of the entries of each service, and a number for each service: the
 //!   [`ServicePlaces`].
@@ -36,6 +37,7 @@ mod label_table;
 mod labels;
 pub mod laws;
 mod links;
+mod operation_rows;
 mod operation_sets;
 pub mod service_places;
 mod sought_label;
@@ -46,6 +48,7 @@ pub use index::ServiceIndex;
 pub use label_table::LabelTable;
 pub use labels::{Label, Labels};
 pub use links::RowLinks;
+pub use operation_rows::OperationRows;
 pub use operation_sets::{sorted_names, sorted_operation_names, sorted_operations};
 pub use service_places::{Places, ServicePlaces};
 pub use texts::Texts;

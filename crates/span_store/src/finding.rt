@@ -16,15 +16,15 @@ fn take_at(
     traces: &CandidateSearch<'_>,
     index: usize,
 ) -> Result<(), AllocError>
-    requires few { length traces.now.journal.now.held.entries < 2 ^ 32 }
+    requires few { length traces.now.store.journal.now.held.entries < 2 ^ 32 }
     ensures spans { OnOk result (map placed_taken taken.new ≡ map placed_taken taken.old
         ++ slice_index_or (traces_of traces.now) index [] ∷ []) }
     ensures numbers { OnOk result
-        (AreNumberedByPlace traces.now.journal.now.held.entries taken.old →
-        AreNumberedByPlace traces.now.journal.now.held.entries taken.new) }
+        (AreNumberedByPlace traces.now.store.journal.now.held.entries taken.old →
+        AreNumberedByPlace traces.now.store.journal.now.held.entries taken.new) }
 {
     match traces.spots.get(index) {
-        Some(spots) => take_trace(taken, traces.journal, spots.again()),
+        Some(spots) => take_trace(taken, traces.store.journal, spots.again()),
         None => taken.begin(),
     }
 }
@@ -35,10 +35,10 @@ fn take_places(
     traces: &CandidateSearch<'_>,
     indices: &[usize],
 ) -> Result<TakenTraces, AllocError>
-    requires few { length traces.now.journal.now.held.entries < 2 ^ 32 }
+    requires few { length traces.now.store.journal.now.held.entries < 2 ^ 32 }
     ensures spans { IfOk result (λ t. map placed_taken t ≡
         map (λ i. slice_index_or (traces_of traces.now) i []) indices.now) }
-    ensures numbers { IfOk result (AreNumberedByPlace traces.now.journal.now.held.entries) }
+    ensures numbers { IfOk result (AreNumberedByPlace traces.now.store.journal.now.held.entries) }
 {
     let mut taken = TakenTraces::with_capacity(alloc, indices.len(), indices.len())?;
     for index in indices {
@@ -52,10 +52,10 @@ pub(crate) fn take_found(
     alloc: Global,
     traces: CandidateSearch<'_>,
 ) -> Result<TakenTraces, AllocError>
-    requires few { length traces.journal.now.held.entries < 2 ^ 32 }
+    requires few { length traces.store.journal.now.held.entries < 2 ^ 32 }
     ensures found { IfOk result (λ t. map placed_taken t ≡
         found_in (query_of traces.entry) (traces_of traces.entry)) }
-    ensures numbers { IfOk result (AreNumberedByPlace traces.entry.journal.now.held.entries) }
+    ensures numbers { IfOk result (AreNumberedByPlace traces.entry.store.journal.now.held.entries) }
 {
     let mut search = traces;
     let indices = find_traces::find(alloc, &mut search)?;

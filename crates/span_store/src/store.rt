@@ -32,7 +32,8 @@ use arrival_journal::{Journal, Record};
 use find_traces::PreparedSearch;
 use jaeger_model::{Batch, Seq, Text, TraceId};
 use journal_traces::{
-    CandidateSearch, StoreView, WindowTraces, gather, take_candidates, take_within,
+    CandidateSearch, RequestedNumbers, StoreView, WindowTraces, gather, take_candidates,
+    take_within,
 };
 use service_index::{ArrivalNames, Places, ServicePlaces};
 use std::alloc::{AllocError, Global};
@@ -334,15 +335,21 @@ impl SpanStore {
         spots: &'a [Spots<'a>],
     ) -> CandidateSearch<'a>
         ensures query { result.prepared.now ≡ prepared.now }
-        ensures entries { result.journal.now.held.entries ≡ self.now.entries }
+        ensures entries { result.store.journal.now.held.entries ≡ self.now.entries }
         ensures spots { result.spots.now ≡ spots.now }
     {
         // For the prover: `len`'s clause `legal` is used below.
         let _legal = self.journal.len();
-        CandidateSearch {
+        let store = StoreView {
             journal: &self.journal,
+            assembly: &self.shown,
+            starts: &self.starts,
             by_service: &self.by_service,
-            service_number: self.service_number(prepared.query()),
+            names: &self.names,
+        };
+        CandidateSearch {
+            store,
+            requested: RequestedNumbers::of(prepared.query(), store),
             prepared,
             spots,
         }
@@ -367,6 +374,7 @@ impl SpanStore {
             assembly: &self.shown,
             starts: &self.starts,
             by_service: &self.by_service,
+            names: &self.names,
         };
         let traces = take_candidates(self.alloc, store, service_number, query, spots)?;
         Ok(CollectedSearch::new(ids_alone, self.limits(), traces))
@@ -399,8 +407,8 @@ impl SpanStore {
         Ok(traces)
     }
 
-    /// Collects what a search finds: the traces as they are shown, or only their ids. Numbers and the names of
-    /// operations decide it, or it is left to what is judged after the store is left.
+    /// Collects what a search finds: the traces as they are shown, or only their ids. Inside the store numbers alone
+    /// decide it. A search that has to read tags is judged after the store is left.
     fn search<'q>(&self, query: &'q Find, ids_alone: bool) -> Result<Form<'q>, AllocError>
         ensures { IfOk result (λ f. form_answer f ≡ answer self.now.limits self.now.entries
             (if ids_alone then ask.FindIds query.now else ask.Find query.now)) }
@@ -430,6 +438,7 @@ impl SpanStore {
             assembly: &self.shown,
             starts: &self.starts,
             by_service: &self.by_service,
+            names: &self.names,
         };
         // For the prover: the binding lets the clauses of `take_within` be used for the result.
         let taken = take_within(self.alloc, store, end_ms, lookback_ms)?;

@@ -45,7 +45,8 @@ impl LineBuffer {
     ///
     /// Out of memory, and nothing else.
     pub fn new(alloc: Global) -> Result<LineBuffer, AllocError>
-        ensures { IfOk result (λ s. s ≡ record { waiting = []; reads_left = MAX_READS; ended = false }) }
+        ensures { IfOk result (λ s.
+            s ≡ record { waiting = []; reads_left = MAX_READS; ended = false }) }
     {
         let piece = vec![in alloc; 0u8; READ_BYTES]?;
         Ok(LineBuffer {

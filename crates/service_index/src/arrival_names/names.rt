@@ -1,4 +1,4 @@
-ghost use Rattle.std.specs.Prelude.{◌≡◌, ◌+◌, ◌<◌, ◌≤◌, [], ◌∷◌, ◌++◌, map, length, take, IfOk};
+ghost use Rattle.std.specs.Prelude.{◌≡◌, ◌+◌, ◌<◌, ◌≤◌, [], ◌∷◌, ◌++◌, map, length, take, IfOk, vec_capacity};
 ghost use Rattle.std.specs.Arc.{arc_value};
 ghost use Rattle.jaeger_model.specs.Texts.{text_cmp, sorted_set};
 ghost use Rattle.trace_model.specs.declared.entry.Entry.{Entry as EntryValue};
@@ -8,11 +8,14 @@ ghost use Rattle.service_index.specs.ListedNames.{listed_cmp};
 ghost use Rattle.service_index.specs.Indexes.{listing_by, owners, operations_at, IsIndexed};
 ghost use Rattle.service_index.specs.Probes.{AreNumbersBelow};
 ghost use Rattle.service_index.specs.ServicePlaces.{ArePlacesKept};
+ghost use Rattle.service_index.specs.OperationRows.{AreOperationRows, rows_in};
 ghost use Rattle.arrival_journal.specs.KindTexts.{kinds_in};
 ghost use Rattle.service_index.specs.KeptNames.{AreNamesKept, names_of_arrivals, reports, reports_service, reports_operation, AreOperations};
+ghost use Rattle.service_index.specs.KeptNames.{TellOperation};
 
 use crate::arrival_names::numbers::{ArrivalNumbers, Arrivals};
 use crate::index::ServiceIndex;
+use crate::operation_rows::OperationRows;
 use crate::service_places::ServicePlaces;
 use crate::texts::Texts;
 use arrival_journal::SpanKinds;
@@ -28,14 +31,19 @@ use trace_model::{Entry, Name, Operation};
 pub struct ArrivalNames {
     numbers: ArrivalNumbers,
     index: ServiceIndex,
+    /// For each arrival the row of its operation.
+    operation_rows: Vec<u32>,
 }
 
 impl Model for ArrivalNames {
+    ghost use Rattle.std.specs.Prelude.{vec_capacity, ◌≤◌};
     ghost use Rattle.service_index.specs.KeptNames.{KeptNames};
 
     ghost Value = { KeptNames };
 
-    ghost view = { λ n. record { numbers = n.numbers; index = n.index } };
+    ghost view = { λ n. record { numbers = n.numbers; index = n.index; operation_rows = n.operation_rows.items } };
+
+    ghost invariant = { λ n. n.numbers.spans ≤ vec_capacity n.operation_rows };
 }
 
 impl ArrivalNames {
@@ -58,7 +66,12 @@ impl ArrivalNames {
     {
         let numbers = ArrivalNumbers::with_room(alloc, batches, spans)?;
         let index = ServiceIndex::with_room(alloc, keys, spans)?;
-        Ok(ArrivalNames { numbers, index })
+        let operation_rows = Vec::with_capacity(alloc, spans as usize)?;
+        Ok(ArrivalNames {
+            numbers,
+            index,
+            operation_rows,
+        })
     }
 
     /// Adds the last entry of the list, which is one entry longer. `span_kinds` has the kinds of its first
@@ -82,7 +95,13 @@ impl ArrivalNames {
         let begin = self.index.used();
         self.numbers.add(entries, span_kinds);
         let arrivals = self.numbers.arrivals(entries, reported);
-        add_arrivals(&mut self.index, &arrivals, begin, self.numbers.len());
+        add_arrivals(
+            &mut self.index,
+            &mut self.operation_rows,
+            &arrivals,
+            begin,
+            self.numbers.len(),
+        );
     }
 
     /// Returns for each entry the number of arrivals before its first span.
@@ -90,6 +109,34 @@ impl ArrivalNames {
         ensures { result.now ≡ self.now.numbers.firsts }
     {
         self.numbers.firsts()
+    }
+
+    /// Returns for each arrival the row of its operation: a number for the operation of a service with its kind.
+    pub fn operation_rows(&self) -> &[u32]
+        ensures { result.now ≡ self.now.operation_rows }
+    {
+        &self.operation_rows
+    }
+
+    /// Returns the rows of an operation of a service, one for each kind. An arrival of the service has the operation
+    /// exactly if its row is among these.
+    pub fn rows_of_operation(
+        &self,
+        entries: &[Arc<Entry>],
+        reported: &ServicePlaces,
+        service: &str,
+        operation: &str,
+    ) -> OperationRows
+        requires kept { AreNamesKept (map arc_value entries.now) self.now }
+        requires placed { ArePlacesKept (map arc_value entries.now) reported.now }
+        ensures { TellOperation (map arc_value entries.now) self.now.operation_rows
+            service.now operation.now (rows_in result) }
+    {
+        let arrivals = self.numbers.arrivals(entries, reported);
+        // If no arrival is of the service, any rows will do.
+        let service_number = arrivals.service_number_of(service).unwrap_or(0);
+        self.index
+            .rows_of_operation(&arrivals, service_number, operation)
     }
 
     /// Returns the services of all arrivals, in no particular order. The names refer to their entries.
@@ -225,8 +272,14 @@ fn operations_of(
     Ok(operations)
 }
 
-/// Adds the arrivals from `first` up to `end`, which is excluded.
-fn add_arrivals(index: &mut ServiceIndex, arrivals: &Arrivals<'_>, first: u32, end: u32)
+/// Adds the arrivals from `first` up to `end`, which is excluded, and the rows of their operations.
+fn add_arrivals(
+    index: &mut ServiceIndex,
+    rows: &mut Vec<u32>,
+    arrivals: &Arrivals<'_>,
+    first: u32,
+    end: u32,
+)
     requires indexed { IsIndexed (names_of_arrivals arrivals.now) index.old }
     requires listed { listing_by (names_of_arrivals arrivals.now) index.old ≡
         sorted_set listed_cmp (take first (reports arrivals.now)) }
@@ -234,13 +287,22 @@ fn add_arrivals(index: &mut ServiceIndex, arrivals: &Arrivals<'_>, first: u32, e
     requires rises { first ≤ end }
     requires within { end ≤ length (reports arrivals.now) }
     requires room { end ≤ index.old.room }
+    requires rows { AreOperationRows (names_of_arrivals arrivals.now)
+        index.old.operations.numbers rows.old.items }
+    requires all_rows { length rows.old.items ≡ first }
+    requires rows_room { end ≤ vec_capacity rows.old }
     ensures indexed { IsIndexed (names_of_arrivals arrivals.now) index.new }
     ensures listed { listing_by (names_of_arrivals arrivals.now) index.new ≡
         sorted_set listed_cmp (take end (reports arrivals.now)) }
     ensures used { index.new.used ≡ end }
     ensures room { index.new.room ≡ index.old.room }
+    ensures rows { AreOperationRows (names_of_arrivals arrivals.now)
+        index.new.operations.numbers rows.new.items }
+    ensures all_rows { length rows.new.items ≡ end }
+    ensures rows_room { vec_capacity rows.new ≡ vec_capacity rows.old }
 {
     for n in first..end {
-        index.add_at(n, arrivals);
+        let row = index.add_at(n, arrivals);
+        rows.push_reserved(row);
     }
 }

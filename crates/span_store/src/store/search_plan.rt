@@ -23,7 +23,8 @@ use super::SpanStore;
 use crate::finding;
 use find_traces::PreparedSearch;
 use journal_traces::{
-    StoreView, search_window, spots_after, spots_along, spots_reported, spots_within,
+    RequestedNumbers, StoreView, search_window, spots_after, spots_along, spots_reported,
+    spots_within,
 };
 use std::alloc::AllocError;
 use trace_assembly::Spots;
@@ -87,8 +88,9 @@ const MAX_JUDGED_INSIDE: usize = 4_096;
 const FOUND_ONE_IN: usize = 16;
 
 /// Whether a search judges its candidates after the store is left, so that it doesn't hold up the writer meanwhile. One
-/// by tags does, since tags are read. One without tags does if it has many candidates and may find a large part of
-/// them: else it is quicker to judge them here, and to collect only what it finds.
+/// by tags does, since tags are read. One without tags is judged by numbers alone. It is judged outside if it has many
+/// candidates and may find a large part of them: else it is quicker to judge them here, and to collect only what it
+/// finds.
 pub(super) fn is_judged_outside(query: &Find, candidates: usize) -> bool {
     if !query.tags.as_slice().is_empty() {
         return true;
@@ -159,15 +161,19 @@ impl SpanStore {
     fn candidates_met(&self, query: &Find) -> Result<Vec<Spots<'_>>, AllocError>
         ensures { IfOk result (λ v. FindsTheSame self.now query.now v.items) }
     {
+        // For the prover: `len`'s clause `legal` is used below.
+        let _legal = self.journal.len();
         let places = self.service_places(query);
         let store = StoreView {
             journal: &self.journal,
             assembly: &self.shown,
             starts: &self.starts,
             by_service: &self.by_service,
+            names: &self.names,
         };
+        let requested = RequestedNumbers::of(query, store);
         // For the prover: the binding lets the clauses of `spots_along` be used for the result.
-        let spots = spots_along(self.alloc, store, self.names.firsts(), places, query)?;
+        let spots = spots_along(self.alloc, store, requested, places, query)?;
         Ok(spots)
     }
 

@@ -5,7 +5,7 @@ use Rattle.find_traces.specs.FoundIndices.{trace_at}
 use Rattle.find_traces.specs.Keys.{found_at, key_of, reverse_key_of}
 use Rattle.find_traces.proofs.Found.{hits_hit, hits_miss}
 use Rattle.find_traces.proofs.matched.all_hits.Goals as goal
-use Rattle.find_traces.proofs.matched.all_hits.Goals.{then-branch+in_ok-push, else-branch}
+use Rattle.find_traces.proofs.matched.all_hits.Goals.{then-branch+in_ok-push_tightly, else-branch}
 
 pub loop-index-preserved : goal.loop-index-preserved
 loop-index-preserved g c =
@@ -19,8 +19,8 @@ loop-index-preserved g c =
     c.in_ok-is_found_at.ensures.found ∙ (λ i. found_at (kept.same_query i) (kept.same_traces i) k) in
     record {
       found = elim c.if-branch.branch [
-        | then-branch+in_ok-push w ↦
-            ap (λ v. v.items) w.found-is ∙ w.in_ok-push.ensures.items
+        | then-branch+in_ok-push_tightly w ↦
+            ap (λ v. v.items) w.found-is ∙ w.in_ok-push_tightly.ensures.items
             ∙ (λ i. kept.found i ++ record { 0 = (w.key_at.ensures ∙ ap (λ l. key_of (k, trace_at l k)) same_traces) i } ∷ [])
             ∙ sym (hits_hit q ts k below (sym judged ∙ w.if-branch.true))
         | else-branch w ↦

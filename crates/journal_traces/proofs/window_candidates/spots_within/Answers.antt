@@ -29,7 +29,7 @@ loop-index-preserved c =
     record {
       place = within;
       found = λ p fails.
-          ap (filter p) c.in_ok-push.ensures.items
+          ap (filter p) c.in_ok-push_tightly.ensures.items
           ∙ spots_more c.args.assembly.now p c.loop-index.spots.items c.spots_at.result i below c.spots_at.ensures (c.loop-index.invariant.found p fails)
           ∙ sym (spots_skipped c.args.window c.args.starts.now c.args.assembly.now p fails (i + 1)
           c.next_within-index-in-loop-index.result next.from within next.skipped);

@@ -8,5 +8,5 @@ use Rattle.span_store.proofs.finding.take_places.Given as goal
 abbrev pub invariant-loop-index : goal.invariant-loop-index
 invariant-loop-index l =
     (map placed_taken l.taken ≡ map
-    (λ i. slice_index_or (traces_named l.traces.journal.now.held.entries l.traces.spots.now) i []) (take l.index-index l.indices))
-    × AreNumberedByPlace l.traces.journal.now.held.entries l.taken
+    (λ i. slice_index_or (traces_named l.traces.store.journal.now.held.entries l.traces.spots.now) i []) (take l.index-index l.indices))
+    × AreNumberedByPlace l.traces.store.journal.now.held.entries l.taken

@@ -51,7 +51,7 @@ fn operations_text(alloc: Global, operations: &[Operation]) -> Result<String, Al
     Ok(text)
 }
 
-/// What an answer shows of which no trace is a part, as text; of one with a trace nothing.
+/// What an answer without traces shows, as text; nothing of an answer with a trace.
 fn text_without_spans(alloc: Global, answer: &Answer) -> Result<String, AllocError> {
     match answer {
         Answer::Names(names) => names_text(alloc, names.as_slice()),

@@ -13,7 +13,7 @@ use Rattle.journal_traces.proofs.candidates.CandidateSearchSearched.is_found_at.
 pub returns-in-Some-clause-found : goal.returns-in-Some-clause-found
 returns-in-Some-clause-found c =
     let traces = c.args.self.now in
-    let h = traces.journal.now.held.entries in
+    let h = traces.store.journal.now.held.entries in
     let q = traces.prepared.now in
     IfOk-weaker c.is_found.result (λ b. b ≡ list_any (matches c.new-judging.result.0) (spans_named c.new-judging.result.1 c.again.result))
     (λ b. b ≡ list_any (matches q) (trace_at (traces_of traces) c.args.index))

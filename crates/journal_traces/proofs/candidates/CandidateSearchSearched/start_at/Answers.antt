@@ -8,8 +8,8 @@ use Rattle.journal_traces.proofs.candidates.CandidateSearchSearched.start_at.Goa
 pub returns-in-Some : goal.returns-in-Some
 returns-in-Some c =
     let traces = c.args.self.now in
-    let e : c.first_start.result ≡ first_start (trace_at (traces_named traces.journal.now.held.entries traces.spots.now) c.args.index) =
+    let e : c.first_start.result ≡ first_start (trace_at (traces_named traces.store.journal.now.held.entries traces.spots.now) c.args.index) =
     c.first_start.ensures ∙ ap first_start
-    (ap (spans_named traces.journal.now.held.entries) c.again.ensures
-    ∙ trace_there traces.journal.now.held.entries traces.spots.now c.args.index c.get.result c.in-Some.spots c.get.ensures.lookup c.in-Some.is) in
+    (ap (spans_named traces.store.journal.now.held.entries) c.again.ensures
+    ∙ trace_there traces.store.journal.now.held.entries traces.spots.now c.args.index c.get.result c.in-Some.spots c.get.ensures.lookup c.in-Some.is) in
     search rules

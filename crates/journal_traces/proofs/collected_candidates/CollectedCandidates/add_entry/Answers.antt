@@ -14,7 +14,7 @@ returns-clause-traces c =
     let spots = was.spots.items in
     let long : length was.entries.items ≤ length es = omega (arith, length-map was.entries.items entry_shared) in
     let within : All (IsSpotWithin (length es)) spots = within_still (length was.entries.items) (length es) spots long c.self.invariant.within in
-    ap (λ l. cut_at (trace_spotted (entries_shared l) spots) starts) c.in_ok-push.ensures.items
+    ap (λ l. cut_at (trace_spotted (entries_shared l) spots) starts) c.in_ok-push_tightly.ensures.items
     ∙ ap (λ l. cut_at (trace_spotted l spots) starts) (map_push entry_shared was.entries.items _)
     ∙ ap (λ l. cut_at l starts) (spotted_still es _ spots within)
     ∙ ap (λ (s : CandidatesValue). s.traces) c.self.view_is

@@ -10,7 +10,6 @@ use Rattle.trace_model.specs.BorrowedSpans.{placed_by_its_entry}
 use Rattle.journal_traces.specs.SpansAtSpots.{spans_named}
 use Rattle.journal_traces.proofs.ParentReferences.{matches-adopted}
 use Rattle.journal_traces.proofs.TraceMarks.{or_same}
-use Rattle.journal_traces.proofs.Processes.{process_there}
 use Rattle.journal_traces.proofs.judging.Judging.is_match_at.Goals as goal
 
 pub is_match-requires : goal.is_match-requires
@@ -18,7 +17,7 @@ is_match-requires c =
     let s = c.in-Some.seen in
     let at : Some (placed_by_its_entry s) ≡ span_at c.args.self.now.1 c.args.spot =
     c.in-Some.ensures ∙ ap (λ (j : Find × List Entry). span_at j.1 c.args.spot) c.self.view_is in
-    process_there c.args.self.now.1 c.args.spot (placed_by_its_entry s) at
+    at
 
 pub returns-in-Some : goal.returns-in-Some
 returns-in-Some c =

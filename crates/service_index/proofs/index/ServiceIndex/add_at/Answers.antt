@@ -1,4 +1,4 @@
-use Rattle.std.proofs.Common.{◌≡◌, ◌∙◌, ◌+◌, ◌<◌, ◌≤◌, length, map, ap, sym, subst, arith}
+use Rattle.std.proofs.Common.{◌≡◌, ◌∙◌, ℕ, ◌+◌, ◌<◌, ◌≤◌, List, length, map, ap, sym, subst, arith}
 use Rattle.jaeger_model.specs.Texts.{insert_once, sorted_set}
 use Rattle.service_index.specs.ListedNames.{listed_cmp}
 use Rattle.service_index.specs.Labels.{operation_labels}
@@ -6,6 +6,7 @@ use Rattle.service_index.specs.Probes.{row_of}
 use Rattle.service_index.specs.Indexes.{Index, IsIndexed, listing_by}
 use Rattle.service_index.proofs.LinkedOperations.{listed_again, number_known, row_within, indexed_more}
 use Rattle.service_index.specs.LinkedRows.{newest_with}
+use Rattle.service_index.proofs.RowsOfOperations.{row_same}
 use Rattle.service_index.proofs.index.ServiceIndex.add_at.Goals as goal
 
 pub returns-then-row-rows-clause-listed : goal.returns-then-row-rows-clause-listed
@@ -57,3 +58,17 @@ returns-clause-indexed g c =
     _ c.requires.held indexed c.add-row.ensures.leads c.add-service.ensures.leads
     c.add-row.ensures.numbers c.add-row.ensures.row past c.add-service.ensures.numbers c.add-service.ensures.row
     (c.add_row.ensures.newest ∙ ap (newest_with old.newest s) at) c.add_row.ensures.earlier
+
+pub returns-then-row-rows-clause-row : goal.returns-then-row-rows-clause-row
+returns-then-row-rows-clause-row g c =
+    let labels = operation_labels (g.T.Texts.names c.args.texts.now) in
+    let numbers = c.self.inside.operations.numbers in
+    c.add-row.ensures.row ∙ sym (row_same labels numbers c.args.n)
+    ∙ sym (ap (λ (ns : List ℕ). row_of labels ns (labels.at c.args.n)) c.add-row.ensures.numbers)
+
+pub returns-clause-row : goal.returns-clause-row
+returns-clause-row g c =
+    let labels = operation_labels (g.T.Texts.names c.args.texts.now) in
+    let numbers = c.self.inside.operations.numbers in
+    c.add-row.ensures.row ∙ sym (row_same labels numbers c.args.n)
+    ∙ sym (ap (λ (ns : List ℕ). row_of labels ns (labels.at c.args.n)) c.add-row.ensures.numbers)

@@ -18,7 +18,7 @@ take_found-requires c =
     omega (arith, same, c.self.invariant.placed.batches, c.self.invariant.placed.kept.fits, c.len-legal.ensures.legal.batches)
 
 pub new-traces-requires : goal.new-traces-requires
-new-traces-requires c = record { process_of = process_at c.candidate_search.result.journal.now.held.entries; each = c.in_ok-found.ensures.numbers }
+new-traces-requires c = record { process_of = process_at c.candidate_search.result.store.journal.now.held.entries; each = c.in_ok-found.ensures.numbers }
 
 pub returns : goal.returns
 returns c =

@@ -10,7 +10,8 @@ use Rattle.trace_model.specs.Histories.{before_last}
 use Rattle.service_index.specs.ServicePlaces.{ServicePlacesValue, ArePlacesKept, service_labels}
 use Rattle.trace_model.proofs.LastEntries.{last_of}
 use Rattle.service_index.proofs.ServiceNumbers.{as_many_reporters}
-use Rattle.service_index.proofs.OneMoreEntry.{HasOneMore, last_number, extends_one, row_added, kept_more}
+use Rattle.service_index.proofs.OneMoreEntry.{HasOneMore, last_number, extends_one, kept_more}
+use Rattle.service_index.proofs.RowsOfOperations.{row_added}
 use Rattle.service_index.proofs.service_places.places.ServicePlaces.add.Goals as goal
 
 abbrev seen : Table → List ℕ → List ℕ → List ℕ → ℕ → ServicePlacesValue
@@ -30,8 +31,8 @@ pub bounds-numbers-service : goal.bounds-numbers-service
 bounds-numbers-service c =
     let h : List Entry = map (arc_value {X = Entry} {Z = Global}) c.args.entries.now in
     subst (λ (x : List ℕ). c.add-service.result < length x) (sym c.numbers.ensures)
-    (row_added h c.self.inside.services.numbers c.add-service.new.self.numbers (length c.args.entries.now - 1)
-    c.add-service.result c.add-service.ensures.numbers c.add-service.ensures.row)
+    (row_added (service_labels h) c.self.inside.services.numbers c.add-service.new.self.numbers (length c.args.entries.now - 1)
+    c.add-service.result c.add-service.ensures.numbers c.add-service.ensures.row).0
 
 pub returns-clause-kept : goal.returns-clause-kept
 returns-clause-kept c =
