@@ -7,7 +7,7 @@ use std::alloc::AllocError;
 /// The least number of items by which a full list grows.
 const LEAST_GROWTH: usize = 64;
 
-/// A full list grows by at most one in eight of its items, or by [`LEAST_GROWTH`].
+/// A full list grows by one in eight of its items and by [`LEAST_GROWTH`] more.
 const GROWTH_ONE_IN: usize = 8;
 
 /// Appends an item. A full list grows by an eighth, and not to twice its size as by `Vec::push`: a list of a search is

@@ -101,8 +101,8 @@ fn is_new_match(
     !is_trace_before(before, at.span.trace) && is_met_without_tags(conditions, place, index, at)
 }
 
-/// Marks the traces of the ring of which one of these spans meets these conditions. They are those of the entry at the
-/// place, which is of the requested service.
+/// Marks the traces of the ring that have one of these spans, if it meets these conditions. The spans are those of the
+/// entry at the place, which is of the requested service.
 fn mark_spans(
     marks: &mut [bool],
     ring: &Ring,
