@@ -94,6 +94,12 @@ def a_trace_each(count, first=0):
     return [span(k, trace=first + k + 1) for k in range(count)]
 
 
+def family(logs, children):
+    """A span that is moved by its clock, with logs, and its children, each of which is compared with where it is moved to."""
+    parent = span(2, 1, more=structs(11, [log([])] * logs))
+    return [span(1), parent, *(span(k, 2) for k in range(3, 3 + children))]
+
+
 def hidden_matches(count):
     """Traces that matched, were hidden, and were opened again by a batch without the tag."""
     matching = batch("a", [text_tag("k", "v")], a_trace_each(count))
@@ -145,6 +151,10 @@ SHAPES = {
         lambda n: [post(batch("a", tags(8 * n, "x"), chain(4 * n))), asked(n * 2 // 5)],
     "references of a span; the trace":
         lambda n: [post(batch("a", [], [span(1, more=structs(6, [reference(k) for k in range(20 * n)]))])), THE_TRACE],
+    "logs of a span, its children; the trace":
+        lambda n: [post(batch("a", [], family(20 * n, 8 * n))), THE_TRACE],
+    "a text of control characters; the trace":
+        lambda n: [post(batch("a", [], [span(1, more=structs(10, [text_tag("k", "\x01" * (1000 * n))]))])), THE_TRACE],
     "spans of one id; the trace":
         lambda n: [post(batch("a", [], [span(1, 1) for _ in range(8 * n)])), THE_TRACE],
     "a chain, last span first; the trace":
@@ -169,12 +179,16 @@ SHAPES = {
         lambda n: [post(batch("a", tags(n * 2 // 5, "x"), [span(k)])) for k in range(1, n // 10)] + [finds("".join(f"&tag=x{k}:" for k in range(n * 2 // 5)) + "&limit=0")],
     "equal processes, a trace each; a search for 20":
         lambda n: [post(batch("a", tags(n), a_trace_each(n))) for _ in range(10)] + [finds("&limit=20")],
+    "equal processes, a trace each; a search for all":
+        lambda n: [post(batch("a", tags(n // 4), a_trace_each(n))) for _ in range(4)] + [finds("&limit=0")],
     "a trace each; a search for one":
         lambda n: [post(batch("a", [], a_trace_each(40 * n))), finds("&limit=1")],
     "a trace each; dependencies":
         lambda n: [post(batch("a", [], a_trace_each(40 * n))), DEPENDENCIES],
     "pairs of long services; dependencies":
         lambda n: pairs_of_services(max(2, n // 10), 10 * n) + [DEPENDENCIES],
+    "pairs of services; dependencies":
+        lambda n: pairs_of_services(max(2, n * 3 // 20), 0) + [DEPENDENCIES],
     "process tags, a trace each; a search for all by one":
         lambda n: [post(batch("a", tags(n // 4) + [text_tag("k", "v")], a_trace_each(4 * n))), finds("&tag=k:v&limit=0")],
     "process tags, a trace each; a search for 100 by one":

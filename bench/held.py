@@ -10,14 +10,18 @@ With `--at-once` nothing is posted. Eight connections ask a query at once, as of
 server's memory rises above what it held before: the most of all rounds, and what that is for each byte sent. Of a hundred clients that
 don't read, it is also what is held for each of them once all answers have begun.
 
-    bench/held.py [--bin PATH] [--parts 1000] [--spans 100000,1000000,10000000] [--asks 5] [--at-once] [--save KIND] [SHAPE..]
+With `--answers` nothing is posted either. Printed is what the memory of a server rises for each span of an answer, while it is made and until its
+client has read it: four connections ask for the same answer at once, and eight in a server of its own. What eight take more than four, for each span
+of four answers, doesn't count what a server keeps free of earlier requests, and is judged.
+
+    bench/held.py [--bin PATH] [--parts 1000] [--spans 100000,1000000,10000000] [--asks 5] [--at-once | --answers] [--save KIND] [SHAPE..]
 
 A row is over its bound if its longest POST beside the query takes more than 20 ms, and 100 ms more for each million spans above 100,000, and also
 more than twice the longest POST while nobody asks: if POSTs are about as slow without the query, the machine is slow and not the query.
 Such a row is measured a second time and counts only if it is over it again: a query that delays POSTs delays them every time.
 The latest traces of a service are over theirs if their middle time at 10,000,000 spans is more than 3 times that at 100,000. With `--at-once` a
-row is over its bound if the eight connections together take more than 10 bytes for each byte sent; with a few parts fixed costs pass that. The last
-line is `0 over their bounds`, or the number of such rows after a line for each; the exit status is 1 then.
+row is over its bound if the eight connections together take more than 10 bytes for each byte sent; with a few parts fixed costs pass that. With
+`--answers` it is if an answer takes more than 100 bytes a span. The last line is `0 over their bounds`, or the number of such rows after a line for each; the exit status is 1 then.
 """
 import contextlib
 import itertools
@@ -45,9 +49,12 @@ LATEST_BAR, LATEST_SIZES = 3, (100_000, 10_000_000)
 # clients that don't read.
 ASKING, SENT_BAR = 8, 10
 SLOW = 100
+# The bytes of memory that an answer may take for each of its spans, the numbers of answers at once, and the spans of an answer.
+SPAN_BAR, ANSWERS, ANSWERED_SPANS = 100, (4, ASKING), (100_000, 140_000, 200_000)
 # A short query is asked more often than told, so that some POSTs fall beside it.
 ASKED_FOR = 0.5
 COLUMNS = ["shape", "size", "unit", "POST alone, ms, longest", "middle", "beside, ms, longest", "middle", "query, ms, longest", "query, ms, middle"]
+COLUMNS_ANSWERS = ["answer", "spans", *(f"bytes a span, {count} at once" for count in ANSWERS), "bytes a span, of the others"]
 COLUMNS_AT_ONCE = ["shape", "connections", "MB in", "MB before", "MB more at most", "of bytes sent", "MB held for a slow reader"]
 
 
@@ -100,6 +107,33 @@ def equal_processes(n):
     return [], bodies, search("&limit=20")
 
 
+def spread_traces(n, service="a", start=1_600_000_000_000_000, first=1):
+    """Batches of ten one-span traces, whose starts are a microsecond apart."""
+    numbers = range(first, first + 40 * n)
+    return [wire.batch(service, [wire.span(k, 1, start=start + k) for k in numbers[at:at + 10]]) for at in range(0, len(numbers), 10)]
+
+
+def behind_a_wrong_clock(n):
+    """Traces of a service that all start before some thousands of another service."""
+    late = [wire.batch("z", [wire.span(k, 1, start=1 << 59) for k in range(10_000_000, 10_000_000 + 6 * n)])]
+    return [], spread_traces(n) + late, search("&limit=20")
+
+
+def of_one_start(n):
+    bodies = [wire.batch("a", [wire.span(k + at, 1, start=1_600_000_000_000_000) for at in range(10)]) for k in range(1, 40 * n, 10)]
+    return [], bodies, search("&limit=20")
+
+
+def in_few_batches(n):
+    """Traces of a service that came in ten batches."""
+    return [], [wire.batch("a", a_trace_each(4 * n, 1 + 4 * n * k)) for k in range(10)], search("&limit=20")
+
+
+def nearly_a_sixteenth(n):
+    """As many as a search without tags may find and still be judged inside a copy."""
+    return [], spread_traces(n), search(f"&minDuration=1us&limit={40 * n // 16 - 1}")
+
+
 def pairs_of_services(n):
     """Services with long names, each of which calls each other one in one trace."""
     count = max(2, n * 3 // 20)
@@ -118,6 +152,10 @@ SHAPES = {
     "matches that have left the ring": hidden_matches,
     "equal processes x traces": equal_processes,
     "pairs of long services, dependencies": pairs_of_services,
+    "the 20 latest of a service, behind traces of a wrong clock": behind_a_wrong_clock,
+    "the 20 latest of traces of one start": of_one_start,
+    "the 20 latest of a service that came in ten batches": in_few_batches,
+    "nearly a sixteenth of the traces, by their duration": nearly_a_sixteenth,
 }
 
 
@@ -137,10 +175,18 @@ class AskedAtOnce(NamedTuple):
     is_read: bool = True
 
 
+def a_list_with_a_large_trace(n):
+    """A trace of many spans that starts last, and small ones."""
+    large = [wire.span(7, 1 + k, k, start=1_700_000_000_000_000 + k) for k in range(30 * n)]
+    return [wire.batch("a", a_trace_each(10 * n, 1000)), wire.batch("a", large)]
+
+
 ASKED_AT_ONCE = {
     "dependencies of traces without calls": AskedAtOnce(many_traces, DEPENDENCIES),
     "limit=1 among many traces": AskedAtOnce(many_traces, search("&limit=1")),
     "one large trace": AskedAtOnce(a_large_trace, get("/api/traces/7")),
+    "a list whose first trace is large": AskedAtOnce(a_list_with_a_large_trace, search("&limit=20")),
+    "a list whose first trace is large to slow readers": AskedAtOnce(a_list_with_a_large_trace, search("&limit=20"), SLOW, is_read=False),
     "one large trace to slow readers": AskedAtOnce(a_large_trace, get("/api/traces/7"), SLOW, is_read=False),
 }
 
@@ -183,6 +229,44 @@ ONE_TRACE, MOST_IN_ONE_TRACE = "one trace of all spans", 1_000_000
 def one_trace(spans):
     for first in range(0, spans, IN_BATCH):
         yield wire.batch("a", [wire.span(7, 1 + k, start=1_600_000_000_000_000 + k) for k in range(first, min(first + IN_BATCH, spans))])
+
+
+def in_traces_of(length):
+    """Gives the bodies of that many spans in traces of that length."""
+    def bodies(spans):
+        for first in range(0, spans, IN_BATCH):
+            yield wire.batch("a", [wire.span(1 + k // length, 1 + k, start=1_600_000_000_000_000 + k) for k in range(first, min(first + IN_BATCH, spans))])
+    return bodies
+
+
+# What fills a server of so many spans, and the query whose answer has all of them.
+ANSWERED = {
+    "traces of one span": (in_traces_of(1), search("&limit=0")),
+    "traces of two spans": (in_traces_of(2), search("&limit=0")),
+    "traces of ten spans": (in_traces_of(10), search("&limit=0")),
+    "one trace": (one_trace, get("/api/traces/7")),
+}
+
+
+class Taken(NamedTuple):
+    """By how many bytes the memory of a server rose while so many answers were made at once, for each number of them."""
+    name: str
+    spans: int
+    rises: dict
+
+    def of_span(self, count):
+        return self.rises[count] / (count * self.spans)
+
+    def of_others(self):
+        """What the larger number of answers takes more, for each span of those that are more."""
+        few, many = ANSWERS
+        return (self.rises[many] - self.rises[few]) / ((many - few) * self.spans)
+
+    def columns(self):
+        return [self.name, self.spans, *(round(self.of_span(count), 1) for count in ANSWERS), round(self.of_others(), 1)]
+
+    def __str__(self):
+        return "\t".join(f"{it:,}" if isinstance(it, (int, float)) else it for it in self.columns())
 
 
 class Times(NamedTuple):
@@ -395,6 +479,34 @@ def rises(options, chosen):
             yield Rise(name, asked, sent, before, 1000 * server.peak() - before, held - before)
 
 
+def answers_taken(options, chosen):
+    """What answers take, each number of them in a server of its own, which was asked nothing before."""
+    for name, (bodies, query) in ANSWERED.items():
+        for spans in ANSWERED_SPANS if chosen(name) else []:
+            rises = {}
+            for count in ANSWERS:
+                with filled(options.bin, [], bodies(spans), ASKING) as (server, _):
+                    before = 1000 * server.memory()
+                    server.forget_peak()
+                    asked_at_once(server, AskedAtOnce(bodies, query, count))
+                    rises[count] = 1000 * server.peak() - before
+            yield Taken(name, spans, rises)
+
+
+def all_answers(options, chosen):
+    """The rows of answers by their spans; a line for each over its bound."""
+    record, found = Record(options, "held --answers", COLUMNS_ANSWERS), []
+    print("\t".join(COLUMNS_ANSWERS))
+    for row in answers_taken(options, chosen):
+        record.row(*row.columns())
+        print(row, flush=True)
+        if row.of_others() > SPAN_BAR:
+            found.append(f"{row.name}, {row.spans:,} spans: {row.of_others():.1f} bytes a span, and {SPAN_BAR} is the bar")
+    if not options.shapes:
+        record.save()
+    return found
+
+
 def all_at_once(options, chosen):
     """The rows of connections that ask at once; a line for each over its bound."""
     record, found = Record(options, "held --at-once", COLUMNS_AT_ONCE), []
@@ -447,10 +559,13 @@ def main():
     words.add_argument("--spans", type=sizes, default=[100_000], help=f"how many spans the plain stores hold, {MOST_SPANS:,} at most")
     words.add_argument("--asks", type=int, default=5, help="how often each query is asked at least")
     words.add_argument("--at-once", action="store_true", help="what connections take that ask at once, and nothing else")
+    words.add_argument("--answers", action="store_true", help="what an answer takes for each of its spans, and nothing else")
     words.add_argument("shapes", nargs="*", help="words of the shapes to run; all where none is given")
     options = words.parse_args()
     chosen = lambda name: not options.shapes or any(word in name for word in options.shapes)
-    found = all_at_once(options, chosen) if options.at_once else beside_posts(options, chosen)
+    ways = {"at_once": all_at_once, "answers": all_answers}
+    judged = next((way for name, way in ways.items() if getattr(options, name)), beside_posts)
+    found = judged(options, chosen)
     print("\n".join([*found, f"{len(found)} over their bounds"]))
     return 1 if found else 0
 

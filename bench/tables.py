@@ -302,6 +302,14 @@ def held_at_once(found):
     return printed("held --at-once", heads)(found)
 
 
+def held_answers(found):
+    """What an answer takes for each of its spans. The page says so if no rows were kept yet."""
+    if "held --answers" not in found.series:
+        return ["*Not measured yet.*"]
+    heads = ["Answer", "Spans", "Bytes a span, 4 answers at once", "8 at once", "The 4 more, bytes a span"]
+    return printed("held --answers", heads)(found)
+
+
 def grown(found):
     """The longest POST while a server grows. The page says so if no rows were kept yet."""
     if "growth" not in found.series:
@@ -568,14 +576,14 @@ def most_waiting():
 
 
 TABLES = {name: it for name, it in globals().items() if name in (
-    "machines decode compare store session searches searches_load shapes heavy held held_at_once ids limits resent memory memory_processes memory_most copies serve grown "
+    "machines decode compare store session searches searches_load shapes heavy held held_at_once held_answers ids limits resent memory memory_processes memory_most copies serve grown "
     "connections connections_memory builds forms glance_beside glance_alone speed operating_memory operating_spans operating_most").split()}
 
 
 def quotes(found):
     """The sentences that quote figures, with their pages."""
     noise = ("bench/README.md", f"the ratios of the rounds of `serve.py` differ by up to {found.series['serve']['noise']} of themselves")
-    return [noise, *runs_quote(found), *unplaced(found), held_quote(found), itself_quote(found), *core_quotes(found), *memory_quotes(found), *connection_quotes(found),
+    return [noise, *runs_quote(found), *unplaced(found), held_quote(found), *longest_quotes(found), itself_quote(found), *core_quotes(found), *memory_quotes(found), *connection_quotes(found),
             *gate_quotes(found)]
 
 
@@ -605,6 +613,13 @@ def held_quote(found):
     alone = max(row[3] for row in found.rows("held"))
     return ("docs/serve.md", f"the longest POST took {small} ms over 100,000 spans or bodies made to be costly, {plain[1_000_000]} ms over "
             f"1,000,000 spans and {plain[10_000_000]:.0f} ms over 10,000,000. While nobody asked, a POST took up to {alone} ms")
+
+
+def longest_quotes(found):
+    """How long the longest answer took to make."""
+    seconds = f"{max(row[7] for row in found.rows('held')) / 1000:.0f} seconds"
+    yield "README.md", f"{seconds} were measured"
+    yield "docs/operating.md", f"up to [{seconds}](../bench/figures.md#heldpy) where it was measured"
 
 
 def itself_quote(found):
@@ -641,12 +656,10 @@ def memory_quotes(found):
     worst = worst_tags(found)
     yield page, f"times {worst:.1f}, the most bytes of memory that were measured for each byte of a body of tags"
     yield page, f"times {worst:.1f}: {megabytes(1024 * 4_194_304 * worst / 1e6)} with the defaults"
-    small, large = (megabytes(1000 * body * worst / 1e6) for body in (1_048_576, 4_194_304))
+    large = megabytes(1000 * 4_194_304 * worst / 1e6)
     chunked, coming_chunked = (megabytes(bodies * 4_194_304 * IN_CHUNKS / 1e6) for bodies in (1000, 1024))
     yield page, f"cut at the head of each list may take up to {IN_CHUNKS} (calculated, not tried)"
     yield page, f"is {large} stored and {megabytes(1024 * 4_194_304 * worst / 1e6)} of bodies, or {chunked} and {coming_chunked} if bodies come in chunks"
-    yield "docs/serve.md", (f"For 1,000 batches expect [up to {small}](operating.md#what-else-takes-memory-and-the-most) stored with bodies of at most 1 MB, and up to {large} at "
-                            f"the server's own limit ({chunked} in chunks, by calculation)")
     yield "README.md", f"take [{found.of('memory', 100_000, 1)[1]} MB (one tag) to {found.of('memory', 100_000, 10)[1]} MB (ten tags)]"
     start = at_start()
     told = [f"{-(-100_000 * each // 1_000_000)} MB" for each in start]
