@@ -135,7 +135,7 @@ pub(crate) fn linked(
     ensures { IfOk result (λ v.
         v.items ≡ map (λ e. link_of e.1) (map tally_seen ordered.entry.entries)) }
 {
-    let mut links = Vec::new(alloc);
+    let mut links = Vec::with_capacity(alloc, ordered.len())?;
     for (_, tally) in ordered {
         links.push(Link {
             parent: tally.caller.service()?,
