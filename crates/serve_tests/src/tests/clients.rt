@@ -31,10 +31,12 @@ pub enum Clients {
     RepeatAtOnce,
     /// One client submits a numbered batch, another batch with its number, and the first one again.
     Conflicts,
-    /// One client sends requests that are refused, the last of which closes the connection.
+    /// One client sends requests that are refused; the last one closes the connection.
     Refused,
     /// A connection that found nothing before finds what another one submits.
     TwoConnections,
+    /// Two clients connect, and the server is to accept one.
+    OneMoreThanSessions,
     /// Two clients query at the same time.
     TwoAtOnce,
     /// Eight clients submit batches and query, all at the same time.
@@ -60,7 +62,7 @@ const SUBMITS: [Exchange; 1] = [(POST, BATCH, ACCEPTED)];
 /// A second batch has no room.
 const ONE_TOO_MANY: [Exchange; 2] = [(POST, BATCH, ACCEPTED), (POST, BATCH, FULL)];
 
-/// The same numbered batch twice.
+/// A batch with a `seqNo`, twice.
 const REPEATS: [Exchange; 3] = [
     (POST_NUMBERED, NUMBERED, ACCEPTED),
     (POST_NUMBERED, NUMBERED, ACCEPTED),
@@ -119,6 +121,7 @@ impl Clients {
             Clients::Conflicts => asks(rt, alloc, address, &CONFLICTS),
             Clients::Refused => is_refused(rt, alloc, address),
             Clients::TwoConnections => two_connections(rt, alloc, address),
+            Clients::OneMoreThanSessions => one_more_than_sessions(rt, alloc, address),
             Clients::TwoAtOnce => two_at_once(rt, alloc, address, &QUERIES_NOTHING),
             Clients::Eight => eight(rt, alloc, address),
             Clients::BadNeighbours => bad_neighbours(rt, alloc, address),
@@ -209,6 +212,19 @@ fn two_connections<R: Net<Stream = TcpStream, Listener = TcpListener>>(
             && ask_all(alloc, &mut one, &SUBMITS)?
             && ask(alloc, &mut other, SERVICES, ONE_SERVICE)?,
     )
+}
+
+/// The client that connects first is served. What the other one submits is in no count of the server's last lines.
+fn one_more_than_sessions<R: Net<Stream = TcpStream, Listener = TcpListener>>(
+    rt: &R,
+    alloc: Global,
+    address: SocketAddr,
+) -> io::Result<bool> {
+    let mut first = TcpStream::connect(rt, address)?;
+    let mut second = TcpStream::connect(rt, address)?;
+    second.write_all(POST)?;
+    second.write_all(BATCH)?;
+    ask_all(alloc, &mut first, &SUBMITS_AND_QUERIES)
 }
 
 fn submits_and_queries<R: Net<Stream = TcpStream, Listener = TcpListener>>(

@@ -11,7 +11,7 @@ use trace_server::NoObserver;
 type Run = (&'static str, (u16, u32, u32, u32), Clients, &'static [u8]);
 
 /// The runs. [`Clients`] says what the clients of each do.
-const RUNS: [Run; 13] = [
+const RUNS: [Run; 14] = [
     (
         "a_batch_is_found",
         (1, 1, 10, 100),
@@ -23,6 +23,12 @@ const RUNS: [Run; 13] = [
         (2, 2, 10, 100),
         Clients::TwoConnections,
         b"\nserved 2\nbooks 1 0 0\n",
+    ),
+    (
+        "no_more_than_its_sessions",
+        (2, 1, 10, 100),
+        Clients::OneMoreThanSessions,
+        b"\nserved 1\nbooks 1 0 0\n",
     ),
     (
         "eight_clients_at_once",
