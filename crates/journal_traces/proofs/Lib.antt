@@ -1,16 +1,11 @@
-pub mod ParentReferences
 pub mod TagBits
 pub mod TraceMarks
 pub mod Numbers
 pub mod LateTraces
-pub mod Processes
 pub mod SpansAtSpots
 pub mod Numbering
-pub mod TracesAtSpots
-pub mod TraceParts
-pub mod TakingSpans
-pub mod TakenSpans
-pub mod SpanConditions
+pub mod UnmetEntries
+pub mod AddedSpans
 pub mod TagMasks
 pub mod NearMatches
 pub mod OutlineBounds
@@ -19,4 +14,3 @@ pub mod TracesOfWindows
 pub mod RequestedService
 pub mod RequestedOperation
 pub mod SkippedTraces
-pub mod KeyClasses

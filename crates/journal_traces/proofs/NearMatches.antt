@@ -21,7 +21,8 @@ use Rattle.span_steps.specs.SpanConditions.{meets_span_conditions}
 use Rattle.arrival_journal.specs.declared.outline.Outline.{Outline}
 use Rattle.arrival_journal.specs.Outlines.{outline_in}
 use Rattle.trace_assembly.specs.AssembledRows.{is_of}
-use Rattle.journal_traces.specs.MatchingSpans.{any_of, meets, met, met_or_none, met_at, met_along, without_tags, near_or_none, near_at, near_along}
+use Rattle.collected_traces.specs.ProcessConditions.{meets}
+use Rattle.journal_traces.specs.MatchingSpans.{any_of, met, met_or_none, met_at, met_along, without_tags, near_or_none, near_at, near_along}
 use Rattle.journal_traces.specs.SkippedEntries.{may_meet}
 use Rattle.journal_traces.proofs.OutlineBounds.{passed_there}
 

@@ -17,8 +17,8 @@ use Rattle.trace_assembly.specs.LocatedSpans.{span_at}
 use Rattle.service_index.specs.ServicePlaces.{reporters, service_at, service_number_in, AreServiceNumbers}
 use Rattle.service_index.proofs.ServiceNumbers.{service_number_within, as_many_reporters}
 use Rattle.call_links.specs.NumberedCalls.{StandsFor}
-use Rattle.journal_traces.specs.SpansAtSpots.{process_at}
-use Rattle.journal_traces.proofs.Processes.{process_there}
+use Rattle.collected_traces.specs.EntriesAtPlaces.{process_at}
+use Rattle.collected_traces.proofs.Processes.{process_there}
 
 of_work : (w : Work) (p : Process) → Some p ≡ option_map (λ (b : Batch). b.process) (batch_brought w) → p.service ≡ service_brought w
 of_work (brings.Batch b) p e = let same : p ≡ b.process = cc e in ap (λ (x : Process). x.service) same

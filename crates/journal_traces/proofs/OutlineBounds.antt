@@ -20,7 +20,8 @@ use Rattle.trace_model.specs.declared.entry.Work.TheVariants as brings
 use Rattle.trace_model.specs.EntryWork.{batch_brought}
 use Rattle.arrival_journal.specs.TagBits.{bits_of}
 use Rattle.std.specs.Option.{option_and_then}
-use Rattle.journal_traces.specs.MatchingSpans.{meets, met, met_or_none}
+use Rattle.collected_traces.specs.ProcessConditions.{meets}
+use Rattle.journal_traces.specs.MatchingSpans.{met, met_or_none}
 use Rattle.journal_traces.specs.SkippedEntries.{may_meet}
 use Rattle.journal_traces.proofs.TagBits.{AreSet, all_set, all_marked}
 

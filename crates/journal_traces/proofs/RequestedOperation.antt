@@ -22,11 +22,12 @@ use Rattle.service_index.specs.ListedNames.{Listed, listed}
 use Rattle.service_index.specs.declared.operation_rows.OperationRows.{OperationRows}
 use Rattle.service_index.specs.OperationRows.{rows_in}
 use Rattle.service_index.specs.KeptNames.{TellOperation, reported_at}
-use Rattle.journal_traces.specs.AdoptedSpans.{adopted}
+use Rattle.collected_traces.specs.AdoptedSpans.{adopted}
 use Rattle.journal_traces.specs.Told.{AreOperationsTold}
-use Rattle.journal_traces.specs.SpansAtSpots.{batch_at, placed_in}
-use Rattle.journal_traces.proofs.ParentReferences.{placed_if}
-use Rattle.journal_traces.proofs.SpansAtSpots.{span_there}
+use Rattle.collected_traces.specs.EntriesAtPlaces.{batch_at}
+use Rattle.journal_traces.specs.SpansAtSpots.{placed_in}
+use Rattle.collected_traces.proofs.ParentReferences.{placed_if}
+use Rattle.collected_traces.proofs.EntriesAtPlaces.{span_there}
 
 -- ---- the arrival of a span
 got_left : {X : Type 0} (xs ys : List X) (i : ℕ) (x : X) → Some x ≡ slice_get xs i → Some x ≡ slice_get (xs ++ ys) i

@@ -14,7 +14,7 @@ use Rattle.service_index.specs.ServicePlaces.{reporters, service_at, service_num
 use Rattle.service_index.proofs.ServiceNumbers.{service_number_within, as_many_reporters}
 use Rattle.journal_traces.specs.Told.{AreTold}
 use Rattle.journal_traces.specs.ReportedSpots.{is_number}
-use Rattle.journal_traces.specs.SpansAtSpots.{process_at}
+use Rattle.collected_traces.specs.EntriesAtPlaces.{process_at}
 use Rattle.journal_traces.proofs.Numbers.{at_place}
 
 -- of an entry, by the number of its own service

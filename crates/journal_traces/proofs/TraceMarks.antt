@@ -22,7 +22,9 @@ use Rattle.trace_model.proofs.ShownOfTrace.{same_is, same_self}
 use Rattle.trace_ring.specs.RingValues.{NoneTwice}
 use Rattle.trace_assembly.specs.AssembledRows.{is_of}
 use Rattle.trace_assembly.proofs.WrittenRows.{same_swap}
-use Rattle.journal_traces.specs.MatchingSpans.{any_of, meets, met, same_before}
+use Rattle.collected_traces.specs.ProcessConditions.{meets}
+use Rattle.collected_traces.proofs.TakenSpans.{or_same}
+use Rattle.journal_traces.specs.MatchingSpans.{any_of, met, same_before}
 
 -- ---- the place of a trace in the ring
 pub held : (r : List TraceId) (k : ℕ) (t : TraceId) → slice_get r k ≡ Some t → holds r t ≡ true
@@ -37,10 +39,6 @@ placed_at r t place e =
     slice_get-get_or r place t w.0 ∙ ap Some (sym (same_is t (get_or r place t) w.1))
 
 -- ---- one more trace is marked
-pub or_same : (b : Bool) → b ≡ (b || false)
-or_same true = refl
-or_same false = refl
-
 beside : (p : TraceId → Bool) (x t : TraceId) → same_trace x t ≡ false → p x ≡ (p x || same_trace x t)
 beside p x t other = or_same (p x) ∙ ap (λ b. p x || b) (sym other)
 

@@ -22,15 +22,15 @@ use Rattle.trace_assembly.specs.LocatedSpans.{span_at}
 use Rattle.service_index.specs.ServicePlaces.{reporters, service_at, service_number_in, AreServiceNumbers}
 use Rattle.service_index.proofs.ServiceNumbers.{service_number_within, as_many_reporters}
 use Rattle.call_links.specs.NumberedCalls.{StandsFor}
-use Rattle.journal_traces.specs.declared.taken_spot.TakenSpot.{TakenSpot}
+use Rattle.collected_traces.specs.declared.taken_spot.TakenSpot.{TakenSpot}
 use Rattle.journal_traces.specs.declared.window_traces.WindowSpots.{WindowSpots}
-use Rattle.journal_traces.specs.TraceParts.{next_start, cut_at, AreStarts}
+use Rattle.collected_traces.specs.TraceParts.{next_start, cut_at, AreStarts}
 use Rattle.journal_traces.specs.Numbered.{numbered, AreNumbers}
-use Rattle.journal_traces.specs.CollectedCandidates.{IsSpotWithin, AddsSpan}
-use Rattle.journal_traces.specs.SpansAtSpots.{HasServiceNumber, AreNumberedByService}
+use Rattle.collected_traces.specs.CollectedCandidates.{IsSpotWithin}
+use Rattle.journal_traces.specs.SpansAtSpots.{HasServiceNumber, AreNumberedByService, AddsSpan}
 use Rattle.journal_traces.specs.WindowTraces.{ServedEntry, entry_seen, entries_seen, entries_in, numbered_span, taken_in, taken_reported, trace_reported}
 use Rattle.journal_traces.specs.WindowTraces.{traces_reported, HasService, AreWindowSpots}
-use Rattle.journal_traces.proofs.TraceParts.{cut_begin, cut_push, starts_begin, starts_push}
+use Rattle.collected_traces.proofs.TraceParts.{cut_begin, cut_push, starts_begin, starts_push}
 use Rattle.journal_traces.proofs.Numbering.{numbers_more}
 
 -- the last item of a list that is mapped

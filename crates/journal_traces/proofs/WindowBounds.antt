@@ -19,8 +19,8 @@ use Rattle.arrival_journal.specs.declared.outline.Outline.{Outline}
 use Rattle.arrival_journal.specs.Outlines.{outline_of, outline_in}
 use Rattle.trace_assembly.specs.declared.spot.Spot.{Spot}
 use Rattle.journal_traces.specs.SkippedEntries.{may_reach}
-use Rattle.journal_traces.specs.SpansAtSpots.{spans_named}
-use Rattle.journal_traces.proofs.ParentReferences.{window-adopted}
+use Rattle.collected_traces.specs.EntriesAtPlaces.{spans_named}
+use Rattle.collected_traces.proofs.ParentReferences.{window-adopted}
 use Rattle.journal_traces.proofs.OutlineBounds.{Within, all_within}
 
 later : (b x y : ℤ) → x ≤ℤ y → int_lt b x ≡ true → int_lt b y ≡ true

@@ -1,4 +1,3 @@
-pub mod AdoptedSpans
 pub mod MatchingSpans
 pub mod SpansAtSpots
 pub mod CandidateTraces
@@ -6,11 +5,5 @@ pub mod SkippedEntries
 pub mod Told
 pub mod ReportedSpots
 pub mod Numbered
-pub mod TraceParts
-pub mod TakenTraces
-pub mod ProcessConditions
-pub mod TakenSearch
-pub mod CollectedCandidates
 pub mod WindowTraces
-pub mod ProcessClasses
 pub mod TraceRanges

@@ -8,14 +8,14 @@ use Rattle.jaeger_model.specs.declared.batch.Batch.{Batch}
 use Rattle.jaeger_model.specs.declared.batch.Process.{Process}
 use Rattle.jaeger_model.specs.Parents.{same_trace}
 use Rattle.trace_model.specs.declared.query.Find.{Find}
-use Rattle.trace_model.specs.Searching.{matches}
 use Rattle.trace_model.specs.declared.entry.Entry.{Entry}
 use Rattle.trace_assembly.specs.AssembledRows.{is_of}
 use Rattle.trace_model.specs.Places.{entry_at}
 use Rattle.trace_model.specs.EntryWork.{batch_brought}
 use Rattle.arrival_journal.specs.Outlines.{outline_in}
+use Rattle.collected_traces.specs.EntriesAtPlaces.{batch_at}
+use Rattle.collected_traces.specs.ProcessConditions.{meets}
 use Rattle.journal_traces.specs.SkippedEntries.{may_meet}
-use Rattle.journal_traces.specs.SpansAtSpots.{batch_at}
 
 -- the trace at this place of the ring, if it passes the test
 abbrev pub picked : (TraceId → Bool) → List TraceId → ℕ → Option TraceId
@@ -25,11 +25,7 @@ picked p r k = option_and_then (λ (t : TraceId). if p t then Some t else None) 
 abbrev pub any_of : List Span → TraceId → Bool
 any_of ss t = list_any (is_of t) ss
 
--- the span of this process meets every condition of the search
-abbrev pub meets : Find → Process → Span → Bool
-meets q p s = matches q (record { process = p; span = s })
-
--- those of them that do
+-- those of the spans that meet every condition of the search
 abbrev pub met : Find → Process → List Span → List Span
 met q p ss = filter (meets q p) ss
 

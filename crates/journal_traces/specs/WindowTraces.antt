@@ -9,12 +9,12 @@ use Rattle.trace_model.specs.TakenSpans.{Taken}
 use Rattle.trace_model.specs.EntryWork.{placed_brought, service_brought}
 use Rattle.service_index.specs.ServicePlaces.{service_at, service_number_in}
 use Rattle.call_links.specs.NumberedCalls.{StandsFor}
-use Rattle.journal_traces.specs.declared.taken_spot.TakenSpot.{TakenSpot}
+use Rattle.collected_traces.specs.declared.taken_spot.TakenSpot.{TakenSpot}
 use Rattle.journal_traces.specs.declared.window_traces.NumberedEntry.{NumberedEntry}
 use Rattle.journal_traces.specs.declared.window_traces.WindowSpots.{WindowSpots}
-use Rattle.journal_traces.specs.TraceParts.{cut_at, AreStarts}
+use Rattle.collected_traces.specs.TraceParts.{cut_at, AreStarts}
 use Rattle.journal_traces.specs.Numbered.{AreNumbers}
-use Rattle.journal_traces.specs.CollectedCandidates.{IsSpotWithin}
+use Rattle.collected_traces.specs.CollectedCandidates.{IsSpotWithin}
 
 -- an entry and the number of its service
 abbrev pub ServedEntry : Type 0

@@ -2,7 +2,8 @@
 
 ghost use Rattle.std.specs.Prelude.{◌≡◌, ◌<◌, ◌^◌, length, IfOk};
 ghost use Rattle.trace_model.specs.TakenSpans.{placed_taken, numbers_taken};
-ghost use Rattle.journal_traces.specs.SpansAtSpots.{spans_named, AreReportedAt};
+ghost use Rattle.collected_traces.specs.EntriesAtPlaces.{spans_named};
+ghost use Rattle.journal_traces.specs.SpansAtSpots.{AreReportedAt};
 
 use crate::taking::taken_at;
 use arrival_journal::Journal;

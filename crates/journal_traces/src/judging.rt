@@ -6,7 +6,7 @@ ghost use Rattle.trace_model.specs.Searching.{matches};
 ghost use Rattle.trace_model.specs.BorrowedSpans.{seen, placed_by_its_entry};
 ghost use Rattle.trace_assembly.specs.LocatedSpans.{span_at};
 ghost use Rattle.journal_traces.specs.Told.{AreTold, AreOperationsTold};
-ghost use Rattle.journal_traces.specs.SpansAtSpots.{spans_named};
+ghost use Rattle.collected_traces.specs.EntriesAtPlaces.{spans_named};
 
 use crate::number_conditions::NumberConditions;
 use crate::requested_numbers::RequestedNumbers;

@@ -8,7 +8,7 @@ ghost use Rattle.trace_model.specs.BorrowedSpans.{seen, placed_by_its_entry};
 ghost use Rattle.trace_assembly.specs.LocatedSpans.{span_at};
 ghost use Rattle.span_steps.specs.SpanConditions.{has_operation, meets_span_conditions};
 ghost use Rattle.journal_traces.specs.Told.{AreTold, AreOperationsTold, row_at, is_requested_row};
-ghost use Rattle.journal_traces.specs.SpansAtSpots.{process_at};
+ghost use Rattle.collected_traces.specs.EntriesAtPlaces.{process_at};
 
 use crate::entry_services::is_of_service;
 use crate::requested_numbers::RequestedNumbers;

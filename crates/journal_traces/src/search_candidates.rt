@@ -9,8 +9,10 @@ ghost use Rattle.trace_model.specs.BorrowedSpans.{placed_by_its_entry};
 ghost use Rattle.trace_assembly.specs.AssembledRows.{spots_of};
 ghost use Rattle.trace_assembly.specs.LocatedSpans.{span_at};
 ghost use Rattle.trace_ring.specs.RingValues.{NoneTwice};
-ghost use Rattle.journal_traces.specs.MatchingSpans.{any_of, meets, met, met_or_none, without_tags, near_at, near_along, same_before};
-ghost use Rattle.journal_traces.specs.SpansAtSpots.{batch_at, placed_in};
+ghost use Rattle.collected_traces.specs.ProcessConditions.{meets};
+ghost use Rattle.journal_traces.specs.MatchingSpans.{any_of, met, met_or_none, without_tags, near_at, near_along, same_before};
+ghost use Rattle.collected_traces.specs.EntriesAtPlaces.{batch_at};
+ghost use Rattle.journal_traces.specs.SpansAtSpots.{placed_in};
 ghost use Rattle.journal_traces.specs.Told.{AreTold, AreOperationsTold};
 
 use crate::number_conditions::{NumberConditions, first_of};

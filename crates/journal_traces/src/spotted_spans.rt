@@ -7,7 +7,7 @@ ghost use Rattle.trace_model.specs.Searching.{matches, first_start, first_id};
 ghost use Rattle.trace_model.specs.ServiceLinks.{in_window};
 ghost use Rattle.trace_assembly.specs.LocatedSpans.{span_at};
 ghost use Rattle.trace_model.specs.BorrowedSpans.{placed_by_its_entry};
-ghost use Rattle.journal_traces.specs.SpansAtSpots.{batch_at, spans_named};
+ghost use Rattle.collected_traces.specs.EntriesAtPlaces.{batch_at, spans_named};
 
 use crate::judging::Judging;
 use crate::pruning::may_reach;
@@ -30,7 +30,7 @@ pub(crate) fn batch_at(journal: &Journal, place: u64) -> Option<&Batch>
 
 /// Returns the span at a spot. In a store each spot is of a span. No clause says so: the definitions pass over a spot
 /// of none, and so does the code that is called with one.
-#[tactic(auto, using(crate::proofs::SpansAtSpots::span_there, crate::proofs::SpansAtSpots::no_span_there))]
+#[tactic(auto, using(collected_traces::proofs::EntriesAtPlaces::span_there, collected_traces::proofs::EntriesAtPlaces::no_span_there))]
 pub(crate) fn seen_at(journal: &Journal, spot: Spot) -> Option<Seen<'_>>
     ensures { option_map placed_by_its_entry result ≡ span_at journal.now.held.entries spot }
 {

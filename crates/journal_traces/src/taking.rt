@@ -3,12 +3,13 @@
 ghost use Rattle.std.specs.Prelude.{◌≡◌, ◌<◌, ◌^◌, ◌++◌, ◌∷◌, [], length, map, IfOk, IfSome, OnOk};
 ghost use Rattle.std.specs.Option.{option_and_then};
 ghost use Rattle.trace_assembly.specs.LocatedSpans.{span_at};
-ghost use Rattle.journal_traces.specs.SpansAtSpots.{process_at, spans_named};
-ghost use Rattle.journal_traces.specs.TakenTraces.{HasProcess, AreNumberedByPlace};
+ghost use Rattle.collected_traces.specs.EntriesAtPlaces.{process_at, spans_named};
+ghost use Rattle.collected_traces.specs.TakenTraces.{HasProcess};
+ghost use Rattle.journal_traces.specs.SpansAtSpots.{AreNumberedByPlace};
 ghost use Rattle.trace_model.specs.TakenSpans.{placed_taken};
 
-use crate::taken::TakenTraces;
 use arrival_journal::Journal;
+use collected_traces::TakenTraces;
 use std::alloc::AllocError;
 use trace_assembly::{Spot, Spots};
 use trace_model::TakenSpan;

@@ -2,12 +2,11 @@
 
 ghost use Rattle.std.specs.Prelude.{◌≡◌, [], ◌∷◌, ◌++◌, length, slice_index_or, IfOk, OnOk};
 ghost use Rattle.std.specs.Arc.{arc_value};
-ghost use Rattle.journal_traces.specs.TraceParts.{cut_at, AreStarts};
+ghost use Rattle.collected_traces.specs.TraceParts.{cut_at, AreStarts};
 ghost use Rattle.journal_traces.specs.WindowTraces.{entries_seen, taken_reported, trace_reported, traces_reported};
 
-use crate::taken_spot::TakenSpot;
-use crate::trace_parts::trace_part;
 use call_links::NumberedSpan;
+use collected_traces::{TakenSpot, trace_part};
 use std::alloc::{AllocError, Global};
 use std::marker::Model;
 use std::sync::Arc;
@@ -42,7 +41,7 @@ pub struct WindowTraces {
 impl Model for WindowTraces {
     ghost use Rattle.std.specs.Prelude.{List, length};
     ghost use Rattle.trace_model.specs.TakenSpans.{Taken};
-    ghost use Rattle.journal_traces.specs.TraceParts.{AreStarts};
+    ghost use Rattle.collected_traces.specs.TraceParts.{AreStarts};
     ghost use Rattle.journal_traces.specs.WindowTraces.{traces_reported};
 
     ghost Value = { List (List Taken) };

@@ -35,10 +35,11 @@ use Rattle.trace_assembly.specs.AssembledRows.{is_of}
 use Rattle.service_index.proofs.NumbersOfEntry.{arrivals_push}
 use Rattle.service_index.specs.KeptNames.{reports_service, reports_operation}
 use Rattle.service_index.specs.ServicePlaces.{reporters, places_upto, places_of, service_number_in, service_number_of, AreServiceNumbers}
-use Rattle.journal_traces.specs.MatchingSpans.{any_of, meets, met, met_or_none, met_at, met_along, near_along}
+use Rattle.collected_traces.specs.ProcessConditions.{meets}
+use Rattle.journal_traces.specs.MatchingSpans.{any_of, met, met_or_none, met_at, met_along, near_along}
 use Rattle.journal_traces.specs.ReportedSpots.{is_reported, are_reported}
-use Rattle.journal_traces.specs.SpansAtSpots.{spans_named}
-use Rattle.journal_traces.proofs.ParentReferences.{matches-adopted}
+use Rattle.collected_traces.specs.EntriesAtPlaces.{spans_named}
+use Rattle.collected_traces.proofs.ParentReferences.{matches-adopted}
 use Rattle.journal_traces.proofs.NearMatches.{near_covers}
 use Rattle.journal_traces.proofs.Numbers.{number_there}
 use Rattle.trace_model.proofs.ShownOfTrace.{or_cases}

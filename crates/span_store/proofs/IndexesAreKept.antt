@@ -21,7 +21,8 @@ use Rattle.trace_assembly.proofs.Places.{events-located}
 use Rattle.service_index.specs.KeptNames.{KeptNames}
 use Rattle.service_index.proofs.NumbersOfEntry.{length-arrivals}
 use Rattle.service_index.specs.ServicePlaces.{ServicePlacesValue}
-use Rattle.journal_traces.specs.SpansAtSpots.{spans_named, traces_named}
+use Rattle.collected_traces.specs.EntriesAtPlaces.{spans_named}
+use Rattle.journal_traces.specs.SpansAtSpots.{traces_named}
 use Rattle.trace_ring.specs.FirstStarts.{Starts}
 use Rattle.span_store.specs.ShownStarts.{AreFirst, IsCounted, IsRanged}
 use Rattle.span_store.specs.StoreIndexes.{FollowsEvents, IsRingWithin, IsStoreKept, AreNamesOf, ArePlacesOf}

@@ -21,7 +21,8 @@ use Rattle.trace_assembly.proofs.Places.{events-located}
 use Rattle.trace_ring.specs.FirstStarts.{Starts}
 use Rattle.service_index.specs.KeptNames.{KeptNames}
 use Rattle.service_index.specs.ServicePlaces.{ServicePlacesValue}
-use Rattle.journal_traces.specs.SpansAtSpots.{spans_named, traces_named}
+use Rattle.collected_traces.specs.EntriesAtPlaces.{spans_named}
+use Rattle.journal_traces.specs.SpansAtSpots.{traces_named}
 use Rattle.span_store.specs.StoreIndexes.{IsStoreKept}
 use Rattle.span_store.proofs.RingFollowsEvents.{trace_stands}
 use Rattle.span_store.proofs.IndexesAreKept.{found_kept, kept_ring, kept_spots}

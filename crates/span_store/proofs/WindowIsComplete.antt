@@ -19,7 +19,8 @@ use Rattle.trace_ring.specs.StartRanges.{IsIn, begins_before, ends_after, range_
 use Rattle.service_index.specs.KeptNames.{KeptNames}
 use Rattle.service_index.specs.ServicePlaces.{ServicePlacesValue}
 use Rattle.journal_traces.specs.TraceRanges.{FailsOutside, StartsIn, search_window}
-use Rattle.journal_traces.specs.SpansAtSpots.{spans_named, traces_named}
+use Rattle.collected_traces.specs.EntriesAtPlaces.{spans_named}
+use Rattle.journal_traces.specs.SpansAtSpots.{traces_named}
 use Rattle.span_store.specs.StoreIndexes.{IsStoreKept}
 use Rattle.span_store.proofs.IndexesAreKept.{found_kept, kept_spots}
 use Rattle.span_store.proofs.RangesFollowEvents.{named_ranged}

@@ -2,15 +2,15 @@
 ghost use Rattle.std.specs.Prelude.{◌≡◌, map, IfOk};
 ghost use Rattle.trace_model.specs.Searching.{found_in, ids_of};
 ghost use Rattle.trace_model.specs.TakenSpans.{placed_taken};
-ghost use Rattle.journal_traces.specs.CollectedCandidates.{traces_spotted};
-ghost use Rattle.journal_traces.specs.TakenTraces.{ShareByNumber};
+ghost use Rattle.collected_traces.specs.CollectedCandidates.{traces_spotted};
+ghost use Rattle.collected_traces.specs.TakenTraces.{ShareByNumber};
 ghost use Rattle.span_store.specs.FoundAnswers.{found_answer};
 
-use find_traces::PreparedSearch;
-use jaeger_model::{Seq, TraceId};
-use journal_traces::{
+use collected_traces::{
     CollectedCandidates, TakenSearch, TakenTraces, find_taken, find_taken_ids, keep_all,
 };
+use find_traces::PreparedSearch;
+use jaeger_model::{Seq, TraceId};
 use std::alloc::{AllocError, Global};
 use std::marker::Model;
 use trace_model::{Answer, Limits};
@@ -27,7 +27,7 @@ pub(crate) struct CollectedSearch<'q> {
 
 impl<'q> Model for CollectedSearch<'q> {
     ghost use Rattle.trace_model.specs.declared.answer.Answer.{Answer};
-    ghost use Rattle.journal_traces.specs.CollectedCandidates.{traces_spotted};
+    ghost use Rattle.collected_traces.specs.CollectedCandidates.{traces_spotted};
     ghost use Rattle.span_store.specs.FoundAnswers.{found_answer};
 
     ghost Value = { Answer };

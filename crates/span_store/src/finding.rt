@@ -3,11 +3,12 @@
 ghost use Rattle.std.specs.Prelude.{◌≡◌, ◌<◌, ◌^◌, ◌++◌, ◌∷◌, [], IfOk, OnOk, length, map, slice_index_or};
 ghost use Rattle.trace_model.specs.Searching.{found_in, ids_of};
 ghost use Rattle.journal_traces.specs.CandidateTraces.{traces_of, query_of};
-ghost use Rattle.journal_traces.specs.TakenTraces.{AreNumberedByPlace};
+ghost use Rattle.journal_traces.specs.SpansAtSpots.{AreNumberedByPlace};
 ghost use Rattle.trace_model.specs.TakenSpans.{placed_taken};
 
+use collected_traces::TakenTraces;
 use jaeger_model::TraceId;
-use journal_traces::{CandidateSearch, TakenTraces, take_trace};
+use journal_traces::{CandidateSearch, take_trace};
 use std::alloc::{AllocError, Global};
 
 /// Collects the trace at an index, without spans if there is none.

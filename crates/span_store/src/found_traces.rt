@@ -2,11 +2,11 @@
 ghost use Rattle.std.specs.Prelude.{◌≡◌, IfOk, map};
 ghost use Rattle.trace_model.specs.Adjusting.{adjusted};
 ghost use Rattle.trace_model.specs.declared.answer.Answer.TheVariants as say;
-ghost use Rattle.journal_traces.specs.TakenTraces.{ShareByNumber};
+ghost use Rattle.collected_traces.specs.TakenTraces.{ShareByNumber};
 ghost use Rattle.trace_model.specs.TakenSpans.{placed_taken};
 
+use collected_traces::{TakenTraces, keep_all};
 use jaeger_model::Seq;
-use journal_traces::{TakenTraces, keep_all};
 use std::alloc::{AllocError, Global};
 use std::marker::Model;
 use trace_model::{Answer, Limits};
@@ -24,7 +24,7 @@ impl Model for FoundTraces {
     ghost use Rattle.trace_model.specs.Adjusting.{adjusted};
     ghost use Rattle.trace_model.specs.declared.answer.Answer.{Answer};
     ghost use Rattle.trace_model.specs.declared.answer.Answer.TheVariants as say;
-    ghost use Rattle.journal_traces.specs.TakenTraces.{ShareByNumber};
+    ghost use Rattle.collected_traces.specs.TakenTraces.{ShareByNumber};
     ghost use Rattle.trace_model.specs.TakenSpans.{placed_taken};
 
     ghost Value = { Answer };

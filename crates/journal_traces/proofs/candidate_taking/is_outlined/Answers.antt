@@ -1,6 +1,6 @@
 use Rattle.std.proofs.Common.{◌∙◌, sym}
 use Rattle.trace_model.specs.Places.{entry_at}
-use Rattle.journal_traces.proofs.TracesAtSpots.{unoutlined}
+use Rattle.journal_traces.proofs.UnmetEntries.{unoutlined}
 use Rattle.journal_traces.proofs.candidate_taking.is_outlined.Goals as goal
 
 pub returns : goal.returns

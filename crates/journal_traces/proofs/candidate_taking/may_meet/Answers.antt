@@ -1,5 +1,5 @@
 use Rattle.std.proofs.Common.{◌∙◌, sym}
-use Rattle.journal_traces.proofs.TracesAtSpots.{unasked}
+use Rattle.journal_traces.proofs.UnmetEntries.{unasked}
 use Rattle.journal_traces.proofs.candidate_taking.may_meet.Goals as goal
 
 pub returns-else-is_of_service : goal.returns-else-is_of_service

@@ -3,7 +3,7 @@ use Rattle.std.specs.Arc.{arc_value}
 use Rattle.std.proofs.lemmas.List.{length-map}
 use Rattle.trace_model.specs.declared.entry.Entry.{Entry}
 use Rattle.journal_traces.specs.Numbered.{AreNumbers}
-use Rattle.journal_traces.specs.CollectedCandidates.{CandidatesValue, traces_spotted}
+use Rattle.collected_traces.specs.CollectedCandidates.{CandidatesValue, traces_spotted}
 use Rattle.journal_traces.proofs.Numbering.{none_known}
 use Rattle.journal_traces.proofs.candidate_taking.take_candidates.Goals as goal
 

@@ -1,6 +1,6 @@
 use Rattle.std.proofs.Common.{◌≡◌, take}
 use Rattle.journal_traces.specs.Numbered.{AreNumbers}
-use Rattle.journal_traces.specs.CollectedCandidates.{traces_spotted}
+use Rattle.collected_traces.specs.CollectedCandidates.{traces_spotted}
 use Rattle.journal_traces.specs.SpansAtSpots.{traces_named}
 use Rattle.journal_traces.proofs.candidate_taking.take_candidates.Given as goal
 

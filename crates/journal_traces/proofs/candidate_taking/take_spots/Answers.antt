@@ -2,8 +2,8 @@ use Rattle.std.proofs.Common.{◌∙◌, sym, subst, List}
 use Rattle.trace_model.specs.declared.entry.Entry.{Entry}
 use Rattle.trace_assembly.specs.declared.spot.Spot.{Spot}
 use Rattle.journal_traces.specs.Numbered.{AreNumbers}
-use Rattle.journal_traces.proofs.TracesAtSpots.{Anything, taking_added}
-use Rattle.journal_traces.proofs.TakingSpans.{IsTaking, taking_none}
+use Rattle.journal_traces.proofs.AddedSpans.{Anything, taking_added}
+use Rattle.collected_traces.proofs.TakingSpans.{IsTaking, taking_none}
 use Rattle.journal_traces.proofs.candidate_taking.take_spots.Goals as goal
 
 pub loop-spot-init : goal.loop-spot-init

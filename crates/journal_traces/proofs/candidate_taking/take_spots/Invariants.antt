@@ -1,7 +1,7 @@
 use Rattle.std.proofs.Common.{◌≡◌}
 use Rattle.journal_traces.specs.Numbered.{AreNumbers}
-use Rattle.journal_traces.proofs.TracesAtSpots.{Anything}
-use Rattle.journal_traces.proofs.TakingSpans.{IsTaking}
+use Rattle.journal_traces.proofs.AddedSpans.{Anything}
+use Rattle.collected_traces.proofs.TakingSpans.{IsTaking}
 use Rattle.journal_traces.proofs.candidate_taking.take_spots.Given as goal
 
 abbrev pub invariant-loop-spot : goal.invariant-loop-spot

@@ -6,11 +6,12 @@ use Rattle.trace_model.specs.BorrowedSpans.{placed_by_its_entry}
 use Rattle.trace_model.specs.TakenSpans.{Taken, placed_taken, numbers_taken}
 use Rattle.trace_model.proofs.TakenSpans.{one_more}
 use Rattle.trace_assembly.specs.LocatedSpans.{span_at}
-use Rattle.journal_traces.specs.SpansAtSpots.{process_at, spans_named, AreReportedAt}
-use Rattle.journal_traces.specs.TakenTraces.{HasProcess}
-use Rattle.journal_traces.proofs.Processes.{leads_more}
+use Rattle.collected_traces.specs.EntriesAtPlaces.{process_at, spans_named}
+use Rattle.journal_traces.specs.SpansAtSpots.{AreReportedAt}
+use Rattle.collected_traces.specs.TakenTraces.{HasProcess}
+use Rattle.collected_traces.proofs.Processes.{leads_more}
 use Rattle.journal_traces.proofs.SpansAtSpots.{named_some, named_none, named_end}
-use Rattle.journal_traces.proofs.TakenSpans.{own_process}
+use Rattle.collected_traces.proofs.TakenSpans.{own_process}
 use Rattle.journal_traces.proofs.gathering.gather.Goals as goal
 
 pub loop-spot-preserved : goal.loop-spot-preserved

@@ -1,6 +1,7 @@
 use Rattle.std.proofs.Common.{◌≡◌, ◌++◌}
 use Rattle.trace_model.specs.TakenSpans.{placed_taken, numbers_taken}
-use Rattle.journal_traces.specs.SpansAtSpots.{spans_named, AreReportedAt}
+use Rattle.collected_traces.specs.EntriesAtPlaces.{spans_named}
+use Rattle.journal_traces.specs.SpansAtSpots.{AreReportedAt}
 use Rattle.journal_traces.proofs.gathering.gather.Given as goal
 
 abbrev pub invariant-loop-spot : goal.invariant-loop-spot

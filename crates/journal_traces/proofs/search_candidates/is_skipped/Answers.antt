@@ -2,7 +2,7 @@ use Rattle.std.proofs.Common.{◌≡◌, ◌∙◌, [], sym}
 use Rattle.std.proofs.lemmas.Bool.{OnTrue_from, OnFalse_from, not-true, not-false}
 use Rattle.trace_model.specs.Places.{entry_at}
 use Rattle.journal_traces.specs.MatchingSpans.{met_or_none, without_tags, near_at}
-use Rattle.journal_traces.specs.SpansAtSpots.{batch_at}
+use Rattle.collected_traces.specs.EntriesAtPlaces.{batch_at}
 use Rattle.journal_traces.proofs.NearMatches.{passed_near, looked_near, none_near}
 use Rattle.journal_traces.proofs.search_candidates.is_skipped.Goals as goal
 

@@ -9,7 +9,8 @@ use Rattle.trace_model.specs.declared.entry.Entry.{Entry}
 use Rattle.trace_model.specs.declared.query.Find.{Find}
 use Rattle.trace_assembly.specs.LocatedSpans.{span_at}
 use Rattle.journal_traces.specs.MatchingSpans.{any_of, met, met_or_none, without_tags}
-use Rattle.journal_traces.specs.SpansAtSpots.{batch_at, process_at, placed_in}
+use Rattle.collected_traces.specs.EntriesAtPlaces.{batch_at, process_at}
+use Rattle.journal_traces.specs.SpansAtSpots.{placed_in}
 use Rattle.journal_traces.proofs.TraceMarks.{marked_none}
 use Rattle.journal_traces.proofs.NearMatches.{of_another}
 use Rattle.journal_traces.proofs.RequestedOperation.{batch_spans}

@@ -2,7 +2,8 @@ use Rattle.std.proofs.Common.{◌≡◌, ◌∙◌, ℕ, ◌+◌, ◌<◌, ◌||
 use Rattle.std.specs.Prelude.{option_map}
 use Rattle.std.proofs.lemmas.Option.{slice_get_read}
 use Rattle.journal_traces.specs.SpansAtSpots.{placed_in}
-use Rattle.journal_traces.specs.MatchingSpans.{any_of, meets, met, without_tags, same_before}
+use Rattle.collected_traces.specs.ProcessConditions.{meets}
+use Rattle.journal_traces.specs.MatchingSpans.{any_of, met, without_tags, same_before}
 use Rattle.journal_traces.proofs.TraceMarks.{marked_none, marked_more, marked_again, marked_all, reached_own, reached_still, news, no_news, before_is}
 use Rattle.journal_traces.proofs.search_candidates.mark_spans.Goals as goal
 use Rattle.journal_traces.proofs.search_candidates.mark_spans.Goals.{then-is_new_match, else-is_new_match}

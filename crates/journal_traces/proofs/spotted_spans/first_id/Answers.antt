@@ -1,5 +1,5 @@
-use Rattle.journal_traces.specs.SpansAtSpots.{spans_named}
-use Rattle.journal_traces.proofs.SpansAtSpots.{first_trace, no_trace}
+use Rattle.collected_traces.specs.EntriesAtPlaces.{spans_named}
+use Rattle.collected_traces.proofs.EntriesAtPlaces.{first_trace, no_trace}
 use Rattle.journal_traces.proofs.spotted_spans.first_id.Goals as goal
 
 pub returns-in-Some : goal.returns-in-Some

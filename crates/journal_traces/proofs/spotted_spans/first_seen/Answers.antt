@@ -1,7 +1,7 @@
 use Rattle.std.proofs.Common.{◌∙◌, sym, ap}
 use Rattle.std.specs.Prelude.{slice_get}
-use Rattle.journal_traces.specs.SpansAtSpots.{spans_named}
-use Rattle.journal_traces.proofs.SpansAtSpots.{first_none}
+use Rattle.collected_traces.specs.EntriesAtPlaces.{spans_named}
+use Rattle.collected_traces.proofs.EntriesAtPlaces.{first_none}
 use Rattle.journal_traces.proofs.spotted_spans.first_seen.Goals as goal
 
 pub loop-spot-preserved : goal.loop-spot-preserved

@@ -1,6 +1,6 @@
 use Rattle.std.proofs.Common.{◌≡◌}
 use Rattle.std.specs.Prelude.{slice_get}
-use Rattle.journal_traces.specs.SpansAtSpots.{spans_named}
+use Rattle.collected_traces.specs.EntriesAtPlaces.{spans_named}
 use Rattle.journal_traces.proofs.spotted_spans.first_seen.Given as goal
 
 abbrev pub invariant-loop-spot : goal.invariant-loop-spot

@@ -1,7 +1,7 @@
 use Rattle.std.proofs.Common.{rules, ◌≡◌, ◌∙◌}
 use Rattle.trace_model.specs.Searching.{first_start}
-use Rattle.journal_traces.specs.SpansAtSpots.{spans_named}
-use Rattle.journal_traces.proofs.SpansAtSpots.{first_starts, no_start}
+use Rattle.collected_traces.specs.EntriesAtPlaces.{spans_named}
+use Rattle.collected_traces.proofs.EntriesAtPlaces.{first_starts, no_start}
 use Rattle.journal_traces.proofs.spotted_spans.first_start.Goals as goal
 
 pub returns-in-Some : goal.returns-in-Some

@@ -1,8 +1,9 @@
 use Rattle.std.proofs.Common.{◌∙◌, sym, ap}
 use Rattle.std.specs.List.{list_any}
 use Rattle.trace_model.specs.Searching.{matches}
-use Rattle.journal_traces.specs.SpansAtSpots.{spans_named}
-use Rattle.journal_traces.proofs.SpansAtSpots.{any_here, any_later, any_end}
+use Rattle.collected_traces.specs.EntriesAtPlaces.{spans_named}
+use Rattle.collected_traces.proofs.EntriesAtPlaces.{any_here, any_later}
+use Rattle.journal_traces.proofs.SpansAtSpots.{any_end}
 use Rattle.journal_traces.proofs.spotted_spans.is_found.Goals as goal
 
 pub loop-spot-preserved : goal.loop-spot-preserved

@@ -1,7 +1,7 @@
 use Rattle.std.proofs.Common.{◌≡◌}
 use Rattle.std.specs.List.{list_any}
 use Rattle.trace_model.specs.Searching.{matches}
-use Rattle.journal_traces.specs.SpansAtSpots.{spans_named}
+use Rattle.collected_traces.specs.EntriesAtPlaces.{spans_named}
 use Rattle.journal_traces.proofs.spotted_spans.is_found.Given as goal
 
 abbrev pub invariant-loop-spot : goal.invariant-loop-spot

@@ -3,7 +3,7 @@ use Rattle.std.specs.List.{list_any}
 use Rattle.std.proofs.lemmas.Bool.{OnTrue_from, not-true}
 use Rattle.std.proofs.lemmas.Int.{to_z-of_z}
 use Rattle.trace_model.specs.ServiceLinks.{in_window}
-use Rattle.journal_traces.specs.SpansAtSpots.{spans_named}
+use Rattle.collected_traces.specs.EntriesAtPlaces.{spans_named}
 use Rattle.journal_traces.proofs.WindowBounds.{none_starts}
 use Rattle.journal_traces.proofs.spotted_spans.is_outside.Goals as goal
 

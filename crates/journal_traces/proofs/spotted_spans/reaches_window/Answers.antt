@@ -2,8 +2,9 @@ use Rattle.std.proofs.Common.{◌∙◌, w64, sym, ap}
 use Rattle.std.specs.List.{list_any}
 use Rattle.std.proofs.lemmas.Int.{to_z-of_z}
 use Rattle.trace_model.specs.ServiceLinks.{in_window}
-use Rattle.journal_traces.specs.SpansAtSpots.{spans_named}
-use Rattle.journal_traces.proofs.SpansAtSpots.{any_later, any_end}
+use Rattle.collected_traces.specs.EntriesAtPlaces.{spans_named}
+use Rattle.collected_traces.proofs.EntriesAtPlaces.{any_later}
+use Rattle.journal_traces.proofs.SpansAtSpots.{any_end}
 use Rattle.journal_traces.proofs.spotted_spans.reaches_window.Goals as goal
 
 pub loop-spot-preserved : goal.loop-spot-preserved

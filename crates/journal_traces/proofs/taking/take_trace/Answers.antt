@@ -3,9 +3,9 @@ use Rattle.std.specs.Prelude.{IfSome}
 use Rattle.std.specs.Option.{option_and_then}
 use Rattle.trace_model.specs.TakenSpans.{Taken}
 use Rattle.trace_assembly.specs.LocatedSpans.{span_at}
-use Rattle.journal_traces.specs.SpansAtSpots.{process_at}
-use Rattle.journal_traces.specs.TakenTraces.{HasProcess}
-use Rattle.journal_traces.proofs.TakingSpans.{taking_more}
+use Rattle.collected_traces.specs.EntriesAtPlaces.{process_at}
+use Rattle.collected_traces.specs.TakenTraces.{HasProcess}
+use Rattle.collected_traces.proofs.TakingSpans.{taking_more}
 use Rattle.journal_traces.proofs.taking.take_trace.Goals as goal
 
 pub loop-spot-preserved-in-Continue-branch-4 : goal.loop-spot-preserved-in-Continue-branch-4

@@ -1,6 +1,6 @@
-use Rattle.journal_traces.specs.SpansAtSpots.{process_at}
-use Rattle.journal_traces.specs.TakenTraces.{HasProcess}
-use Rattle.journal_traces.proofs.TakingSpans.{IsTaking}
+use Rattle.collected_traces.specs.EntriesAtPlaces.{process_at}
+use Rattle.collected_traces.specs.TakenTraces.{HasProcess}
+use Rattle.collected_traces.proofs.TakingSpans.{IsTaking}
 use Rattle.journal_traces.proofs.taking.take_trace.Given as goal
 
 abbrev pub invariant-loop-spot : goal.invariant-loop-spot

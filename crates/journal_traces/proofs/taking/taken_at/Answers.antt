@@ -3,7 +3,7 @@ use Rattle.std.specs.Prelude.{slice_get}
 use Rattle.std.specs.Option.{option_and_then}
 use Rattle.trace_model.specs.declared.entry.Entry.{Entry}
 use Rattle.trace_model.specs.EntryWork.{placed_brought}
-use Rattle.journal_traces.proofs.TakingSpans.{numbered_there}
+use Rattle.journal_traces.proofs.AddedSpans.{numbered_there}
 use Rattle.journal_traces.proofs.taking.taken_at.Goals as goal
 
 pub returns-clause-number : goal.returns-clause-number

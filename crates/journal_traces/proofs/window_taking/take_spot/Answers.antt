@@ -4,8 +4,8 @@ use Rattle.std.proofs.lemmas.List.{length-map}
 use Rattle.trace_model.specs.Places.{entry_at}
 use Rattle.trace_model.specs.TakenSpans.{Taken}
 use Rattle.trace_assembly.specs.LocatedSpans.{span_at}
-use Rattle.journal_traces.specs.declared.taken_spot.TakenSpot.{TakenSpot}
-use Rattle.journal_traces.specs.CollectedCandidates.{AddsSpan}
+use Rattle.collected_traces.specs.declared.taken_spot.TakenSpot.{TakenSpot}
+use Rattle.journal_traces.specs.SpansAtSpots.{AddsSpan}
 use Rattle.journal_traces.specs.WindowTraces.{ServedEntry, entry_seen, entries_seen, entries_in, traces_reported}
 use Rattle.journal_traces.proofs.Numbering.{below_got}
 use Rattle.journal_traces.proofs.TracesOfWindows.{pushed_known, pushed_adds, placed_there}

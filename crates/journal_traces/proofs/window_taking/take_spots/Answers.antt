@@ -1,8 +1,8 @@
 use Rattle.std.proofs.Common.{sym, subst, List}
 use Rattle.trace_assembly.specs.declared.spot.Spot.{Spot}
 use Rattle.journal_traces.specs.WindowTraces.{traces_reported}
-use Rattle.journal_traces.proofs.TracesAtSpots.{Anything, taking_added}
-use Rattle.journal_traces.proofs.TakingSpans.{IsTaking, taking_none}
+use Rattle.journal_traces.proofs.AddedSpans.{Anything, taking_added}
+use Rattle.collected_traces.proofs.TakingSpans.{IsTaking, taking_none}
 use Rattle.journal_traces.proofs.TracesOfWindows.{begun_known, begun_traces}
 use Rattle.journal_traces.proofs.window_taking.take_spots.Goals as goal
 

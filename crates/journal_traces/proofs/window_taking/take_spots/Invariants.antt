@@ -1,6 +1,6 @@
 use Rattle.journal_traces.specs.WindowTraces.{traces_reported, AreWindowSpots}
-use Rattle.journal_traces.proofs.TracesAtSpots.{Anything}
-use Rattle.journal_traces.proofs.TakingSpans.{IsTaking}
+use Rattle.journal_traces.proofs.AddedSpans.{Anything}
+use Rattle.collected_traces.proofs.TakingSpans.{IsTaking}
 use Rattle.journal_traces.proofs.window_taking.take_spots.Given as goal
 
 abbrev pub invariant-loop-spot : goal.invariant-loop-spot

@@ -10,9 +10,10 @@ use Rattle.jaeger_model.specs.declared.placed.Placed.{Placed}
 use Rattle.trace_model.specs.ServiceLinks.{in_window}
 use Rattle.trace_assembly.specs.AssembledRows.{spots_of}
 use Rattle.journal_traces.specs.declared.window_traces.WindowSpots.{WindowSpots}
-use Rattle.journal_traces.specs.TraceParts.{cut_at}
+use Rattle.collected_traces.specs.TraceParts.{cut_at}
 use Rattle.journal_traces.specs.Numbered.{AreNumbers}
-use Rattle.journal_traces.specs.SpansAtSpots.{spans_named, trace_named, AreNumberedByService}
+use Rattle.collected_traces.specs.EntriesAtPlaces.{spans_named}
+use Rattle.journal_traces.specs.SpansAtSpots.{trace_named, AreNumberedByService}
 use Rattle.trace_model.specs.TakenSpans.{placed_taken}
 use Rattle.journal_traces.specs.WindowTraces.{entries_seen, traces_reported, AreWindowSpots}
 use Rattle.journal_traces.proofs.Numbering.{none_known}

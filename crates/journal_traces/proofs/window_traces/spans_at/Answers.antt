@@ -1,7 +1,7 @@
 use Rattle.std.proofs.Common.{◌∙◌, sym, ap, rules, ◌++◌, ◌∷◌, []}
 use Rattle.std.proofs.lemmas.List.{take_all}
 use Rattle.trace_model.proofs.Lists.{read_some, read_none}
-use Rattle.journal_traces.specs.declared.taken_spot.TakenSpot.{TakenSpot}
+use Rattle.collected_traces.specs.declared.taken_spot.TakenSpot.{TakenSpot}
 use Rattle.journal_traces.specs.WindowTraces.{entries_seen, taken_reported, trace_reported}
 use Rattle.journal_traces.proofs.window_traces.spans_at.Goals as goal
 use Rattle.journal_traces.proofs.window_traces.spans_at.Goals.{in-Some+in_ok-push, in_default}

@@ -1,6 +1,6 @@
 use Rattle.std.proofs.Common.{◌∙◌, [], sym, subst, length}
 use Rattle.std.specs.Prelude.{slice_index_or}
-use Rattle.journal_traces.specs.TraceParts.{cut_at, AreStarts}
+use Rattle.collected_traces.specs.TraceParts.{cut_at, AreStarts}
 use Rattle.journal_traces.proofs.window_traces.spots_of.Goals as goal
 
 pub trace_part-requires : goal.trace_part-requires

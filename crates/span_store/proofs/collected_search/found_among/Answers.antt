@@ -1,7 +1,7 @@
 use Rattle.std.proofs.Common.{◌∙◌, ap}
 use Rattle.trace_model.specs.declared.query.Find.{Find}
 use Rattle.trace_model.specs.Searching.{found_in}
-use Rattle.journal_traces.specs.TakenSearch.{traces_taken}
+use Rattle.collected_traces.specs.TakenSearch.{traces_taken}
 use Rattle.span_store.proofs.collected_search.found_among.Goals as goal
 
 pub returns-clause-found : goal.returns-clause-found

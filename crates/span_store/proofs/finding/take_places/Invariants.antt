@@ -1,7 +1,6 @@
 use Rattle.std.proofs.Common.{◌≡◌, map, take, []}
 use Rattle.std.specs.Prelude.{slice_index_or}
-use Rattle.journal_traces.specs.SpansAtSpots.{traces_named}
-use Rattle.journal_traces.specs.TakenTraces.{AreNumberedByPlace}
+use Rattle.journal_traces.specs.SpansAtSpots.{traces_named, AreNumberedByPlace}
 use Rattle.trace_model.specs.TakenSpans.{placed_taken}
 use Rattle.span_store.proofs.finding.take_places.Given as goal
 

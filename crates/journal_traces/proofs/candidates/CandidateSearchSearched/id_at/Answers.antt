@@ -1,6 +1,6 @@
 use Rattle.std.proofs.Common.{◌∙◌, ap}
 use Rattle.trace_model.specs.Searching.{first_id}
-use Rattle.journal_traces.specs.SpansAtSpots.{spans_named}
+use Rattle.collected_traces.specs.EntriesAtPlaces.{spans_named}
 use Rattle.journal_traces.proofs.SpansAtSpots.{trace_there}
 use Rattle.journal_traces.proofs.candidates.CandidateSearchSearched.id_at.Goals as goal
 

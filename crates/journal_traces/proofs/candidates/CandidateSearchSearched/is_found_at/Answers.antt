@@ -6,7 +6,7 @@ use Rattle.trace_model.specs.declared.query.Find.{Find}
 use Rattle.trace_model.specs.Searching.{matches}
 use Rattle.find_traces.specs.FoundIndices.{trace_at}
 use Rattle.journal_traces.specs.CandidateTraces.{traces_of}
-use Rattle.journal_traces.specs.SpansAtSpots.{spans_named}
+use Rattle.collected_traces.specs.EntriesAtPlaces.{spans_named}
 use Rattle.journal_traces.proofs.SpansAtSpots.{trace_there}
 use Rattle.journal_traces.proofs.candidates.CandidateSearchSearched.is_found_at.Goals as goal
 

@@ -1,7 +1,8 @@
 use Rattle.std.proofs.Common.{rules, ◌≡◌, ◌∙◌, ap}
 use Rattle.trace_model.specs.Searching.{first_start}
 use Rattle.find_traces.specs.FoundIndices.{trace_at}
-use Rattle.journal_traces.specs.SpansAtSpots.{spans_named, traces_named}
+use Rattle.collected_traces.specs.EntriesAtPlaces.{spans_named}
+use Rattle.journal_traces.specs.SpansAtSpots.{traces_named}
 use Rattle.journal_traces.proofs.SpansAtSpots.{trace_there}
 use Rattle.journal_traces.proofs.candidates.CandidateSearchSearched.start_at.Goals as goal
 

@@ -9,9 +9,9 @@ use Rattle.trace_model.specs.BorrowedSpans.{seen, placed_by_its_entry}
 use Rattle.trace_model.specs.Searching.{matches, is_timed, has_tag}
 use Rattle.trace_assembly.specs.LocatedSpans.{span_at}
 use Rattle.span_steps.specs.SpanConditions.{has_operation, meets_span_conditions}
-use Rattle.journal_traces.specs.SpansAtSpots.{process_at}
-use Rattle.journal_traces.proofs.Processes.{process_there}
-use Rattle.journal_traces.proofs.SpanConditions.{fails_span, passes_span}
+use Rattle.collected_traces.specs.EntriesAtPlaces.{process_at}
+use Rattle.collected_traces.proofs.Processes.{process_there}
+use Rattle.collected_traces.proofs.SpanConditions.{fails_span, passes_span}
 use Rattle.journal_traces.proofs.judging.Judging.is_match.Goals as goal
 
 pub is_requested-requires : goal.is_requested-requires

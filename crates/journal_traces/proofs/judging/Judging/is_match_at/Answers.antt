@@ -7,9 +7,9 @@ use Rattle.trace_model.specs.Searching.{matches}
 use Rattle.trace_model.specs.BorrowedSpans.{seen}
 use Rattle.trace_assembly.specs.LocatedSpans.{span_at}
 use Rattle.trace_model.specs.BorrowedSpans.{placed_by_its_entry}
-use Rattle.journal_traces.specs.SpansAtSpots.{spans_named}
-use Rattle.journal_traces.proofs.ParentReferences.{matches-adopted}
-use Rattle.journal_traces.proofs.TraceMarks.{or_same}
+use Rattle.collected_traces.specs.EntriesAtPlaces.{spans_named}
+use Rattle.collected_traces.proofs.ParentReferences.{matches-adopted}
+use Rattle.collected_traces.proofs.TakenSpans.{or_same}
 use Rattle.journal_traces.proofs.judging.Judging.is_match_at.Goals as goal
 
 pub is_match-requires : goal.is_match-requires

@@ -2,7 +2,7 @@ use Rattle.std.proofs.Common.{◌∙◌, List, sym, ap}
 use Rattle.jaeger_model.specs.Texts.{same_text}
 use Rattle.trace_model.specs.declared.entry.Entry.{Entry}
 use Rattle.trace_model.specs.declared.query.Find.{Find}
-use Rattle.journal_traces.specs.SpansAtSpots.{process_at}
+use Rattle.collected_traces.specs.EntriesAtPlaces.{process_at}
 use Rattle.journal_traces.proofs.RequestedService.{is_requested_service}
 use Rattle.journal_traces.proofs.number_conditions.NumberConditions.is_requested.Goals as goal
 

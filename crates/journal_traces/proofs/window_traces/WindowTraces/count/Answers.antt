@@ -1,9 +1,9 @@
 use Rattle.std.proofs.Common.{ap, List, length, arith}
 use Rattle.std.proofs.lemmas.List.{length-map}
 use Rattle.trace_model.specs.TakenSpans.{Taken}
-use Rattle.journal_traces.specs.TraceParts.{cut_at}
+use Rattle.collected_traces.specs.TraceParts.{cut_at}
 use Rattle.journal_traces.specs.WindowTraces.{entries_seen, trace_reported}
-use Rattle.journal_traces.proofs.TraceParts.{cuts}
+use Rattle.collected_traces.proofs.TraceParts.{cuts}
 use Rattle.journal_traces.proofs.window_traces.WindowTraces.count.Goals as goal
 
 pub returns : goal.returns

@@ -4,7 +4,7 @@ use Rattle.trace_model.specs.Adjusting.{adjusted}
 use Rattle.trace_model.specs.declared.answer.Answer.TheVariants as say
 use Rattle.trace_model.specs.declared.query.Find.{Find}
 use Rattle.trace_model.specs.Searching.{found_in, ids_of}
-use Rattle.journal_traces.specs.CollectedCandidates.{traces_spotted}
+use Rattle.collected_traces.specs.CollectedCandidates.{traces_spotted}
 use Rattle.span_store.specs.FoundAnswers.{found_answer}
 use Rattle.span_store.proofs.collected_search.CollectedSearch.answer.Goals as goal
 

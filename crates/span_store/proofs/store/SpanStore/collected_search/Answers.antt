@@ -3,7 +3,7 @@ use Rattle.jaeger_model.specs.declared.placed.Placed.{Placed}
 use Rattle.trace_model.specs.declared.query.Find.{Find}
 use Rattle.trace_model.specs.LimitedHistories.{LimitedHistory}
 use Rattle.trace_model.specs.Searching.{found_in}
-use Rattle.journal_traces.specs.CollectedCandidates.{traces_spotted}
+use Rattle.collected_traces.specs.CollectedCandidates.{traces_spotted}
 use Rattle.journal_traces.specs.SpansAtSpots.{traces_named}
 use Rattle.span_store.specs.FoundAnswers.{found_answer}
 use Rattle.span_store.proofs.FoundAmongCandidates.{found_is}

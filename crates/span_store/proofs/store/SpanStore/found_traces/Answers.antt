@@ -8,7 +8,8 @@ use Rattle.trace_model.specs.LimitedHistories.{LimitedHistory}
 use Rattle.trace_model.specs.Histories.{events}
 use Rattle.trace_model.specs.declared.query.Find.{Find}
 use Rattle.trace_model.specs.Searching.{found_in, traces}
-use Rattle.journal_traces.specs.SpansAtSpots.{process_at, traces_named}
+use Rattle.collected_traces.specs.EntriesAtPlaces.{process_at}
+use Rattle.journal_traces.specs.SpansAtSpots.{traces_named}
 use Rattle.trace_model.specs.TakenSpans.{placed_taken}
 use Rattle.span_store.proofs.store.SpanStore.found_traces.Goals as goal
 

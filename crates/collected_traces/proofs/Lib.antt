@@ -1,0 +1,9 @@
+pub mod ParentReferences
+pub mod Processes
+pub mod EntriesAtPlaces
+pub mod TracesAtSpots
+pub mod TraceParts
+pub mod TakingSpans
+pub mod TakenSpans
+pub mod SpanConditions
+pub mod KeyClasses

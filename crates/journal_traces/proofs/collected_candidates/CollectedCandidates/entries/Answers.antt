@@ -1,6 +1,0 @@
-use Rattle.std.proofs.Common.{◌∙◌, ap}
-use Rattle.journal_traces.specs.CollectedCandidates.{CandidatesValue, entries_shared}
-use Rattle.journal_traces.proofs.collected_candidates.CollectedCandidates.entries.Goals as goal
-
-pub returns : goal.returns
-returns c = ap entries_shared c.deref.ensures.value ∙ ap (λ (s : CandidatesValue). s.entries) c.self.view_is

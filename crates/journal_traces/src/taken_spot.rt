@@ -1,9 +1,0 @@
-//! Where a span is among the entries that were collected from the journal.
-
-/// Where a span is among the collected entries: the number of its entry and its index there, both counted from 0.
-/// It has 8 bytes, since a query holds one for each span of the traces that it considers.
-#[derive(Clone, Copy)]
-pub(crate) struct TakenSpot {
-    pub(crate) number: u32,
-    pub(crate) index: u32,
-}
