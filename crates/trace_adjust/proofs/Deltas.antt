@@ -13,7 +13,8 @@ use Rattle.trace_model.specs.Adjusting.{clock_of, shifted, shifted_by, shown_aft
 use Rattle.trace_model.specs.Adjusting.{warned, past_limit, past_times, adjusted_by, all_fit, moved_placed}
 use Rattle.trace_adjust.specs.LentSpans.{placed_as, shifted_all}
 use Rattle.trace_adjust.specs.KnownClocks.{clock_with, AreAllSet}
-use Rattle.trace_adjust.specs.KnownDeltas.{or_zero}
+use Rattle.trace_adjust.specs.declared.known_deltas.KnownDelta.{KnownDelta}
+use Rattle.trace_adjust.specs.KnownDeltas.{or_zero, delta_or_zero, deltas_in}
 use Rattle.trace_adjust.specs.SpanDeltas.{AreRepeated, IsZeroWhere, AreDeltas}
 use Rattle.trace_adjust.proofs.KnownClocks.{with_at}
 
@@ -39,6 +40,10 @@ deltas_are m trace ds marks old new known repeated olds zeros =
           ∙ by_mark m p (get_or ds k None) (list_any (has_id p.span.id) (take k trace))
           ∙ ap (λ c. if list_any (has_id p.span.id) (take k trace) then unadjusted p else shifted_by m p c) clock,
     )
+
+pub zero_in : (ks : List (Option KnownDelta)) → map delta_or_zero ks ≡ map or_zero (deltas_in ks)
+zero_in [] = refl
+zero_in (o ∷ ks) = ap (λ r. delta_or_zero o ∷ r) (zero_in ks)
 
 -- ---- the spans moved by their deltas are what is shown
 next_delta : (ds : List ℤ) (i : ℕ) → get_or (drop 1 ds) i (pos 0) ≡ get_or ds (suc i) (pos 0)

@@ -14,14 +14,18 @@ use Rattle.std.proofs.lemmas.List.{map-append, map_more, map_push, get_or-map, l
 use Rattle.jaeger_model.specs.declared.placed.Placed.{Placed}
 use Rattle.jaeger_model.specs.Texts.{same_text, text_cmp}
 use Rattle.jaeger_model.specs.Tags.{first_text}
-use Rattle.trace_model.specs.Adjusting.{host_of, new_delta, clock_at, clock_below}
-use Rattle.trace_adjust.specs.KnownClocks.{clock_near, clock_with, clocks_with}
+use Rattle.trace_model.specs.Adjusting.{host_of, new_delta, delta_between, clock_at, clock_below}
+use Rattle.trace_adjust.specs.KnownClocks.{clock_near, clock_with, clocks_with, IsMarked}
+use Rattle.trace_adjust.specs.KnownDeltas.{delta_of, deltas_in}
 use Rattle.trace_model.specs.SharedProcesses.{ShareProcesses}
 use Rattle.trace_adjust.specs.Hosts.{hosts_of, number_in, IsHostKept, AreKept, AreHostNumbers, delta_by}
 use Rattle.trace_adjust.specs.KeyedPlaces.{stored_under}
 use Rattle.trace_adjust.specs.declared.clock.HostedSpan.{HostedSpan}
+use Rattle.trace_adjust.specs.declared.known_deltas.KnownDelta.{KnownDelta}
 use Rattle.trace_adjust.proofs.Places.{place_push, place_found}
 use Rattle.trace_adjust.proofs.KnownClocks.{with_at}
+use Rattle.trace_adjust.proofs.KnownParts.{known_read}
+use Rattle.trace_adjust.proofs.Marks.{start_is, count_known}
 use Rattle.trace_model.proofs.NameLaws.{same_where, text_is, text_self, text_turned}
 use Rattle.trace_model.proofs.Tables.{entered, kept}
 
@@ -39,7 +43,10 @@ same_number hosts t u n k e f =
     (λ one. let both : Some n ≡ Some k = sym e ∙ ap (number_in hosts) one ∙ f in cc both)
 
 -- ---- deltas by numbers are those of the clocks
-module _ (m : ℕ) (hosts : List (List ℕ)) (a b : HostedSpan) (d : ℤ) where
+module _ (m : ℕ) (hosts : List (List ℕ)) (a b : HostedSpan) (known : KnownDelta) where
+  abbrev d : ℤ
+  d = known.delta
+
   abbrev q : Placed
   q = a.placed.now
 
@@ -53,14 +60,17 @@ module _ (m : ℕ) (hosts : List (List ℕ)) (a b : HostedSpan) (d : ℤ) where
   by_tests false true is = ap (λ h. clock_at m h d p.span) (is refl)
   by_tests false false is = refl
 
-  below_is : number_in hosts [] ≡ Some 0 → number_in hosts (host_of q) ≡ Some a.host_number → number_in hosts (host_of p) ≡ Some b.host_number
-      → clock_with m p (delta_by m a d b) ≡ clock_below m (clock_with m q d) p
-  below_is none above number =
+  below_is : IsMarked m q.span known → number_in hosts [] ≡ Some 0 → number_in hosts (host_of q) ≡ Some a.host_number
+      → number_in hosts (host_of p) ≡ Some b.host_number
+      → clock_with m p (delta_by a known b) ≡ clock_below m (clock_with m q d) p
+  below_is mark none above number =
       let n = b.host_number in
       let nq = a.host_number in
       let empty : (n == 0) ≡ same_text (host_of p) [] = same_number hosts (host_of p) [] n 0 number none in
       let other : (n == nq) ≡ same_text (host_of p) (host_of q) = same_number hosts (host_of p) (host_of q) n nq number above in
-      by_tests (n == 0) (n == nq)
+      ap (λ s. clock_with m p (if (n == 0) || not (n == nq) then delta_between s q.span.duration p.span.start p.span.duration else d))
+      (start_is m known q.span mark)
+      ∙ by_tests (n == 0) (n == nq)
       (λ e. sym (number_there hosts (host_of p) n number) ∙ ap (λ j. get_or hosts j []) (eqb-true n nq e) ∙ number_there hosts (host_of q) nq above)
       ∙ (λ i. if empty i || not (other i) then clock_at m (host_of p) (new_delta (clock_with m q d) p.span) p.span else clock_at m (host_of q) d p.span)
 
@@ -94,25 +104,29 @@ number_read hosts (p ∷ trace) (n ∷ ns) (suc i) d e l are =
     let rest : AreHostNumbers hosts trace ns = cc are in number_read hosts trace ns i d e (omega arith) rest
 
 -- the clock with the delta is the one below the parent's
-pub near_some : (m : ℕ) (trace : List Placed) (ds : List (Option ℤ)) (i j : ℕ) (a b : HostedSpan) (e : Placed) (d r : ℤ)
+pub near_some : (m : ℕ) (trace : List Placed) (ks : List (Option KnownDelta)) (i j : ℕ) (a b : HostedSpan) (e : Placed) (k : KnownDelta) (r : ℤ)
     → ((x : Placed) → b.placed.now ≡ get_or trace i x) → ((x : Placed) → a.placed.now ≡ get_or trace j x)
     → number_in (hosts_of trace) (host_of b.placed.now) ≡ Some b.host_number → number_in (hosts_of trace) (host_of a.placed.now) ≡ Some a.host_number
-    → length ds ≡ length trace → get_or ds j None ≡ Some d → r ≡ delta_by m a d b
-    → option_map (clock_with m (get_or trace i e)) (Some r) ≡ clock_near m (clocks_with m trace ds) (get_or trace i e) (Some j)
-near_some m trace ds i j a b e d r here there own above many known is =
+    → length ks ≡ length trace → get_or ks j None ≡ Some k → IsMarked m a.placed.now.span k → r ≡ delta_by a k b
+    → option_map (clock_with m (get_or trace i e)) (Some r) ≡ clock_near m (clocks_with m trace (deltas_in ks)) (get_or trace i e) (Some j)
+near_some m trace ks i j a b e k r here there own above many known mark is =
+    let ds : List (Option ℤ) = deltas_in ks in
+    let d : ℤ = k.delta in
     let p : Placed = b.placed.now in
     let q : Placed = a.placed.now in
     let clock : get_or (clocks_with m trace ds) j None ≡ Some (clock_with m q d) =
-    with_at m trace ds j q many ∙ ap (option_map (clock_with m (get_or trace j q))) known ∙ ap (λ x. Some (clock_with m x d)) (sym (there q)) in
+    with_at m trace ds j q (count_known ks ∙ many) ∙ ap (option_map (clock_with m (get_or trace j q))) (known_read ks j ∙ ap delta_of known) ∙ ap (λ x. Some (clock_with m x d)) (sym (there q)) in
     subst (λ x. option_map (clock_with m x) (Some r) ≡ clock_near m (clocks_with m trace ds) x (Some j)) (here e)
     (ap (λ z. Some (clock_with m p z)) is
-    ∙ ap Some (below_is m (hosts_of trace) a b d refl above own)
+    ∙ ap Some (below_is m (hosts_of trace) a b k mark refl above own)
     ∙ ap (option_map (λ c. clock_below m c p)) (sym clock))
 
-pub near_none : (m : ℕ) (trace : List Placed) (ds : List (Option ℤ)) (j : ℕ) (p : Placed) → length ds ≡ length trace → get_or ds j None ≡ None
-    → None ≡ clock_near m (clocks_with m trace ds) p (Some j)
-near_none m trace ds j p many none =
-    ap (option_map (λ a. clock_below m a p)) (sym (with_at m trace ds j p many ∙ ap (option_map (clock_with m (get_or trace j p))) none))
+pub near_none : (m : ℕ) (trace : List Placed) (ks : List (Option KnownDelta)) (j : ℕ) (p : Placed) → length ks ≡ length trace → get_or ks j None ≡ None
+    → None ≡ clock_near m (clocks_with m trace (deltas_in ks)) p (Some j)
+near_none m trace ks j p many none =
+    ap (option_map (λ a. clock_below m a p))
+    (sym (with_at m trace (deltas_in ks) j p (count_known ks ∙ many)
+    ∙ ap (option_map (clock_with m (get_or trace j p))) (known_read ks j ∙ ap delta_of none)))
 
 -- ---- one more span's host
 module _ (ps : List Placed) (i : ℕ) (p : Placed) (l : i < length ps) (e : p ≡ get_or ps i p) where

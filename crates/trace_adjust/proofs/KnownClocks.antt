@@ -110,7 +110,7 @@ known_within (o ∷ ds) zero d e = omega arith
 known_within (o ∷ ds) (suc j) d e = let l = known_within ds j d e in omega (arith, l)
 
 -- ---- before any is known
-none_at : {X : Type 0} (n k : ℕ) (o : Option X) → o ≡ None → get_or (replicate n o) k None ≡ None
+pub none_at : {X : Type 0} (n k : ℕ) (o : Option X) → o ≡ None → get_or (replicate n o) k None ≡ None
 none_at zero k o e = refl
 none_at (suc n) zero o e = e
 none_at (suc n) (suc k) o e = none_at n k o e

@@ -4,5 +4,6 @@ pub mod LentReferences
 pub mod Places
 pub mod KnownClocks
 pub mod KnownParts
+pub mod Marks
 pub mod ShiftedSpans
 pub mod ExistingSpans

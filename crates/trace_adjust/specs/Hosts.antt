@@ -3,9 +3,10 @@ use Rattle.std.specs.Prelude.{◌≡◌, ◌+◌, ◌<◌, ℕ, List, [], ◌∷
 use Rattle.std.specs.Prelude.{if◌then◌else◌}
 use Rattle.jaeger_model.specs.declared.placed.Placed.{Placed}
 use Rattle.jaeger_model.specs.Texts.{same_text}
-use Rattle.trace_model.specs.Adjusting.{host_of, start_at, delta_between}
+use Rattle.trace_model.specs.Adjusting.{host_of, delta_between}
 use Rattle.trace_adjust.specs.declared.clock.HostedSpan.{HostedSpan}
-use Rattle.trace_adjust.specs.KnownClocks.{place_of}
+use Rattle.trace_adjust.specs.declared.known_deltas.KnownDelta.{KnownDelta}
+use Rattle.trace_adjust.specs.KnownClocks.{place_of, start_with}
 
 -- the hosts of the spans, after the empty one
 abbrev pub hosts_of : List Placed → List (List ℕ)
@@ -31,10 +32,10 @@ abbrev pub AreKept : List Placed → List ℕ → ℕ → (ℕ → Option ℕ) �
 AreKept trace keys count kept = (key number : ℕ) → kept key ≡ Some number → IsHostKept trace keys count key number
 
 -- the delta of a span by its parent and the parent's delta
-abbrev pub delta_by : ℕ → HostedSpan → ℤ → HostedSpan → ℤ
-delta_by max_skew above delta below =
+abbrev pub delta_by : HostedSpan → KnownDelta → HostedSpan → ℤ
+delta_by above known below =
     let parent = above.placed.now.span in
     let span = below.placed.now.span in
     if (below.host_number == 0) || not (below.host_number == above.host_number)
-    then delta_between (start_at max_skew delta parent) parent.duration span.start span.duration
-    else delta
+    then delta_between (start_with known parent) parent.duration span.start span.duration
+    else known.delta

@@ -1,10 +1,13 @@
 -- Clocks of the spans of a trace by their places, as far as they are known.
 use Rattle.std.specs.Prelude.{◌≡◌, ℕ, suc, pos, ◌<◌, ◌⊎◌, Bool, not, List, [], ◌∷◌, length, get_or, count_by, Option, Some, None, option_map}
-use Rattle.std.specs.Prelude.{is_some, ℤ, ◌==◌, cond, if◌then◌else◌}
+use Rattle.std.specs.Prelude.{is_some, IfSome, ℤ, ◌+ℤ◌, ◌==◌, ◌&&◌, cond, if◌then◌else◌}
+use Rattle.std.specs.Ordering.{int_eq}
 use Rattle.jaeger_model.specs.declared.placed.Placed.{Placed}
+use Rattle.jaeger_model.specs.declared.span.Span.{Span}
 use Rattle.jaeger_model.specs.Parents.{parent}
 use Rattle.trace_model.specs.declared.clock.Clock.{Clock}
-use Rattle.trace_model.specs.Adjusting.{host_of, clock_at, clock_below, clock_of}
+use Rattle.trace_model.specs.Adjusting.{host_of, clock_at, clock_below, clock_of, is_applied}
+use Rattle.trace_adjust.specs.declared.known_deltas.KnownDelta.{KnownDelta}
 
 -- the place of the first item that passes
 abbrev pub place_of : {X : Type 0} → (X → Bool) → List X → Option ℕ
@@ -70,3 +73,19 @@ AreSet max_skew trace ds = (length ds ≡ length trace) × AreRight max_skew tra
 -- each span's clock has the delta, or there is none
 abbrev pub AreAllSet : ℕ → List Placed → List (Option ℤ) → Type 0
 AreAllSet max_skew trace ds = (length ds ≡ length trace) × AreClocks max_skew trace (clocks_with max_skew trace ds)
+
+-- whether the delta moves the span: one of 0 moves none
+abbrev pub is_moved : ℕ → ℤ → Span → Bool
+is_moved max_skew delta s = not (int_eq delta (pos 0)) && is_applied max_skew delta s
+
+-- the mark says whether the delta moves the span
+abbrev pub IsMarked : ℕ → Span → KnownDelta → Type 0
+IsMarked max_skew s k = k.moves ≡ is_moved max_skew k.delta s
+
+-- so does that of each delta that is known
+abbrev pub AreMarked : ℕ → List Placed → List (Option KnownDelta) → Type 0
+AreMarked max_skew trace ks = (k : ℕ) (d : Placed) → k < length trace → IfSome (get_or ks k None) (IsMarked max_skew (get_or trace k d).span)
+
+-- the shown start of a span by its delta and the mark
+abbrev pub start_with : KnownDelta → Span → ℤ
+start_with k s = if k.moves then s.start +ℤ k.delta else s.start

@@ -1,11 +1,13 @@
 //! The delta of the clock of one span, by the numbers of hosts.
 
-ghost use Rattle.std.specs.Prelude.{◌≡◌, ◌==◌, ◌||◌, not};
-ghost use Rattle.trace_model.specs.Adjusting.{delta_between, start_at};
+ghost use Rattle.std.specs.Prelude.{◌≡◌, ◌==◌, ◌||◌, ◌+ℤ◌, not, true, IsTrue};
+ghost use Rattle.trace_model.specs.Adjusting.{delta_between, fits};
 ghost use Rattle.trace_adjust.specs.Hosts.{delta_by};
+ghost use Rattle.trace_adjust.specs.KnownClocks.{start_with};
 
+use crate::known_deltas::KnownDelta;
 use crate::lent_placed::LentPlaced;
-use span_steps::delta_between;
+use span_steps::{delta_between, moved_by};
 
 /// The number of the empty host: that of a span whose process names none.
 pub(crate) const NO_HOST: u32 = 0;
@@ -24,13 +26,27 @@ fn is_elsewhere(above: u32, host: u32) -> bool
     host == NO_HOST || host != above
 }
 
+/// Returns the shown start of a span by the delta of its clock. It reads no log: the delta has a mark that says whether
+/// it moves the span.
+fn shown_start(placed: &LentPlaced, known: KnownDelta) -> i64
+    requires { known.moves ≡ true → IsTrue (fits (placed.now.span.start +ℤ known.delta)) }
+    ensures { result ≡ start_with known placed.now.span }
+{
+    if known.moves {
+        moved_by(placed.start(), known.delta)
+    } else {
+        placed.start()
+    }
+}
+
 /// Returns the delta that moves the span into the time of its parent, whose clock has this delta.
-fn new_delta(above: &LentPlaced, above_delta: i128, placed: &LentPlaced, max_skew: u64) -> i128
-    ensures { result ≡ delta_between (start_at max_skew above_delta above.now.span)
+fn new_delta(above: &LentPlaced, known: KnownDelta, placed: &LentPlaced) -> i128
+    requires { known.moves ≡ true → IsTrue (fits (above.now.span.start +ℤ known.delta)) }
+    ensures { result ≡ delta_between (start_with known above.now.span)
         above.now.span.duration placed.now.span.start placed.now.span.duration }
 {
     delta_between(
-        above.start_at(max_skew, above_delta),
+        shown_start(above, known),
         above.duration(),
         placed.start(),
         placed.duration(),
@@ -39,16 +55,12 @@ fn new_delta(above: &LentPlaced, above_delta: i128, placed: &LentPlaced, max_ske
 
 /// Returns the delta of a span by that of its parent: the parent's if the span is of the same host, else one that
 /// moves the span into its parent's time.
-pub(crate) fn delta_below(
-    above: HostedSpan,
-    above_delta: i128,
-    below: HostedSpan,
-    max_skew: u64,
-) -> i128
-    ensures { result ≡ delta_by max_skew above.entry above_delta below.entry }
+pub(crate) fn delta_below(above: HostedSpan, known: KnownDelta, below: HostedSpan) -> i128
+    requires { known.moves ≡ true → IsTrue (fits (above.placed.now.span.start +ℤ known.delta)) }
+    ensures { result ≡ delta_by above.entry known below.entry }
 {
     if is_elsewhere(above.host_number, below.host_number) {
-        return new_delta(above.placed, above_delta, below.placed, max_skew);
+        return new_delta(above.placed, known, below.placed);
     }
-    above_delta
+    known.delta
 }

@@ -7,7 +7,7 @@ ghost use Rattle.trace_adjust.specs.KnownClocks.{place_in};
 ghost use Rattle.trace_adjust.specs.Hosts.{hosts_of, number_in, AreHostNumbers};
 
 use crate::clock::{HostedSpan, delta_below};
-use crate::known_deltas::KnownDeltas;
+use crate::known_deltas::{KnownDelta, KnownDeltas};
 use crate::lent_placed::LentPlaced;
 use std::alloc::{AllocError, Global};
 
@@ -59,7 +59,9 @@ pub(crate) struct ClockedTrace<'t, 's> {
 }
 
 impl<'t, 's> ClockedTrace<'t, 's> {
-    ghost use Rattle.trace_adjust.specs.KnownClocks.{unset_count, clock_near, clock_with, clocks_with, IsClosed, AreClosed, AreSet, AreAllSet};
+    ghost use Rattle.std.specs.Prelude.{IfSome};
+    ghost use Rattle.trace_adjust.specs.KnownClocks.{unset_count, clock_near, clock_with, clocks_with, IsClosed, AreClosed, AreSet, AreAllSet, IsMarked, AreMarked};
+    ghost use Rattle.trace_adjust.specs.KnownDeltas.{delta_of, deltas_in};
 
     /// Returns the span at the place, with the number of its host.
     fn hosted(&self, place: usize) -> HostedSpan<'t, 's>
@@ -77,48 +79,72 @@ impl<'t, 's> ClockedTrace<'t, 's> {
     /// Returns the delta of the span at the place by that of its parent, if that is known.
     fn delta_near(&self, deltas: &KnownDeltas, place: usize, parent: Option<u32>) -> Option<i128>
         requires many { length deltas.now ≡ length self.now.spans.now }
+        requires marked { AreMarked self.now.max_skew self.now.spans.now deltas.now }
         requires within { place < length self.now.spans.now }
         ensures { (d : Placed) →
             option_map (clock_with self.now.max_skew (get_or self.now.spans.now place d)) result ≡
             clock_near self.now.max_skew
-            (clocks_with self.now.max_skew self.now.spans.now deltas.now)
+            (clocks_with self.now.max_skew self.now.spans.now (deltas_in deltas.now))
             (get_or self.now.spans.now place d) parent }
     {
         let Some(parent) = parent else {
             return Some(0);
         };
         let above = parent as usize;
-        let delta = deltas.get(above)?;
+        let known = deltas.get(above)?;
         let above = self.hosted(above);
-        Some(delta_below(above, delta, self.hosted(place), self.max_skew))
+        Some(delta_below(above, known, self.hosted(place)))
     }
 
-    /// Stores the delta of the span at the place, if it is not known and its parent's is. Returns whether it was stored
-    /// by this call.
+    /// Returns the delta, if there is one, with the mark that says whether it moves the span at the place. Reads the logs
+    /// of that span, and of no other.
+    fn marked(&self, place: usize, delta: Option<i128>) -> Option<KnownDelta>
+        requires { place < length self.now.spans.now }
+        ensures delta { delta_of result ≡ delta }
+        ensures mark { (d : Placed) → IfSome result
+            (IsMarked self.now.max_skew (get_or self.now.spans.now place d).span) }
+    {
+        match delta {
+            Some(delta) => Some(KnownDelta {
+                delta,
+                moves: self.spans[place].is_moved(self.max_skew, delta),
+            }),
+            None => None,
+        }
+    }
+
+    /// Stores the delta of the span at the place and its mark, if the delta is not known and its parent's is. Returns
+    /// whether it was stored by this call. A call that stores none reads no log, so the logs of each span are read once.
     fn set_delta(&self, deltas: &mut KnownDeltas, place: usize) -> bool
-        requires set { AreSet self.now.max_skew self.now.spans.now deltas.old }
+        requires set { AreSet self.now.max_skew self.now.spans.now (deltas_in deltas.old) }
+        requires marked { AreMarked self.now.max_skew self.now.spans.now deltas.old }
         requires within { place < length self.now.spans.now }
-        ensures set { AreSet self.now.max_skew self.now.spans.now deltas.new }
-        ensures closed { result ≡ false → (deltas.new ≡ deltas.old)
+        ensures set { AreSet self.now.max_skew self.now.spans.now (deltas_in deltas.new) }
+        ensures marked { AreMarked self.now.max_skew self.now.spans.now deltas.new }
+        ensures closed { result ≡ false → (deltas_in deltas.new ≡ deltas_in deltas.old)
             × IsClosed self.now.max_skew self.now.spans.now place
-            (clocks_with self.now.max_skew self.now.spans.now deltas.new) }
-        ensures fewer { unset_count deltas.new + cond result 1 0 ≡ unset_count deltas.old }
+            (clocks_with self.now.max_skew self.now.spans.now (deltas_in deltas.new)) }
+        ensures fewer { unset_count (deltas_in deltas.new) + cond result 1 0
+            ≡ unset_count (deltas_in deltas.old) }
     {
         if deltas.is_known(place) {
             return false;
         }
         let delta = self.delta_near(deltas, place, self.parents[place]);
-        deltas.store(place, delta)
+        deltas.store(place, self.marked(place, delta))
     }
 
     /// Stores each delta that can be known, from the first span to the last, and returns whether there was one.
     fn set_all_deltas(&self, deltas: &mut KnownDeltas) -> bool
-        requires set { AreSet self.now.max_skew self.now.spans.now deltas.old }
-        ensures set { AreSet self.now.max_skew self.now.spans.now deltas.new }
+        requires set { AreSet self.now.max_skew self.now.spans.now (deltas_in deltas.old) }
+        requires marked { AreMarked self.now.max_skew self.now.spans.now deltas.old }
+        ensures set { AreSet self.now.max_skew self.now.spans.now (deltas_in deltas.new) }
+        ensures marked { AreMarked self.now.max_skew self.now.spans.now deltas.new }
         ensures closed { result ≡ false → AreClosed self.now.max_skew self.now.spans.now
             (length self.now.spans.now)
-            (clocks_with self.now.max_skew self.now.spans.now deltas.new) }
-        ensures fewer { result ≡ true → unset_count deltas.new < unset_count deltas.old }
+            (clocks_with self.now.max_skew self.now.spans.now (deltas_in deltas.new)) }
+        ensures fewer { result ≡ true →
+            unset_count (deltas_in deltas.new) < unset_count (deltas_in deltas.old) }
     {
         let mut changed = false;
         for place in 0..self.spans.len() {
@@ -135,7 +161,7 @@ impl<'t, 's> ClockedTrace<'t, 's> {
     /// The deltas are stored in the order of [`downward_order`], each by its parent's. The pass after that stores none,
     /// which shows that the others have none.
     pub(crate) fn clock_deltas(&self, alloc: Global) -> Result<KnownDeltas, AllocError>
-        ensures { IfOk result (λ v. AreAllSet self.now.max_skew self.now.spans.now v) }
+        ensures { IfOk result (λ v. AreAllSet self.now.max_skew self.now.spans.now (deltas_in v)) }
     {
         let order = downward_order(alloc, self.parents)?;
         let mut deltas = KnownDeltas::none(alloc, self.spans.len())?;

@@ -2,16 +2,17 @@
 
 ghost use Rattle.std.specs.Prelude.{◌≡◌, ◌+◌, ◌<◌, ◌∷◌, length, slice_get, Some, IfOk, swap};
 ghost use Rattle.jaeger_model.specs.Parents.{parent, parent_reference, with_parent};
-ghost use Rattle.trace_model.specs.Adjusting.{host_of, parent_first, start_at, with_parent_first};
+ghost use Rattle.trace_model.specs.Adjusting.{host_of, parent_first, with_parent_first};
 ghost use Rattle.trace_model.specs.BorrowedSpans.{placed_by_its_entry};
 ghost use Rattle.span_steps.specs.Warnings.{warning_of, CanMove};
+ghost use Rattle.trace_adjust.specs.KnownClocks.{is_moved};
 ghost use Rattle.trace_adjust.specs.LentReferences.{referred, IsLent, IsReferred};
 
 use jaeger_model::{
     Log, Placed, Process, Seen, Span, SpanId, SpanRef, Text, needs_no_reference, parent_of,
     parent_reference,
 };
-use span_steps::{Warning, host_named, parent_place, start_at};
+use span_steps::{Warning, host_named, parent_place};
 use std::alloc::{AllocError, Global};
 use std::marker::Model;
 
@@ -207,11 +208,14 @@ impl<'a> LentPlaced<'a> {
         self.span.duration
     }
 
-    /// Returns the shown start: moved by the delta of the span's clock, if that can be.
-    pub(crate) fn start_at(&self, max_skew: u64, delta: i128) -> i64
-        ensures { result ≡ start_at max_skew delta self.now.span }
+    /// Whether the delta of its clock moves it. Reads each of its logs, unless the delta is 0 or above the limit.
+    pub(crate) fn is_moved(&self, max_skew: u64, delta: i128) -> bool
+        ensures { result ≡ is_moved max_skew delta self.now.span }
     {
-        start_at(max_skew, delta, self.span)
+        match self.warning(max_skew, delta) {
+            Some(Warning::Adjusted(_)) => true,
+            Some(Warning::PastLimit { .. } | Warning::PastTimes(_)) | None => false,
+        }
     }
 
     /// Returns its host, or an empty text.
