@@ -11,8 +11,7 @@ use Rattle.trace_model.specs.SharedProcesses.{ShareProcesses}
 use Rattle.trace_model.specs.TakenSpans.{Taken, placed_taken, numbers_taken}
 use Rattle.trace_adjust.specs.declared.lent_logs.LentLog.{LentLog}
 use Rattle.trace_adjust.specs.declared.lent_spans.LentForm.{LentForm}
-use Rattle.trace_adjust.specs.declared.lent_spans.LentForm.TheVariants.{Lone, Several}
-use Rattle.trace_adjust.specs.declared.lent_spans.MovedSpans.{MovedSpans}
+use Rattle.trace_adjust.specs.declared.lent_spans.LentForm.TheVariants.{Lone, Kept, Moved}
 
 -- the logs, moved if there is a delta
 abbrev pub logs_by : Option ℤ → List Log → List Log
@@ -48,18 +47,17 @@ shown_spans raw max_skew spans deltas = shifted_all max_skew deltas (map (placed
 abbrev pub shown_by_deltas : KeptTrace → List ℤ → List Shown
 shown_by_deltas t deltas = shown_spans t.raw t.max_skew t.spans.items deltas
 
-abbrev pub moved_value : MovedSpans → List Shown
-moved_value m = shown_spans m.raw m.max_skew m.spans.items m.deltas.items
-
 -- the spans exist, and those with one key have one process
-pub record AreLent (m : MovedSpans) : Type 0 where
-  pub there : AreThere m.spans.items
-  pub shares : ShareProcesses (spans_of (moved_value m)) (numbers_taken m.spans.items)
+pub record AreLent (t : KeptTrace) (deltas : List ℤ) : Type 0 where
+  pub there : AreThere t.spans.items
+  pub shares : ShareProcesses (spans_of (shown_by_deltas t deltas)) (numbers_taken t.spans.items)
 
 abbrev pub lent_value : LentForm → List Shown
 lent_value (Lone t) = lone_value t
-lent_value (Several m) = moved_value m.value
+lent_value (Kept t) = shown_by_deltas t.value []
+lent_value (Moved m) = shown_by_deltas m.value.trace.value m.value.deltas.items
 
 abbrev pub IsLentForm : LentForm → Type 0
 IsLentForm (Lone t) = IsSome t.span
-IsLentForm (Several m) = AreLent m.value
+IsLentForm (Kept t) = AreLent t.value []
+IsLentForm (Moved m) = AreLent m.value.trace.value m.value.deltas.items

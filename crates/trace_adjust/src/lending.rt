@@ -12,7 +12,7 @@ ghost use Rattle.trace_adjust.specs.Hosts.{AreHostNumbers, hosts_of};
 
 use crate::hosts::host_numbers;
 use crate::lent_placed::LentPlaced;
-use crate::lent_spans::{LentSpans, MovedSpans};
+use crate::lent_spans::LentSpans;
 use crate::process_keys::process_keys_of;
 use crate::span_deltas::all_deltas;
 use std::alloc::{AllocError, Global};
@@ -95,22 +95,16 @@ fn see_each(spans: &[TakenSpan])
     }
 }
 
-/// Returns the spans of a trace as they are shown, each borrowed from its entry.
+/// Returns the spans of a trace as they are shown, each borrowed from its entry. The box of the trace is kept.
 ///
 /// # Errors
 ///
 /// Out of memory, and nothing else.
-pub fn lend(alloc: Global, trace: KeptTrace) -> Result<LentSpans, AllocError>
-    requires { KeptShares trace }
-    ensures { IfOk result (λ r. r ≡ kept_value trace) }
+pub fn lend(alloc: Global, trace: Box<KeptTrace>) -> Result<LentSpans, AllocError>
+    requires { KeptShares trace.value }
+    ensures { IfOk result (λ r. r ≡ kept_value trace.value) }
 {
     see_each(&trace.spans);
     let deltas = shown_deltas(alloc, &trace)?;
-    let moved = MovedSpans {
-        spans: trace.spans,
-        raw: trace.raw,
-        max_skew: trace.max_skew,
-        deltas,
-    };
-    LentSpans::several(alloc, moved)
+    LentSpans::of(alloc, trace, deltas)
 }

@@ -1,11 +1,11 @@
 //! The spans of a trace of an answer as they are shown, borrowed one by one from their entries.
 
-ghost use Rattle.std.specs.Prelude.{◌≡◌, ◌<◌, pos, get_or, length, map, slice_get, IfOk, Some, None, option_map};
+ghost use Rattle.std.specs.Prelude.{◌≡◌, ◌<◌, ℤ, List, pos, get_or, length, map, slice_get, IfOk, Some, None, option_map};
 ghost use Rattle.trace_model.specs.Adjusting.{spans_of};
 ghost use Rattle.trace_model.specs.BorrowedSpans.{placed_by_its_entry};
 ghost use Rattle.trace_model.specs.KeptTraces.{lone_value};
 ghost use Rattle.trace_model.specs.SharedProcesses.{ShareProcesses};
-ghost use Rattle.trace_adjust.specs.LentSpans.{placed_as, moved_value, AreLent};
+ghost use Rattle.trace_adjust.specs.LentSpans.{placed_as, shown_by_deltas, AreLent, AreThere};
 
 use crate::lent_placed::LentPlaced;
 use crate::lent_span::LentSpan;
@@ -13,26 +13,30 @@ use crate::process_keys::process_keys_of;
 use jaeger_model::Seen;
 use std::alloc::{AllocError, Global};
 use std::marker::Model;
-use trace_model::TakenSpan;
+use trace_model::{KeptTrace, TakenSpan};
 
-/// The spans of a trace, and the deltas of their clocks.
+/// A trace of which spans move, and the deltas of their clocks.
 #[derive(Drop)]
 pub(crate) struct MovedSpans {
-    pub(crate) spans: Vec<TakenSpan>,
-    /// Whether the spans are shown as reported, without adjustment.
-    pub(crate) raw: bool,
-    /// The greatest clock skew that is adjusted, in microseconds.
-    pub(crate) max_skew: u64,
+    pub(crate) trace: Box<KeptTrace>,
     /// The deltas of the spans, in microseconds; 0 for the spans after the last delta.
     pub(crate) deltas: Vec<i128>,
 }
 
+/// The forms of a trace that is lent. A trace stays in the box in which the answer has it, since nothing would reuse the
+/// memory of that box, and an answer may have very many traces.
 #[derive(Drop)]
 pub(crate) enum LentForm {
     /// The only span of a trace, which no clock moves.
     Lone(TakenSpan),
-    Several(Box<MovedSpans>),
+    /// A trace of which no span moves.
+    Kept(Box<KeptTrace>),
+    Moved(Box<MovedSpans>),
 }
+
+const _: () = prove!(size_of::<LentSpans>() == 24);
+
+const _: () = prove!(size_of::<MovedSpans>() == 32);
 
 /// The spans of a trace, borrowed from their entries. Of each span it holds its entry, its index, the key of its process
 /// and the delta of its clock, if one moves; all else is computed when the span is read. Contracts see the spans as they
@@ -89,24 +93,23 @@ fn lone_span(span: &TakenSpan) -> LentSpan<'_>
     LentSpan::shifted(placed, 0, 0)
 }
 
-impl MovedSpans {
-    fn len(&self) -> usize
-        requires { AreLent self.now }
-        ensures { result ≡ length (moved_value self.now) }
-    {
-        self.spans.len()
-    }
+/// Returns the number of spans of a trace.
+fn span_count(trace: &KeptTrace) -> usize
+    requires { AreThere trace.now.spans.items }
+    ensures { (deltas : List ℤ) → result ≡ length (shown_by_deltas trace.now deltas) }
+{
+    trace.spans.len()
+}
 
-    /// Returns the span at the index as it is shown.
-    fn at(&self, index: usize) -> LentSpan<'_>
-        requires lent { AreLent self.now }
-        requires index { index < length (moved_value self.now) }
-        ensures { slice_get (moved_value self.now) index ≡ Some result }
-    {
-        let delta = delta_at(&self.deltas, index);
-        let placed = lent_at(self.raw, &self.spans, index);
-        LentSpan::shifted(placed, delta, self.max_skew)
-    }
+/// Returns the span at the index as it is shown, by the deltas of the clocks.
+fn span_at<'a>(trace: &'a KeptTrace, deltas: &[i128], index: usize) -> LentSpan<'a>
+    requires there { AreThere trace.now.spans.items }
+    requires index { index < length (shown_by_deltas trace.now deltas.now) }
+    ensures { slice_get (shown_by_deltas trace.now deltas.now) index ≡ Some result }
+{
+    let delta = delta_at(deltas, index);
+    let placed = lent_at(trace.raw, &trace.spans, index);
+    LentSpan::shifted(placed, delta, trace.max_skew)
 }
 
 impl LentSpans {
@@ -122,13 +125,23 @@ impl LentSpans {
         }
     }
 
-    /// Makes a list of spans, and of the deltas of their clocks.
-    pub(crate) fn several(alloc: Global, moved: MovedSpans) -> Result<LentSpans, AllocError>
-        requires { AreLent moved }
-        ensures { IfOk result (λ l. l ≡ moved_value moved) }
+    /// Borrows the spans of a trace, to be shown by the deltas of their clocks. Allocates nothing if there is no delta.
+    pub(crate) fn of(
+        alloc: Global,
+        trace: Box<KeptTrace>,
+        deltas: Vec<i128>,
+    ) -> Result<LentSpans, AllocError>
+        requires { AreLent trace.value deltas.items }
+        ensures { IfOk result (λ l. l ≡ shown_by_deltas trace.value deltas.items) }
     {
+        if deltas.is_empty() {
+            return Ok(LentSpans {
+                form: LentForm::Kept(trace),
+            });
+        }
+        let moved = Box::new(alloc, MovedSpans { trace, deltas })?;
         Ok(LentSpans {
-            form: LentForm::Several(Box::new(alloc, moved)?),
+            form: LentForm::Moved(moved),
         })
     }
 
@@ -138,7 +151,8 @@ impl LentSpans {
     {
         match &self.form {
             LentForm::Lone(_) => 1,
-            LentForm::Several(moved) => moved.len(),
+            LentForm::Kept(trace) => span_count(trace),
+            LentForm::Moved(moved) => span_count(&moved.trace),
         }
     }
 
@@ -149,7 +163,8 @@ impl LentSpans {
     {
         match &self.form {
             LentForm::Lone(span) => lone_span(span),
-            LentForm::Several(moved) => moved.at(index),
+            LentForm::Kept(trace) => span_at(trace, &[], index),
+            LentForm::Moved(moved) => span_at(&moved.trace, &moved.deltas, index),
         }
     }
 
@@ -163,7 +178,8 @@ impl LentSpans {
     {
         match &self.form {
             LentForm::Lone(_) => Ok(Vec::new(alloc)),
-            LentForm::Several(moved) => process_keys_of(alloc, &moved.spans),
+            LentForm::Kept(trace) => process_keys_of(alloc, &trace.spans),
+            LentForm::Moved(moved) => process_keys_of(alloc, &moved.trace.spans),
         }
     }
 }

@@ -276,9 +276,9 @@ fn are_zero(places: &[u32]) -> bool
 }
 
 /// Prepares a trace whose spans are borrowed from their entries.
-fn lent_item(alloc: Global, kept: KeptTrace) -> Result<TraceItem, AllocError>
-    requires { KeptShares kept }
-    ensures spans { IfOk result (λ t. item_spans t ≡ kept_value kept) }
+fn lent_item(alloc: Global, kept: Box<KeptTrace>) -> Result<TraceItem, AllocError>
+    requires { KeptShares kept.value }
+    ensures spans { IfOk result (λ t. item_spans t ≡ kept_value kept.value) }
     ensures writable { IfOk result IsWritable }
 {
     let spans = lend(alloc, kept)?;
@@ -303,7 +303,7 @@ impl TraceItem {
     {
         match trace.into_form() {
             TraceForm::Lone(span) => Ok(TraceItem::OneProcess(LentSpans::lone(span))),
-            TraceForm::Kept(kept) => lent_item(alloc, Box::into_inner(kept)),
+            TraceForm::Kept(kept) => lent_item(alloc, kept),
             TraceForm::Copied(copied) => Ok(TraceItem::Copied(CopiedTrace::new(alloc, &copied)?)),
         }
     }
