@@ -4,6 +4,7 @@ ghost use Rattle.std.specs.Prelude.{◌≡◌, List, [], ◌∷◌, ◌++◌, If
 ghost use Rattle.trace_model.specs.TakenSpans.{Taken};
 
 use crate::trace_parts::trace_part;
+use find_traces::push_tightly;
 use std::alloc::{AllocError, Global};
 use std::marker::Model;
 use trace_model::TakenSpan;
@@ -85,7 +86,7 @@ impl TakenTraces {
         ensures { OnOk result ((ts : List (List Taken)) (t : List Taken) →
             self.old ≡ ts ++ t ∷ [] → self.new ≡ ts ++ (t ++ span ∷ []) ∷ []) }
     {
-        self.spans.push(span)?;
+        push_tightly(&mut self.spans, span)?;
         Ok(())
     }
 }

@@ -20,6 +20,7 @@ use crate::store_view::StoreView;
 use crate::window::window_of;
 use crate::window_traces::{WindowSpots, WindowTraces};
 use collected_traces::TakenSpot;
+use find_traces::push_tightly;
 use std::alloc::{AllocError, Global};
 use std::sync::Arc;
 use trace_assembly::{Spot, Spots};
@@ -62,7 +63,7 @@ fn push_spot(taken: &mut WindowSpots, spot: TakenSpot) -> Result<(), AllocError>
     ensures spots { OnOk result (taken.new.spots.items ≡ taken.old.spots.items ++ spot ∷ []) }
     ensures starts { taken.new.starts ≡ taken.old.starts }
 {
-    taken.spots.push(spot)?;
+    push_tightly(&mut taken.spots, spot)?;
     Ok(())
 }
 
@@ -74,7 +75,7 @@ fn begin(taken: &mut WindowSpots) -> Result<(), AllocError>
         taken.old.starts.items ++ length taken.old.spots.items ∷ []) }
 {
     let start = taken.spots.len();
-    taken.starts.push(start)?;
+    push_tightly(&mut taken.starts, start)?;
     Ok(())
 }
 

@@ -7,6 +7,7 @@ ghost use Rattle.journal_traces.specs.WindowTraces.{entries_seen, taken_reported
 
 use call_links::NumberedSpan;
 use collected_traces::{TakenSpot, trace_part};
+use find_traces::push_tightly;
 use std::alloc::{AllocError, Global};
 use std::marker::Model;
 use std::sync::Arc;
@@ -81,10 +82,13 @@ impl WindowSpots {
         ensures starts { self.new.starts ≡ self.old.starts }
     {
         let entry = Arc::try_clone(entry)?;
-        self.entries.push(NumberedEntry {
-            entry,
-            service_number,
-        })?;
+        push_tightly(
+            &mut self.entries,
+            NumberedEntry {
+                entry,
+                service_number,
+            },
+        )?;
         Ok(())
     }
 }
