@@ -54,10 +54,9 @@ const TRY_GROWTH: usize = 8;
 /// The greatest number of tries.
 const MAX_TRIES: u32 = 16;
 
-/// The number of tries that may find too little: the latest traces may be of a sender whose clock is wrong.
-const PATIENT_TRIES: u32 = 2;
-
-/// A try has at most one in sixteen of all traces.
+/// A try has at most one in sixteen of all traces. Each try has eight times as many as the one before, so all tries
+/// together judge at most 8/7 of one in sixteen. That is little compared with a search of all traces, even if they
+/// find none, as when the latest traces are of a sender whose clock is ahead.
 const TRIED_ONE_IN: usize = 16;
 
 /// A try pays if the service has more than one entry for each eight of its traces.
@@ -74,11 +73,6 @@ fn first_try(limit: u64) -> usize {
 /// Whether this number of traces is small compared with all.
 fn are_few(count: usize, all: usize) -> bool {
     count <= all / TRIED_ONE_IN
-}
-
-/// Whether a search that found this number of traces is likely to reach its limit in a larger try.
-fn is_promising(limit: u64, found: usize) -> bool {
-    found.saturating_mul(TRY_GROWTH) as u64 >= limit
 }
 
 /// The number of candidates that a search without tags may judge inside the store.
@@ -235,33 +229,27 @@ impl SpanStore {
             .is_some()
     }
 
-    /// Returns the spots of about `count` shown traces that start last, those of the one opened first at the front,
-    /// if the search reaches its limit among these: it finds the same among all then. Also returns the number of
-    /// traces that it finds among these.
-    fn latest(
-        &self,
-        query: &Find,
-        count: usize,
-    ) -> Result<(Option<Vec<Spots<'_>>>, usize), AllocError>
-        ensures { IfOk result (λ r. IfSome r.0 (λ v. FindsTheSame self.now query.now v.items)) }
+    /// Returns the spots of at most `count` shown traces that start last, those of the one opened first at the front,
+    /// if the search reaches its limit among these: it finds the same among all then.
+    fn latest(&self, query: &Find, count: usize) -> Result<Option<Vec<Spots<'_>>>, AllocError>
+        ensures { IfOk result (λ r. IfSome r (λ v. FindsTheSame self.now query.now v.items)) }
     {
         let Some(time) = self.starts.threshold(self.alloc, count)? else {
-            return Ok((None, 0));
+            return Ok(None);
         };
         let prepared = PreparedSearch::new(self.alloc, query)?;
         let spots = spots_after(self.alloc, &self.shown, &self.starts, time)?;
         let mut latest = self.candidate_search(&prepared, &spots);
         let found = finding::count_found(self.alloc, &mut latest)?;
         if is_full(query.limit, found) {
-            return Ok((Some(spots), found));
+            return Ok(Some(spots));
         }
-        Ok((None, found))
+        Ok(None)
     }
 
     /// Returns the spots of the shown traces that a search without tags considers, those of the one opened first at
     /// the front. The search finds the same among these traces as among all. A search with a limit tries those that
-    /// start last first. If it finds fewer than its limit, it tries more a few times, and further on only if it found
-    /// some.
+    /// start last first. If it finds fewer than its limit, it tries more, while that pays.
     fn narrowed(&self, query: &Find) -> Result<Vec<Spots<'_>>, AllocError>
         ensures { IfOk result (λ v. FindsTheSame self.now query.now v.items) }
     {
@@ -269,16 +257,12 @@ impl SpanStore {
             return self.candidates_timed(query);
         }
         let mut count = first_try(query.limit);
-        for tried in 0..MAX_TRIES {
+        for _tried in 0..MAX_TRIES {
             if !self.should_try_latest(query, count) {
                 break;
             }
-            let (latest, found) = self.latest(query, count)?;
-            if let Some(spots) = latest {
+            if let Some(spots) = self.latest(query, count)? {
                 return Ok(spots);
-            }
-            if tried >= PATIENT_TRIES && !is_promising(query.limit, found) {
-                break;
             }
             count = count.saturating_mul(TRY_GROWTH);
         }
