@@ -3,3 +3,4 @@ pub mod StoreIndexes
 pub mod NextEntry
 pub mod CollectedAnswers
 pub mod FoundAnswers
+pub mod StoreSearches

@@ -1,4 +1,4 @@
-ghost use Rattle.std.specs.Prelude.{◌≡◌, ◌+◌, ◌==◌, [], map, length, Ok, IfOk, IfErr, if◌then◌else◌};
+ghost use Rattle.std.specs.Prelude.{◌≡◌, ◌+◌, ◌<◌, ◌^◌, ◌==◌, [], map, length, Ok, IfOk, IfErr, if◌then◌else◌};
 ghost use Rattle.std.specs.Arc.{arc_value};
 ghost use Rattle.trace_model.specs.declared.query.Query.TheVariants as ask;
 ghost use Rattle.trace_model.specs.declared.refusal.Refusal.TheVariants.{NoMemory};
@@ -13,29 +13,21 @@ ghost use Rattle.arrival_journal.specs.Journals.{admission_by, place_by};
 ghost use Rattle.trace_assembly.specs.LocatedSpans.{located_events, shown_spots};
 ghost use Rattle.call_links.specs.NumberedCalls.{links_in, AreServicesNumbered};
 ghost use Rattle.trace_model.specs.TakenSpans.{placed_taken};
-ghost use Rattle.service_index.specs.ServicePlaces.{service_number_of, places_of};
 ghost use Rattle.span_store.specs.CollectedAnswers.{form_answer};
-ghost use Rattle.span_store.specs.FoundAnswers.{FindsTheSame};
-ghost use Rattle.span_store.specs.StoreIndexes.{AreNamesOf, ArePlacesOf};
+ghost use Rattle.span_store.specs.StoreIndexes.{AreNamesOf, ArePlacesOf, IsStoreKept};
 ghost use Rattle.span_store.specs.NextEntry.{next_entry};
 
 mod search_plan;
+mod store_search;
 
 use crate::arrange::apply_entry;
 use crate::collected::{Collected, Form};
-use crate::collected_search::CollectedSearch;
-use crate::finding;
-use crate::found_traces::FoundTraces;
-use crate::store::search_plan::is_judged_outside;
+use crate::store::store_search::StoreSearch;
 use crate::window_links::WindowLinks;
 use arrival_journal::{Journal, Record};
-use find_traces::PreparedSearch;
-use jaeger_model::{Batch, Seq, Text, TraceId};
-use journal_traces::{
-    CandidateSearch, RequestedNumbers, StoreView, WindowTraces, gather, take_candidates,
-    take_within,
-};
-use service_index::{ArrivalNames, Places, ServicePlaces};
+use jaeger_model::{Batch, Text, TraceId};
+use journal_traces::{StoreView, WindowTraces, gather, take_within};
+use service_index::{ArrivalNames, ServicePlaces};
 use std::alloc::{AllocError, Global};
 use std::hash::RandomState;
 use std::marker::Model;
@@ -312,116 +304,30 @@ impl SpanStore {
         Ok(Form::Operations(found, kind))
     }
 
-    /// Returns the number of the search's service; none if no entry is of it.
-    fn service_number(&self, query: &Find) -> Option<u32>
-        ensures { result ≡ service_number_of self.now.entries query.now.service }
-    {
-        self.by_service
-            .service_number_of(self.journal.entries(), query.service.as_str())
-    }
-
-    /// Returns the places of the entries of the search's service, the newest first.
-    fn service_places(&self, query: &Find) -> Places<'_>
-        ensures { result ≡ places_of self.now.entries query.now.service }
-    {
-        self.by_service
-            .places_of(self.journal.entries(), query.service.as_str())
-    }
-
-    /// Returns a search and the traces with these spots, among which it searches.
-    fn candidate_search<'a>(
-        &'a self,
-        prepared: &'a PreparedSearch<'a>,
-        spots: &'a [Spots<'a>],
-    ) -> CandidateSearch<'a>
-        ensures query { result.prepared.now ≡ prepared.now }
-        ensures entries { result.store.journal.now.held.entries ≡ self.now.entries }
-        ensures spots { result.spots.now ≡ spots.now }
+    /// Returns what queries read of the store.
+    fn view(&self) -> StoreView<'_>
+        ensures held { result.journal.now.held ≡ self.now }
+        ensures kept { IsStoreKept result.journal.now.held result.assembly.now result.starts.now
+            result.names.now result.by_service.now }
+        ensures few { length result.journal.now.held.entries < 2 ^ 32 }
     {
         // For the prover: `len`'s clause `legal` is used below.
         let _legal = self.journal.len();
-        let store = StoreView {
+        StoreView {
             journal: &self.journal,
             assembly: &self.shown,
             starts: &self.starts,
             by_service: &self.by_service,
             names: &self.names,
-        };
-        CandidateSearch {
-            store,
-            requested: RequestedNumbers::of(prepared.query(), store),
-            prepared,
-            spots,
         }
     }
 
-    /// Collects the traces with these spots for a search that judges them after the store is left.
-    fn collected_search<'q>(
-        &self,
-        query: &'q Find,
-        ids_alone: bool,
-        spots: &[Spots<'_>],
-    ) -> Result<CollectedSearch<'q>, AllocError>
-        requires { FindsTheSame self.now query.now spots.now }
-        ensures { IfOk result (λ s. s ≡ answer self.now.limits self.now.entries
-            (if ids_alone then ask.FindIds query.now else ask.Find query.now)) }
-    {
-        // For the prover: `len`'s clause `legal` is used below.
-        let _legal = self.journal.len();
-        let service_number = self.service_number(query);
-        let store = StoreView {
-            journal: &self.journal,
-            assembly: &self.shown,
-            starts: &self.starts,
-            by_service: &self.by_service,
-            names: &self.names,
-        };
-        let traces = take_candidates(self.alloc, store, service_number, query, spots)?;
-        Ok(CollectedSearch::new(ids_alone, self.limits(), traces))
-    }
-
-    /// Returns the ids of the traces that a search without tags finds among those with these spots.
-    fn found_ids(&self, query: &Find, spots: &[Spots<'_>]) -> Result<Answer, AllocError>
-        requires { FindsTheSame self.now query.now spots.now }
-        ensures { IfOk result (λ a. a ≡ answer self.now.limits self.now.entries
-            (ask.FindIds query.now)) }
-    {
-        let prepared = PreparedSearch::new(self.alloc, query)?;
-        let mut traces = self.candidate_search(&prepared, spots);
-        let ids = finding::find_ids(self.alloc, &mut traces)?;
-        Ok(Answer::Ids(Seq::from_vec(ids)))
-    }
-
-    /// Collects the traces that a search without tags finds among those with these spots, in the order of the answer.
-    fn found_traces(&self, query: &Find, spots: &[Spots<'_>]) -> Result<FoundTraces, AllocError>
-        requires { FindsTheSame self.now query.now spots.now }
-        ensures { IfOk result (λ t. t ≡ answer self.now.limits self.now.entries
-            (ask.Find query.now)) }
-    {
-        // For the prover: `len`'s clause `legal` is used below.
-        let _legal = self.journal.len();
-        let prepared = PreparedSearch::new(self.alloc, query)?;
-        let found = finding::take_found(self.alloc, self.candidate_search(&prepared, spots))?;
-        // For the prover: the binding lets the clauses of `new` be used for the result.
-        let traces = FoundTraces::new(self.limits(), found);
-        Ok(traces)
-    }
-
-    /// Collects what a search finds: the traces as they are shown, or only their ids. Inside the store numbers alone
-    /// decide it. A search that has to read tags is judged after the store is left.
+    /// Collects what a search finds: the traces as they are shown, or only their ids.
     fn search<'q>(&self, query: &'q Find, ids_alone: bool) -> Result<Form<'q>, AllocError>
         ensures { IfOk result (λ f. form_answer f ≡ answer self.now.limits self.now.entries
             (if ids_alone then ask.FindIds query.now else ask.Find query.now)) }
     {
-        let spots = self.considered(query)?;
-        if is_judged_outside(query, spots.len()) {
-            let search = self.collected_search(query, ids_alone, &spots)?;
-            return Ok(Form::Search(search));
-        }
-        if ids_alone {
-            return Ok(Form::Ready(self.found_ids(query, &spots)?));
-        }
-        Ok(Form::Found(self.found_traces(query, &spots)?))
+        StoreSearch::new(self.alloc, self.view(), query).collect(ids_alone)
     }
 
     /// Collects the shown traces that have a span in a window of time, the one opened first at the front: those
@@ -431,17 +337,8 @@ impl SpanStore {
             links end_ms lookback_ms (traces self.now.limits.traces (events self.now.entries))) }
         ensures numbered { IfOk result (λ taken. AreServicesNumbered taken) }
     {
-        // For the prover: `len`'s clause `legal` is used below.
-        let _legal = self.journal.len();
-        let store = StoreView {
-            journal: &self.journal,
-            assembly: &self.shown,
-            starts: &self.starts,
-            by_service: &self.by_service,
-            names: &self.names,
-        };
         // For the prover: the binding lets the clauses of `take_within` be used for the result.
-        let taken = take_within(self.alloc, store, end_ms, lookback_ms)?;
+        let taken = take_within(self.alloc, self.view(), end_ms, lookback_ms)?;
         Ok(taken)
     }
 

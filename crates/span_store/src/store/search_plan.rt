@@ -12,20 +12,15 @@
 //!
 //! What it considers it judges there, or after the store is left (`is_judged_outside`).
 
-ghost use Rattle.std.specs.Prelude.{◌≡◌, ◌<◌, [], Some, IfOk, IfSome};
-ghost use Rattle.std.specs.Bool.{OnFalse, OnTrue};
-ghost use Rattle.trace_model.specs.Histories.{events};
-ghost use Rattle.trace_model.specs.Searching.{traces, found_in};
+ghost use Rattle.std.specs.Prelude.{◌≡◌, ◌<◌, Some, IfOk, IfSome};
+ghost use Rattle.std.specs.Bool.{OnTrue};
 ghost use Rattle.service_index.specs.ServicePlaces.{service_number_of};
 ghost use Rattle.span_store.specs.FoundAnswers.{FindsTheSame};
 
-use super::SpanStore;
+use super::store_search::StoreSearch;
 use crate::finding;
 use find_traces::PreparedSearch;
-use journal_traces::{
-    RequestedNumbers, StoreView, search_window, spots_after, spots_along, spots_reported,
-    spots_within,
-};
+use journal_traces::{search_window, spots_after, spots_along, spots_reported, spots_within};
 use std::alloc::AllocError;
 use trace_assembly::Spots;
 use trace_model::Find;
@@ -100,51 +95,34 @@ fn is_full(limit: u64, count: usize) -> bool
     limit != 0 && count as u64 == limit
 }
 
-impl SpanStore {
-    /// Whether an arrival is of the search's service, and of its operation if it has one. If none is, the search
-    /// finds nothing.
-    fn may_find(&self, query: &Find) -> bool
-        ensures { OnFalse result
-            (found_in query.now (traces self.now.limits.traces (events self.now.entries)) ≡ []) }
-    {
-        let entries = self.journal.entries();
-        let service = query.service.as_str();
-        let operation = query.operation.as_str();
-        if operation == "" {
-            return self.names.knows_service(entries, &self.by_service, service);
-        }
-        self.names
-            .knows_operation(entries, &self.by_service, service, operation)
-    }
-
+impl<'s, 'q> StoreSearch<'s, 'q> {
     /// Returns the number of the service of a search that has no other condition, if many entries are of it: most
     /// traces have a span of it then.
-    fn common_service(&self, query: &Find) -> Option<u32>
+    fn common_service(&self) -> Option<u32>
         ensures { IfSome result (λ n. Some n ≡
-            service_number_of self.now.entries query.now.service) }
+            service_number_of self.now.held.entries self.now.query.service) }
     {
-        if !is_by_service_alone(query) {
+        if !is_by_service_alone(self.query) {
             return None;
         }
-        let mut places = self.service_places(query);
+        let mut places = self.places();
         // A service is common if it has at least one place more than this number.
-        places.nth((self.journal.len() / COMMON_ONE_IN) as usize)?;
-        self.service_number(query)
+        places.nth((self.store.journal.len() / COMMON_ONE_IN) as usize)?;
+        self.requested.service
     }
 
     /// Returns the spots of the shown traces of which entries of the service with this number brought a span.
-    fn candidates_reported(&self, query: &Find, service: u32) -> Result<Vec<Spots<'_>>, AllocError>
-        requires { Some service ≡ service_number_of self.now.entries query.now.service }
-        ensures { IfOk result (λ v. FindsTheSame self.now query.now v.items) }
+    fn candidates_reported(&self, service: u32) -> Result<Vec<Spots<'s>>, AllocError>
+        requires { Some service ≡ service_number_of self.now.held.entries self.now.query.service }
+        ensures { IfOk result (λ v. FindsTheSame self.now.held self.now.query v.items) }
     {
-        // For the prover: `len`'s clause `legal` is used below.
-        let _legal = self.journal.len();
+        let store = self.store;
         // For the prover: the binding lets the clauses of `spots_reported` be used for the result.
         let spots = spots_reported(
             self.alloc,
-            &self.shown,
-            &self.journal,
-            &self.by_service,
+            store.assembly,
+            store.journal,
+            store.by_service,
             service,
         )?;
         Ok(spots)
@@ -152,96 +130,86 @@ impl SpanStore {
 
     /// Returns the spots of the shown traces of which an entry of the search's service has a span that meets the
     /// search except for its tags, unless the outline of the entry says that it has no span with these tags.
-    fn candidates_met(&self, query: &Find) -> Result<Vec<Spots<'_>>, AllocError>
-        ensures { IfOk result (λ v. FindsTheSame self.now query.now v.items) }
+    fn candidates_met(&self) -> Result<Vec<Spots<'s>>, AllocError>
+        ensures { IfOk result (λ v. FindsTheSame self.now.held self.now.query v.items) }
     {
-        // For the prover: `len`'s clause `legal` is used below.
-        let _legal = self.journal.len();
-        let places = self.service_places(query);
-        let store = StoreView {
-            journal: &self.journal,
-            assembly: &self.shown,
-            starts: &self.starts,
-            by_service: &self.by_service,
-            names: &self.names,
-        };
-        let requested = RequestedNumbers::of(query, store);
+        let places = self.places();
         // For the prover: the binding lets the clauses of `spots_along` be used for the result.
-        let spots = spots_along(self.alloc, store, requested, places, query)?;
+        let spots = spots_along(self.alloc, self.store, self.requested, places, self.query)?;
         Ok(spots)
     }
 
     /// Returns the spots of the shown traces that a search considers, those of the one opened first at the front.
     /// The search finds the same among these traces as among all. No tag is read.
-    fn candidates(&self, query: &Find) -> Result<Vec<Spots<'_>>, AllocError>
-        ensures { IfOk result (λ v. FindsTheSame self.now query.now v.items) }
+    fn candidates(&self) -> Result<Vec<Spots<'s>>, AllocError>
+        ensures { IfOk result (λ v. FindsTheSame self.now.held self.now.query v.items) }
     {
-        if !self.may_find(query) {
+        if !self.may_find {
             return Ok(Vec::new(self.alloc));
         }
-        match self.common_service(query) {
-            Some(service) => self.candidates_reported(query, service),
-            None => self.candidates_met(query),
+        match self.common_service() {
+            Some(service) => self.candidates_reported(service),
+            None => self.candidates_met(),
         }
     }
 
     /// Whether a search has a window of starts in which few traces may have a span, compared with the entries of
     /// its service, so that it pays to read these traces.
-    fn should_try_window(&self, query: &Find) -> bool {
-        if !has_window(query) || !self.may_find(query) {
+    fn should_try_window(&self) -> bool {
+        if !has_window(self.query) || !self.may_find {
             return false;
         }
-        let count = self.starts.estimate_within(search_window(query));
-        self.service_places(query)
+        let count = self.store.starts.estimate_within(search_window(self.query));
+        self.places()
             .nth(count.saturating_mul(ENTRIES_PER_TRACE))
             .is_some()
     }
 
     /// Returns the spots of the shown traces that may have a span in the window of a search.
-    fn candidates_within(&self, query: &Find) -> Result<Vec<Spots<'_>>, AllocError>
-        ensures { IfOk result (λ v. FindsTheSame self.now query.now v.items) }
+    fn candidates_within(&self) -> Result<Vec<Spots<'s>>, AllocError>
+        ensures { IfOk result (λ v. FindsTheSame self.now.held self.now.query v.items) }
     {
-        let window = search_window(query);
+        let window = search_window(self.query);
+        let store = self.store;
         // For the prover: the binding lets the clauses of `spots_within` be used for the result.
-        let spots = spots_within(self.alloc, &self.shown, &self.starts, window)?;
+        let spots = spots_within(self.alloc, store.assembly, store.starts, window)?;
         Ok(spots)
     }
 
     /// Returns the spots of the shown traces that a search without tags considers, if it doesn't pay to try those
     /// that start last: those of its window if they are few.
-    fn candidates_timed(&self, query: &Find) -> Result<Vec<Spots<'_>>, AllocError>
-        ensures { IfOk result (λ v. FindsTheSame self.now query.now v.items) }
+    fn candidates_timed(&self) -> Result<Vec<Spots<'s>>, AllocError>
+        ensures { IfOk result (λ v. FindsTheSame self.now.held self.now.query v.items) }
     {
-        if self.should_try_window(query) {
-            return self.candidates_within(query);
+        if self.should_try_window() {
+            return self.candidates_within();
         }
-        self.candidates(query)
+        self.candidates()
     }
 
     /// Whether it pays to try the `count` traces that start last: they are few, and the search's service has many
     /// entries.
-    fn should_try_latest(&self, query: &Find, count: usize) -> bool {
-        if !are_few(count, self.starts.len()) || !self.may_find(query) {
+    fn should_try_latest(&self, count: usize) -> bool {
+        if !are_few(count, self.store.starts.len()) || !self.may_find {
             return false;
         }
-        self.service_places(query)
-            .nth(count / TRACES_PER_ENTRY)
-            .is_some()
+        self.places().nth(count / TRACES_PER_ENTRY).is_some()
     }
 
     /// Returns the spots of at most `count` shown traces that start last, those of the one opened first at the front,
     /// if the search reaches its limit among these: it finds the same among all then.
-    fn latest(&self, query: &Find, count: usize) -> Result<Option<Vec<Spots<'_>>>, AllocError>
-        ensures { IfOk result (λ r. IfSome r (λ v. FindsTheSame self.now query.now v.items)) }
+    fn latest(&self, count: usize) -> Result<Option<Vec<Spots<'s>>>, AllocError>
+        ensures { IfOk result (λ r. IfSome r (λ v. FindsTheSame self.now.held self.now.query v.items)) }
     {
-        let Some(time) = self.starts.threshold(self.alloc, count)? else {
+        let store = self.store;
+        let Some(time) = store.starts.threshold(self.alloc, count)? else {
             return Ok(None);
         };
-        let prepared = PreparedSearch::new(self.alloc, query)?;
-        let spots = spots_after(self.alloc, &self.shown, &self.starts, time)?;
-        let mut latest = self.candidate_search(&prepared, &spots);
+        let prepared = PreparedSearch::new(self.alloc, self.query)?;
+        let spots = spots_after(self.alloc, store.assembly, store.starts, time)?;
+        let mut latest = self.among(&prepared, &spots);
         let found = finding::count_found(self.alloc, &mut latest)?;
-        if is_full(query.limit, found) {
+        if is_full(self.query.limit, found) {
             return Ok(Some(spots));
         }
         Ok(None)
@@ -250,34 +218,34 @@ impl SpanStore {
     /// Returns the spots of the shown traces that a search without tags considers, those of the one opened first at
     /// the front. The search finds the same among these traces as among all. A search with a limit tries those that
     /// start last first. If it finds fewer than its limit, it tries more, while that pays.
-    fn narrowed(&self, query: &Find) -> Result<Vec<Spots<'_>>, AllocError>
-        ensures { IfOk result (λ v. FindsTheSame self.now query.now v.items) }
+    fn narrowed(&self) -> Result<Vec<Spots<'s>>, AllocError>
+        ensures { IfOk result (λ v. FindsTheSame self.now.held self.now.query v.items) }
     {
-        if query.limit == 0 {
-            return self.candidates_timed(query);
+        if self.query.limit == 0 {
+            return self.candidates_timed();
         }
-        let mut count = first_try(query.limit);
+        let mut count = first_try(self.query.limit);
         for _tried in 0..MAX_TRIES {
-            if !self.should_try_latest(query, count) {
+            if !self.should_try_latest(count) {
                 break;
             }
-            if let Some(spots) = self.latest(query, count)? {
+            if let Some(spots) = self.latest(count)? {
                 return Ok(spots);
             }
             count = count.saturating_mul(TRY_GROWTH);
         }
-        self.candidates_timed(query)
+        self.candidates_timed()
     }
 
     /// Returns the spots of the shown traces that a search considers, those of the one opened first at the front. The
     /// search finds the same among these traces as among all.
-    pub(super) fn considered(&self, query: &Find) -> Result<Vec<Spots<'_>>, AllocError>
-        ensures { IfOk result (λ v. FindsTheSame self.now query.now v.items) }
+    pub(super) fn considered(&self) -> Result<Vec<Spots<'s>>, AllocError>
+        ensures { IfOk result (λ v. FindsTheSame self.now.held self.now.query v.items) }
     {
-        if query.tags.as_slice().is_empty() {
-            self.narrowed(query)
+        if self.query.tags.as_slice().is_empty() {
+            self.narrowed()
         } else {
-            self.candidates(query)
+            self.candidates()
         }
     }
 }

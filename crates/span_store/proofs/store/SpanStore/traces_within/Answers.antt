@@ -1,4 +1,4 @@
-use Rattle.std.proofs.Common.{◌≡◌, ◌∙◌, ap, arith, subst, map, filter, w64}
+use Rattle.std.proofs.Common.{◌≡◌, ◌∙◌, ap, subst, map, filter, w64}
 use Rattle.std.proofs.lemmas.Int.{to_z-of_z}
 use Rattle.std.specs.List.{list_any}
 use Rattle.trace_model.specs.LimitedHistories.{LimitedHistory}
@@ -18,40 +18,47 @@ use Rattle.span_store.proofs.store.SpanStore.traces_within.Goals as goal
 
 pub returns-clause-links : goal.returns-clause-links
 returns-clause-links c =
-    let was = c.self.inside in
-    let h = was.journal.held in
+    let store = c.view.result in
+    let h = store.journal.now.held in
+    let kept = c.view.ensures.kept in
+    let shown = store.assembly.now in
+    let starts = store.starts.now in
+    let names = store.names.now in
+    let by_service = store.by_service.now in
     let e = to_z-of_z w64 c.args.end_ms c.ranges.end_ms in
     let l = to_z-of_z w64 c.args.lookback_ms c.ranges.lookback_ms in
     let end_ms = c.args.end_ms in
     let lookback_ms = c.args.lookback_ms in
-    let spots = spots_of was.shown in
+    let spots = spots_of shown in
     let taken = c.in_ok-taken.taken in
-    let stands = trace_stands h.limits.traces h.entries spots (kept_spots h was.shown was.starts was.names was.by_service c.self.invariant) in
-    let seen : map placed_taken taken ≡ filter (list_any (in_window end_ms lookback_ms)) (map (trace_named h.entries spots) was.shown.newest.ids) =
+    let stands = trace_stands h.limits.traces h.entries spots (kept_spots h shown starts names by_service kept) in
+    let seen : map placed_taken taken ≡ filter (list_any (in_window end_ms lookback_ms)) (map (trace_named h.entries spots) shown.newest.ids) =
     rw (e, l) at c.in_ok-taken.ensures.within in
     let all : links_in (map placed_taken taken) ≡ links end_ms lookback_ms (traces h.limits.traces (events h.entries)) =
-    ap links_in seen ∙ links_chosen end_ms lookback_ms (map (trace_named h.entries spots) was.shown.newest.ids)
+    ap links_in seen ∙ links_chosen end_ms lookback_ms (map (trace_named h.entries spots) shown.newest.ids)
     ∙ ap (links end_ms lookback_ms)
-    ((λ i. map (λ t. stands t i) was.shown.newest.ids) ∙ kept_traces h was.shown was.starts was.names was.by_service c.self.invariant) in
-    subst (λ (v : LimitedHistory). links_in (map placed_taken taken) ≡ links end_ms lookback_ms (traces v.limits.traces (events v.entries))) c.self.view_is all
+    ((λ i. map (λ t. stands t i) shown.newest.ids) ∙ kept_traces h shown starts names by_service kept) in
+    subst (λ (v : LimitedHistory). links_in (map placed_taken taken) ≡ links end_ms lookback_ms (traces v.limits.traces (events v.entries)))
+    c.view.ensures.held all
 
 pub returns-clause-numbered : goal.returns-clause-numbered
 returns-clause-numbered c =
-    let h = c.self.inside.journal.held.entries in
+    let h = c.view.result.journal.now.held.entries in
     (service_at h, (service_number_in h, c.in_ok-taken.ensures.numbered))
 
 pub take_within-requires-clause-few : goal.take_within-requires-clause-few
-take_within-requires-clause-few c = omega (arith, c.self.invariant.placed.batches, c.self.invariant.placed.kept.fits, c.len-legal.ensures.legal.batches)
+take_within-requires-clause-few c = c.view.ensures.few
 
 pub take_within-requires-clause-numbers : goal.take_within-requires-clause-numbers
-take_within-requires-clause-numbers c = c.self.invariant.placed.kept.services_numbered
+take_within-requires-clause-numbers c = c.view.ensures.kept.placed.kept.services_numbered
 
 pub take_within-requires-clause-as_many : goal.take_within-requires-clause-as_many
-take_within-requires-clause-as_many c = c.self.invariant.counted.as_many
+take_within-requires-clause-as_many c = c.view.ensures.kept.counted.as_many
 
 pub take_within-requires-clause-ranged : goal.take_within-requires-clause-ranged
 take_within-requires-clause-ranged c =
-    let was = c.self.inside in
-    let h = was.journal.held in
-    named_ranged h.limits.traces h.entries (spots_of was.shown) was.shown.newest.ids was.starts
-    (kept_spots h was.shown was.starts was.names was.by_service c.self.invariant) c.self.invariant.ranged
+    let store = c.view.result in
+    let h = store.journal.now.held in
+    let kept = c.view.ensures.kept in
+    named_ranged h.limits.traces h.entries (spots_of store.assembly.now) store.assembly.now.newest.ids store.starts.now
+    (kept_spots h store.assembly.now store.starts.now store.names.now store.by_service.now kept) kept.ranged
