@@ -57,13 +57,12 @@ fn search_limit(pairs: &[Pair]) -> Result<u64, QueryFault>
     Ok(limit.unwrap_or(DEFAULT_LIMIT).unsigned_abs())
 }
 
-/// Returns a required parameter.
+/// Returns the value of a required parameter.
 #[tactic(auto, unfolding(crate::specs::Queries::required_parameter))]
-fn required_text(alloc: Global, pairs: &[Pair], parameter: Parameter) -> Result<Text, QueryFault>
-    ensures { IsAsRead (λ t. t) result (required_parameter parameter pairs.now) }
+fn required_value(pairs: &[Pair], parameter: Parameter) -> Result<&str, QueryFault>
+    ensures { IsAsRead (λ t. t.now) result (required_parameter parameter pairs.now) }
 {
-    let text = find_parameter(pairs, parameter.name()).ok_or(QueryFault::Bad(parameter))?;
-    Ok(copy_text(alloc, text)?)
+    find_parameter(pairs, parameter.name()).ok_or(QueryFault::Bad(parameter))
 }
 
 /// Returns a parameter of any text; empty if it is absent.
@@ -78,13 +77,15 @@ fn optional_text(alloc: Global, pairs: &[Pair], name: &str) -> Result<Text, Allo
 fn read_find(alloc: Global, pairs: &[Pair]) -> Result<Find, QueryFault>
     ensures { IsAsRead (λ f. f) result (find_at pairs.now) }
 {
-    let service = required_text(alloc, pairs, Parameter::Service)?;
+    let service = required_value(pairs, Parameter::Service)?;
     let start_min = optional_number(pairs, Parameter::Start)?;
     let start_max = optional_number(pairs, Parameter::End)?;
     let limit = search_limit(pairs)?;
     let duration_min = optional_duration(pairs, Parameter::MinDuration)?;
     let duration_max = optional_duration(pairs, Parameter::MaxDuration)?;
     let tags = requested_tags(alloc, pairs)?;
+    // The texts are copied last: an invalid query copies none.
+    let service = copy_text(alloc, service)?;
     let operation = optional_text(alloc, pairs, "operation")?;
     Ok(Find {
         service,
@@ -138,7 +139,8 @@ fn read_trace_query(pairs: &[Pair], part: &str) -> Result<Query, QueryFault>
 fn read_operations(alloc: Global, pairs: &[Pair]) -> Result<Query, QueryFault>
     ensures { IsAsRead (λ q. q) result (operations_at pairs.now) }
 {
-    let service = required_text(alloc, pairs, Parameter::Service)?;
+    let service = required_value(pairs, Parameter::Service)?;
+    let service = copy_text(alloc, service)?;
     let kind = optional_text(alloc, pairs, "spanKind")?;
     Ok(Query::Operations { service, kind })
 }
