@@ -50,7 +50,7 @@ LATEST_BAR, LATEST_SIZES = 3, (100_000, 10_000_000)
 ASKING, SENT_BAR = 8, 10
 SLOW = 100
 # The bytes of memory that an answer may take for each of its spans, the numbers of answers at once, and the spans of an answer.
-SPAN_BAR, ANSWERS, ANSWERED_SPANS = 100, (4, ASKING), (100_000, 140_000, 200_000)
+SPAN_BAR, ANSWERS, ANSWERED_SPANS = 100, (4, ASKING), (100_000,)
 # A short query is asked more often than told, so that some POSTs fall beside it.
 ASKED_FOR = 0.5
 COLUMNS = ["shape", "size", "unit", "POST alone, ms, longest", "middle", "beside, ms, longest", "middle", "query, ms, longest", "query, ms, middle"]
