@@ -25,7 +25,7 @@ from crates import asked_of, lists
 from sources import CRATES, TOP, modules
 
 PAGES = ["README.md", "CONTRIBUTING.md", "CHANGELOG.md", "bench/README.md", "bench/figures.md", "checks/README.md", "cases/README.md", "deploy/README.md",
-         "wrong-bodies/README.md"]
+         "samples/README.md", "wrong-bodies/README.md"]
 # What the pages name and the repository doesn't have: of Rust and the toolchain, of Jaeger, of nginx, systemd and clap, of containers.
 WORDS = set("""
 Arc::ptr_eq ArrayString TcpStream::peek json::Writer mem::forget std::thread::scope
