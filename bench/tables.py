@@ -491,7 +491,7 @@ def speed(found):
         *([f"spans taken in a second from {writers} writer{'s' * (writers > 1)}", *of_both(ALONE, writers)] for writers in (1, 4)),
         ["a POST of one of four writers, beside two readers at full speed, p99, ms", *of_both(POST, 4)],
         ["20 traces with their JSON among 100,000 spans, ms", f"{store_ms:.2f}", f"{scan_ms:.0f}", two(scan_ms / store_ms)],
-        ["the longest POST beside any kind of query of 1,000,000 spans, ms", f"{beside:.0f}", "not compared", ""],
+        ["the longest POST beside the queries of `held.py` over 1,000,000 spans, ms", f"{beside:.0f}", "not compared", ""],
         [f"the longest POST while a store fills to 10,000,000 spans, the least of {rounds} rounds, ms", cell(mine_full), cell(plain_full), two(plain_full / mine_full)],
         ["memory at 100,000 spans, bytes a span, by its tags", per_span, "not compared", ""],
     ]
