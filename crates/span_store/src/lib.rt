@@ -11,7 +11,7 @@
 //!   requested, collected from the store.
 //! * `finding`: searches over traces in the journal.
 //! * `store`: the [`SpanStore`].
-//! * `store/store_search`: a search of a store. What it requests is looked up once.
+//! * `store/store_search`: a search of a store, with the numbers of what it requests.
 //! * `store/search_plan`: which traces a search considers.
 //! * `replaying`: a store made of a list of entries.
 #![tactic(auto)]

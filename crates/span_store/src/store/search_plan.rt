@@ -73,8 +73,9 @@ fn are_few(count: usize, all: usize) -> bool {
 /// The number of candidates that a search without tags may judge inside the store.
 const MAX_JUDGED_INSIDE: usize = 4_096;
 
-/// A search without tags judges its candidates inside the store if it finds at most one in sixteen of them.
-const FOUND_ONE_IN: usize = 16;
+/// A search without tags judges its candidates inside the store if its limit is less than one in 128 of them. What it
+/// finds is collected there, which costs more than judging a candidate.
+const FOUND_ONE_IN: usize = 128;
 
 /// Whether a search judges its candidates after the store is left, so that it doesn't hold up the writer meanwhile. One
 /// by tags does, since tags are read. One without tags is judged by numbers alone. It is judged outside if it has many

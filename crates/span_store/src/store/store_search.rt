@@ -1,4 +1,4 @@
-//! A search of a store: what it reads of the store, what it looks up there once, and what it collects.
+//! A search of a store: what it reads of the store, what it looks up before it tries any trace, and what it collects.
 
 ghost use Rattle.std.specs.Prelude.{◌≡◌, ◌<◌, ◌^◌, IfOk, if◌then◌else◌, length};
 ghost use Rattle.trace_model.specs.declared.query.Query.TheVariants as ask;
@@ -23,8 +23,9 @@ use std::marker::Model;
 use trace_assembly::Spots;
 use trace_model::{Answer, Find};
 
-/// A search, and the parts of a store that it reads. The service and the operation that it requests are looked up once,
-/// when it is made. Contracts see the limits and the entries of the store, and the search.
+/// A search, and the parts of a store that it reads. The service and the operation that it requests are looked up when
+/// it is made; from then on it uses their numbers. Contracts see the limits and the entries of the store, and the
+/// search.
 #[derive(Drop)]
 pub(super) struct StoreSearch<'s, 'q> {
     pub(super) alloc: Global,
