@@ -86,13 +86,14 @@ def sum_of(*texts):
 
 
 def uncommented(file):
-    """Returns the lines of a file that are neither blank nor comments."""
+    """Returns the words of the lines of a file that aren't comments, so that a new layout changes nothing."""
     mark = b"//" if file.suffix == ".rt" else b"--"
-    return b"\n".join(line for line in file.read_bytes().splitlines() if line.strip() and not line.lstrip().startswith(mark))
+    lines = (line for line in file.read_bytes().splitlines() if not line.lstrip().startswith(mark))
+    return b" ".join(word for line in lines for word in line.split())
 
 
 def crate_sum(crate):
-    """Returns the sum of what a check reads of the crate, without lines that are comments."""
+    """Returns the sum of what a check reads of the crate, without comments and layout."""
     files = sorted(file for part in ("src", "specs", "proofs") for file in (crate / part).rglob("*") if file.is_file())
     return sum_of(*(part for file in files for part in (str(file.relative_to(crate)).encode(), uncommented(file))))
 

@@ -133,7 +133,7 @@ impl Journal {
         self.entries.len() as u64
     }
 
-    /// Whether there is no entry.
+    /// Returns whether there is no entry.
     pub fn is_empty(&self) -> bool
         ensures { result ≡ (length self.now.held.entries == 0) }
     {

@@ -30,14 +30,14 @@ fn text_hash(text: &str) -> u32
     (length % 128) as u32 + 3 * first + 5 * middle + 7 * last
 }
 
-/// Whether the text of a value that isn't a string (a number, a flag, bytes) may begin with this byte.
+/// Returns whether the text of a value that isn't a string (a number, a flag, bytes) may begin with this byte.
 fn may_begin_non_string(byte: u8) -> bool
     ensures { result ≡ may_begin_non_string byte }
 {
     (b'0' <= byte && byte <= b'9') || (b'a' <= byte && byte <= b'f') || byte == b't' || byte == b'-'
 }
 
-/// Whether the text may be that of a value that isn't a string.
+/// Returns whether the text may be that of a value that isn't a string.
 fn may_be_non_string(text: &str) -> bool
     ensures { result ≡ may_be_non_string text.now }
 {

@@ -78,7 +78,7 @@ pub(crate) trait PieceSlots: Drop + Sized {
             (moment (resumes self.new held.new) piece.new) result }
         ensures no_longer { OnOk result (length piece.new ≤ length piece.old) };
 
-    /// Whether the value is between two fields of the innermost struct that has begun in it.
+    /// Returns whether the value is between two fields of the innermost struct that has begun in it.
     fn is_between_fields(held: &Self::PartialField) -> bool
         ensures wants { result ≡ true → (s : Self) (w : List ℕ) → IsPart w →
             resumes s held.now w ≡ Err (Wire Truncated) };
@@ -141,7 +141,7 @@ pub(crate) enum FieldsEnd {
     Head,
 }
 
-/// Whether the fault is too few bytes.
+/// Returns whether the fault is too few bytes.
 #[inline(always)]
 pub(crate) fn is_truncated(error: DecodeError) -> bool
     ensures { IsTruncated error result }

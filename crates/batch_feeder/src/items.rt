@@ -108,7 +108,7 @@ impl<P: Item> PartialList<P> {
         }
     }
 
-    /// Whether it is between two fields of the innermost struct that has begun in it.
+    /// Returns whether it is between two fields of the innermost struct that has begun in it.
     pub(crate) fn is_between_fields(&self) -> bool
         ensures wants { result ≡ true → (w : List ℕ) → IsPart w →
             list_from P.reads P.Partial.resumes

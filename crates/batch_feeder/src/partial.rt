@@ -44,7 +44,7 @@ pub(crate) trait Item: Partial {
     /// Returns the least number of bytes of a value.
     fn min_bytes() -> usize;
 
-    /// Whether the value is between two fields of the innermost struct that has begun in it.
+    /// Returns whether the value is between two fields of the innermost struct that has begun in it.
     fn is_between_fields(&self) -> bool
         ensures wants { result ≡ true → (w : List ℕ) → IsPart w →
             Self.resumes self.now w ≡ Err (Wire Truncated) };

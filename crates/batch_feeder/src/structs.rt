@@ -129,7 +129,7 @@ fn made<S: PieceSlots>(slots: S) -> Decoded<Option<S::Output>>
 }
 
 impl<S: PieceSlots> Struct<S> {
-    /// Whether it is between two fields of the innermost struct that has begun.
+    /// Returns whether it is between two fields of the innermost struct that has begun.
     pub(crate) fn is_between(&self) -> bool
         ensures wants { result ≡ true → (w : List ℕ) → IsPart w →
             struct_from (struct_reading S.takes S.resumes S.makes) self.now.slots self.now.step w ≡

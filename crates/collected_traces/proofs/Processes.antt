@@ -44,7 +44,8 @@ LeadToEach f spans numbers = map (λ (p : Placed). Some p.process) spans ≡ map
 
 module _ (f : ℕ → Option Process) where
   -- one more span, whose number leads to its process
-  pub leads_more : (ts : List Taken) (t : Taken) (p : Placed) → t.span ≡ Some p → Some p.process ≡ f t.number → LeadToEach f (placed_taken ts) (numbers_taken ts)
+  pub leads_more : (ts : List Taken) (t : Taken) (p : Placed) → t.span ≡ Some p → Some p.process ≡ f t.number
+      → LeadToEach f (placed_taken ts) (numbers_taken ts)
       → LeadToEach f (placed_taken (ts ++ t ∷ [])) (numbers_taken (ts ++ t ∷ []))
   leads_more ts t p is here before =
       ap (map (λ (q : Placed). Some q.process)) (one_more ts t p is) ∙ map_push (λ (q : Placed). Some q.process) (placed_taken ts) p

@@ -62,7 +62,8 @@ pub record IsKeptUpto (old : ProcessClasses) (xs : List Taken) (i : ℕ) (kept :
   pub processes : (process_of : ℕ → Option Process) → HaveProcesses process_of xs → Leads process_of old
       → LeadToEach process_of (placed_taken kept) (numbers_taken kept)
 
-pub kept_more : (old : ProcessClasses) (xs : List Taken) (i : ℕ) (x : Taken) → i < length xs → x ≡ get_or xs i x → (kept more : List Taken) (t : Taken) (p : Placed)
+pub kept_more : (old : ProcessClasses) (xs : List Taken) (i : ℕ) (x : Taken) → i < length xs → x ≡ get_or xs i x
+    → (kept more : List Taken) (t : Taken) (p : Placed)
     → IsKeptUpto old xs i kept → more ≡ kept ++ t ∷ [] → Some p ≡ x.span → t.span ≡ x.span
     → ((process_of : ℕ → Option Process) → HaveProcesses process_of xs → Leads process_of old → process_of t.number ≡ process_of x.number)
     → IsKeptUpto old xs (i + 1) more

@@ -68,7 +68,7 @@ impl<'q> Model for CollectedCandidates<'q> {
         AreCandidates c.query.now c.entries.items c.spots.items c.starts.items };
 }
 
-/// Whether a span of a judged process meets every condition of the search.
+/// Returns whether a span of a judged process meets every condition of the search.
 fn is_span_met(
     alloc: Global,
     prepared: &PreparedSearch<'_>,
@@ -84,8 +84,8 @@ fn is_span_met(
     has_tags(alloc, judged, at.span)
 }
 
-/// Whether one of the spans of a batch, whose process was judged, meets the search. No span is judged after one that
-/// meets it.
+/// Returns whether one of the spans of a batch, whose process was judged, meets the search. No span is judged after one
+/// that meets it.
 fn is_batch_met(
     alloc: Global,
     prepared: &PreparedSearch<'_>,
@@ -106,7 +106,7 @@ fn is_batch_met(
     Ok(false)
 }
 
-/// Whether one of the spans of an entry meets the search. Its process is judged once, and kept if one does.
+/// Returns whether one of the spans of an entry meets the search. Its process is judged once, and kept if one does.
 fn is_entry_met<'a>(
     alloc: Global,
     prepared: &'a PreparedSearch<'a>,
@@ -136,8 +136,8 @@ fn is_entry_met<'a>(
     Ok(is_met)
 }
 
-/// Whether one of the spans of an entry may meet the search. The entry is judged if that is requested; else its own
-/// flag is returned.
+/// Returns whether one of the spans of an entry may meet the search. The entry is judged if that is requested; else its
+/// own flag is returned.
 fn may_entry_meet<'a>(
     alloc: Global,
     prepared: &'a PreparedSearch<'a>,
@@ -184,14 +184,14 @@ fn judge_ahead<'a>(
     Ok(judged)
 }
 
-/// Whether an entry may have a span that meets the search.
+/// Returns whether an entry may have a span that meets the search.
 fn may_any_meet(flags: &[bool]) -> bool
     ensures { result ≡ list_any (λ b. b) flags.now }
 {
     flags.iter().any(|may_meet| *may_meet)
 }
 
-/// Whether the entry of a spot may have a span that meets the search.
+/// Returns whether the entry of a spot may have a span that meets the search.
 fn may_spot_meet(flags: &[bool], spot: TakenSpot) -> bool
     ensures { result ≡ may_spot_meet flags.now spot }
 {
@@ -201,7 +201,7 @@ fn may_spot_meet(flags: &[bool], spot: TakenSpot) -> bool
     }
 }
 
-/// Whether the entry of one of the spots may have a span that meets the search.
+/// Returns whether the entry of one of the spots may have a span that meets the search.
 fn may_spots_meet(flags: &[bool], spots: &[TakenSpot]) -> bool
     ensures { result ≡ may_spots_meet flags.now spots.now }
 {

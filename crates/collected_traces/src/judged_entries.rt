@@ -39,7 +39,7 @@ impl<'a> JudgedEntries<'a> {
         })
     }
 
-    /// Whether a span of the entry with a number may meet the search.
+    /// Returns whether a span of the entry with a number may meet the search.
     pub(crate) fn may_meet(&self, number: usize) -> bool
         ensures { result ≡ may_number_meet self.now.flags.items number }
     {

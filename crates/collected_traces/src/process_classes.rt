@@ -104,7 +104,7 @@ impl<'a> ProcessClasses<'a> {
         }
     }
 
-    /// Whether the process of a key is compared with the others.
+    /// Returns whether the process of a key is compared with the others.
     fn is_compared(&self, key: u32) -> bool {
         match &self.compared {
             Some(recurring) => recurring.has(key),

@@ -23,7 +23,7 @@ pub(crate) fn judge<'a>(
     Ok(Some(JudgedProcess::new(alloc, prepared, process)?))
 }
 
-/// Whether a span of a judged process is of the service of the search and has its tags.
+/// Returns whether a span of a judged process is of the service of the search and has its tags.
 pub(crate) fn has_tags(
     alloc: Global,
     judged: &Option<JudgedProcess<'_>>,

@@ -18,7 +18,7 @@ pub(crate) struct Recurring {
     seen: BTreeMap<u32, SeenIn>,
 }
 
-/// Whether all of the spans have the same process key: mostly those of one entry do.
+/// Returns whether all of the spans have the same process key: mostly those of one entry do.
 pub(crate) fn have_one_key(spans: &[TakenSpan]) -> bool {
     match spans.first() {
         Some(first) => spans
@@ -62,7 +62,7 @@ impl Recurring {
         Ok(())
     }
 
-    /// Whether the key is in several of the traces.
+    /// Returns whether the key is in several of the traces.
     pub(crate) fn has(&self, key: u32) -> bool {
         matches!(self.seen.get(&key), Some(SeenIn::Several))
     }

@@ -56,8 +56,8 @@ impl<'t, 'a> Model for TakenSearch<'t, 'a> {
         IsSearchingBy s.prepared.now s.candidates.now.entries s.judged s.classes };
 }
 
-/// Whether a span is of the service of the search and has its tags. A process that was judged under the number is its
-/// own; if none was, its own is judged now.
+/// Returns whether a span is of the service of the search and has its tags. A process that was judged under the number
+/// is its own; if none was, its own is judged now.
 fn has_judged_tags<'a>(
     alloc: Global,
     prepared: &'a PreparedSearch<'a>,
@@ -105,9 +105,9 @@ fn number_judged<'t>(
     Ok(classes.class_of(process, number)? as usize)
 }
 
-/// Whether the span at a spot meets every condition of the search. Its process is judged unless it was before, and only
-/// if the span has the requested operation, duration and start. The span isn't read if its entry has none that may meet
-/// the search.
+/// Returns whether the span at a spot meets every condition of the search. Its process is judged unless it was before,
+/// and only if the span has the requested operation, duration and start. The span isn't read if its entry has none that
+/// may meet the search.
 fn is_match<'t, 'a>(
     alloc: Global,
     prepared: &'a PreparedSearch<'a>,
@@ -136,7 +136,7 @@ fn is_match<'t, 'a>(
     has_judged_tags(alloc, prepared, &mut judged.processes, number, at)
 }
 
-/// Whether one of the spans at the spots meets every condition of the search. No span is judged after that one.
+/// Returns whether one of the spans at the spots meets every condition of the search. No span is judged after that one.
 fn is_found<'t, 'a>(
     alloc: Global,
     prepared: &'a PreparedSearch<'a>,

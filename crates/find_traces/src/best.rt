@@ -46,8 +46,8 @@ fn judge_in_order<T: Searched>(
     Ok(indices)
 }
 
-/// Whether the trace with a key ranks after another one, would be kept among the best, and matches. Only then is it
-/// judged.
+/// Returns whether the trace with a key ranks after another one, would be kept among the best, and matches. Only then
+/// is it judged.
 fn is_chosen<T: Searched>(
     alloc: Global,
     traces: &mut T,

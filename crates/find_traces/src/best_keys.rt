@@ -36,7 +36,7 @@ impl BestKeys {
         self.keys.len()
     }
 
-    /// Whether a key would be kept if it were offered.
+    /// Returns whether a key would be kept if it were offered.
     pub(crate) fn would_keep(&self, key: Key) -> bool
         requires { length self.now.keys.keys ≤ self.now.limit }
         ensures { OnFalse result (take self.now.limit

@@ -150,7 +150,7 @@ impl<'a> JudgedProcess<'a> {
         })
     }
 
-    /// Whether a span of the process has each of the requested tags, itself or in its process or its logs.
+    /// Returns whether a span of the process has each of the requested tags, itself or in its process or its logs.
     ///
     /// # Errors
     ///

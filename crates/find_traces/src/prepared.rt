@@ -73,7 +73,7 @@ fn key_bits(requested: &[(Text, Text)]) -> u64
     bits
 }
 
-/// Whether the bit for keys of this length is set.
+/// Returns whether the bit for keys of this length is set.
 fn is_set(bits: u64, key: &Text) -> bool
     ensures { result ≡ (bit_at bits (length key.now % 64) == 1) }
 {
@@ -93,7 +93,7 @@ fn lengths_of(alloc: Global, requested: &[(Text, Text)]) -> Result<BTreeSet<usiz
     Ok(lengths)
 }
 
-/// Whether a text may be that of a number, by its first byte.
+/// Returns whether a text may be that of a number, by its first byte.
 fn may_be_number(text: &str) -> bool
     ensures { result ≡ may_be_number text.now }
 {
@@ -103,7 +103,7 @@ fn may_be_number(text: &str) -> bool
     }
 }
 
-/// Whether one of the pairs' texts may be that of a number.
+/// Returns whether one of the pairs' texts may be that of a number.
 fn requests_number(requested: &[(Text, Text)]) -> bool
     ensures { result ≡ list_any (λ (a : List ℕ × List ℕ). may_be_number a.1) requested.now }
 {
@@ -191,7 +191,7 @@ impl<'q> PreparedSearch<'q> {
         self.query
     }
 
-    /// Whether no pair is requested.
+    /// Returns whether no pair is requested.
     pub(crate) fn has_no_pairs(&self) -> bool
         ensures { OnTrue result (self.now.tags ≡ []) }
     {
@@ -205,15 +205,15 @@ impl<'q> PreparedSearch<'q> {
         self.pairs.len()
     }
 
-    /// Whether a key may be requested, by its length. No other key has to be looked up.
+    /// Returns whether a key may be requested, by its length. No other key has to be looked up.
     pub(crate) fn may_request_key(&self, key: &Text) -> bool
         ensures { OnFalse result ((t : List ℕ) → requests_pair self.now (key.now, t) ≡ false) }
     {
         is_set(self.key_bits, key)
     }
 
-    /// Whether a value may have a requested text: by the length of its text, or, if it is a number, by whether some
-    /// requested text may be that of a number.
+    /// Returns whether a value may have a requested text: by the length of its text, or, if it is a number, by whether
+    /// some requested text may be that of a number.
     fn may_request(&self, value: &TagValue) -> bool
         ensures { OnFalse result ((k : List ℕ) →
             requests_pair self.now (k, tag_text value.now) ≡ false) }

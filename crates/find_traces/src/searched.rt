@@ -35,8 +35,8 @@ pub trait Searched {
     fn id_at(&self, index: usize) -> Option<TraceId>
         ensures { result ≡ id_at (traces self.now) index };
 
-    /// Whether one span of the trace meets every condition of the search. May cache results for the traces that are
-    /// judged later.
+    /// Returns whether one span of the trace meets every condition of the search. May cache results for the traces that
+    /// are judged later.
     ///
     /// # Errors
     ///

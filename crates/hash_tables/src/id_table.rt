@@ -63,7 +63,7 @@ impl IdTable {
         self.ids.len() as u32
     }
 
-    /// Whether one more id may be added. Only tests call it.
+    /// Returns whether one more id may be added. Only tests call it.
     pub fn has_room(&self) -> bool
         ensures { IsTrue result ↔ (length self.now.ids < self.now.room) }
     {
@@ -90,7 +90,7 @@ impl IdTable {
         self.places.find(id_hash(self.keys, id), &sought)
     }
 
-    /// Whether the id has this row, without a lookup.
+    /// Returns whether the id has this row, without a lookup.
     fn has_row(&self, row: u32, id: TraceId) -> bool
         ensures { OnTrue result (position (same_trace id) self.now.ids ≡ Some row) }
     {

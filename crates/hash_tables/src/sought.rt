@@ -24,7 +24,7 @@ pub trait Sought {
         requires row { row < length (hashes self.now) }
         ensures { result ≡ get_or (hashes self.now) row 0 };
 
-    /// Whether a row is sought.
+    /// Returns whether a row is sought.
     fn is_sought(&self, row: usize) -> bool
         requires can_read { can_read self.now }
         requires row { row < length (hashes self.now) }

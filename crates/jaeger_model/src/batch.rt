@@ -78,7 +78,7 @@ impl Eq for Process {
 }
 
 impl Batch {
-    /// Whether the batches are equal: the process, the spans in order, and the number.
+    /// Returns whether the batches are equal: the process, the spans in order, and the number.
     pub fn is_same(&self, other: &Batch) -> bool
         ensures { IsTrue result ↔ (self.now ≡ other.now) }
     {
@@ -87,7 +87,7 @@ impl Batch {
 }
 
 impl Process {
-    /// Whether the processes are equal: the service, and the tags in order.
+    /// Returns whether the processes are equal: the service, and the tags in order.
     pub fn is_same(&self, other: &Process) -> bool
         ensures { IsTrue result ↔ (self.now ≡ other.now) }
     {

@@ -24,7 +24,7 @@ fn are_digits(text: &[u8]) -> bool
     text.iter().all(|byte| byte.is_ascii_digit())
 }
 
-/// Whether the text is 1 to `most` decimal digits and nothing else.
+/// Returns whether the text is 1 to `most` decimal digits and nothing else.
 pub fn is_number(text: &[u8], most: usize) -> bool
     ensures { result ≡ is_digits most text.now }
 {

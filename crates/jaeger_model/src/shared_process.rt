@@ -43,7 +43,7 @@ impl SharedProcess {
         &self.process
     }
 
-    /// Whether the processes are equal.
+    /// Returns whether the processes are equal.
     pub fn is_same(&self, other: &SharedProcess) -> bool
         ensures { IsTrue result ↔ (self.now ≡ other.now) }
     {

@@ -37,7 +37,7 @@ struct EntryMatcher<'a> {
         by_service.now.service_numbers service_number } by { Prim.hlevel props },
 }
 
-/// Whether the outline of the entry at a place meets the search.
+/// Returns whether the outline of the entry at a place meets the search.
 fn is_outlined(matcher: &EntryMatcher<'_>, place: u64) -> bool
     requires { IsSome (entry_at matcher.now.journal.now.held.entries place) }
     ensures { (e : EntryValue) → Some e ≡ entry_at matcher.now.journal.now.held.entries place →
@@ -49,7 +49,7 @@ fn is_outlined(matcher: &EntryMatcher<'_>, place: u64) -> bool
     }
 }
 
-/// Whether a span of the entry at a place may meet the search.
+/// Returns whether a span of the entry at a place may meet the search.
 fn may_meet(matcher: &EntryMatcher<'_>, place: u64) -> bool
     requires { IsSome (entry_at matcher.now.journal.now.held.entries place) }
     ensures { (e : EntryValue) → Some e ≡ entry_at matcher.now.journal.now.held.entries place →

@@ -5,7 +5,7 @@ ghost use Rattle.journal_traces.specs.ReportedSpots.{is_number};
 
 use service_index::ServicePlaces;
 
-/// Whether the entry at a place is of the service with this number; no entry is of a service without a number.
+/// Returns whether the entry at a place is of the service with this number; no entry is of a service without a number.
 pub(crate) fn is_of_service(
     by_service: &ServicePlaces,
     service_number: Option<u32>,

@@ -58,8 +58,8 @@ impl<'a> Judging<'a> {
         }
     }
 
-    /// Whether the span at a spot meets every condition of the search. The process is judged only if the span has the
-    /// requested service, operation, duration and start. A search without tags judges no tag of it.
+    /// Returns whether the span at a spot meets every condition of the search. The process is judged only if the span
+    /// has the requested service, operation, duration and start. A search without tags judges no tag of it.
     fn is_match(&self, alloc: Global, spot: Spot, at: Seen<'_>) -> Result<bool, AllocError>
         requires { Some (placed_by_its_entry at) ≡ span_at self.now.1 spot }
         ensures { IfOk result (λ b. b ≡ matches self.now.0 (seen at.entry)) }
@@ -74,7 +74,7 @@ impl<'a> Judging<'a> {
         process.has_all_tags(alloc, at.span)
     }
 
-    /// Whether the span at a spot meets every condition of the search.
+    /// Returns whether the span at a spot meets every condition of the search.
     pub(crate) fn is_match_at(&self, alloc: Global, spot: Spot) -> Result<bool, AllocError>
         ensures { IfOk result (λ b. b ≡
             list_any (matches self.now.0) (spans_named self.now.1 (spot ∷ []))) }

@@ -47,7 +47,7 @@ fn row_at(store: StoreView<'_>, place: u64, index: usize) -> u32
     number_at(store.names.operation_rows(), arrival)
 }
 
-/// Whether a row is requested. Without requested rows, every row is.
+/// Returns whether a row is requested. Without requested rows, every row is.
 fn is_requested_row(requested: Option<OperationRows>, row: u32) -> bool
     ensures { result ≡ is_requested_row requested row }
 {
@@ -97,7 +97,7 @@ impl<'a> NumberConditions<'a> {
         }
     }
 
-    /// Whether the entry at a place is of the requested service.
+    /// Returns whether the entry at a place is of the requested service.
     pub(crate) fn is_requested(&self, place: u64) -> bool
         requires { IsSome (process_at self.now.1 place) }
         ensures { (process : ProcessValue) → Some process ≡ process_at self.now.1 place →
@@ -106,8 +106,8 @@ impl<'a> NumberConditions<'a> {
         is_of_service(self.store.by_service, self.requested.service, place)
     }
 
-    /// Whether the span at an index of the entry at a place has the requested operation. No clause says so if the entry
-    /// is of another service.
+    /// Returns whether the span at an index of the entry at a place has the requested operation. No clause says so if
+    /// the entry is of another service.
     fn has_operation(&self, place: u64, index: usize) -> bool
         requires { index < 2 ^ 63 }
         ensures { (p : PlacedValue) →
@@ -118,8 +118,8 @@ impl<'a> NumberConditions<'a> {
         is_requested_row(self.requested.operation, row_at(self.store, place, index))
     }
 
-    /// Whether the span at an index of the entry at a place has the requested operation, duration and start. The entry
-    /// is of the requested service.
+    /// Returns whether the span at an index of the entry at a place has the requested operation, duration and start.
+    /// The entry is of the requested service.
     pub(crate) fn is_met(&self, place: u64, index: usize, at: Seen<'_>) -> bool
         requires small { index < 2 ^ 63 }
         requires there { Some (placed_by_its_entry at) ≡

@@ -11,7 +11,7 @@ use span_steps::{duration_bound, is_at_least, is_at_most, may_be_in_window};
 use std::marker::Model;
 use trace_model::Find;
 
-/// Whether spans with durations in these bounds may meet the search's bounds of durations.
+/// Returns whether spans with durations in these bounds may meet the search's bounds of durations.
 fn may_meet_durations(times: Times, query: &Find) -> bool
     ensures { result ≡ may_meet_durations query.now times }
 {
@@ -19,7 +19,7 @@ fn may_meet_durations(times: Times, query: &Find) -> bool
         && is_at_most(duration_bound(query.duration_max), times.duration_min)
 }
 
-/// Whether spans with starts in these bounds may meet the search's bounds of starts.
+/// Returns whether spans with starts in these bounds may meet the search's bounds of starts.
 fn may_meet_starts(times: Times, query: &Find) -> bool
     ensures { result ≡ may_meet_starts query.now times }
 {
@@ -37,14 +37,14 @@ fn requested_bits(asked: &[(Text, Text)]) -> TagBits
     bits
 }
 
-/// Whether each bit of the mask is among these.
+/// Returns whether each bit of the mask is among these.
 fn covers(bits: u64, mask: u64) -> bool
     ensures { result ≡ (bit_or bits mask == bits) }
 {
     bits | mask == bits
 }
 
-/// Whether spans with these bits may have all requested tags, whose bits are the mask.
+/// Returns whether spans with these bits may have all requested tags, whose bits are the mask.
 fn may_meet_tags(bits: &TagBits, mask: &TagBits) -> bool
     ensures { (asked : List (List ℕ × List ℕ)) → mask.now ≡ requested_bits asked →
         result ≡ list_all (is_marked bits.now) asked }
@@ -88,7 +88,8 @@ impl<'q> EntryFilter<'q> {
         }
     }
 
-    /// Whether spans of an entry with this outline may meet the search. If not, the entry's spans can be skipped.
+    /// Returns whether spans of an entry with this outline may meet the search. If not, the entry's spans can be
+    /// skipped.
     pub(crate) fn may_meet(&self, outline: Outline) -> bool
         ensures { result ≡ may_meet self.now outline }
     {
@@ -98,8 +99,8 @@ impl<'q> EntryFilter<'q> {
     }
 }
 
-/// Whether spans with starts in these bounds may start strictly within the window. If not, the entry's spans can be
-/// skipped.
+/// Returns whether spans with starts in these bounds may start strictly within the window. If not, the entry's spans
+/// can be skipped.
 pub(crate) fn may_reach(times: Times, end_ms: i64, lookback_ms: i64) -> bool
     ensures { result ≡ may_reach end_ms lookback_ms times }
 {

@@ -57,7 +57,7 @@ fn mark_trace(marks: &mut [bool], ring: &Ring, row: u32, trace: TraceId)
     }
 }
 
-/// Whether the trace is the one of the span before.
+/// Returns whether the trace is the one of the span before.
 fn is_trace_before(before: Option<TraceId>, trace: TraceId) -> bool
     ensures { result ≡ same_before before trace }
 {
@@ -67,8 +67,8 @@ fn is_trace_before(before: Option<TraceId>, trace: TraceId) -> bool
     }
 }
 
-/// Whether the span at an index of an entry of the requested service meets every condition of the search but those on
-/// tags.
+/// Returns whether the span at an index of an entry of the requested service meets every condition of the search but
+/// those on tags.
 fn is_met_without_tags(
     conditions: &NumberConditions<'_>,
     place: u64,
@@ -85,7 +85,7 @@ fn is_met_without_tags(
     conditions.is_met(place, index, at)
 }
 
-/// Whether the span meets these conditions, and its trace is not the one of the span before.
+/// Returns whether the span meets these conditions, and its trace is not the one of the span before.
 fn is_new_match(
     before: Option<TraceId>,
     conditions: &NumberConditions<'_>,
@@ -136,7 +136,7 @@ fn mark_spans(
     }
 }
 
-/// Whether the entry at a place is skipped by its outline. None of its spans meets the search then.
+/// Returns whether the entry at a place is skipped by its outline. None of its spans meets the search then.
 fn is_skipped(journal: &Journal, place: u64, filter: &EntryFilter<'_>) -> bool
     ensures passed { OnTrue result (near_at filter.now journal.now.held.entries place ≡ []) }
     ensures looked_at { OnFalse result (near_at filter.now journal.now.held.entries place ≡

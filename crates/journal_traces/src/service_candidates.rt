@@ -13,7 +13,7 @@ use service_index::ServicePlaces;
 use std::alloc::{AllocError, Global};
 use trace_assembly::{Assembly, Spot, Spots};
 
-/// Whether there is an entry at a spot's place, and its service has this number.
+/// Returns whether there is an entry at a spot's place, and its service has this number.
 fn is_reported(
     journal: &Journal,
     by_service: &ServicePlaces,
@@ -29,7 +29,7 @@ fn is_reported(
         && is_of_service(by_service, Some(service_number), spot.place)
 }
 
-/// Whether the entry of one of the spots is of the service with this number.
+/// Returns whether the entry of one of the spots is of the service with this number.
 fn are_reported(
     journal: &Journal,
     by_service: &ServicePlaces,

@@ -80,7 +80,7 @@ pub(crate) fn first_id(journal: &Journal, spots: Spots<'_>) -> Option<TraceId>
     }
 }
 
-/// Whether one of the spans meets every condition of the search. No span is copied, and none is read after that
+/// Returns whether one of the spans meets every condition of the search. No span is copied, and none is read after that
 /// one.
 pub(crate) fn is_found(
     alloc: Global,
@@ -99,7 +99,7 @@ pub(crate) fn is_found(
     Ok(false)
 }
 
-/// Whether no span of the spot's entry can start strictly between the bounds, by the bounds of their starts, so
+/// Returns whether no span of the spot's entry can start strictly between the bounds, by the bounds of their starts, so
 /// that no span is read.
 fn is_outside(journal: &Journal, spot: Spot, end_ms: i64, lookback_ms: i64) -> bool
     ensures { OnTrue result (list_any (in_window end_ms lookback_ms)
@@ -112,7 +112,7 @@ fn is_outside(journal: &Journal, spot: Spot, end_ms: i64, lookback_ms: i64) -> b
     }
 }
 
-/// Whether the span at a spot starts strictly between the bounds.
+/// Returns whether the span at a spot starts strictly between the bounds.
 fn starts_within(journal: &Journal, spot: Spot, end_ms: i64, lookback_ms: i64) -> bool
     ensures { result ≡ list_any (in_window end_ms lookback_ms)
         (spans_named journal.now.held.entries (spot ∷ [])) }
@@ -127,7 +127,7 @@ fn starts_within(journal: &Journal, spot: Spot, end_ms: i64, lookback_ms: i64) -
     }
 }
 
-/// Whether one of the spans starts strictly between the bounds.
+/// Returns whether one of the spans starts strictly between the bounds.
 pub(crate) fn reaches_window(
     journal: &Journal,
     spots: Spots<'_>,

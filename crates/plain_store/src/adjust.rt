@@ -144,7 +144,7 @@ fn has_id(id: SpanId, placed: &Placed) -> bool
     placed.span.id.0 == id.0
 }
 
-/// Whether one of the spans has the id.
+/// Returns whether one of the spans has the id.
 fn is_taken(spans: &[Placed], id: SpanId) -> bool
     ensures { result ≡ list_any (has_id id) spans.now }
 {

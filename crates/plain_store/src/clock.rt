@@ -44,7 +44,7 @@ pub(crate) fn root_clock(alloc: Global, placed: &Placed, max_skew: u64) -> Resul
     Ok(clock_at(max_skew, host, 0, &placed.span))
 }
 
-/// Whether the host is empty, or isn't the host of this clock.
+/// Returns whether the host is empty, or isn't the host of this clock.
 fn is_elsewhere(above: &Clock, host: &Text) -> bool
     ensures { result ≡ (same_text host.now [] || not (same_text host.now above.now.host)) }
 {

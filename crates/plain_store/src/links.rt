@@ -49,7 +49,7 @@ fn add_calls(calls: &mut Vec<(Text, Text)>, trace: &[Placed]) -> Result<(), Allo
     Ok(())
 }
 
-/// Whether some span of the trace starts strictly between the bounds.
+/// Returns whether some span of the trace starts strictly between the bounds.
 fn reaches_window(trace: &[Placed], end_ms: i64, lookback_ms: i64) -> bool
     ensures { result ≡ list_any (in_window end_ms lookback_ms) trace.now }
 {

@@ -13,7 +13,7 @@ use span_steps::{is_named, is_timed};
 use std::alloc::{AllocError, Global};
 use trace_model::Find;
 
-/// Whether the text of the tag's value is the requested one.
+/// Returns whether the text of the tag's value is the requested one.
 fn is_text_of(alloc: Global, value: &TagValue, asked: &Text) -> Result<bool, AllocError>
     ensures { IfOk result (λ b. b ≡ same_text asked.now (tag_text value.now)) }
 {
@@ -21,7 +21,7 @@ fn is_text_of(alloc: Global, value: &TagValue, asked: &Text) -> Result<bool, All
     Ok(asked.as_str() == text.as_str())
 }
 
-/// Whether one of the tags has the requested key and text.
+/// Returns whether one of the tags has the requested key and text.
 fn is_among(alloc: Global, tags: &[Tag], asked: &(Text, Text)) -> Result<bool, AllocError>
     ensures { IfOk result (λ b. b ≡ list_any (tag_matches asked.now) tags.now) }
 {
@@ -33,7 +33,7 @@ fn is_among(alloc: Global, tags: &[Tag], asked: &(Text, Text)) -> Result<bool, A
     Ok(false)
 }
 
-/// Whether one of the logs has a field with the requested key and text.
+/// Returns whether one of the logs has a field with the requested key and text.
 fn is_logged(alloc: Global, logs: &[Log], asked: &(Text, Text)) -> Result<bool, AllocError>
     ensures { IfOk result (λ b. b ≡ list_any (tag_matches asked.now)
         (flat_map (λ (l : LogValue). l.fields) logs.now)) }
@@ -46,7 +46,7 @@ fn is_logged(alloc: Global, logs: &[Log], asked: &(Text, Text)) -> Result<bool, 
     Ok(false)
 }
 
-/// Whether a tag of the span, of its process or of one of its logs has the requested key and text.
+/// Returns whether a tag of the span, of its process or of one of its logs has the requested key and text.
 #[tactic(auto, using(trace_model::proofs::HintNames::any_append))]
 fn has_tag(alloc: Global, placed: &Placed, asked: &(Text, Text)) -> Result<bool, AllocError>
     ensures { IfOk result (λ b. b ≡ has_tag placed.now asked.now) }
@@ -69,7 +69,7 @@ fn has_all_tags(alloc: Global, placed: &Placed, tags: &[(Text, Text)]) -> Result
     Ok(true)
 }
 
-/// Whether the span meets every condition of the search.
+/// Returns whether the span meets every condition of the search.
 fn is_match(alloc: Global, query: &Find, placed: &Placed) -> Result<bool, AllocError>
     ensures { IfOk result (λ b. b ≡ matches query.now placed.now) }
 {
@@ -84,7 +84,7 @@ fn is_match(alloc: Global, query: &Find, placed: &Placed) -> Result<bool, AllocE
     )
 }
 
-/// Whether one span of the trace meets every condition of the search.
+/// Returns whether one span of the trace meets every condition of the search.
 fn is_found(alloc: Global, query: &Find, trace: &[Placed]) -> Result<bool, AllocError>
     ensures { IfOk result (λ b. b ≡ list_any (matches query.now) trace.now) }
 {

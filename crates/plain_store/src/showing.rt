@@ -12,7 +12,7 @@ ghost use Rattle.trace_model.specs.ShownSpans.{of_trace, trace_of};
 use jaeger_model::{Placed, Seq, TraceId};
 use std::alloc::{AllocError, Global};
 
-/// Whether the trace is in the ring.
+/// Returns whether the trace is in the ring.
 fn is_held(ring: &[TraceId], trace: TraceId) -> bool
     ensures { result ≡ holds ring.now trace }
 {

@@ -111,7 +111,7 @@ fn service_part(alloc: Global, part: &str) -> Result<Text, QueryFault>
     }
 }
 
-/// Whether the parameter asks for the spans as they arrived.
+/// Returns whether the parameter asks for the spans as they arrived.
 fn is_raw(pairs: &[Pair]) -> bool
     ensures { result ≡ raw_at pairs.now }
 {

@@ -27,7 +27,7 @@ impl Pair {
         self.value.as_str()
     }
 
-    /// Whether it has this name and a value that isn't empty.
+    /// Returns whether it has this name and a value that isn't empty.
     pub(crate) fn is_given(&self, name: &str) -> bool
         ensures { result ≡ is_given name.now self.now }
     {

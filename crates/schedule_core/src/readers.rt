@@ -28,7 +28,7 @@ pub(crate) struct ReaderState {
 }
 
 impl ReaderState {
-    /// Whether it has been inside since before the last of `publishes` publishes.
+    /// Returns whether it has been inside since before the last of `publishes` publishes.
     fn is_held(&self, publishes: u64) -> bool
         ensures { result ≡ is_held publishes self.now }
     {

@@ -49,7 +49,7 @@ impl<'a> Sought for SoughtBatch<'a> {
     }
 }
 
-/// Whether both batches have the same number and the same process.
+/// Returns whether both batches have the same number and the same process.
 fn is_sent_as(batch: &Batch, other: &Batch) -> bool
     ensures { result ≡ is_sent_as batch.now other.now }
 {

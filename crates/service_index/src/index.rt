@@ -116,7 +116,7 @@ impl ServiceIndex {
         row
     }
 
-    /// Whether a span of the service was added.
+    /// Returns whether a span of the service was added.
     pub fn knows_service<T: Texts>(&self, texts: &T, service: &str) -> bool
         requires { IsIndexed (T.names texts.now) self.now }
         ensures { result ≡ has_service service.now (listing_by (T.names texts.now) self.now) }
@@ -124,7 +124,7 @@ impl ServiceIndex {
         (self.service_row(texts, service) as usize) < self.links.services()
     }
 
-    /// Whether a span of the service of this number with this operation and kind was added.
+    /// Returns whether a span of the service of this number with this operation and kind was added.
     pub fn knows_operation<T: Texts>(
         &self,
         texts: &T,

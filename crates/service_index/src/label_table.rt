@@ -80,7 +80,7 @@ impl LabelTable {
         }
     }
 
-    /// Whether a label has this row, without a lookup.
+    /// Returns whether a label has this row, without a lookup.
     fn has_row<L: Labels>(&self, labels: &L, row: u32, label: Label<'_>) -> bool
         requires { IsLabelTable (L.labels labels.now) self.now }
         ensures { OnTrue result ((row < length self.now.numbers)

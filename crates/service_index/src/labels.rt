@@ -26,14 +26,14 @@ pub trait Labels {
         ensures { label_value result ≡ (labels self.now).at n };
 }
 
-/// Whether two texts are equal, as bytes: `==` of `str` reads whole words, which is slower for short names.
+/// Returns whether two texts are equal, as bytes: `==` of `str` reads whole words, which is slower for short names.
 fn is_same(one: &str, other: &str) -> bool
     ensures { result ≡ same_text one.now other.now }
 {
     one.as_bytes() == other.as_bytes()
 }
 
-/// Whether the number has this label.
+/// Returns whether the number has this label.
 pub(crate) fn is_label<L: Labels>(labels: &L, n: u32, label: Label<'_>) -> bool
     requires { n < (L.labels labels.now).count }
     ensures { result ≡ same_label ((L.labels labels.now).at n) (label_value label.entry) }

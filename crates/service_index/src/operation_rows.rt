@@ -16,7 +16,7 @@ pub struct OperationRows {
 }
 
 impl OperationRows {
-    /// Whether a row is among these.
+    /// Returns whether a row is among these.
     pub fn contains(self, row: u32) -> bool
         ensures { result ≡ is_among (rows_in self) row }
     {

@@ -25,21 +25,21 @@ pub fn host_named(alloc: Global, process: &Process) -> Result<Text, AllocError>
     Ok(Text::from_string(host))
 }
 
-/// Whether each log time, moved by the delta, is a time.
+/// Returns whether each log time, moved by the delta, is a time.
 fn all_logs_fit(delta: i128, logs: &[Log]) -> bool
     ensures { result ≡ list_all (λ (l : LogValue). fits (l.at +ℤ delta)) logs.now }
 {
     logs.iter().all(|l| can_move(l.at, delta))
 }
 
-/// Whether start and log times, moved by the delta in microseconds, are all times.
+/// Returns whether start and log times, moved by the delta in microseconds, are all times.
 pub(crate) fn all_fit(delta: i128, span: &Span) -> bool
     ensures { result ≡ all_fit delta span.now }
 {
     can_move(span.start, delta) && all_logs_fit(delta, span.logs.as_slice())
 }
 
-/// Whether the delta moves the span: it is within the limit, and each moved time is a time.
+/// Returns whether the delta moves the span: it is within the limit, and each moved time is a time.
 fn is_applied(max_skew: u64, delta: i128, span: &Span) -> bool
     ensures { result ≡ is_applied max_skew delta span.now }
 {

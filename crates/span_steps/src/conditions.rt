@@ -8,14 +8,14 @@ ghost use Rattle.span_steps.specs.SpanConditions.{has_operation, meets_span_cond
 use jaeger_model::Seen;
 use trace_model::Find;
 
-/// Whether the operation is that of the search; an empty one matches every one.
+/// Returns whether the operation is that of the search; an empty one matches every one.
 fn has_operation(at: Seen, query: &Find) -> bool
     ensures { result ≡ has_operation query.now (seen at.entry) }
 {
     query.operation.as_str() == "" || query.operation == at.span.operation
 }
 
-/// Whether the value is at or above the bound, if there is one.
+/// Returns whether the value is at or above the bound, if there is one.
 pub fn is_at_least(low: Option<i64>, value: i64) -> bool
     ensures { result ≡ at_least low value }
 {
@@ -25,7 +25,7 @@ pub fn is_at_least(low: Option<i64>, value: i64) -> bool
     }
 }
 
-/// Whether the value is at or below the bound, if there is one.
+/// Returns whether the value is at or below the bound, if there is one.
 pub fn is_at_most(high: Option<i64>, value: i64) -> bool
     ensures { result ≡ at_most high value }
 {
@@ -42,14 +42,14 @@ pub fn duration_bound(duration: i64) -> Option<i64>
     if duration == 0 { None } else { Some(duration) }
 }
 
-/// Whether service and operation are those of the search; an empty operation matches every one.
+/// Returns whether service and operation are those of the search; an empty operation matches every one.
 pub fn is_named(at: Seen, query: &Find) -> bool
     ensures { result ≡ is_named query.now (seen at.entry) }
 {
     query.service == at.process.service && has_operation(at, query)
 }
 
-/// Whether duration and start are within the bounds of the search, in microseconds; a duration's bound of 0 is
+/// Returns whether duration and start are within the bounds of the search, in microseconds; a duration's bound of 0 is
 /// none.
 pub fn is_timed(at: Seen, query: &Find) -> bool
     ensures { result ≡ is_timed query.now (seen at.entry) }
@@ -60,7 +60,7 @@ pub fn is_timed(at: Seen, query: &Find) -> bool
         && is_at_most(query.start_max, at.span.start)
 }
 
-/// Whether the span meets the conditions of the search that need neither its process nor its tags: operation,
+/// Returns whether the span meets the conditions of the search that need neither its process nor its tags: operation,
 /// duration and start. An empty operation matches every one.
 pub fn meets_span_conditions(at: Seen, query: &Find) -> bool
     ensures { result ≡ meets_span_conditions query.now (seen at.entry) }

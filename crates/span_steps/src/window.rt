@@ -26,29 +26,29 @@ fn is_before(time: i64, bound: i128) -> bool
     wide(time) < bound
 }
 
-/// Whether the time, in microseconds, is after the start of the window.
+/// Returns whether the time, in microseconds, is after the start of the window.
 fn is_after_begin(time: i64, end_ms: i64, lookback_ms: i64) -> bool
     ensures { result ≡ int_lt (pos 1000 *ℤ (end_ms -ℤ lookback_ms)) time }
 {
     is_after(time, micros(difference(end_ms, lookback_ms)))
 }
 
-/// Whether it is before the end of the window.
+/// Returns whether it is before the end of the window.
 fn is_before_end(time: i64, end_ms: i64) -> bool
     ensures { result ≡ int_lt time (pos 1000 *ℤ end_ms) }
 {
     is_before(time, micros(wide(end_ms)))
 }
 
-/// Whether the start of a span, in microseconds, is strictly between `end_ms - lookback_ms` and `end_ms`, both in
-/// milliseconds. No bound overflows.
+/// Returns whether the start of a span, in microseconds, is strictly between `end_ms - lookback_ms` and `end_ms`, both
+/// in milliseconds. No bound overflows.
 pub fn is_in_window(start: i64, end_ms: i64, lookback_ms: i64) -> bool
     ensures { result ≡ is_between end_ms lookback_ms start }
 {
     is_after_begin(start, end_ms, lookback_ms) && is_before_end(start, end_ms)
 }
 
-/// Whether some start from `least` to `greatest`, both in microseconds, may be strictly between `end_ms -
+/// Returns whether some start from `least` to `greatest`, both in microseconds, may be strictly between `end_ms -
 /// lookback_ms` and `end_ms`, both in milliseconds. If none may be, spans whose starts have these bounds can be
 /// skipped.
 pub fn may_be_in_window(least: i64, greatest: i64, end_ms: i64, lookback_ms: i64) -> bool

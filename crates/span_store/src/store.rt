@@ -141,7 +141,7 @@ impl SpanStore {
         self.journal.len()
     }
 
-    /// Whether no entry was accepted.
+    /// Returns whether no entry was accepted.
     pub fn is_empty(&self) -> bool
         ensures { result ≡ (length self.now.entries == 0) }
     {

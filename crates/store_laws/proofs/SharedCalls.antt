@@ -39,7 +39,8 @@ longest limits list (c ∷ cs) legal each near all =
             each = All-cons (Begins rest.whole) c cs rest.own rest.each;
           }
       | inr begins ↦
-          let rest = longest limits list cs legal (All-tail (IsTrueCall limits) c cs each) (All-tail (λ (d : Call). AreComparable list d.list) c cs near) all.1 in
+          let rest = longest limits list cs legal (All-tail (IsTrueCall limits) c cs each)
+          (All-tail (λ (d : Call). AreComparable list d.list) c cs near) all.1 in
           record {
             whole = rest.whole;
             legal = rest.legal;

@@ -47,7 +47,7 @@ impl<'a> Cursor<'a> {
         self.bytes
     }
 
-    /// Whether no byte remains.
+    /// Returns whether no byte remains.
     #[inline]
     pub fn is_empty(&self) -> bool
         ensures empty { result ≡ (length self.now == 0) }

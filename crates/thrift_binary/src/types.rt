@@ -27,7 +27,7 @@ pub const SET: u8 = 14;
 /// An element type, a size of four bytes, then that many elements.
 pub const LIST: u8 = 15;
 
-/// Whether the code is in this table.
+/// Returns whether the code is in this table.
 #[inline]
 pub fn is_code(code: u8) -> bool
     ensures table { result ≡ is_code code }

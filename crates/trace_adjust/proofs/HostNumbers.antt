@@ -115,7 +115,8 @@ near_some m trace ks i j a b e k r here there own above many known mark is =
     let p : Placed = b.placed.now in
     let q : Placed = a.placed.now in
     let clock : get_or (clocks_with m trace ds) j None ≡ Some (clock_with m q d) =
-    with_at m trace ds j q (count_known ks ∙ many) ∙ ap (option_map (clock_with m (get_or trace j q))) (known_read ks j ∙ ap delta_of known) ∙ ap (λ x. Some (clock_with m x d)) (sym (there q)) in
+    with_at m trace ds j q (count_known ks ∙ many) ∙ ap (option_map (clock_with m (get_or trace j q))) (known_read ks j ∙ ap delta_of known)
+    ∙ ap (λ x. Some (clock_with m x d)) (sym (there q)) in
     subst (λ x. option_map (clock_with m x) (Some r) ≡ clock_near m (clocks_with m trace ds) x (Some j)) (here e)
     (ap (λ z. Some (clock_with m p z)) is
     ∙ ap Some (below_is m (hosts_of trace) a b k mark refl above own)

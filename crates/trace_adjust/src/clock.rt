@@ -19,7 +19,7 @@ pub(crate) struct HostedSpan<'t, 's> {
     pub(crate) host_number: u32,
 }
 
-/// Whether the host is empty, or isn't the one above.
+/// Returns whether the host is empty, or isn't the one above.
 fn is_elsewhere(above: u32, host: u32) -> bool
     ensures { result ≡ ((host == 0) || not (host == above)) }
 {

@@ -29,7 +29,7 @@ fn all_lent<'a>(alloc: Global, spans: &'a [TakenSpan]) -> Result<Vec<LentPlaced<
     Ok(lent)
 }
 
-/// Whether no span moves.
+/// Returns whether no span moves.
 fn are_zero(deltas: &[i128]) -> bool
     ensures { result ≡ list_all (λ d. int_eq d (pos 0)) deltas.now }
 {

@@ -85,7 +85,7 @@ impl<'a> LentLogs<'a> {
         self.logs.len()
     }
 
-    /// Whether there is no log.
+    /// Returns whether there is no log.
     pub fn is_empty(&self) -> bool
         ensures { result ≡ (length self.now == 0) }
     {

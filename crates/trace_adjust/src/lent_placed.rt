@@ -208,7 +208,8 @@ impl<'a> LentPlaced<'a> {
         self.span.duration
     }
 
-    /// Whether the delta of its clock moves it. Reads each of its logs, unless the delta is 0 or above the limit.
+    /// Returns whether the delta of its clock moves it. Reads each of its logs, unless the delta is 0 or above the
+    /// limit.
     pub(crate) fn is_moved(&self, max_skew: u64, delta: i128) -> bool
         ensures { result ≡ is_moved max_skew delta self.now.span }
     {

@@ -15,7 +15,7 @@ use std::alloc::{AllocError, Global};
 use std::marker::Model;
 use trace_model::{KeptTrace, TakenSpan};
 
-/// A trace of which spans move, and the deltas of their clocks.
+/// A trace with spans that move, and the deltas of their clocks.
 #[derive(Drop)]
 pub(crate) struct MovedSpans {
     pub(crate) trace: Box<KeptTrace>,
@@ -29,7 +29,7 @@ pub(crate) struct MovedSpans {
 pub(crate) enum LentForm {
     /// The only span of a trace, which no clock moves.
     Lone(TakenSpan),
-    /// A trace of which no span moves.
+    /// A trace without spans that move.
     Kept(Box<KeptTrace>),
     Moved(Box<MovedSpans>),
 }

@@ -1,6 +1,6 @@
 //! A trace as it is shown, made from the stored one: in each span the reference to its parent is the first one,
 //! and its times are moved into those of its root's host. The answers are those of
-//! `plain_store::adjusted_trace`, in time linear in the spans up to a logarithm and without recursion, however
+//! `plain_store::adjusted_trace`, in time linear in the spans and their logs, up to a logarithm, and without recursion, however
 //! deep the trace is. No contract speaks of these costs.
 //!
 //! * `lent_placed`: a span with its process, borrowed from what keeps both.

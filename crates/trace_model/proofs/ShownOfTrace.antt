@@ -16,7 +16,8 @@ use Rattle.trace_model.specs.Events.{Event, came, limited, without_limits}
 use Rattle.trace_model.specs.LimitTerms.{limits_none, comes_for}
 use Rattle.trace_model.specs.Rings.{holds, newest, arrive}
 use Rattle.trace_model.specs.ShownSpans.{trace_of, ring, limit_after, shown, of_trace, spans_of_trace}
-use Rattle.trace_model.proofs.ShownByEvents.{by_pushes, all_push, in_ring, ring_came, ring_limited, limit_came, limit_limited, without_limits-append, shown_push}
+use Rattle.trace_model.proofs.ShownByEvents.{by_pushes, all_push, in_ring, ring_came, ring_limited}
+use Rattle.trace_model.proofs.ShownByEvents.{limit_came, limit_limited, without_limits-append, shown_push}
 use Rattle.trace_model.proofs.ShownByEvents.{shown_in_ring}
 
 -- the test decides equality

@@ -70,7 +70,7 @@ impl ShownTrace {
         self.spans.len()
     }
 
-    /// Whether there is no span.
+    /// Returns whether there is no span.
     pub fn is_empty(&self) -> bool
         ensures { result ≡ (length self.now == 0) }
     {

@@ -63,5 +63,6 @@ pub found_start : (time : ℤ) (opened : List ℤ) (evicted : ℕ)
     → [] ++ positions_from time (evicted - evicted) (drop evicted opened) ≡ positions_after time (drop evicted opened)
 found_start time opened evicted = let none : evicted - evicted ≡ 0 = omega arith in ap (λ n. positions_from time n (drop evicted opened)) none
 
-pub found_end : (time : ℤ) (places : List ℕ) (opened : List ℤ) (at place : ℕ) → length opened ≤ at → places ++ positions_from time place (drop at opened) ≡ places
+pub found_end : (time : ℤ) (places : List ℕ) (opened : List ℤ) (at place : ℕ) → length opened ≤ at
+    → places ++ positions_from time place (drop at opened) ≡ places
 found_end time places opened at place past = ap (λ xs. places ++ positions_from time place xs) (drop_all at opened past) ∙ append-nil places

@@ -82,7 +82,7 @@ impl FieldHead {
         }
     }
 
-    /// Whether no byte of the head has arrived. Otherwise the head is a field's, and not the stop byte.
+    /// Returns whether no byte of the head has arrived. Otherwise the head is a field's, and not the stop byte.
     #[inline]
     pub fn is_first(&self) -> bool
         ensures first { result ≡ true → (w : List ℕ) → head_from self.now w ≡ field_at w }

@@ -184,7 +184,7 @@ impl ArrivalNames {
         operations_of(alloc, &arrivals, &numbers)
     }
 
-    /// Whether an arrival is of the service.
+    /// Returns whether an arrival is of the service.
     pub fn knows_service(
         &self,
         entries: &[Arc<Entry>],
@@ -199,7 +199,7 @@ impl ArrivalNames {
             .knows_service(&self.numbers.arrivals(entries, reported), service)
     }
 
-    /// Whether an arrival is of the service and of this operation, of any kind.
+    /// Returns whether an arrival is of the service and of this operation, of any kind.
     pub fn knows_operation(
         &self,
         entries: &[Arc<Entry>],

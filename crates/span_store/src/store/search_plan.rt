@@ -28,7 +28,7 @@ use trace_model::Find;
 /// A service is common if more than one entry in eight is of it.
 const COMMON_ONE_IN: u64 = 8;
 
-/// Whether a search has a condition on the service, and no other on spans.
+/// Returns whether a search has a condition on the service, and no other on spans.
 fn is_by_service_alone(query: &Find) -> bool {
     query.operation.as_str().is_empty()
         && query.tags.as_slice().is_empty()
@@ -38,7 +38,7 @@ fn is_by_service_alone(query: &Find) -> bool {
         && query.duration_max == 0
 }
 
-/// Whether a search has a window of starts.
+/// Returns whether a search has a window of starts.
 fn has_window(query: &Find) -> bool {
     query.start_min.is_some() || query.start_max.is_some()
 }
@@ -65,7 +65,7 @@ fn first_try(limit: u64) -> usize {
     (limit as usize).saturating_mul(4).max(64)
 }
 
-/// Whether this number of traces is small compared with all.
+/// Returns whether this number of traces is small compared with all.
 fn are_few(count: usize, all: usize) -> bool {
     count <= all / TRIED_ONE_IN
 }
@@ -77,10 +77,10 @@ const MAX_JUDGED_INSIDE: usize = 4_096;
 /// finds is collected there, which costs more than judging a candidate.
 const FOUND_ONE_IN: usize = 128;
 
-/// Whether a search judges its candidates after the store is left, so that it doesn't hold up the writer meanwhile. One
-/// by tags does, since tags are read. One without tags is judged by numbers alone. It is judged outside if it has many
-/// candidates and may find a large part of them: else it is quicker to judge them here, and to collect only what it
-/// finds.
+/// Returns whether a search judges its candidates after the store is left, so that it doesn't hold up the writer
+/// meanwhile. One by tags does, since tags are read. One without tags is judged by numbers alone. It is judged outside
+/// if it has many candidates and may find a large part of them: else it is quicker to judge them here, and to collect
+/// only what it finds.
 pub(super) fn is_judged_outside(query: &Find, candidates: usize) -> bool {
     if !query.tags.as_slice().is_empty() {
         return true;
@@ -89,7 +89,7 @@ pub(super) fn is_judged_outside(query: &Find, candidates: usize) -> bool {
     candidates > MAX_JUDGED_INSIDE && (query.limit == 0 || query.limit >= many)
 }
 
-/// Whether a search has reached its limit.
+/// Returns whether a search has reached its limit.
 fn is_full(limit: u64, count: usize) -> bool
     ensures { OnTrue result ((0 < limit) × (count ≡ limit)) }
 {
@@ -154,8 +154,8 @@ impl<'s, 'q> StoreSearch<'s, 'q> {
         }
     }
 
-    /// Whether a search has a window of starts in which few traces may have a span, compared with the entries of
-    /// its service, so that it pays to read these traces.
+    /// Returns whether a search has a window of starts in which few traces may have a span, compared with the entries
+    /// of its service, so that it pays to read these traces.
     fn should_try_window(&self) -> bool {
         if !has_window(self.query) || !self.may_find {
             return false;
@@ -188,8 +188,8 @@ impl<'s, 'q> StoreSearch<'s, 'q> {
         self.candidates()
     }
 
-    /// Whether it pays to try the `count` traces that start last: they are few, and the search's service has many
-    /// entries.
+    /// Returns whether it pays to try the `count` traces that start last: they are few, and the search's service has
+    /// many entries.
     fn should_try_latest(&self, count: usize) -> bool {
         if !are_few(count, self.store.starts.len()) || !self.may_find {
             return false;
@@ -200,7 +200,8 @@ impl<'s, 'q> StoreSearch<'s, 'q> {
     /// Returns the spots of at most `count` shown traces that start last, those of the one opened first at the front,
     /// if the search reaches its limit among these: it finds the same among all then.
     fn latest(&self, count: usize) -> Result<Option<Vec<Spots<'s>>>, AllocError>
-        ensures { IfOk result (λ r. IfSome r (λ v. FindsTheSame self.now.held self.now.query v.items)) }
+        ensures { IfOk result (λ r. IfSome r (λ v.
+            FindsTheSame self.now.held self.now.query v.items)) }
     {
         let store = self.store;
         let Some(time) = store.starts.threshold(self.alloc, count)? else {

@@ -50,8 +50,8 @@ impl<'s, 'q> Model for StoreSearch<'s, 'q> {
         s.query.now s.requested.service s.requested.operation s.may_find };
 }
 
-/// Whether an arrival is of the search's service, and of its operation if it has one. If none is, the search finds
-/// nothing.
+/// Returns whether an arrival is of the search's service, and of its operation if it has one. If none is, the search
+/// finds nothing.
 fn may_find(store: StoreView<'_>, query: &Find) -> bool
     requires { IsStoreKept store.journal.now.held store.assembly.now store.starts.now
         store.names.now store.by_service.now }

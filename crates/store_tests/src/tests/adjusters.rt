@@ -115,7 +115,7 @@ fn late_shown(alloc: Global) -> Result<Vec<Shown>, AllocError> {
     kept(shown, done)
 }
 
-/// Whether the span has these two warnings.
+/// Returns whether the span has these two warnings.
 fn has_warnings(shown: &Shown, wanted: [&str; 2]) -> bool {
     match shown.warnings.as_slice() {
         [first, second] => first.as_str() == wanted[0] && second.as_str() == wanted[1],

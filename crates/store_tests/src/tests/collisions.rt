@@ -21,7 +21,7 @@ const FULL: u64 = 81;
 /// The number of places of a table with eight rows. The numbers for fewer rows divide it.
 const EIGHT: u64 = 20;
 
-/// Whether the walk to the id begins at the first of this number of places.
+/// Returns whether the walk to the id begins at the first of this number of places.
 fn is_first(keys: &RandomState, id: TraceId, places: u64) -> bool {
     let mut state = keys.build_hasher();
     state.write_u64(id.high);
@@ -46,8 +46,8 @@ fn colliding_ids(
     Ok(ids)
 }
 
-/// Whether the walk to a service of this name begins at the first place, and so does the walk to an operation of
-/// this name and without a kind, if it is one of the first service.
+/// Returns whether the walk to a service of this name begins at the first place, and so does the walk to an operation
+/// of this name and without a kind, if it is one of the first service.
 fn is_first_name(keys: &RandomState, name: &str) -> bool {
     let mut state = keys.build_hasher();
     0u32.hash(&mut state);
@@ -156,13 +156,13 @@ fn entries_of(
     kept(entries, added)
 }
 
-/// Whether the answer for the service's operations is the same.
+/// Returns whether the answer for the service's operations is the same.
 fn same_operations(alloc: Global, store: &SpanStore, name: u64) -> Result<bool, AllocError> {
     let service = Text::from_string(name.to_string(alloc)?);
     same_answer(alloc, store, Query::OperationNames { service })
 }
 
-/// Whether each of the traces and of the services is answered as in the plain store.
+/// Returns whether each of the traces and of the services is answered as in the plain store.
 fn same_each(
     alloc: Global,
     store: &SpanStore,
@@ -194,7 +194,7 @@ fn store_of(
     store
 }
 
-/// Whether such a store has applied all of them, and answers as the plain store.
+/// Returns whether such a store has applied all of them, and answers as the plain store.
 fn same_of(
     alloc: Global,
     keys: RandomState,

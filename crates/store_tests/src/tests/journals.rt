@@ -32,7 +32,7 @@ fn sent(
 /// A seat and a number, a `seqNo` and a number of spans, and the journal's answer.
 type Row = ((u16, u64), Option<i64>, u64, Result<u64, Refusal>);
 
-/// Whether the journal answers as the row says. A refusal must leave it unchanged.
+/// Returns whether the journal answers as the row says. A refusal must leave it unchanged.
 fn is_answered(alloc: Global, journal: &mut Journal, row: &Row) -> Result<bool, AllocError> {
     let (name, seq_no, spans, want) = *row;
     let before = (journal.len(), journal.span_count());

@@ -24,7 +24,7 @@ fn quickly(alloc: Global, store: &SpanStore, query: &Query) -> Result<Option<Str
     }
 }
 
-/// Whether the store answers the query as the plain store of its entries.
+/// Returns whether the store answers the query as the plain store of its entries.
 fn is_same(alloc: Global, store: &SpanStore, query: &Query) -> Result<bool, AllocError> {
     let Some(quick) = quickly(alloc, store, query)? else {
         return Ok(false);

@@ -16,7 +16,7 @@ fn one_span(alloc: Global, trace: u64) -> Result<Placed, AllocError> {
     placed(alloc, "a", span(alloc, trace, 1)?)
 }
 
-/// Whether the span meets every condition of the prepared search, judged as a store judges it.
+/// Returns whether the span meets every condition of the prepared search, judged as a store judges it.
 fn is_match(
     alloc: Global,
     placed: &Placed,
@@ -34,7 +34,7 @@ fn is_match(
     met
 }
 
-/// Whether the span meets every condition of the search.
+/// Returns whether the span meets every condition of the search.
 fn is_met(alloc: Global, placed: &Placed, query: &Find) -> Result<bool, AllocError> {
     let wanted = PreparedSearch::new(alloc, query)?;
     let met = is_match(alloc, placed, &wanted);
@@ -54,12 +54,12 @@ fn is_found(
     met
 }
 
-/// Whether the ids have these low halves.
+/// Returns whether the ids have these low halves.
 fn are_lows(ids: &[TraceId], wanted: &[u64]) -> bool {
     ids.iter().map(|id| id.low).eq(wanted.iter().copied())
 }
 
-/// Whether the answer has the ids with these low halves, and no others.
+/// Returns whether the answer has the ids with these low halves, and no others.
 fn are_ids(answer: &Answer, wanted: &[u64]) -> bool {
     match answer {
         Answer::Ids(ids) => are_lows(ids.as_slice(), wanted),
@@ -216,7 +216,7 @@ fn answer_by_flag(alloc: Global, keys: RandomState, spans: Vec<Placed>) -> Resul
     store_answer_to(alloc, keys, spans, Query::FindIds(find))
 }
 
-/// Whether that search finds only this trace, which has the tag.
+/// Returns whether that search finds only this trace, which has the tag.
 fn is_found_alone(alloc: Global, keys: RandomState, flagged: u64) -> Result<bool, Fail> {
     let answer = answer_by_flag(alloc, keys, three_with(alloc, flagged)?)?;
     let same = are_ids(&answer, &[flagged]);

@@ -132,7 +132,7 @@ fn same_trace(alloc: Global, store: &SpanStore, trace: u64, raw: bool) -> Result
     same_answer(alloc, store, Query::Trace { id: id(trace), raw })
 }
 
-/// Whether four traces are answered as in the plain store, as reported and adjusted.
+/// Returns whether four traces are answered as in the plain store, as reported and adjusted.
 fn same_four_traces(alloc: Global, store: &SpanStore) -> Result<bool, AllocError> {
     let mut same = true;
     for trace in 0..4 {
@@ -143,7 +143,7 @@ fn same_four_traces(alloc: Global, store: &SpanStore) -> Result<bool, AllocError
     Ok(same)
 }
 
-/// Whether each trace of the ring has the spot of a span.
+/// Returns whether each trace of the ring has the spot of a span.
 fn each_has_a_spot(store: &SpanStore) -> Result<bool, AllocError> {
     let ids = store.trace_ids()?;
     for id in &ids {
@@ -154,7 +154,7 @@ fn each_has_a_spot(store: &SpanStore) -> Result<bool, AllocError> {
     Ok(true)
 }
 
-/// Whether the store answers every query as the plain store of its entries.
+/// Returns whether the store answers every query as the plain store of its entries.
 fn same_answers(alloc: Global, store: &SpanStore, seed: u64) -> Result<bool, AllocError> {
     Ok(
         each_has_a_spot(store)?

@@ -33,7 +33,7 @@ fn each_id_has_its_row(rt: HostRuntime) -> Result<(), Fail> {
     Ok(())
 }
 
-/// Whether each of the first ids has its row, and the one after them has none.
+/// Returns whether each of the first ids has its row, and the one after them has none.
 fn are_found(table: &IdTable, used: u32) -> bool {
     (0..used).all(|row| table.find(nth(row)) == Some(row)) && table.find(nth(used)).is_none()
 }

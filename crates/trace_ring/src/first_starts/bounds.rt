@@ -24,7 +24,7 @@ pub(crate) fn raise(bounds: &mut Vec<i64>, block: usize, start: i64)
     }
 }
 
-/// Whether the bound or start at an index is later than a time.
+/// Returns whether the bound or start at an index is later than a time.
 pub(crate) fn is_later(times: &[i64], at: usize, time: i64) -> bool
     requires { at < length times.now }
     ensures { result ≡ int_lt time (get_or times.now at (pos 0)) }

@@ -17,7 +17,7 @@ pub struct Window {
     pub before: Option<i128>,
 }
 
-/// Whether a time of the range is after the bound.
+/// Returns whether a time of the range is after the bound.
 fn ends_after(range: Range, bound: Option<i128>) -> bool
     ensures { result ≡ ends_after range bound }
 {
@@ -27,7 +27,7 @@ fn ends_after(range: Range, bound: Option<i128>) -> bool
     }
 }
 
-/// Whether a time of the range is before the bound.
+/// Returns whether a time of the range is before the bound.
 fn begins_before(range: Range, bound: Option<i128>) -> bool
     ensures { result ≡ begins_before range bound }
 {
@@ -37,7 +37,7 @@ fn begins_before(range: Range, bound: Option<i128>) -> bool
     }
 }
 
-/// Whether a time of the range may be in the window.
+/// Returns whether a time of the range may be in the window.
 pub(crate) fn overlaps(range: Range, window: Window) -> bool
     ensures { result ≡ overlaps window range }
 {

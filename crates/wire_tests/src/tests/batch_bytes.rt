@@ -15,7 +15,7 @@ pub(crate) fn bytes_of(alloc: Global, text: &str) -> Result<Vec<u8>, Fail> {
     Ok(bytes)
 }
 
-/// Whether the bytes are decoded to a batch that is encoded to the same bytes.
+/// Returns whether the bytes are decoded to a batch that is encoded to the same bytes.
 fn is_kept_at_last(alloc: Global, bytes: &[u8]) -> bool {
     let Ok(batch) = retry(DecodeError::Memory, || decode(alloc, bytes)) else {
         return false;
@@ -57,7 +57,7 @@ fn numbered(alloc: Global) -> Result<Batch, AllocError> {
     Ok(numbered)
 }
 
-/// Whether the bytes are decoded to the batch.
+/// Returns whether the bytes are decoded to the batch.
 fn is_read_as(alloc: Global, bytes: &[u8], batch: &Batch) -> Result<bool, DecodeError> {
     let read = decode(alloc, bytes)?;
     let same = read.is_same(batch);
@@ -141,7 +141,7 @@ fn respelled(alloc: Global, fields: &str) -> Result<Vec<u8>, Fail> {
     Ok(written?)
 }
 
-/// Whether the decoded tag is encoded in its one spelling.
+/// Returns whether the decoded tag is encoded in its one spelling.
 fn is_respelled(alloc: Global, read: &str, written: &str) -> Result<bool, Fail> {
     let want = with_tag(alloc, written)?;
     let bytes = respelled(alloc, read)?;

@@ -69,7 +69,7 @@ fn large_batch(alloc: Global) -> Result<Batch, Fail> {
     Ok(batch(alloc, "a", kept(spans, added)?)?)
 }
 
-/// Whether a copy of the batch equals it.
+/// Returns whether a copy of the batch equals it.
 fn is_copied(batch: &Batch) -> Result<bool, AllocError> {
     let copy = batch.clone()?;
     let same = batch.is_same(&copy);
@@ -77,7 +77,7 @@ fn is_copied(batch: &Batch) -> Result<bool, AllocError> {
     Ok(same)
 }
 
-/// Whether the batch's bytes are decoded to the batch.
+/// Returns whether the batch's bytes are decoded to the batch.
 fn is_read(alloc: Global, batch: &Batch) -> Result<bool, Fail> {
     let bytes = encode(alloc, batch).ok().ok_or("not written")?;
     let read = decode(alloc, &bytes).ok().ok_or("not read")?;

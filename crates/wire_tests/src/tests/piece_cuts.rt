@@ -12,7 +12,7 @@ use thrift_binary::WireError;
 use trace_samples::spellings::{ALL, APACHE};
 use trace_samples::{batch, kept, span};
 
-/// Whether the result of the pieces is that of decoding the joined bytes.
+/// Returns whether the result of the pieces is that of decoding the joined bytes.
 fn is_same(got: Result<Batch, DecodeError>, whole: &Result<Batch, DecodeError>) -> bool {
     let same = match (&got, whole) {
         (Ok(got), Ok(whole)) => got.is_same(whole),
@@ -126,7 +126,7 @@ fn same_lines(alloc: Global, lines: &str) -> Result<u64, Fail> {
     Ok(count)
 }
 
-/// Whether the bytes of the line have the same result in pieces as in one.
+/// Returns whether the bytes of the line have the same result in pieces as in one.
 fn is_same_line(alloc: Global, line: &str) -> Result<bool, AllocError> {
     match hex::decode(alloc, line) {
         Ok(bytes) => are_same_bytes(alloc, &bytes),
@@ -134,7 +134,7 @@ fn is_same_line(alloc: Global, line: &str) -> Result<bool, AllocError> {
     }
 }
 
-/// Whether these bytes have the same result in pieces as in one.
+/// Returns whether these bytes have the same result in pieces as in one.
 fn are_same_bytes(alloc: Global, bytes: &[u8]) -> Result<bool, AllocError> {
     let said = said_of_each(alloc, bytes)?;
     let whole = decode(alloc, bytes);
@@ -154,7 +154,8 @@ fn any_cut(rt: HostRuntime) -> Result<(), Fail> {
     Ok(())
 }
 
-/// Whether a skipped value with this number of levels below one of this type has the same result in pieces as in one.
+/// Returns whether a skipped value with this number of levels below one of this type has the same result in pieces as
+/// in one.
 fn is_same_nested(alloc: Global, first: usize, below: usize) -> Result<bool, AllocError> {
     let bytes = nested(alloc, first, below)?;
     are_same_bytes(alloc, &bytes)
@@ -230,7 +231,7 @@ fn odd_pieces(alloc: Global, bytes: &[u8]) -> Result<Vec<Vec<u8>>, AllocError> {
     kept(pieces, added)
 }
 
-/// Whether these bytes have the same result in those pieces as in one.
+/// Returns whether these bytes have the same result in those pieces as in one.
 fn is_same_in_odd_pieces(alloc: Global, bytes: &[u8]) -> Result<bool, AllocError> {
     let pieces = odd_pieces(alloc, bytes)?;
     let whole = decode(alloc, bytes);

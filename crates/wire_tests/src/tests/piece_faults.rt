@@ -39,7 +39,7 @@ fn fault_of(alloc: Global, bytes: &[u8]) -> Option<DecodeError> {
     decode(alloc, bytes).err()
 }
 
-/// Whether feeding the bytes succeeds, and the end reports too few bytes, as decoding does.
+/// Returns whether feeding the bytes succeeds, and the end reports too few bytes, as decoding does.
 fn is_short(alloc: Global, bytes: &[u8]) -> bool {
     let truncated = DecodeError::Wire(WireError::Truncated);
     answers(alloc, bytes, &[]) == [Ok(()), Ok(()), Ok(()), Err(truncated)]
@@ -136,7 +136,8 @@ fn bytes_before_a_size(rt: HostRuntime) {
     );
 }
 
-/// Whether the bytes with a size below 0 in place of theirs are too few before its last byte, and refused with it.
+/// Returns whether the bytes with a size below 0 in place of theirs are too few before its last byte, and refused with
+/// it.
 fn is_refused_below_0(alloc: Global, claim: &[u8]) -> Result<bool, AllocError> {
     let fault = DecodeError::Wire(WireError::BadLength);
     let mut bytes = Vec::new(alloc);
@@ -215,14 +216,14 @@ fn ended_by_bytes(alloc: Global, bytes: &[u8]) -> Option<DecodeError> {
     feeder.finish().err()
 }
 
-/// Whether decoding returns this, and a `Feeder` at its end, however the bytes arrive.
+/// Returns whether decoding returns this, and a `Feeder` at its end, however the bytes arrive.
 fn all_answer(alloc: Global, bytes: &[u8], fault: Option<DecodeError>) -> bool {
     let by_bytes = ended_by_bytes(alloc, bytes);
     let whole = answers(alloc, bytes, &[])[3].err();
     fault_of(alloc, bytes) == fault && whole == fault && by_bytes == fault
 }
 
-/// Whether 1 and 64 levels from this one on are skipped, and 65 are too deep.
+/// Returns whether 1 and 64 levels from this one on are skipped, and 65 are too deep.
 fn are_levels(alloc: Global, first: usize) -> Result<bool, AllocError> {
     let too_deep = Some(DecodeError::Wire(WireError::TooDeep));
     Ok(
@@ -265,8 +266,8 @@ fn came_of(alloc: Global, bytes: &[u8], whole: &Batch) -> Taken {
     taken
 }
 
-/// Whether there was memory for each of the pieces. `None` if there was another error, or a call succeeded after
-/// one.
+/// Returns whether there was memory for each of the pieces. `None` if there was another error, or a call succeeded
+/// after one.
 fn fed_in_pieces(alloc: Global, feeder: &mut Feeder, bytes: &[u8]) -> Option<bool> {
     let mut has_memory = true;
     for piece in bytes.chunks(11) {

@@ -49,7 +49,7 @@ const WRITE_FAULTS: [(WriteError, &str); 2] = [
     (WriteError::Memory, "NoMemory"),
 ];
 
-/// Whether it prints this text.
+/// Returns whether it prints this text.
 fn is_printed(alloc: Global, fault: &impl Display, name: &str) -> Result<bool, AllocError> {
     Ok(format!(in alloc; "{fault}")?.as_str() == name)
 }

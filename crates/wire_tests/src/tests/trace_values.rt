@@ -67,7 +67,7 @@ fn set_lists(alloc: Global, span: &mut Span) -> Result<(), Fail> {
     Ok(())
 }
 
-/// Whether the id prints this text, and is parsed from it.
+/// Returns whether the id prints this text, and is parsed from it.
 fn is_printed(alloc: Global, id: TraceId, want: &str) -> Result<bool, AllocError> {
     let printed = trace_text(alloc, id)?;
     Ok(printed.as_str() == want && parse_trace(want) == Some(id))
@@ -132,7 +132,7 @@ const TAG_TEXTS: [(&str, &str); 6] = [
     ("ip", ""),
 ];
 
-/// Whether the first tag with the key has this text, if there is one.
+/// Returns whether the first tag with the key has this text, if there is one.
 fn is_first(alloc: Global, tags: &[Tag], key: &str, want: &str) -> Result<bool, Fail> {
     let first = first_text(alloc, tags, key)?;
     let same = match first_tag(tags, key) {
@@ -156,7 +156,7 @@ fn texts_of_tags(rt: HostRuntime) -> Result<(), Fail> {
     Ok(())
 }
 
-/// Whether a copy of the batch and of its process are equal to them.
+/// Returns whether a copy of the batch and of its process are equal to them.
 fn is_copied(batch: &Batch) -> Result<bool, Fail> {
     let copy = batch.clone()?;
     let same = batch.is_same(&copy) && batch.process.is_same(&copy.process);
@@ -164,7 +164,7 @@ fn is_copied(batch: &Batch) -> Result<bool, Fail> {
     Ok(same)
 }
 
-/// Whether a copy of that one batch is equal to it.
+/// Returns whether a copy of that one batch is equal to it.
 fn one_is_copied(alloc: Global) -> Result<bool, Fail> {
     let batch = one_batch(alloc)?;
     let same = is_copied(&batch);
@@ -178,7 +178,7 @@ fn batches(rt: HostRuntime) -> Result<(), Fail> {
     Ok(())
 }
 
-/// Whether the references are to these spans, in this order.
+/// Returns whether the references are to these spans, in this order.
 fn are_to(references: &[SpanRef], ids: [u64; 2]) -> bool {
     references.iter().map(|reference| reference.id.0).eq(ids)
 }
@@ -192,7 +192,7 @@ fn is_placed(span: &Span, placed: &Span) -> bool {
         && are_to(placed.references.as_slice(), [7, 9])
 }
 
-/// Whether `place_span` returns this for the span and the process too.
+/// Returns whether `place_span` returns this for the span and the process too.
 fn is_placed_alone(
     alloc: Global,
     process: &SharedProcess,
@@ -205,7 +205,7 @@ fn is_placed_alone(
     Ok(same)
 }
 
-/// Whether this is the batch's one span as `domain` returns it.
+/// Returns whether this is the batch's one span as `domain` returns it.
 fn are_placed(alloc: Global, batch: &Batch, placed: &[Placed]) -> Result<bool, Fail> {
     match (batch.spans.as_slice(), placed) {
         ([span], [placed]) => Ok(
@@ -215,7 +215,7 @@ fn are_placed(alloc: Global, batch: &Batch, placed: &[Placed]) -> Result<bool, F
     }
 }
 
-/// Whether `domain` returns the right span for the one batch.
+/// Returns whether `domain` returns the right span for the one batch.
 fn one_is_placed(alloc: Global, batch: &Batch) -> Result<bool, Fail> {
     let placed = domain(alloc, batch)?;
     let said = are_placed(alloc, batch, placed.as_slice());
@@ -223,7 +223,7 @@ fn one_is_placed(alloc: Global, batch: &Batch) -> Result<bool, Fail> {
     said
 }
 
-/// Whether `domain` returns the right span for the one batch, which is dropped afterwards.
+/// Returns whether `domain` returns the right span for the one batch, which is dropped afterwards.
 fn made_is_placed(alloc: Global) -> Result<bool, Fail> {
     let batch = one_batch(alloc)?;
     let said = one_is_placed(alloc, &batch);

@@ -7,4 +7,5 @@ use Rattle.journal_traces.proofs.service_candidates.spots_reported.Given as goal
 abbrev pub invariant-loop-index : goal.invariant-loop-index
 invariant-loop-index l =
     l.found.items ≡ map (spots_of l.assembly)
-    (filter (λ t. are_reported l.journal.held.entries l.by_service.service_numbers l.service_number (spots_of l.assembly t)) (take l.index l.assembly.newest.ids))
+    (filter (λ t. are_reported l.journal.held.entries l.by_service.service_numbers l.service_number (spots_of l.assembly t))
+    (take l.index l.assembly.newest.ids))

@@ -39,8 +39,8 @@ loop-index-init c =
       place = within;
       within = rw (e, l) (
           ap (map placed_taken) none
-          ∙ sym (skipped c.args.end_ms c.args.lookback_ms starts ids (trace_named h (spots_of c.args.store.assembly.now)) c.requires.ranged c.window_of-window.result
-          (rw (e, l) at c.window_of-window.ensures)
+          ∙ sym (skipped c.args.end_ms c.args.lookback_ms starts ids (trace_named h (spots_of c.args.store.assembly.now))
+          c.requires.ranged c.window_of-window.result (rw (e, l) at c.window_of-window.ensures)
           0 c.next_within-index.result first.from within first.skipped));
       taken =
           new_known h c.new-taken.result c.in_ok-numbers.numbers c.new-taken.ensures.entries c.new-taken.ensures.spots c.new-taken.ensures.starts

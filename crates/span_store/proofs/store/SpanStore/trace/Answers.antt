@@ -19,9 +19,11 @@ returns-then-is_empty c =
     let none : length spots ≡ 0 = search rules in
     let named = spots_name held.limits.traces held.entries c.self.inside.shown.newest (spots_of c.self.inside.shown)
     c.args.id spots c.self.invariant.follows c.spots-spots.ensures in
-    subst (λ (v : LimitedHistory). Trace None ≡ Trace (option_map (shown_as v.limits.max_skew c.args.raw) (trace_found v.limits.traces (events v.entries) c.args.id)))
+    subst (λ (v : LimitedHistory). Trace None
+    ≡ Trace (option_map (shown_as v.limits.max_skew c.args.raw) (trace_found v.limits.traces (events v.entries) c.args.id)))
     c.self.view_is
-    (ap Trace (none_found (shown_as held.limits.max_skew c.args.raw) held.entries spots (spans_of_trace held.limits.traces (events held.entries) c.args.id) named none))
+    (ap Trace (none_found (shown_as held.limits.max_skew c.args.raw) held.entries spots
+    (spans_of_trace held.limits.traces (events held.entries) c.args.id) named none))
 
 pub returns : goal.returns
 returns c =
