@@ -129,9 +129,9 @@ def in_few_batches(n):
     return [], [wire.batch("a", a_trace_each(4 * n, 1 + 4 * n * k)) for k in range(10)], search("&limit=20")
 
 
-def nearly_a_sixteenth(n):
-    """As many as a search without tags may find and still be judged inside a copy."""
-    return [], spread_traces(n), search(f"&minDuration=1us&limit={40 * n // 16 - 1}")
+def by_duration(n, one_in):
+    """One in so many traces, less one. If that is in 128, a search without tags is just judged inside a copy."""
+    return [], spread_traces(n), search(f"&minDuration=1us&limit={40 * n // one_in - 1}")
 
 
 def pairs_of_services(n):
@@ -155,7 +155,8 @@ SHAPES = {
     "the 20 latest of a service, behind traces of a wrong clock": behind_a_wrong_clock,
     "the 20 latest of traces of one start": of_one_start,
     "the 20 latest of a service that came in ten batches": in_few_batches,
-    "nearly a sixteenth of the traces, by their duration": nearly_a_sixteenth,
+    "nearly a sixteenth of the traces, by their duration": lambda n: by_duration(n, 16),
+    "nearly one in 128 of the traces, by their duration": lambda n: by_duration(n, 128),
 }
 
 
