@@ -12,7 +12,7 @@ use Rattle.query_http.specs.declared.paths.Endpoint.{Endpoint}
 use Rattle.query_http.specs.Faults.{parameter_name}
 use Rattle.query_http.specs.Responses.{response}
 use Rattle.query_http.specs.Statuses.{refusal_status}
-use Rattle.query_json.specs.Trees.{answer_tree, error_tree}
+use Rattle.answer_trees.specs.Trees.{answer_tree, error_tree}
 use Rattle.http_session.specs.Verdicts.{takes_post}
 use Rattle.http_session.specs.declared.verdict.ErrorReply.{ErrorReply}
 use Rattle.http_session.specs.declared.verdict.ErrorReply.TheVariants.{NoSuchPath, NotAllowed, UnsupportedType, BadBatch, BadParameter, NoMemory}

@@ -3,7 +3,7 @@ ghost use Rattle.serde_json.specs.Written.{compact_text};
 ghost use Rattle.query_http.specs.Responses.{response};
 ghost use Rattle.query_http.specs.Statuses.{code_of};
 ghost use Rattle.query_json.specs.Parts.{to_come};
-ghost use Rattle.query_json.specs.Trees.{answer_tree};
+ghost use Rattle.answer_trees.specs.Trees.{answer_tree};
 ghost use Rattle.http_session.specs.Replies.{status_of, allow_of, closes, takes_no_memory, response_of, error_message, error_status, methods_of};
 ghost use Rattle.http_session.specs.Replies.{refusal_message, fault_status, fault_message, error_body};
 ghost use Rattle.http_session.specs.declared.reply.Reply.TheVariants as reply;

@@ -6,7 +6,7 @@ use Rattle.json.specs.Print.{escape_byte, quoted}
 use Rattle.serde_json.specs.Data.{Data, number, unsigned, no_members, member}
 use Rattle.serde_json.specs.Written.{compact_text, members_text}
 use Rattle.query_json.specs.AnswerTexts.{head_text, tail_text}
-use Rattle.query_json.specs.Trees.{error_tree, items_tree, list}
+use Rattle.answer_trees.specs.Trees.{error_tree, items_tree, list}
 
 pub items_around : (ds : List Data) → (head_text ++ compact_text (list ds)) ++ tail_text (length ds) ≡ compact_text (items_tree ds)
 unfolding escape_byte digits

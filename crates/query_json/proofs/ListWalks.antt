@@ -1,8 +1,8 @@
 -- A list that is walked from its front: the next item, and the rest.
 use Rattle.std.proofs.Common.{◌≡◌, ◌<◌, ◌≤◌, ◌+◌, ◌∙◌, ℕ, List, [], ◌∷◌, length, length-drop, drop, get_or, sym, ap, subst, arith}
 use Rattle.std.proofs.lemmas.List.{drop_more}
-use Rattle.query_json.specs.declared.writing.page.Page.{Page}
-use Rattle.query_json.specs.Page.{Puts}
+use Rattle.json_page.specs.declared.page.Page.{Page}
+use Rattle.json_page.specs.Page.{Puts}
 use Rattle.query_json.proofs.Pages.{Going, Going-more, Going-end}
 
 abbrev first_of : {X : Type 0} → X → List X → X

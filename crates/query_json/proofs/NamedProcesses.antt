@@ -10,11 +10,11 @@ use Rattle.std.proofs.lemmas.Map.Lookups.{exact_bytes}
 use Rattle.std.proofs.lemmas.Option.{get_or_from_slice_get, slice_get_within}
 use Rattle.serde_json.specs.Data.{Members, member, null, put}
 use Rattle.trace_model.specs.declared.answer.Shown.{Shown}
-use Rattle.query_json.specs.declared.naming.FirstSpan.{FirstSpan}
+use Rattle.answer_trees.specs.declared.naming.FirstSpan.{FirstSpan}
 use Rattle.query_json.specs.declared.writing.processes.NamedProcess.{NamedProcess}
 use Rattle.query_json.specs.NamedProcesses.{HasSpan, name_of, named_members, process_tree_at, shown_process_tree}
-use Rattle.query_json.specs.ProcessNumbers.{IsFirst}
-use Rattle.query_json.specs.Trees.{process_of, process_tree}
+use Rattle.answer_trees.specs.ProcessNumbers.{IsFirst}
+use Rattle.answer_trees.specs.Trees.{process_of, process_tree}
 
 abbrev pub Entry : Type 0
 Entry = Bor (List ℕ) × NamedProcess

@@ -14,7 +14,7 @@ use Rattle.query_json.specs.NamedProcesses.{first_named}
 use Rattle.query_json.specs.Pieces.{AreWritable, item_pieces, item_trees, one_piece, runs_of}
 use Rattle.query_json.specs.Runs.{front_text, joined, runs_text}
 use Rattle.query_json.specs.TracePieces.{item_spans, item_tree, trace_pieces}
-use Rattle.query_json.specs.Trees.{id_tree, items_tree, link_tree, operation_tree, trace_tree}
+use Rattle.answer_trees.specs.Trees.{id_tree, items_tree, link_tree, operation_tree, trace_tree}
 use Rattle.query_json.proofs.Runs.{Run, body, body_is, body_whole}
 use Rattle.query_json.proofs.TracePieces.{trace_text}
 

@@ -10,9 +10,9 @@ use Rattle.trace_model.specs.declared.answer.Shown.{Shown}
 use Rattle.query_json.specs.declared.writing.processes.NamedProcess.{NamedProcess}
 use Rattle.query_json.specs.LentTraces.{IsNumbered}
 use Rattle.query_json.specs.NamedProcesses.{AreNamed, HasSpan, first_named}
-use Rattle.query_json.specs.Trees.{process_of, processes_of}
-use Rattle.query_json.specs.TraceProcesses.{process_place}
-use Rattle.query_json.proofs.DistinctProcesses.{itself}
+use Rattle.answer_trees.specs.Trees.{process_of, processes_of}
+use Rattle.answer_trees.specs.TraceProcesses.{process_place}
+use Rattle.answer_trees.proofs.DistinctProcesses.{itself}
 
 pub numbered : (ss : List Shown) (places : List ℕ) (ps : List NamedProcess) → places ≡ map (process_place (processes_of ss)) ss
     → AreNamed ss (processes_of ss) ps → length ps + length ss < 2 ^ 62 → IsNumbered ss places ps

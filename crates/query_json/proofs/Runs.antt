@@ -5,13 +5,14 @@ use Rattle.std.proofs.lemmas.List.{drop_all, drop_more, length-map}
 use Rattle.serde_json.specs.Data.{Data}
 use Rattle.serde_json.specs.View.{items_of}
 use Rattle.serde_json.specs.Written.{compact_text, items_text}
-use Rattle.query_json.specs.declared.writing.page.Page.{Page}
+use Rattle.json_page.specs.declared.page.Page.{Page}
 use Rattle.query_json.specs.AnswerTexts.{head_text, tail_text}
-use Rattle.query_json.specs.Page.{Puts}
+use Rattle.json_page.specs.Page.{Puts}
 use Rattle.query_json.specs.Runs.{Fills, PutsNext, end_text, front_text, joined, left_at, more_runs, runs, runs_text, separator, steps, without}
-use Rattle.query_json.specs.Trees.{items_tree, list}
+use Rattle.answer_trees.specs.Trees.{items_tree, list}
 use Rattle.query_json.proofs.Answers.{items_around}
-use Rattle.query_json.proofs.Pages.{◌▸◌, Puts-nothing, rest_text}
+use Rattle.json_page.proofs.Pages.{◌▸◌, Puts-nothing}
+use Rattle.query_json.proofs.Pages.{rest_text}
 
 abbrev pub Run : Type 0
 Run = List (List ℕ)

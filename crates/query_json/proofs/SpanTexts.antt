@@ -3,10 +3,10 @@ use Rattle.std.proofs.Common.{◌≡◌, ℕ, List, [], ◌∷◌, ◌++◌, sym
 use Rattle.std.specs.Prelude.{codes}
 use Rattle.std.specs.Fmt.{decimal}
 use Rattle.json.specs.Print.{escape, escape_byte, quoted}
-use Rattle.query_json.specs.declared.writing.page.Page.{Page}
-use Rattle.query_json.specs.Page.{Puts}
-use Rattle.query_json.proofs.Escapes.{escape_decimal}
-use Rattle.query_json.proofs.Pages.{◌▸◌, Puts-is}
+use Rattle.json_page.specs.declared.page.Page.{Page}
+use Rattle.json_page.specs.Page.{Puts}
+use Rattle.json_page.proofs.Escapes.{escape_decimal}
+use Rattle.json_page.proofs.Pages.{◌▸◌, Puts-is}
 
 to_right : (t a b c d e : List ℕ) → ((((t ++ a) ++ b) ++ c) ++ d) ++ e ≡ t ++ (a ++ (b ++ (c ++ (d ++ e))))
 to_right t a b c d e =

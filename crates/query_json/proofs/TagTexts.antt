@@ -10,14 +10,15 @@ use Rattle.serde_json.specs.Written.{compact_text, members_text}
 use Rattle.jaeger_model.specs.declared.tag.Tag.{Tag}
 use Rattle.jaeger_model.specs.declared.tag.Value.TheVariants as tagged
 use Rattle.jaeger_model.specs.Tags.{flag_text, hex_text}
-use Rattle.query_json.specs.declared.writing.page.Page.{Page}
+use Rattle.json_page.specs.declared.page.Page.{Page}
 use Rattle.query_json.specs.declared.writing.values.AfterTag.TheVariants as after
-use Rattle.query_json.specs.Page.{Puts}
+use Rattle.json_page.specs.Page.{Puts}
 use Rattle.query_json.specs.Tags.{after_tag, behind_key, from_key}
-use Rattle.query_json.specs.Trees.{list, tag_tree, type_name, value_tree}
-use Rattle.query_json.proofs.Escapes.{escape_hex_text}
+use Rattle.answer_trees.specs.Trees.{list, tag_tree, type_name, value_tree}
+use Rattle.json_page.proofs.Escapes.{escape_hex_text}
 use Rattle.query_json.proofs.Numbers.{integer_text}
-use Rattle.query_json.proofs.Pages.{◌▸◌, Puts-is, items_rest, rest_text}
+use Rattle.json_page.proofs.Pages.{◌▸◌, Puts-is}
+use Rattle.query_json.proofs.Pages.{items_rest, rest_text}
 
 abbrev others : Tag → List ℕ
 others t = members_text true (member (codes "type") (string (type_name t.value)) (member (codes "value") (value_tree t.value) no_members))

@@ -11,7 +11,7 @@ use Rattle.query_json.specs.declared.writing.processes.NamedProcess.{NamedProces
 use Rattle.query_json.specs.NamedProcesses.{AreNamed, name_of, named_members, named_text, process_tree_at}
 use Rattle.query_json.specs.Runs.{joined, separator}
 use Rattle.query_json.specs.TracePieces.{between_text, close_text, open_text, pieces_of, span_pieces, span_text_in, with_commas}
-use Rattle.query_json.specs.Trees.{list, processes_of, processes_tree, span_tree, trace_id_text, trace_tree}
+use Rattle.answer_trees.specs.Trees.{list, processes_of, processes_tree, span_tree, trace_id_text, trace_tree}
 use Rattle.query_json.proofs.Pages.{items_rest, members_rest, put_tree-text, rest_text}
 
 -- ---- lists with commas

@@ -4,7 +4,7 @@ use Rattle.std.specs.Prelude.{codes}
 use Rattle.std.specs.Fmt.{decimal, signed_decimal}
 use Rattle.json.specs.Print.{escape, escape_byte, quoted}
 use Rattle.trace_model.specs.Adjusting.{adjusted_by, past_limit, past_times}
-use Rattle.query_json.proofs.Escapes.{escape_decimal, escape_signed, quoted_around, quoted_around_two}
+use Rattle.json_page.proofs.Escapes.{escape_decimal, escape_signed, quoted_around, quoted_around_two}
 
 abbrev skew_of : List ℕ
 skew_of = codes "clock skew of "

@@ -2,7 +2,7 @@
 use Rattle.std.specs.Prelude.{◌≡◌, ◌+◌, ◌≤◌, ◌⊎◌, ℕ, false, List, [], length, unwrap_or}
 use Rattle.query_json.specs.declared.paging.PagedAnswer.{PagedAnswer}
 use Rattle.query_json.specs.declared.paging.TheConstants.{PART_BYTES}
-use Rattle.query_json.specs.declared.writing.page.Page.{Page}
+use Rattle.json_page.specs.declared.page.Page.{Page}
 use Rattle.query_json.specs.Pieces.{AreWritable, runs_of}
 use Rattle.query_json.specs.Runs.{AllFit, left_at, runs_text}
 

@@ -6,8 +6,8 @@ use Rattle.query_json.specs.declared.writing.processes.NamedProcess.{NamedProces
 use Rattle.query_json.specs.declared.writing.trace.TraceItem.{TraceItem}
 use Rattle.query_json.specs.declared.writing.trace.TraceItem.TheVariants.{Copied, Lent, OneProcess}
 use Rattle.query_json.specs.NamedProcesses.{AreNamed, first_named}
-use Rattle.query_json.specs.Trees.{processes_of, trace_tree}
-use Rattle.query_json.specs.TraceProcesses.{process_place}
+use Rattle.answer_trees.specs.Trees.{processes_of, trace_tree}
+use Rattle.answer_trees.specs.TraceProcesses.{process_place}
 
 -- the places are those of the spans' processes, 0 for those after the last place; the processes are in the order of
 -- their names, and both can be counted

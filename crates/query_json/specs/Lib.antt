@@ -1,16 +1,9 @@
 pub mod AnswerTexts
-pub mod Buffers
 pub mod LentTraces
 pub mod NamedProcesses
-pub mod ProcessNames
-pub mod ProcessNumbers
-pub mod Page
 pub mod AnswerPages
 pub mod Parts
 pub mod Pieces
-pub mod ProcessPlaces
 pub mod Runs
 pub mod Tags
 pub mod TracePieces
-pub mod Trees
-pub mod TraceProcesses

@@ -7,7 +7,7 @@ use Rattle.serde_json.specs.Written.{compact_text}
 use Rattle.jaeger_model.specs.declared.batch.Process.{Process}
 use Rattle.trace_model.specs.declared.answer.Shown.{Shown}
 use Rattle.query_json.specs.declared.writing.processes.NamedProcess.{NamedProcess}
-use Rattle.query_json.specs.Trees.{process_of, process_tree, processes_by_name}
+use Rattle.answer_trees.specs.Trees.{process_of, process_tree, processes_by_name}
 
 abbrev pub name_of : NamedProcess → List ℕ
 name_of p = 112 ∷ decimal p.number

@@ -7,7 +7,7 @@ use Rattle.query_json.specs.declared.items.Items.TheVariants.{Names, Operations,
 use Rattle.query_json.specs.LentTraces.{IsWritable}
 use Rattle.query_json.specs.Runs.{runs}
 use Rattle.query_json.specs.TracePieces.{item_tree, trace_pieces}
-use Rattle.query_json.specs.Trees.{found_tree, id_tree, items_tree, link_tree, operation_tree}
+use Rattle.answer_trees.specs.Trees.{found_tree, id_tree, items_tree, link_tree, operation_tree}
 
 abbrev pub item_trees : Items → List Data
 item_trees (Names names) = map string names

@@ -1,8 +1,8 @@
 -- Runs of pieces of an answer's text: one for each item, and one for the end.
 use Rattle.std.specs.Prelude.{◌≡◌, ◌+◌, ◌<◌, ◌≤◌, ℕ, zero, suc, false, List, [], ◌∷◌, ◌++◌, length, drop, flat_map}
-use Rattle.query_json.specs.declared.writing.page.Page.{Page}
+use Rattle.json_page.specs.declared.page.Page.{Page}
 use Rattle.query_json.specs.AnswerTexts.{head_text, tail_text}
-use Rattle.query_json.specs.Page.{Puts}
+use Rattle.json_page.specs.Page.{Puts}
 
 -- the text before the pieces
 abbrev pub front_text : List ℕ

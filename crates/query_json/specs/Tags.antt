@@ -7,7 +7,7 @@ use Rattle.jaeger_model.specs.declared.tag.Tag.{Tag}
 use Rattle.jaeger_model.specs.declared.tag.Value.{Value}
 use Rattle.query_json.specs.declared.writing.values.AfterTag.{AfterTag}
 use Rattle.query_json.specs.declared.writing.values.AfterTag.TheVariants as after
-use Rattle.query_json.specs.Trees.{type_name, value_tree}
+use Rattle.answer_trees.specs.Trees.{type_name, value_tree}
 
 -- the quote after the key, and the other members
 abbrev pub behind_key : Value → List ℕ

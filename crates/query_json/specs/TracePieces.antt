@@ -7,7 +7,7 @@ use Rattle.query_json.specs.declared.writing.processes.NamedProcess.{NamedProces
 use Rattle.query_json.specs.declared.writing.trace.TraceItem.{TraceItem}
 use Rattle.query_json.specs.declared.writing.trace.TraceItem.TheVariants.{Copied, Lent, OneProcess}
 use Rattle.query_json.specs.NamedProcesses.{first_named, named_text}
-use Rattle.query_json.specs.Trees.{processes_of, span_tree, trace_id_text, trace_tree}
+use Rattle.answer_trees.specs.Trees.{processes_of, span_tree, trace_id_text, trace_tree}
 
 abbrev pub item_spans : TraceItem → List Shown
 item_spans (OneProcess spans) = spans

@@ -2,13 +2,14 @@
 ghost use Rattle.std.specs.Prelude.{◌≡◌, ◌<◌, ◌^◌, ◌∷◌, [], All, IfOk, IfSome, get_or, length, map};
 ghost use Rattle.serde_json.specs.Written.{compact_text};
 ghost use Rattle.query_json.specs.LentTraces.{IsWritable};
-ghost use Rattle.query_json.specs.Page.{Puts};
+ghost use Rattle.json_page.specs.Page.{Puts};
 ghost use Rattle.query_json.specs.Pieces.{AreWritable, item_pieces, item_trees, items_text};
 ghost use Rattle.query_json.specs.TracePieces.{item_spans, trace_pieces};
-ghost use Rattle.query_json.specs.Trees.{answer_tree, trace_tree};
+ghost use Rattle.answer_trees.specs.Trees.{answer_tree, trace_tree};
 
-use crate::writing::{Page, TraceItem, WriteItems};
+use crate::writing::{TraceItem, WriteItems};
 use jaeger_model::{Seq, TraceId};
+use json_page::Page;
 use std::alloc::{AllocError, Global};
 use trace_model::{Answer, AnsweredTrace, Link, Name, Operation};
 
@@ -102,6 +103,7 @@ impl Items {
         Items::Traces(Vec::new(alloc))
     }
 
+    /// Returns the number of items.
     pub(crate) fn count(&self) -> usize
         ensures count { result ≡ length (item_pieces self.now) }
         ensures bound { result < 2 ^ 63 }

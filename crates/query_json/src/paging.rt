@@ -2,14 +2,15 @@
 ghost use Rattle.std.specs.Prelude.{◌≡◌, ◌+◌, ◌^◌, ◌≤◌, ◌<◌, ◌⊎◌, ◌++◌, [], None, false, true, IfOk, OnOk, get_or, length};
 ghost use Rattle.serde_json.specs.Written.{compact_text};
 ghost use Rattle.query_json.specs.declared.paging.TheConstants.{PART_BYTES};
-ghost use Rattle.query_json.specs.Page.{Puts};
+ghost use Rattle.json_page.specs.Page.{Puts};
 ghost use Rattle.query_json.specs.Pieces.{AreWritable, item_trees, runs_of};
 ghost use Rattle.query_json.specs.Runs.{AllFit, Fills, PutsNext, end_text, front_text, left_at, runs_text};
-ghost use Rattle.query_json.specs.Trees.{answer_tree, items_tree};
+ghost use Rattle.answer_trees.specs.Trees.{answer_tree, items_tree};
 
 use crate::answer::{INITIAL_CAPACITY, not_found_bytes};
 use crate::items::Items;
-use crate::writing::{Page, begin_items, end_items, write_separator};
+use crate::writing::{begin_items, end_items, write_separator};
+use json_page::Page;
 use std::alloc::{AllocError, Global};
 use trace_model::Answer;
 
@@ -28,6 +29,7 @@ pub(crate) struct Position {
 }
 
 impl Position {
+    /// Returns the position of the first piece.
     fn first() -> Position
         ensures run { result.run ≡ 0 }
         ensures piece { result.piece ≡ 0 }
@@ -212,6 +214,7 @@ impl PagedAnswer {
         })
     }
 
+    /// Returns the text of these items, as one part if it isn't large.
     fn of_items(alloc: Global, items: Items) -> Result<PagedAnswer, AllocError>
         requires { AreWritable items }
         ensures ready { IfOk result IsReady }

@@ -3,7 +3,7 @@ ghost use Rattle.std.specs.Prelude.{◌≡◌, ◌+◌, ◌<◌, ◌^◌, [], �
 ghost use Rattle.serde_json.specs.Written.{compact_text};
 ghost use Rattle.query_json.specs.AnswerPages.{part_of, rest_of, IsReady};
 ghost use Rattle.query_json.specs.Parts.{to_come, IsEmptyOnlyAtEnd};
-ghost use Rattle.query_json.specs.Trees.{answer_tree};
+ghost use Rattle.answer_trees.specs.Trees.{answer_tree};
 
 use crate::paging::PagedAnswer;
 use std::alloc::{AllocError, Global};

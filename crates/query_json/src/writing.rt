@@ -1,8 +1,5 @@
 //! Writes the text of trees without building them.
 //!
-//! * `buffer`: bytes that grow at their end.
-//! * `page`: a text that grows piece by piece.
-//! * `plain`: whether a text needs no escape in a string.
 //! * `values`: tags, references, operations and links.
 //! * `ids`: the ids of traces and spans.
 //! * `processes`: the processes of a trace, and their names.
@@ -12,22 +9,19 @@
 ghost use Rattle.std.specs.Prelude.{◌≡◌, ◌<◌, List, get_or, length, map};
 ghost use Rattle.serde_json.specs.Data.{Data, null, string};
 ghost use Rattle.serde_json.specs.Written.{compact_text};
-ghost use Rattle.query_json.specs.Page.{Puts};
+ghost use Rattle.json_page.specs.Page.{Puts};
 ghost use Rattle.query_json.specs.Runs.{separator};
-ghost use Rattle.query_json.specs.Trees.{list};
+ghost use Rattle.answer_trees.specs.Trees.{list};
 
 mod answer;
-mod buffer;
 mod ids;
-mod page;
-mod plain;
 mod processes;
 mod span;
 mod trace;
 mod values;
 
 pub(crate) use answer::{begin_items, end_items, write_error};
-pub(crate) use page::Page;
+use json_page::Page;
 pub(crate) use trace::TraceItem;
 use trace_model::Name;
 
@@ -35,6 +29,7 @@ use trace_model::Name;
 pub(crate) trait WriteJson {
     ghost tree: { Self → Data };
 
+    /// Writes the compact text of the tree.
     fn write(&self, out: &mut Page)
         ensures { Puts out.old out.new (compact_text (tree self.now)) };
 }
@@ -47,6 +42,7 @@ pub(crate) trait WriteItems {
     fn count(&self) -> usize
         ensures { result ≡ length (trees self.now) };
 
+    /// Writes the item at the index.
     fn write_item(&self, out: &mut Page, index: usize)
         requires { index < length (trees self.now) }
         ensures { Puts out.old out.new (compact_text (get_or (trees self.now) index null)) };

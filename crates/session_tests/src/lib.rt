@@ -1,6 +1,7 @@
-//! Tests of sessions and of answers over HTTP (`query_json`, `query_http`, `session_devices`, `http_requests`,
-//! `http_session`, `pipe_session`, `open_connections`) that no case can be: devices that fail, requests in pieces,
-//! complete sessions over a store with one owner, and the memory for answers. `cases/` tests the bytes of sessions.
+//! Tests of sessions and of answers over HTTP (`answer_trees`, `query_json`, `query_http`, `session_devices`,
+//! `http_requests`, `http_session`, `pipe_session`, `open_connections`) that no case can be: devices that fail, requests
+//! in pieces, complete sessions over a store with one owner, and the memory for answers. `cases/` tests the bytes of
+//! sessions.
 //!
 //! * `queries`: the query of a target of each endpoint.
 //! * `responses`: the memory for a response.

@@ -4,7 +4,7 @@ use Rattle.std.specs.Fmt.{decimal}
 use Rattle.serde_json.specs.Written.{compact_text}
 use Rattle.trace_model.specs.declared.answer.Answer.{Answer}
 use Rattle.trace_model.specs.RefusalTexts.{refusal_text}
-use Rattle.query_json.specs.Trees.{answer_tree}
+use Rattle.answer_trees.specs.Trees.{answer_tree}
 use Rattle.schedule_core.specs.declared.outcome.Outcome.{Outcome}
 use Rattle.schedule_core.specs.declared.outcome.Outcome.TheVariants.{Put, Taken, Again, Refused, Idle, Published, Held, Entered, Answered, Learnt, Left, Inside}
 use Rattle.schedule_core.specs.declared.outcome.Outcome.TheVariants.{Outside, Unknown}

@@ -1,11 +1,11 @@
 //! The text of an outcome.
 ghost use Rattle.std.specs.Prelude.{◌≡◌, IfOk, string_bytes};
 ghost use Rattle.serde_json.specs.Written.{compact_text};
-ghost use Rattle.query_json.specs.Trees.{answer_tree};
+ghost use Rattle.answer_trees.specs.Trees.{answer_tree};
 ghost use Rattle.step_lines.specs.OutcomeLines.{outcome_line};
 
-use query_json::answer_json;
-use query_json::laws::trees_have_no_float;
+use answer_trees::answer_json;
+use answer_trees::laws::trees_have_no_float;
 use schedule_core::Outcome;
 use std::alloc::{AllocError, Global};
 use trace_model::Answer;

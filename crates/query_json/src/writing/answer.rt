@@ -1,9 +1,10 @@
+//! Writes the text around an answer's items, and errors.
 ghost use Rattle.serde_json.specs.Written.{compact_text};
-ghost use Rattle.query_json.specs.Page.{Puts};
+ghost use Rattle.json_page.specs.Page.{Puts};
 ghost use Rattle.query_json.specs.AnswerTexts.{head_text, tail_text};
-ghost use Rattle.query_json.specs.Trees.{error_tree};
+ghost use Rattle.answer_trees.specs.Trees.{error_tree};
 
-use super::Page;
+use json_page::Page;
 
 /// Writes the text before an answer's items.
 pub(crate) fn begin_items(out: &mut Page)

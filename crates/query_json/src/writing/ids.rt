@@ -1,11 +1,13 @@
+//! Writes the ids of traces and spans.
 ghost use Rattle.std.specs.Prelude.{[], ◌∷◌, ◌++◌};
 ghost use Rattle.serde_json.specs.Data.{string};
 ghost use Rattle.jaeger_model.specs.Ids.{low_digits, span_text};
-ghost use Rattle.query_json.specs.Page.{Puts};
-ghost use Rattle.query_json.specs.Trees.{id_tree};
+ghost use Rattle.json_page.specs.Page.{Puts};
+ghost use Rattle.answer_trees.specs.Trees.{id_tree};
 
-use super::{Page, WriteJson};
+use super::WriteJson;
 use jaeger_model::{SpanId, TraceId};
+use json_page::Page;
 
 impl WriteJson for SpanId {
     ghost tree = { λ id. string (span_text id) };

@@ -1,18 +1,20 @@
+//! The processes of a trace in the order of their names, and the text of each.
 ghost use Rattle.std.specs.Prelude.{◌≡◌, ◌+◌, ◌<◌, ◌^◌, ◌∷◌, List, [], All, IfOk, decimal, get_or, length, map, string_bytes};
 ghost use Rattle.std.specs.Bool.{OnTrue};
 ghost use Rattle.serde_json.specs.Data.{string};
 ghost use Rattle.serde_json.specs.Written.{compact_text};
 ghost use Rattle.trace_model.specs.declared.answer.Shown.{Shown};
-ghost use Rattle.query_json.specs.Page.{Puts};
-ghost use Rattle.query_json.specs.Trees.{process_tree};
+ghost use Rattle.json_page.specs.Page.{Puts};
+ghost use Rattle.answer_trees.specs.Trees.{process_tree};
 ghost use Rattle.query_json.specs.NamedProcesses.{AreNamed, HasSpan, first_named, named_at, named_text};
-ghost use Rattle.query_json.specs.ProcessNumbers.{IsFirst, first_process};
-ghost use Rattle.query_json.specs.TraceProcesses.{process_names};
+ghost use Rattle.answer_trees.specs.ProcessNumbers.{IsFirst, first_process};
+ghost use Rattle.answer_trees.specs.TraceProcesses.{process_names};
 
+use super::WriteJson;
 use super::values::write_tags;
-use super::{Page, WriteJson};
-use crate::naming::{FirstSpan, names};
+use answer_trees::{FirstSpan, names};
 use jaeger_model::Process;
+use json_page::Page;
 use std::alloc::{AllocError, Global};
 use std::collections::BTreeMap;
 use trace_adjust::{LentSpans, place_u32};
@@ -56,7 +58,7 @@ impl NamedProcess {
     }
 }
 
-/// Whether the process of the first span is the only one.
+/// Returns whether the process of the first span is the only one.
 pub(super) fn is_first_alone(processes: &[NamedProcess]) -> bool
     ensures { OnTrue result (processes.now ≡ first_named ∷ []) }
 {
@@ -116,7 +118,7 @@ pub(super) fn in_order(
 }
 
 /// Writes the name of the process with this number, as a JSON string.
-pub(super) fn write_name(out: &mut Page, number: u32)
+fn write_name(out: &mut Page, number: u32)
     ensures { Puts out.old out.new (compact_text (string (112 ∷ decimal number))) }
 {
     out.push_str("\"p");

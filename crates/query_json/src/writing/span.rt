@@ -5,13 +5,14 @@ ghost use Rattle.serde_json.specs.Written.{compact_text};
 ghost use Rattle.jaeger_model.specs.declared.batch.Process.{Process as ProcessValue};
 ghost use Rattle.span_steps.specs.Warnings.{warning_text, warning_texts};
 ghost use Rattle.trace_adjust.specs.LentSpans.{lent_log};
-ghost use Rattle.query_json.specs.Page.{Puts};
-ghost use Rattle.query_json.specs.Trees.{flags_number, log_tree, reference_tree, span_tree, warnings_tree};
-ghost use Rattle.query_json.specs.TraceProcesses.{process_place};
+ghost use Rattle.json_page.specs.Page.{Puts};
+ghost use Rattle.answer_trees.specs.Trees.{flags_number, log_tree, reference_tree, span_tree, warnings_tree};
+ghost use Rattle.answer_trees.specs.TraceProcesses.{process_place};
 
 use super::values::write_tags;
-use super::{Page, WriteItems, WriteJson, write_list};
-use crate::values::flags_number;
+use super::{WriteItems, WriteJson, write_list};
+use answer_trees::flags_number;
+use json_page::Page;
 use span_steps::Warning;
 use trace_adjust::{LentLog, LentLogs, LentSpan};
 
@@ -39,7 +40,7 @@ impl<'a> WriteItems for LentLogs<'a> {
     }
 }
 
-/// The references of a span, to be written.
+/// The references of a span, as items of a list.
 #[derive(Clone, Copy)]
 struct References<'s, 'a>(&'s LentSpan<'a>);
 
@@ -80,7 +81,7 @@ fn write_warning(out: &mut Page, warning: &Warning)
     }
 }
 
-/// Writes a list of the one warning, or null if there is none.
+/// Writes a list with the warning, or null if there is none.
 fn write_warnings(out: &mut Page, warning: &Option<Warning>)
     ensures { Puts out.old out.new (compact_text (warnings_tree (warning_texts warning.now))) }
 {
@@ -94,7 +95,7 @@ fn write_warnings(out: &mut Page, warning: &Option<Warning>)
     }
 }
 
-/// Writes the flags' 32 bits as an unsigned number. For the prover: they are given by reference, so that the caller
+/// Writes the flags' 32 bits as an unsigned number. For the prover: they are passed by reference, so that the caller
 /// doesn't read them.
 fn write_flags(out: &mut Page, flags: &i32)
     ensures { Puts out.old out.new (decimal (flags_number flags.now)) }

@@ -1,3 +1,4 @@
+//! Writes a trace piece by piece: each process and each span is one piece, and so are the texts around them.
 ghost use Rattle.std.specs.Prelude.{◌≡◌, ◌==◌, ◌+◌, ◌<◌, ◌^◌, ◌∷◌, [], All, IfOk, OnOk, get_or, length, map, string_bytes};
 ghost use Rattle.std.specs.List.{list_all};
 ghost use Rattle.serde_json.specs.Data.{string};
@@ -5,23 +6,23 @@ ghost use Rattle.serde_json.specs.Written.{compact_text};
 ghost use Rattle.trace_model.specs.KeptTraces.{kept_value, KeptShares};
 ghost use Rattle.query_json.specs.LentTraces.{IsNumbered, IsWritable};
 ghost use Rattle.query_json.specs.NamedProcesses.{AreNamed, first_named};
-ghost use Rattle.query_json.specs.Page.{Puts};
-ghost use Rattle.query_json.specs.ProcessNumbers.{IsFirst, first_process};
+ghost use Rattle.json_page.specs.Page.{Puts};
+ghost use Rattle.answer_trees.specs.ProcessNumbers.{IsFirst, first_process};
 ghost use Rattle.query_json.specs.TracePieces.{close_text, item_spans, pieces_of, span_pieces, span_text_in, trace_pieces};
-ghost use Rattle.query_json.specs.Trees.{processes_of, trace_id_text, trace_tree};
-ghost use Rattle.query_json.specs.TraceProcesses.{process_place};
+ghost use Rattle.answer_trees.specs.Trees.{processes_of, trace_id_text, trace_tree};
+ghost use Rattle.answer_trees.specs.TraceProcesses.{process_place};
 
 use super::processes::{NamedProcess, in_order, is_first_alone, write_process};
 use super::span::write_span;
-use super::{Page, WriteJson, write_separator};
-use crate::naming::{FirstSpan, lent_places};
-use crate::tree::Tree;
+use super::{WriteJson, write_separator};
+use answer_trees::{FirstSpan, Tree, lent_places};
+use json_page::Page;
 use std::alloc::{AllocError, Global};
 use std::snapshot::Snapshot;
 use trace_adjust::{LentSpans, lend};
 use trace_model::{AnsweredTrace, KeptTrace, ShownTrace, TraceForm};
 
-/// Writes the id of a trace, that of its first span.
+/// Writes the id of a trace, which is that of its first span.
 fn write_id(out: &mut Page, spans: &LentSpans)
     ensures { Puts out.old out.new (compact_text (string (trace_id_text spans.now))) }
 {
@@ -245,6 +246,7 @@ pub(crate) struct CopiedTrace {
 }
 
 impl CopiedTrace {
+    /// Builds the tree of the trace, and keeps its text.
     fn new(alloc: Global, copied: &ShownTrace) -> Result<CopiedTrace, AllocError>
         ensures spans { IfOk result (λ t. t.spans.value ≡ copied.now) }
         ensures text { IfOk result (λ t.
@@ -268,7 +270,7 @@ pub(crate) enum TraceItem {
     Copied(CopiedTrace),
 }
 
-/// Whether each place is 0.
+/// Returns whether each place is 0.
 fn are_zero(places: &[u32]) -> bool
     ensures { result ≡ list_all (λ p. p == 0) places.now }
 {

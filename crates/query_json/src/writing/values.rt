@@ -1,13 +1,15 @@
+//! Writes tags, references, operations and links.
 ghost use Rattle.std.specs.Prelude.{◌≡◌, ◌∷◌, ◌++◌, codes, map};
 ghost use Rattle.json.specs.Print.{quoted};
 ghost use Rattle.serde_json.specs.Written.{compact_text};
 ghost use Rattle.jaeger_model.specs.Tags.{flag_text};
-ghost use Rattle.query_json.specs.Page.{Puts};
+ghost use Rattle.json_page.specs.Page.{Puts};
 ghost use Rattle.query_json.specs.Tags.{after_tag, behind_key, from_key};
-ghost use Rattle.query_json.specs.Trees.{kind_name, link_tree, list, operation_tree, reference_tree, tag_tree};
+ghost use Rattle.answer_trees.specs.Trees.{kind_name, link_tree, list, operation_tree, reference_tree, tag_tree};
 
-use super::{Page, WriteJson};
+use super::WriteJson;
 use jaeger_model::{RefKind, SpanRef, Tag, TagValue, ValueRef};
+use json_page::Page;
 use trace_model::{Link, Operation};
 
 /// What follows a tag in a list of tags. It is written together with the end of the tag's text.

@@ -1,5 +1,5 @@
 use Rattle.std.proofs.Common.{◌≡◌, []}
-use Rattle.query_json.proofs.Pages.{finished, finished_utf8}
+use Rattle.json_page.proofs.Pages.{finished, finished_utf8}
 use Rattle.query_json.proofs.answer.error_bytes.Goals as goal
 
 pub returns-clause-text : goal.returns-clause-text

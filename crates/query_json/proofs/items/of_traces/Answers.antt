@@ -1,5 +1,5 @@
 use Rattle.std.proofs.Common.{◌∙◌, ap, map}
-use Rattle.query_json.specs.Trees.{trace_tree}
+use Rattle.answer_trees.specs.Trees.{trace_tree}
 use Rattle.query_json.proofs.Pieces.{trees_of}
 use Rattle.query_json.proofs.items.of_traces.Goals as goal
 

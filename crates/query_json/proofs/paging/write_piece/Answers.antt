@@ -1,7 +1,7 @@
 use Rattle.std.proofs.Common.{◌≡◌, ◌<◌, ◌+◌, ◌-◌, ◌∙◌, ◌∷◌, ℕ, [], List, ap, arith, get_or, length, refl, suc, sym, zero}
 use Rattle.query_json.specs.Pieces.{item_pieces, runs_of}
 use Rattle.query_json.specs.Runs.{separator}
-use Rattle.query_json.proofs.Pages.{Puts-is}
+use Rattle.json_page.proofs.Pages.{Puts-is}
 use Rattle.query_json.proofs.Runs.{length_runs, run_at, run_end}
 use Rattle.query_json.proofs.paging.write_piece.Goals as goal
 

@@ -1,4 +1,4 @@
-use Rattle.query_json.proofs.Pages.{◌▸◌}
+use Rattle.json_page.proofs.Pages.{◌▸◌}
 use Rattle.query_json.proofs.paging.write_start.Goals as goal
 
 pub returns : goal.returns

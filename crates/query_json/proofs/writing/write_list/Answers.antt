@@ -2,8 +2,9 @@ use Rattle.std.proofs.Common.{◌<◌, ap, arith, length}
 use Rattle.std.proofs.lemmas.List.{drop_more, map-id}
 use Rattle.serde_json.specs.Data.{Data, null}
 use Rattle.serde_json.specs.Written.{compact_text}
-use Rattle.query_json.specs.Trees.{list}
-use Rattle.query_json.proofs.Pages.{◌▸◌, Going-over, Puts-is, list_begun}
+use Rattle.answer_trees.specs.Trees.{list}
+use Rattle.json_page.proofs.Pages.{◌▸◌, Puts-is}
+use Rattle.query_json.proofs.Pages.{Going-over, list_begun}
 use Rattle.query_json.proofs.ListWalks.{Going-next}
 use Rattle.query_json.proofs.writing.write_list.Goals as goal
 

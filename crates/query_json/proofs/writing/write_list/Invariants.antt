@@ -1,7 +1,7 @@
 use Rattle.std.proofs.Common.{map, drop}
 use Rattle.serde_json.specs.Data.{Data}
 use Rattle.serde_json.specs.Written.{compact_text}
-use Rattle.query_json.specs.Trees.{list}
+use Rattle.answer_trees.specs.Trees.{list}
 use Rattle.query_json.proofs.Pages.{Going}
 use Rattle.query_json.proofs.writing.write_list.Given as goal
 

@@ -1,7 +1,7 @@
 use Rattle.std.proofs.Common.{◌≡◌, ◌∙◌, false, ap}
 use Rattle.serde_json.specs.View.{view}
 use Rattle.serde_json.specs.Written.{compact_text, has_float}
-use Rattle.query_json.specs.Trees.{answer_tree}
+use Rattle.answer_trees.specs.Trees.{answer_tree}
 use Rattle.step_lines.proofs.outcome.json_text.Goals as goal
 
 pub returns : goal.returns

@@ -2,7 +2,7 @@ use Rattle.std.proofs.Common.{◌≡◌, ◌+◌, ◌≤◌, ◌++◌, ◌∙◌
 use Rattle.std.specs.Prelude.{unwrap_or}
 use Rattle.query_json.specs.declared.paging.PagedAnswer.{PagedAnswer}
 use Rattle.query_json.specs.declared.paging.TheConstants.{PART_BYTES}
-use Rattle.query_json.specs.declared.writing.page.Page.{Page}
+use Rattle.json_page.specs.declared.page.Page.{Page}
 use Rattle.query_json.specs.AnswerPages.{HasRoom, IsReady, left_of}
 use Rattle.query_json.specs.Pieces.{runs_of}
 use Rattle.query_json.specs.Runs.{Fills, left_at, runs_text}

@@ -3,7 +3,7 @@ use Rattle.std.proofs.lemmas.Result.{IfOk-weaker}
 use Rattle.query_json.specs.AnswerPages.{part_of}
 use Rattle.query_json.specs.Pieces.{item_pieces, runs_of}
 use Rattle.query_json.specs.Runs.{front_text, left_at, runs_text}
-use Rattle.query_json.proofs.Pages.{◌▸◌}
+use Rattle.json_page.proofs.Pages.{◌▸◌}
 use Rattle.query_json.proofs.Pieces.{whole_text}
 use Rattle.query_json.proofs.Runs.{left_first, left_none, length_runs, put_items}
 use Rattle.query_json.proofs.paging.PagedAnswer.of_items.Goals as goal

@@ -1,4 +1,4 @@
-use Rattle.query_json.proofs.Pages.{◌▸◌}
+use Rattle.json_page.proofs.Pages.{◌▸◌}
 use Rattle.query_json.proofs.writing.answer.end_items.Goals as goal
 
 pub returns : goal.returns

@@ -2,7 +2,7 @@ use Rattle.std.proofs.Common.{ap}
 use Rattle.std.specs.Fmt.{decimal, digits}
 use Rattle.json.specs.Print.{escape_byte}
 use Rattle.query_json.proofs.Answers.{error_text}
-use Rattle.query_json.proofs.Pages.{◌▸◌, Puts-is}
+use Rattle.json_page.proofs.Pages.{◌▸◌, Puts-is}
 use Rattle.query_json.proofs.writing.answer.write_error.Goals as goal
 
 pub returns : goal.returns

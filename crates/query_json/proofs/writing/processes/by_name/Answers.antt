@@ -5,13 +5,13 @@ use Rattle.std.proofs.lemmas.List.Elements.{All-get_or}
 use Rattle.std.proofs.Math.Numerals.{add-one}
 use Rattle.serde_json.specs.Data.{Members, put}
 use Rattle.trace_model.specs.declared.answer.Shown.{Shown}
-use Rattle.query_json.specs.declared.naming.FirstSpan.{FirstSpan}
-use Rattle.query_json.specs.ProcessNames.{process_name}
+use Rattle.answer_trees.specs.declared.naming.FirstSpan.{FirstSpan}
+use Rattle.answer_trees.specs.ProcessNames.{process_name}
 use Rattle.query_json.specs.NamedProcesses.{named_at, named_members}
-use Rattle.query_json.specs.ProcessNumbers.{IsFirst, first_process}
-use Rattle.query_json.specs.Trees.{process_tree, processes_by_name}
+use Rattle.answer_trees.specs.ProcessNumbers.{IsFirst, first_process}
+use Rattle.answer_trees.specs.Trees.{process_tree, processes_by_name}
 use Rattle.query_json.proofs.NamedProcesses.{AreKeyed, Entry, HaveSpans, first_tree, first_within, have_all, have_insert, keyed_insert, named_insert}
-use Rattle.query_json.proofs.ProcessNames.{name_at}
+use Rattle.answer_trees.proofs.ProcessNames.{name_at}
 use Rattle.query_json.proofs.writing.processes.by_name.Goals as goal
 
 pub loop-place-preserved : goal.loop-place-preserved

@@ -3,8 +3,8 @@ use Rattle.std.specs.Prelude.{All}
 use Rattle.serde_json.specs.Data.{no_members}
 use Rattle.trace_model.specs.declared.answer.Shown.{Shown}
 use Rattle.query_json.specs.NamedProcesses.{named_members}
-use Rattle.query_json.specs.ProcessNumbers.{IsFirst, first_process}
-use Rattle.query_json.specs.Trees.{processes_by_name}
+use Rattle.answer_trees.specs.ProcessNumbers.{IsFirst, first_process}
+use Rattle.answer_trees.specs.Trees.{processes_by_name}
 use Rattle.query_json.proofs.NamedProcesses.{AreKeyed, HaveSpans}
 use Rattle.query_json.proofs.writing.processes.by_name.Given as goal
 

@@ -1,6 +1,6 @@
 use Rattle.std.proofs.Common.{map, subst, sym}
 use Rattle.query_json.specs.NamedProcesses.{AreNamed}
-use Rattle.query_json.specs.ProcessNumbers.{first_process}
+use Rattle.answer_trees.specs.ProcessNumbers.{first_process}
 use Rattle.query_json.proofs.writing.processes.in_order.Goals as goal
 
 pub returns : goal.returns

@@ -1,8 +1,8 @@
 use Rattle.std.proofs.Common.{◌∷◌, ◌++◌, ◌∙◌, [], ℕ, List, ap, sym}
 use Rattle.std.specs.Fmt.{decimal}
 use Rattle.json.specs.Print.{escape_byte}
-use Rattle.query_json.proofs.Escapes.{escape_decimal}
-use Rattle.query_json.proofs.Pages.{◌▸◌, Puts-is}
+use Rattle.json_page.proofs.Escapes.{escape_decimal}
+use Rattle.json_page.proofs.Pages.{◌▸◌, Puts-is}
 use Rattle.query_json.proofs.writing.processes.write_name.Goals as goal
 
 pub returns : goal.returns

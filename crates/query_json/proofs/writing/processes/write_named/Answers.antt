@@ -5,8 +5,8 @@ use Rattle.json.specs.Print.{quoted}
 use Rattle.serde_json.specs.Data.{null}
 use Rattle.serde_json.specs.Written.{compact_text}
 use Rattle.query_json.specs.NamedProcesses.{name_of, process_tree_at, shown_process_tree}
-use Rattle.query_json.specs.Trees.{process_tree}
-use Rattle.query_json.proofs.Pages.{◌▸◌, Puts-is}
+use Rattle.answer_trees.specs.Trees.{process_tree}
+use Rattle.json_page.proofs.Pages.{◌▸◌, Puts-is}
 use Rattle.query_json.proofs.writing.processes.write_named.Goals as goal
 
 pub returns : goal.returns

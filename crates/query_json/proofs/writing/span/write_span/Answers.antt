@@ -3,10 +3,11 @@ use Rattle.std.specs.Fmt.{decimal, signed_decimal}
 use Rattle.json.specs.Print.{escape, escape_byte, quoted}
 use Rattle.serde_json.specs.Written.{compact_text}
 use Rattle.jaeger_model.specs.Ids.{span_text, trace_text}
-use Rattle.query_json.specs.Trees.{flags_number, list, log_tree, span_tree, tag_tree, warnings_tree}
+use Rattle.answer_trees.specs.Trees.{flags_number, list, log_tree, span_tree, tag_tree, warnings_tree}
 use Rattle.query_json.proofs.Numbers.{integer_text}
-use Rattle.query_json.specs.TraceProcesses.{process_place}
-use Rattle.query_json.proofs.Pages.{◌▸◌, Puts-is, put_tree-text}
+use Rattle.answer_trees.specs.TraceProcesses.{process_place}
+use Rattle.json_page.proofs.Pages.{◌▸◌, Puts-is}
+use Rattle.query_json.proofs.Pages.{put_tree-text}
 use Rattle.query_json.proofs.SpanTexts.{named_put}
 use Rattle.query_json.proofs.writing.span.write_span.Goals as goal
 

@@ -1,7 +1,7 @@
 use Rattle.std.proofs.Common.{◌∙◌, ap, sym}
 use Rattle.json.specs.Print.{quoted}
 use Rattle.span_steps.specs.Warnings.{warning_text}
-use Rattle.query_json.proofs.Pages.{◌▸◌, Puts-is}
+use Rattle.json_page.proofs.Pages.{◌▸◌, Puts-is}
 use Rattle.query_json.proofs.Warnings.{adjusted_text, past_limit_text, past_times_text}
 use Rattle.query_json.proofs.writing.span.write_warning.Goals as goal
 

@@ -1,8 +1,8 @@
 use Rattle.std.proofs.Common.{ap, sym}
 use Rattle.serde_json.specs.Written.{compact_text}
 use Rattle.span_steps.specs.Warnings.{warning_texts}
-use Rattle.query_json.specs.Trees.{warnings_tree}
-use Rattle.query_json.proofs.Pages.{◌▸◌, Puts-is}
+use Rattle.answer_trees.specs.Trees.{warnings_tree}
+use Rattle.json_page.proofs.Pages.{◌▸◌, Puts-is}
 use Rattle.query_json.proofs.writing.span.write_warnings.Goals as goal
 
 pub returns-in-Some : goal.returns-in-Some

@@ -1,10 +1,10 @@
 use Rattle.std.proofs.Common.{◌≡◌, ◌∙◌, List, ap, map, subst, sym}
 use Rattle.std.specs.Prelude.{All}
 use Rattle.jaeger_model.specs.declared.batch.Process.{Process}
-use Rattle.query_json.specs.declared.naming.FirstSpan.{FirstSpan}
+use Rattle.answer_trees.specs.declared.naming.FirstSpan.{FirstSpan}
 use Rattle.query_json.specs.NamedProcesses.{AreNamed}
-use Rattle.query_json.specs.ProcessNumbers.{IsFirst, first_process}
-use Rattle.query_json.specs.Trees.{processes_of}
+use Rattle.answer_trees.specs.ProcessNumbers.{IsFirst, first_process}
+use Rattle.answer_trees.specs.Trees.{processes_of}
 use Rattle.query_json.proofs.writing.trace.named_processes.Goals as goal
 
 pub returns-clause-processes : goal.returns-clause-processes

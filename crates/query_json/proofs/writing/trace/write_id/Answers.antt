@@ -5,8 +5,8 @@ use Rattle.serde_json.specs.Data.{string}
 use Rattle.serde_json.specs.Written.{compact_text}
 use Rattle.jaeger_model.specs.Ids.{trace_text}
 use Rattle.trace_model.specs.declared.answer.Shown.{Shown}
-use Rattle.query_json.specs.Trees.{trace_id_text}
-use Rattle.query_json.proofs.Pages.{Puts-is}
+use Rattle.answer_trees.specs.Trees.{trace_id_text}
+use Rattle.json_page.proofs.Pages.{Puts-is}
 use Rattle.query_json.proofs.writing.trace.write_id.Goals as goal
 
 id_of : (ss : List Shown) (s : Shown) → 0 < length ss → get_or ss 0 s ≡ s → trace_text s.placed.span.trace ≡ trace_id_text ss

@@ -1,7 +1,7 @@
 use Rattle.std.proofs.Common.{ap, sym, append_assoc}
 use Rattle.json.specs.Print.{escape}
 use Rattle.query_json.specs.Tags.{after_tag, behind_key}
-use Rattle.query_json.proofs.Pages.{◌▸◌, Puts-is}
+use Rattle.json_page.proofs.Pages.{◌▸◌, Puts-is}
 use Rattle.query_json.proofs.writing.values.write_from_key.Goals as goal
 
 pub returns : goal.returns

@@ -1,6 +1,6 @@
 use Rattle.std.proofs.Common.{map, drop}
 use Rattle.serde_json.specs.Written.{compact_text}
-use Rattle.query_json.specs.Trees.{list, tag_tree}
+use Rattle.answer_trees.specs.Trees.{list, tag_tree}
 use Rattle.query_json.proofs.TagTexts.{Opened}
 use Rattle.query_json.proofs.writing.values.write_tags.Given as goal
 

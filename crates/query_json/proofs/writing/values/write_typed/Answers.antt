@@ -3,7 +3,7 @@ use Rattle.std.specs.Fmt.{signed_decimal}
 use Rattle.jaeger_model.specs.declared.tag_value.ValueRef.{ValueRef}
 use Rattle.jaeger_model.specs.StoredValues.{borrowed_value}
 use Rattle.query_json.specs.Tags.{after_tag, behind_key}
-use Rattle.query_json.proofs.Pages.{◌▸◌, Puts-is}
+use Rattle.json_page.proofs.Pages.{◌▸◌, Puts-is}
 use Rattle.query_json.proofs.TagTexts.{bytes_then, double_then, flag_then, long_then, text_then}
 use Rattle.query_json.proofs.writing.values.write_typed.Goals as goal
 

@@ -1,7 +1,7 @@
 use Rattle.std.proofs.Common.{◌∷◌, ◌++◌, [], ℕ, List, ap, sym}
 use Rattle.jaeger_model.specs.Ids.{span_text}
-use Rattle.query_json.proofs.Escapes.{escape_low_digits}
-use Rattle.query_json.proofs.Pages.{Puts-is}
+use Rattle.json_page.proofs.Escapes.{escape_low_digits}
+use Rattle.json_page.proofs.Pages.{Puts-is}
 use Rattle.query_json.proofs.writing.ids.SpanIdWriteJson.write.Goals as goal
 
 pub returns : goal.returns

@@ -1,7 +1,7 @@
 use Rattle.std.proofs.Common.{◌∷◌, ◌++◌, ◌∙◌, [], ℕ, List, ap, sym}
-use Rattle.query_json.proofs.Escapes.{escape_trace_text}
-use Rattle.query_json.proofs.HexIds.{long_text, short_text}
-use Rattle.query_json.proofs.Pages.{Puts-is}
+use Rattle.json_page.proofs.Escapes.{escape_trace_text}
+use Rattle.json_page.proofs.HexIds.{long_text, short_text}
+use Rattle.json_page.proofs.Pages.{Puts-is}
 use Rattle.query_json.proofs.writing.ids.TraceIdWriteJson.write.Goals as goal
 
 pub returns-then-self-eq0 : goal.returns-then-self-eq0

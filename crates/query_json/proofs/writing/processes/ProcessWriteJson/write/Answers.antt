@@ -1,6 +1,7 @@
 use Rattle.json.specs.Print.{escape_byte}
-use Rattle.query_json.specs.Trees.{process_tree}
-use Rattle.query_json.proofs.Pages.{◌▸◌, Puts-is, put_tree-text}
+use Rattle.answer_trees.specs.Trees.{process_tree}
+use Rattle.json_page.proofs.Pages.{◌▸◌, Puts-is}
+use Rattle.query_json.proofs.Pages.{put_tree-text}
 use Rattle.query_json.proofs.writing.processes.ProcessWriteJson.write.Goals as goal
 
 pub returns : goal.returns

@@ -1,9 +1,10 @@
 use Rattle.std.proofs.Common.{sym}
 use Rattle.json.specs.Print.{escape_byte}
 use Rattle.trace_adjust.specs.LentSpans.{lent_log}
-use Rattle.query_json.specs.Trees.{log_tree}
+use Rattle.answer_trees.specs.Trees.{log_tree}
 use Rattle.query_json.proofs.Numbers.{integer_text}
-use Rattle.query_json.proofs.Pages.{◌▸◌, Puts-is, put_tree-text}
+use Rattle.json_page.proofs.Pages.{◌▸◌, Puts-is}
+use Rattle.query_json.proofs.Pages.{put_tree-text}
 use Rattle.query_json.proofs.writing.span.LentLogWriteJson.write.Goals as goal
 
 pub returns : goal.returns

@@ -1,8 +1,9 @@
 use Rattle.std.proofs.Common.{ap}
 use Rattle.serde_json.specs.Written.{compact_text}
 use Rattle.trace_adjust.specs.LentSpans.{lent_log}
-use Rattle.query_json.specs.Trees.{log_tree}
-use Rattle.query_json.proofs.Pages.{Puts-is, tree_at}
+use Rattle.answer_trees.specs.Trees.{log_tree}
+use Rattle.json_page.proofs.Pages.{Puts-is}
+use Rattle.query_json.proofs.Pages.{tree_at}
 use Rattle.query_json.proofs.writing.span.LentLogsWriteItems.write_item.Goals as goal
 
 pub returns : goal.returns

@@ -1,7 +1,8 @@
 use Rattle.std.proofs.Common.{ap}
 use Rattle.serde_json.specs.Written.{compact_text}
-use Rattle.query_json.specs.Trees.{reference_tree}
-use Rattle.query_json.proofs.Pages.{Puts-is, tree_at}
+use Rattle.answer_trees.specs.Trees.{reference_tree}
+use Rattle.json_page.proofs.Pages.{Puts-is}
+use Rattle.query_json.proofs.Pages.{tree_at}
 use Rattle.query_json.proofs.writing.span.ReferencesWriteItems.write_item.Goals as goal
 
 pub returns : goal.returns

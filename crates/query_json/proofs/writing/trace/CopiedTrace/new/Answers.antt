@@ -1,8 +1,8 @@
 use Rattle.std.proofs.Common.{◌≡◌, ◌∙◌, false, ap}
 use Rattle.serde_json.specs.View.{view}
 use Rattle.serde_json.specs.Written.{compact_text, has_float}
-use Rattle.query_json.specs.Trees.{trace_tree}
-use Rattle.query_json.proofs.NoFloat.{trace_no}
+use Rattle.answer_trees.specs.Trees.{trace_tree}
+use Rattle.answer_trees.proofs.NoFloat.{trace_no}
 use Rattle.query_json.proofs.writing.trace.CopiedTrace.new.Goals as goal
 
 pub returns-clause-text : goal.returns-clause-text

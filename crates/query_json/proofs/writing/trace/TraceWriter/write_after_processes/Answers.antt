@@ -1,7 +1,7 @@
 use Rattle.std.proofs.Common.{◌≡◌, ◌<◌, ◌≤◌, ◌-◌, ◌∷◌, ◌∙◌, [], ap, arith, get_or, length, map, sym}
 use Rattle.std.proofs.lemmas.List.{length-map}
 use Rattle.query_json.specs.TracePieces.{between_text, close_text, span_text_in}
-use Rattle.query_json.proofs.Pages.{◌▸◌, Puts-is}
+use Rattle.json_page.proofs.Pages.{◌▸◌, Puts-is}
 use Rattle.query_json.proofs.TracePieces.{length_pieces, piece_behind, piece_first, piece_listed}
 use Rattle.query_json.proofs.writing.trace.TraceWriter.write_after_processes.Goals as goal
 

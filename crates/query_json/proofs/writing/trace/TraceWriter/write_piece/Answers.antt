@@ -2,7 +2,7 @@ use Rattle.std.proofs.Common.{◌≡◌, ◌<◌, ◌≤◌, ◌-◌, arith, len
 use Rattle.std.proofs.lemmas.List.{length-map}
 use Rattle.query_json.specs.NamedProcesses.{named_text}
 use Rattle.query_json.specs.TracePieces.{open_text, span_pieces}
-use Rattle.query_json.proofs.Pages.{◌▸◌, Puts-is}
+use Rattle.json_page.proofs.Pages.{◌▸◌, Puts-is}
 use Rattle.query_json.proofs.TracePieces.{piece_behind, piece_first, piece_listed}
 use Rattle.query_json.proofs.writing.trace.TraceWriter.write_piece.Goals as goal
 

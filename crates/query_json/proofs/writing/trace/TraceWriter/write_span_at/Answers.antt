@@ -2,9 +2,9 @@ use Rattle.std.proofs.Common.{◌≡◌, ◌+◌, ◌∙◌, [], ap, arith, get_
 use Rattle.std.proofs.lemmas.List.{get_or-map}
 use Rattle.std.proofs.lemmas.Option.{get_or_from_slice_get}
 use Rattle.query_json.specs.TracePieces.{span_text_in}
-use Rattle.query_json.specs.Trees.{processes_of}
-use Rattle.query_json.specs.TraceProcesses.{process_place}
-use Rattle.query_json.proofs.Pages.{Puts-is}
+use Rattle.answer_trees.specs.Trees.{processes_of}
+use Rattle.answer_trees.specs.TraceProcesses.{process_place}
+use Rattle.json_page.proofs.Pages.{Puts-is}
 use Rattle.query_json.proofs.writing.trace.TraceWriter.write_span_at.Goals as goal
 
 pub returns : goal.returns

@@ -1,0 +1,5 @@
+pub mod DistinctProcesses
+pub mod NoFloat
+pub mod PlacesByKeys
+pub mod ProcessNames
+mod Rows

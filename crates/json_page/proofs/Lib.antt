@@ -1,0 +1,3 @@
+pub mod Escapes
+pub mod HexIds
+pub mod Pages

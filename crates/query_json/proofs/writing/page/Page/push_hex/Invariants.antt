@@ -1,8 +1,0 @@
-use Rattle.std.proofs.Common.{◌≡◌, ◌++◌, List, ℕ, drop}
-use Rattle.jaeger_model.specs.Tags.{hex_text}
-use Rattle.query_json.specs.Page.{Puts}
-use Rattle.query_json.proofs.writing.page.Page.push_hex.Given as goal
-
-abbrev pub invariant-loop-byte : goal.invariant-loop-byte
-invariant-loop-byte l =
-    (front : List ℕ) × Puts l.fn.self l.self front × (front ++ hex_text (drop l.byte-index l.bytes) ≡ hex_text l.bytes)
