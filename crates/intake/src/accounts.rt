@@ -6,7 +6,6 @@ ghost use Rattle.intake.specs.Books.{acknowledged, refused};
 use crate::account::Account;
 use read_side::{CountedLog, EmptyLog};
 use std::marker::Model;
-use std::sync::Wait;
 
 /// The greatest number of accounts.
 const MAX_ACCOUNTS: u64 = 1 << 62;
@@ -67,7 +66,7 @@ impl Accounts {
         self.count() - self.acknowledged
     }
 
-    /// Whether there is no room for another account.
+    /// Returns whether there is no room for another account.
     pub fn is_full(&self) -> bool
         ensures { IsTrue result ↔ (2 ^ 62 ≤ length self.now) }
     {
@@ -76,11 +75,11 @@ impl Accounts {
 
     /// Appends an account. Allocates nothing.
     #[tactic(auto, using(crate::proofs::ClerkAccounts::both_counted))]
-    pub(crate) fn add<R: Wait>(&mut self, rt: &R, account: &Account)
+    pub(crate) fn add(&mut self, account: &Account)
         requires { length self.old < 2 ^ 62 }
         ensures { self.new ≡ self.old ++ account.now ∷ [] }
     {
-        self.log.add(rt, account);
+        self.log.add(account);
         if account.answer.is_ok() {
             self.acknowledged += 1;
         }

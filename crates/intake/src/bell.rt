@@ -42,7 +42,7 @@ impl Bell {
         wakes
     }
 
-    /// Whether it rings within this number of spins.
+    /// Returns whether it rings within this number of spins.
     fn rings_soon(&self, rings: u64, spins: u32) -> bool {
         for _ in 0..spins {
             if self.rings() != rings {

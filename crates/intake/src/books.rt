@@ -28,7 +28,7 @@ pub struct Books<N: StoreName> {
     pub inbox: Inbox<N>,
 }
 
-/// Whether the entry is the seat's job with this number.
+/// Returns whether the entry is the seat's job with this number.
 fn is_job(entry: &Entry, seat: u16, number: u64) -> bool
     ensures { result ≡ is_job seat number entry.now }
 {

@@ -189,7 +189,7 @@ impl<N: StoreName> Clerk<N> {
             number,
             answer: place_or_refusal(&answer),
         };
-        self.accounts.add(rt, &account);
+        self.accounts.add(&account);
         let job_answer = JobAnswer { answer };
         self.ending.shared.store_answer(rt, seat, &slot, job_answer);
         Ok(Turn::Served { seat, number })

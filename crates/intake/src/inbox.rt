@@ -82,7 +82,7 @@ impl<N: StoreName> Inbox<N> {
         }
     }
 
-    /// Whether the seat's job with this number was taken. There is no job with the number 0.
+    /// Returns whether the seat's job with this number was taken. There is no job with the number 0.
     pub(crate) fn has_taken(&self, seat: u16, number: u64) -> bool
         ensures { result ≡ ((number == 0) || has_job seat number self.now.taken) }
     {

@@ -5,14 +5,14 @@ use mathlib.Core.Option.{some-ne-none}
 use mathlib.Core.List.{IsPrefix}
 use Rattle.crossbeam_utils.specs.Register.{Admits, Turns, TurnsAt}
 use Rattle.atomic_table.proofs.Lists.{at_set, at_snoc}
-use Rattle.logbook.specs.Pages.{Book}
+use Rattle.read_side.specs.CountedLogs.{LogBook}
 use Rattle.trace_model.specs.declared.entry.Entry.{Entry}
 use Rattle.trace_model.specs.declared.limits.Limits.{Limits}
 use Rattle.trace_model.proofs.Prefixes.{prefix_self, prefix_trans, prefix_length, prefix_grown, take_whole}
 use Rattle.read_side.specs.CopyRules.{Sees, Holds}
 use Rattle.read_side.specs.Copies.{CopyValue}
 
-pub admits : (b : Book) (l : Limits) → Admits (Holds b l) []
+pub admits : (b : LogBook) (l : Limits) → Admits (Holds b l) []
 admits b l x views h = record {
   book = h.book;
   limits = h.limits;
@@ -23,7 +23,7 @@ admits b l x views h = record {
 }
 
 -- the published list grows from x to y, which this reader has then seen
-pub turns : (b : Book) (l : Limits) (seat : ℕ) (v : List Entry) (x y : CopyValue) → IsPrefix x.entries y.entries
+pub turns : (b : LogBook) (l : Limits) (seat : ℕ) (v : List Entry) (x y : CopyValue) → IsPrefix x.entries y.entries
     → (Holds b l x [] → (y.book ≡ b) × (y.limits ≡ l) × (y.log ≡ y.entries)) → TurnsAt (Holds b l) seat v x y (Sees b l)
 turns b l seat v x y more fits views h at =
     let f = fits (record { book = h.book; limits = h.limits; log = h.log; begins = λ j u e. absurd (some-ne-none u (sym e)) }) in (
@@ -39,7 +39,7 @@ turns b l seat v x y more fits views h at =
       (prefix_trans v x.entries y.entries (h.begins seat v at) more, refl, f.2, f.0, f.1),
     )
 
-pub enters : (b : Book) (l : Limits) (seat : ℕ) (v : List Entry) → Turns (Holds b l) seat v (λ x. x) (Sees b l)
+pub enters : (b : LogBook) (l : Limits) (seat : ℕ) (v : List Entry) → Turns (Holds b l) seat v (λ x. x) (Sees b l)
 enters b l seat v x = turns b l seat v x x (prefix_self x.entries) (λ h. (h.book, h.limits, h.log))
 
 -- what a reader knows after it entered x
@@ -55,6 +55,6 @@ entered own learnt v x log log' a b p c q d r =
     ((let P : List Entry → Type 0 = λ z. IsPrefix (take (max own learnt) log) z in subst P same grown), same)
 
 -- two empty copies keep the rule, with the writer's own view
-pub starts : (b : Book) (l : Limits) (x : CopyValue) → x.book ≡ b → x.limits ≡ l → x.entries ≡ [] → x.log ≡ [] → Holds b l x ([] ∷ [])
+pub starts : (b : LogBook) (l : Limits) (x : CopyValue) → x.book ≡ b → x.limits ≡ l → x.entries ≡ [] → x.log ≡ [] → Holds b l x ([] ∷ [])
 starts b l x book limits entries log =
     admits b l x [] (record { book = book; limits = limits; log = log ∙ sym entries; begins = λ j u e. absurd (some-ne-none u (sym e)) })

@@ -1,12 +1,12 @@
 -- A keeper whose writer has got a change that changes nothing.
 use Rattle.std.proofs.Common.{◌≡◌, List, [], ◌++◌, Option, Some, refl, sym, ◌∙◌, subst}
 use Rattle.std.specs.Option.{IsSome}
-use Rattle.logbook.specs.Pages.{Book}
+use Rattle.read_side.specs.CountedLogs.{LogBook}
 use Rattle.trace_model.specs.declared.entry.Entry.{Entry}
 use Rattle.read_side.specs.Copies.{AddedEntry, Follow, entries_of}
 use Rattle.read_side.specs.Keepers.{of_option}
 
-module _ {W : Type 0} (book : Book) (shown : W → List Entry) (waits : W → List (Option AddedEntry)) (before after : Option W) (old new : W)
+module _ {W : Type 0} (book : LogBook) (shown : W → List Entry) (waits : W → List (Option AddedEntry)) (before after : Option W) (old new : W)
     (unsent : List (Option AddedEntry)) (entries : List Entry)
     (was : before ≡ Some old) (is : after ≡ Some new) (same : shown new ≡ shown old) where
   pub has_writer : IsSome after

@@ -1,5 +1,6 @@
 pub mod Copies
 pub mod CountedLogs
+pub mod LogSteps
 pub mod CopyRules
 pub mod Keepers
 pub mod Receipts

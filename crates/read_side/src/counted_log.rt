@@ -1,112 +1,147 @@
-//! A list that only grows at its end, and whose length is in one atomic word.
-ghost use Rattle.std.specs.Prelude.{◌≡◌, ◌<◌, ◌^◌, [], length, MatchBool};
-ghost use Rattle.read_side.specs.CountedLogs.{first_word, with_item};
+//! A list that only grows at its end, and that only its owner adds to.
+ghost use Rattle.std.specs.Prelude.{◌≡◌, ◌<◌, ◌^◌, [], length};
+ghost use mathlib.Core.List.{IsPrefix};
+ghost use Rattle.logbook.specs.Pages.{may_write};
+ghost use Rattle.read_side.specs.CountedLogs.{with_item};
+ghost use Rattle.read_side.specs.LogSteps.{first_word, LacksKey};
 
-use logbook::{Gain, Offer, Plain, Play, Rule, Seen, Start, Word};
+use crate::log_steps::{
+    AddLink, KeyRule, Link, LinkRule, LookAtAll, MakeWord, NewLink, NoLink, NoTrade,
+};
+use logbook::{Offer, Pen, Seen, Start, Word};
 use std::marker::Model;
-use std::sync::Wait;
 
-/// The rule of the list: its word has the number of its items.
-pub struct CountedRule;
-
-impl<T> Rule<T, u64> for CountedRule {
-    ghost use Rattle.std.specs.Prelude.{[]};
-    ghost use base.Fml.{ftrue};
-    ghost use Rattle.read_side.specs.CountedLogs.{IsCounted};
-
-    ghost holds = { λ cells log. IsCounted cells log };
-
-    ghost first = { [] };
-
-    ghost hinted = { λ n log. Unit {0} };
-
-    ghost shows = { λ log. [] };
-
-    ghost keeps = { λ names log. ftrue };
-
-    ghost moves = { λ ask before after answer. Unit {0} };
+/// A prefix of a list, which was seen. It has no size.
+#[derive(Drop)]
+pub struct SeenLog<T> {
+    seen: Seen<Link<T>, u64, LinkRule>,
+    /// The key of the first link.
+    first: Seen<u64, u64, KeyRule>,
 }
 
-/// The trade of the step that adds an item: nothing.
-pub struct NoTrade;
+impl<T> Model for SeenLog<T> {
+    ghost use Rattle.read_side.specs.CountedLogs.{SeenValue};
+    ghost use Rattle.read_side.specs.LogSteps.{items_from, book_at, key_in};
 
-impl<T> Gain<T, u64> for NoTrade {
-    ghost use base.Fml.{ftrue};
+    ghost Value = { SeenValue T };
 
-    ghost after = { λ names about answer. ftrue };
+    ghost view = { λ s. record { book = book_at s.seen.book s.first.log; log = items_from (key_in s.first.log) s.seen.log } };
 }
 
-/// The step that adds an item.
-pub struct Append;
+impl<T> SeenLog<T> {
+    /// Returns a copy.
+    pub fn again(&self) -> SeenLog<T>
+        ensures { result ≡ self.now }
+    {
+        SeenLog {
+            seen: self.seen.again(),
+            first: self.first.again(),
+        }
+    }
 
-impl<T> Play<T, u64> for Append {
-    ghost use Rattle.read_side.specs.CountedLogs.{Adds};
-
-    ghost then = { Adds };
+    /// Learns what the other one has seen of the same list. What either had seen is a prefix of what it has seen then.
+    pub fn learn(&mut self, other: &SeenLog<T>)
+        requires { other.now.book ≡ self.old.book }
+        ensures book { self.new.book ≡ self.old.book }
+        ensures own { IsPrefix self.old.log self.new.log }
+        ensures other { IsPrefix other.now.log self.new.log }
+    {
+        self.seen.learn(&other.seen);
+    }
 }
 
-impl<T> Plain<T, T, u64> for Append {
-    ghost use Rattle.std.specs.Prelude.{None};
+/// A list, and the right by which its one owner adds to it.
+#[derive(Drop)]
+pub struct CountedLog<T> {
+    /// The word that each step goes through. Its number means nothing.
+    head: Word<Link<T>, u64, LinkRule>,
+    seen: Seen<Link<T>, u64, LinkRule>,
+    /// The key of the first link.
+    first: Seen<u64, u64, KeyRule>,
+    /// The pen for the next link's word. Nobody else has it, so that nobody else can add a link.
+    pen: Pen,
+    len: u64,
+}
 
-    ghost ask = { λ e. e };
+impl<T> Model for CountedLog<T> {
+    ghost use Rattle.read_side.specs.CountedLogs.{LogValue};
+    ghost use Rattle.read_side.specs.LogSteps.{items_from, book_at, key_in, IsOwned};
 
-    ghost state = { λ e. None };
+    ghost Value = { LogValue T };
+
+    ghost view = { λ l. record { book = book_at l.seen.book l.first.log; items = items_from (key_in l.first.log) l.seen.log } };
+
+    ghost invariant = { λ l. IsOwned l.head l.seen.book l.seen.log (key_in l.first.log) l.pen.book l.pen.nib l.len };
 }
 
 /// An empty list.
 #[derive(Drop)]
 pub struct EmptyLog<T> {
-    pub head: Word<T, u64, CountedRule>,
-    pub seen: Seen<T, u64, CountedRule>,
-    pub ghost empty: { seen.log ≡ [] },
-    pub ghost head_is: { head ≡ first_word seen.book },
+    pub log: CountedLog<T>,
+    pub ghost empty: { log.items ≡ [] },
 }
 
 impl<T> EmptyLog<T> {
     /// Makes an empty list.
     pub fn new() -> EmptyLog<T> {
-        let (seen, mut first, _second) = Seen::open(Start::alone(), 0, 0);
         EmptyLog {
-            head: Word::tracked(0, &mut first),
-            seen,
+            log: CountedLog::start(),
         }
     }
 }
 
-/// A list, and the word by which its one owner appends to it.
-#[derive(Drop)]
-pub struct CountedLog<T> {
-    head: Word<T, u64, CountedRule>,
-    seen: Seen<T, u64, CountedRule>,
-    len: u64,
-}
-
-impl<T> Model for CountedLog<T> {
-    ghost use Rattle.std.specs.Prelude.{◌≡◌, length};
-    ghost use Rattle.read_side.specs.CountedLogs.{LogValue, first_word};
-
-    ghost Value = { LogValue T };
-
-    ghost view = { λ l. record { book = l.seen.book; items = l.seen.log } };
-
-    ghost invariant = { λ l. (l.len ≡ length l.seen.log) × (l.head ≡ first_word l.seen.book) };
+/// Returns a new pen. No link that was seen has its key.
+fn new_pen<T>(head: &Word<Link<T>, u64, LinkRule>, seen: &mut Seen<Link<T>, u64, LinkRule>) -> Pen
+    requires { head.now ≡ first_word seen.old.book }
+    ensures book { result.book ≡ seen.old.book }
+    ensures right { result.nib.right ≡ may_write }
+    ensures key { LacksKey result.nib.key seen.new.log }
+    ensures seen { seen.new.book ≡ seen.old.book }
+{
+    let mut offer: Offer<Link<T>, u64, LinkRule, NoTrade> = seen.plain::<NoTrade, NoLink, NoLink>(
+        &NoLink,
+    );
+    let mut pen = seen.no_pen();
+    head.compare_exchange::<MakeWord, NoTrade>(0, 0, seen, &mut offer, &mut pen);
+    // Nobody reads the word: only the right to write it counts.
+    let _word: Word<Link<T>, u64, LinkRule> = Word::tracked(0, &mut pen);
+    pen
 }
 
 impl<T> CountedLog<T> {
     /// Takes an empty list over.
     pub fn new(empty: EmptyLog<T>) -> CountedLog<T>
-        ensures { result ≡ record { book = empty.seen.book; items = [] } }
+        ensures { result ≡ record { book = empty.log.book; items = [] } }
     {
-        let EmptyLog { head, seen } = empty;
-        CountedLog { head, seen, len: 0 }
+        empty.log
+    }
+
+    /// Starts a list in a book of its own.
+    fn start() -> CountedLog<T>
+        ensures { result.items ≡ [] }
+    {
+        let (mut seen, mut head_pen, _second) = Seen::open(Start::alone(), 0, 0);
+        let head = Word::tracked(0, &mut head_pen);
+        let pen = new_pen(&head, &mut seen);
+        let (first, _none) = Seen::open_row::<Pen, KeyRule>(&pen, Start::alone(), 0);
+        CountedLog {
+            head,
+            seen,
+            first,
+            pen,
+            len: 0,
+        }
     }
 
     /// Returns what was added so far, to be compared with what others have seen.
-    pub fn seen(&self) -> Seen<T, u64, CountedRule>
+    pub fn seen(&self) -> SeenLog<T>
         ensures items { result.log ≡ self.now.items }
         ensures book { result.book ≡ self.now.book }
     {
-        self.seen.again()
+        SeenLog {
+            seen: self.seen.again(),
+            first: self.first.again(),
+        }
     }
 
     /// Returns the number of items.
@@ -116,38 +151,41 @@ impl<T> CountedLog<T> {
         self.len
     }
 
-    /// Appends an item. Returns false, with nothing added, only if another owner had added an item; there is no
-    /// other.
-    fn try_add(&mut self, item: &T) -> bool
-        requires { length self.old.items < 2 ^ 62 }
-        ensures { MatchBool result (self.new ≡ with_item self.old item.now) (self.new ≡ self.old) }
-    {
-        let mut seen = self.seen.again();
-        let mut offer: Offer<T, u64, CountedRule, NoTrade> = seen.plain::<NoTrade, T, Append>(item);
-        let mut pen = seen.no_pen();
-        let len = self.len;
-        let found = self
-            .head
-            .compare_exchange::<Append, NoTrade>(len, len + 1, &mut seen, &mut offer, &mut pen);
-        if found != len {
-            return false;
-        }
-        self.seen = seen;
-        self.len = len + 1;
-        true
-    }
-
     /// Appends an item. Allocates nothing.
-    pub fn add<R: Wait>(&mut self, rt: &R, item: &T)
+    pub fn add(&mut self, item: &T)
         requires { length self.old.items < 2 ^ 62 }
         ensures { self.new ≡ with_item self.old item.now }
     {
-        // Impossible: a second try. Nobody else adds items.
-        for _ in rt.forever() {
-            if self.try_add(item) {
-                return;
-            }
-        }
-        unreachable!()
+        let next = new_pen(&self.head, &mut self.seen.again());
+        let link = NewLink {
+            item,
+            pen: &self.pen,
+            next: &next,
+        };
+        let mut offer: Offer<Link<T>, u64, LinkRule, NoTrade> = self
+            .seen
+            .plain::<NoTrade, NewLink<'_, T>, AddLink>(&link);
+        self.head
+            .compare_exchange::<AddLink, NoTrade>(0, 0, &mut self.seen, &mut offer, &mut self.pen);
+        self.pen = next;
+        self.len += 1;
+    }
+
+    /// Makes sure that what was seen of this list is a prefix of it, since only its owner adds to it. It changes
+    /// nothing, and allocates nothing.
+    pub fn includes(&mut self, seen: &SeenLog<T>)
+        requires { seen.now.book ≡ self.old.book }
+        ensures same { self.new ≡ self.old }
+        ensures prefix { IsPrefix seen.now.log self.old.items }
+    {
+        let mut both = self.seen.again();
+        both.learn(&seen.seen);
+        let mut offer: Offer<Link<T>, u64, LinkRule, NoTrade> = both.plain::<
+            NoTrade,
+            NoLink,
+            NoLink,
+        >(&NoLink);
+        self.head
+            .compare_exchange::<LookAtAll, NoTrade>(0, 0, &mut both, &mut offer, &mut self.pen);
     }
 }

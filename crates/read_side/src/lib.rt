@@ -7,7 +7,8 @@
 //! shortens the longest list, and each answer is the plain store's for a list of which that is a prefix. A
 //! [`Held`] stays inside, so that all its answers are of one list.
 //!
-//! * `counted_log`: a list that only grows at its end, as the history does: [`CountedLog`].
+//! * `counted_log`: a list that only grows at its end, as the history does: [`CountedLog`]. `log_steps`: the steps by
+//!   which only its owner adds to it.
 //! * `history`: the name of a store, and a history that belongs to no store yet.
 //! * `store_copy`: one copy of the store, and what a publish changes in it.
 //! * `rule`: the invariant of the copies and of their readers.
@@ -22,6 +23,7 @@ mod held;
 mod history;
 mod keeper;
 pub mod laws;
+mod log_steps;
 mod opening;
 mod pass;
 mod prefix;
@@ -30,7 +32,7 @@ mod receipt;
 mod rule;
 mod store_copy;
 
-pub use counted_log::{CountedLog, EmptyLog};
+pub use counted_log::{CountedLog, EmptyLog, SeenLog};
 pub use held::Held;
 pub use history::{EmptyHistory, StoreName};
 pub use keeper::Keeper;

@@ -45,7 +45,7 @@ pub fn open<N: StoreName, R: Wait>(
     readers: usize,
 ) -> Result<(Keeper<N>, Vec<Pass<N>>), Refusal>
     requires readers { (1 ≤ readers) × (readers ≤ MAX_READERS) }
-    requires book { history.seen.book ≡ N.book }
+    requires book { history.log.book ≡ N.book }
     requires limits { limits ≡ N.limits }
     ensures keeper { IfOk result (λ r. r.0 ≡ no_entries) }
     ensures passes { IfOk result (λ r. All (λ p. p ≡ new_pass) r.1.items) }

@@ -3,9 +3,8 @@ ghost use Rattle.std.specs.Prelude.{◌≡◌, ◌≤◌, ◌<◌, ◌⊎◌, le
 ghost use mathlib.Core.List.{IsPrefix};
 ghost use Rattle.trace_model.specs.Histories.{IsLegal};
 
-use crate::counted_log::CountedRule;
+use crate::counted_log::SeenLog;
 use crate::history::StoreName;
-use logbook::Seen;
 use std::marker::{Model, PhantomData};
 use trace_model::Entry;
 
@@ -15,7 +14,7 @@ use trace_model::Entry;
 /// Contracts see its entries, which are legal. Of any two of one store, one is a prefix of the other.
 #[derive(Drop)]
 pub struct HistoryPrefix<N: StoreName> {
-    seen: Seen<Entry, u64, CountedRule>,
+    seen: SeenLog<Entry>,
     len: u64,
     of: PhantomData<N>,
 }
@@ -35,7 +34,7 @@ impl<N: StoreName> Model for HistoryPrefix<N> {
 
 impl<N: StoreName> HistoryPrefix<N> {
     /// The first `len` entries of what was seen of the history.
-    pub(crate) fn new(seen: Seen<Entry, u64, CountedRule>, len: u64) -> HistoryPrefix<N>
+    pub(crate) fn new(seen: SeenLog<Entry>, len: u64) -> HistoryPrefix<N>
         requires book { seen.book ≡ N.book }
         requires within { len ≤ length seen.log }
         requires legal { IsLegal N.limits (take len seen.log) }
@@ -67,7 +66,15 @@ impl<N: StoreName> HistoryPrefix<N> {
         }
     }
 
-    /// Whether it is a prefix of the other one. If it is not, the other one is a proper prefix of it.
+    /// Returns what was seen of the history. It is a prefix of it.
+    pub(crate) fn seen(&self) -> &SeenLog<Entry>
+        ensures book { result.now.book ≡ N.book }
+        ensures list { self.now ≡ take (length self.now) result.now.log }
+    {
+        &self.seen
+    }
+
+    /// Returns whether it is a prefix of the other one. If it is not, the other one is a proper prefix of it.
     pub fn is_prefix_of(&self, other: &HistoryPrefix<N>) -> bool
         ensures { MatchBool result (IsPrefix self.now other.now)
             (IsPrefix other.now self.now × (length other.now < length self.now)) }

@@ -5,10 +5,9 @@ ghost use Rattle.trace_model.specs.Histories.{IsLegal};
 ghost use Rattle.trace_model.specs.Answers.{answer};
 ghost use Rattle.read_side.specs.Copies.{changed};
 
-use crate::counted_log::CountedRule;
+use crate::counted_log::SeenLog;
 use arrival_journal::Record;
 use left_right::Absorb;
-use logbook::Seen;
 use span_store::{Collected, SpanStore};
 use std::alloc::AllocError;
 use std::marker::Model;
@@ -18,7 +17,7 @@ use trace_model::{Admission, Entry, Query, Refusal};
 #[derive(Drop)]
 pub struct StoreCopy {
     store: SpanStore,
-    seen: Seen<Entry, u64, CountedRule>,
+    seen: SeenLog<Entry>,
 }
 
 impl Model for StoreCopy {
@@ -34,7 +33,7 @@ impl Model for StoreCopy {
 pub struct Change {
     entry: Option<Record>,
     /// The history that ends with the entry.
-    seen: Seen<Entry, u64, CountedRule>,
+    seen: SeenLog<Entry>,
 }
 
 impl Model for Change {
@@ -48,7 +47,7 @@ impl Model for Change {
 
 impl StoreCopy {
     /// Makes a copy of a store, which has seen this much of the history.
-    pub fn new(store: SpanStore, seen: Seen<Entry, u64, CountedRule>) -> StoreCopy
+    pub fn new(store: SpanStore, seen: SeenLog<Entry>) -> StoreCopy
         ensures { result ≡ record {
           limits = store.limits;
           entries = store.entries;
@@ -68,7 +67,7 @@ impl StoreCopy {
     }
 
     /// Returns what it has seen of the history.
-    pub fn seen(&self) -> &Seen<Entry, u64, CountedRule>
+    pub fn seen(&self) -> &SeenLog<Entry>
         ensures log { result.now.log ≡ self.now.log }
         ensures book { result.now.book ≡ self.now.book }
     {
@@ -90,14 +89,14 @@ impl StoreCopy {
 
 impl Change {
     /// Makes a change that changes nothing.
-    pub fn nothing(seen: Seen<Entry, u64, CountedRule>) -> Change
+    pub fn nothing(seen: SeenLog<Entry>) -> Change
         ensures { result ≡ None }
     {
         Change { entry: None, seen }
     }
 
     /// Makes a change that adds an entry, with the history that ends with it.
-    pub fn add(entry: Record, seen: Seen<Entry, u64, CountedRule>) -> Change
+    pub fn add(entry: Record, seen: SeenLog<Entry>) -> Change
         ensures { result ≡ Some (record { entry = entry; log = seen.log; book = seen.book }) }
     {
         Change {

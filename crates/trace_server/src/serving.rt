@@ -293,7 +293,7 @@ fn serve_named<
     setup: &ServerSetup<'_, G>,
     output: &mut W,
 ) -> ExitStatus
-    requires book { history.seen.book ≡ N.book }
+    requires book { history.log.book ≡ N.book }
     requires limits { limits ≡ N.limits }
     requires output_works { W.has_failed output.old ≡ false }
     ensures { RunsServer (serving_of setup.now.config.now.options.host limits

@@ -88,7 +88,7 @@ impl<N: StoreName> SharedStore<N> {
         limits: Limits,
         config: &ServerConfig,
     ) -> Result<SharedStore<N>, Refusal>
-        requires book { history.seen.book ≡ N.book }
+        requires book { history.log.book ≡ N.book }
         requires limits { limits ≡ N.limits }
         ensures keeper { IfOk result (λ h. h.keeper ≡ no_entries) }
         ensures clerk { IfOk result (λ h. IsNewClerk h.clerk) }

@@ -77,7 +77,7 @@ fn live_bytes<N: StoreName + Send + Sync, R: Threads + Wait + Abort + Sync>(
     limits: Limits,
     sent: &[u8],
 ) -> Result<MemoryOutput, Fail>
-    requires book { history.seen.book ≡ N.book }
+    requires book { history.log.book ≡ N.book }
     requires limits { limits ≡ N.limits }
 {
     let (mut keeper, mut passes) = open::<N, _>(rt, alloc, keys, history, limits, 1)?;

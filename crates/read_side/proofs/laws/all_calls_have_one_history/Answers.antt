@@ -1,4 +1,4 @@
-use Rattle.std.proofs.Common.{◌≡◌, ◌∙◌, ap, sym, length, List, take, Some}
+use Rattle.std.proofs.Common.{◌∙◌, ap, sym, length, List}
 use Rattle.trace_model.specs.declared.entry.Entry.{Entry}
 use Rattle.trace_model.specs.Answers.{answer}
 use Rattle.trace_model.specs.Refusals.{refusal_of}

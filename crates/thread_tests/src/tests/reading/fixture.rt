@@ -98,7 +98,7 @@ fn played<N: StoreName + Send + Sync, R: Threads + Wait + RandomSource + Sync>(
     readers: usize,
     row: Row,
 ) -> Result<Outcome, Fail>
-    requires store { (name.seen.book ≡ N.book) × (limits ≡ N.limits) }
+    requires store { (name.log.book ≡ N.book) × (limits ≡ N.limits) }
     requires readers { (1 ≤ readers) × (readers ≤ 64) }
 {
     let keys = RandomState::new(rt)?;

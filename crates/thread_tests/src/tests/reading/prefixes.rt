@@ -26,8 +26,8 @@ pub fn prefixes_compared<N: StoreName, R: Wait>(
     let two = keeper.admit(rt, sent_entry(alloc, 2, 2, 2)?)?;
     let known = pass.history();
     let all = keeper.history();
-    keeper.includes(rt, &one.history());
-    keeper.includes(rt, &known);
+    keeper.includes(&one.history());
+    keeper.includes(&known);
     let lengths = [none.len(), known.len(), one.history().len(), all.len()];
     let longest = longest(&none, &[two.history(), known.again()]);
     Ok(

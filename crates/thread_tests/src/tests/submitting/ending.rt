@@ -544,7 +544,7 @@ fn round<N: StoreName + Send + Sync, R: Threads + Wait + Abort + RandomSource + 
     limits: Limits,
     ending: Ending,
 ) -> Result<bool, Fail>
-    requires { (name.seen.book ≡ N.book) × (limits ≡ N.limits) }
+    requires { (name.log.book ≡ N.book) × (limits ≡ N.limits) }
 {
     let Fixture {
         keeper,

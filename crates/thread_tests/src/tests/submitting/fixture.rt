@@ -59,7 +59,7 @@ pub(crate) fn opened<N: StoreName, R: Wait + RandomSource>(
     readers: usize,
     capacity: usize,
 ) -> Result<Fixture<N>, Fail>
-    requires store { (name.seen.book ≡ N.book) × (limits ≡ N.limits) }
+    requires store { (name.log.book ≡ N.book) × (limits ≡ N.limits) }
     requires readers { (1 ≤ readers) × (readers ≤ 64) }
     requires queue { (1 ≤ capacity) × (capacity ≤ 4096) }
     ensures seats { IfOk result (λ f. All (IsNewSeat f.clerk.desk capacity) f.seats.items) }
@@ -92,7 +92,7 @@ pub fn played<N: StoreName + Send + Sync, R: Threads + Wait + RandomSource + Syn
     capacity: usize,
     row: Row,
 ) -> Result<bool, Fail>
-    requires store { (name.seen.book ≡ N.book) × (limits ≡ N.limits) }
+    requires store { (name.log.book ≡ N.book) × (limits ≡ N.limits) }
     requires queue { (1 ≤ capacity) × (capacity ≤ 4096) }
 {
     let fixture = opened::<N, _>(rt, alloc, name, limits, 2, capacity)?;

@@ -1,4 +1,4 @@
-use Rattle.std.proofs.Common.{◌≡◌, ◌≤◌, length, rules}
+use Rattle.std.proofs.Common.{◌≤◌, length, rules}
 use mathlib.Core.List.{IsPrefix}
 use Rattle.read_side.proofs.GrowingLists.{one_begins}
 use Rattle.read_side.proofs.prefix.HistoryPrefix.is_prefix_of.Goals as goal
