@@ -1,5 +1,5 @@
 -- A list that leaves an entry out, beside the list that is known.
-use Rattle.std.proofs.Common.{◌≡◌, ◌<◌, Bool, true, false, List, length, inl, inr}
+use Rattle.std.proofs.Common.{◌<◌, Bool, true, false, List, length, inl, inr}
 use Rattle.std.specs.Prelude.{MatchBool}
 use mathlib.Core.List.{IsPrefix}
 use Rattle.trace_model.specs.declared.entry.Entry.{Entry}

@@ -1,5 +1,5 @@
 -- The keeper's refusal of an entry is true of all that it had accepted.
-use Rattle.std.proofs.Common.{◌≡◌, ℕ, List, refl, subst, sym, ap, ◌∙◌, ⊎_elim, Some, None, Option, Result, Ok, Err}
+use Rattle.std.proofs.Common.{◌≡◌, List, refl, subst, sym, ap, ⊎_elim, Some, None, Option, Result, Ok, Err}
 use Rattle.std.specs.Option.{unwrap_or}
 use Rattle.std.specs.Result.{result_err}
 use Rattle.trace_model.specs.declared.admission.Admission.{Admission}

@@ -1,14 +1,20 @@
-use Rattle.std.proofs.Common.{rules}
+use Rattle.std.proofs.Common.{List, subst, sym, ap, ◌∙◌}
+use Rattle.trace_model.specs.declared.entry.Entry.{Entry}
+use Rattle.read_side.specs.Keepers.{accepted}
+use Rattle.intake.specs.Denials.{IsLeftOut}
 use Rattle.intake.proofs.TrueDenials.{refused-left-out}
 use Rattle.intake.proofs.clerk.judge_entry.Goals as goal
 
 pub returns-in_default-clause-denied : goal.returns-in_default-clause-denied
 returns-in_default-clause-denied g c =
-    let out = refused-left-out g.N.StoreName.limits c.receipt.new.self c.args.entry c.refusal_without_receipt.result c.receipt.new.self
-    c.refusal_without_receipt.ensures in
-    search (rules, out)
+    let why = c.refusal_without_receipt.result in
+    let out = refused-left-out g.N.StoreName.limits c.receipt.new.self c.args.entry why c.receipt.new.self c.refusal_without_receipt.ensures in
+    let same = ap accepted c.receipt.ensures.same ∙ sym c.history-accepted.ensures in
+    subst (λ (list : List Entry). IsLeftOut g.N.StoreName.limits list c.args.entry why) same out
 
 pub returns-in-Err-clause-denied : goal.returns-in-Err-clause-denied
 returns-in-Err-clause-denied g c =
-    let out = refused-left-out g.N.StoreName.limits c.receipt.new.self c.args.entry c.in-Err.refusal c.admit_record.new.self c.in-Err.ensures.refused in
-    search (rules, out)
+    let why = c.in-Err.refusal in
+    let out = refused-left-out g.N.StoreName.limits c.receipt.new.self c.args.entry why c.admit_record.new.self c.in-Err.ensures.refused in
+    let same = ap accepted c.receipt.ensures.same ∙ sym c.history-accepted.ensures in
+    subst (λ (list : List Entry). IsLeftOut g.N.StoreName.limits list c.args.entry why) same out

@@ -1,4 +1,4 @@
-use Rattle.std.proofs.Common.{◌≡◌, ◌∙◌, rules, subst, inr}
+use Rattle.std.proofs.Common.{◌∙◌, subst, inr}
 use mathlib.Core.List.{IsPrefix}
 use Rattle.trace_model.specs.declared.entry.Work.TheVariants as brings
 use Rattle.intake.specs.Seats.{next_job}
