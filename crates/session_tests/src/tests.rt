@@ -2,14 +2,10 @@
 
 mod answers;
 mod chunked;
-mod devices;
 mod large;
-mod parts;
-mod pieces;
 mod pipes;
-mod queries;
+mod reads;
 mod refusals;
-mod requests;
-mod responses;
+mod sessions;
 mod slow_readers;
 mod turns;

@@ -1,17 +1,13 @@
-//! Tests of the store, of its indexes of a list of entries, and of what computes its answers. Its worked rows are in
+//! Tests of the store as the plain store of its entries, and of what computes its answers. Its worked rows are in
 //! `cases/`.
 //!
 //! * `limits`: the text of a refusal.
-//! * `journals`: `arrival_journal`.
-//! * `tables`: `IdTable`.
-//! * `rings`: `trace_ring`, `trace_assembly`.
-//! * `stores`: `span_store`, queried as the plain store of its entries.
+//! * `stores`: `span_store`, queried as the plain store of its entries, and the memory for it.
 //! * `collisions`: ids and names that a key doesn't spread.
 //! * `large`: a store of many entries.
-//! * `searches`: `find_traces`, and a search of the store.
-//! * `adjusters`: `trace_adjust`.
-//! * `entries`, `queries`, `replays`, `histories`, `shown`: entries and queries for these, the answers of stores, and
-//!   what an answer shows.
+//! * `adjusters`: `trace_adjust`, with a long chain.
+//! * `entries`, `queries`, `replays`, `shown`: entries and queries for these, the answers of stores, and what an answer
+//!   shows.
 //! * `sameness`: whether a store answers as the plain store.
 #![tactic(auto)]
 

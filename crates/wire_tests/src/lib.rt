@@ -1,9 +1,8 @@
-//! Tests of the wire format and of the values of a trace: examples for `thrift_binary`, `jaeger_model`,
-//! `batch_codec` and `batch_feeder`, whose expected values come from the protocol's description and from Apache Thrift.
-//! What `get` and `pipe` print for batches, each fault included, is in `cases/`.
+//! Tests of the wire format: examples for `thrift_binary`, `batch_codec` and `batch_feeder`, whose expected values come
+//! from the protocol's description and from Apache Thrift. What `get` and `pipe` print for batches, each fault included,
+//! is in `cases/`.
 //!
-//! * `thrift_values`: single values of the protocol, read, written and skipped.
-//! * `trace_values`: ids, tags, texts and lists, and the form of a batch in the store.
+//! * `fault_texts`: the texts of faults that no command prints.
 //! * `batch_bytes`: encoding batches, and running out of memory. `piece_faults` tests sizes that claim too much.
 //! * `apache`: the numbers of batches as Apache Thrift encodes them.
 //! * `large`: a body of more than two megabytes.

@@ -2,9 +2,8 @@
 
 mod apache;
 mod batch_bytes;
+mod fault_texts;
 mod large;
 mod piece_cuts;
 mod piece_faults;
 mod piece_samples;
-mod thrift_values;
-mod trace_values;

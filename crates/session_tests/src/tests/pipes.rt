@@ -1,15 +1,14 @@
-use batch_codec::decode;
-use http_session::{EndReason, Ended, SessionError, SessionErrorKind};
-use pipe_session::{Direct, pipe};
-use session_devices::{MemoryInput, MemoryOutput, Output};
-use span_store::SpanStore;
+//! Complete sessions of three requests, with devices that return and take a few bytes at a time or fail, and one in
+//! which memory runs out.
+
+use crate::tests::sessions::{
+    AMPLE, Devices, Seen, closed_by_client, is_played, joined, played, unread, unwritten,
+};
+use http_session::SessionErrorKind;
+use session_devices::Output;
 use std::alloc::Global;
 use std::hash::RandomState;
-use std::mem::drop;
-use std::sync::Arc;
 use std::test::*;
-use trace_model::{Entry, Limits};
-use trace_samples::beside;
 use trace_samples::exchanges::{
     ACCEPTED, BATCH, NO_SERVICES, ONE_SERVICE, ONE_SPAN, POST, SERVICES, TRACE,
 };
@@ -35,11 +34,6 @@ const ROWS_SHORT_OF_MEMORY: [[&[u8]; 3]; 4] = [
     [ACCEPTED, NO_MEMORY, ONE_SPAN],
     [ACCEPTED, ONE_SERVICE, NO_MEMORY],
 ];
-
-/// Concatenates the parts.
-pub(crate) fn joined(alloc: Global, parts: &[&[u8]]) -> Result<Vec<u8>, Fail> {
-    Ok(parts.concat(alloc)?)
-}
 
 /// Returns the bytes of the three requests.
 fn three_requests(alloc: Global) -> Result<Vec<u8>, Fail> {
@@ -81,99 +75,32 @@ fn whole_responses(bytes: usize) -> (u64, u64) {
     (count, left as u64)
 }
 
-/// Opens a store for ten batches.
-pub(crate) fn empty_store(alloc: Global, keys: RandomState) -> Result<Direct, Fail> {
-    let limits = Limits::new(10, 100, 0, 0).ok_or("limits")?;
-    Ok(Direct::new(SpanStore::open(alloc, keys, limits)?))
-}
-
-/// The result of a session over an empty store.
-#[derive(Drop)]
-pub(crate) struct Seen {
-    /// How it ended.
-    pub(crate) ended: Result<Ended, SessionError>,
-    /// Its output.
-    pub(crate) output: MemoryOutput,
-    /// The number of entries in the store at the end.
-    pub(crate) entries: usize,
-    /// The store has the batch at place 1, and nothing else.
-    pub(crate) has_the_batch: bool,
-}
-
-/// Plays a session over a store. The input returns a number of bytes per call and fails at a certain call. The output
-/// takes a number of bytes per call, and fails once its room is used.
-fn played_over(
-    alloc: Global,
-    store: &mut Direct,
-    bytes: &[u8],
-    (step, fails_at): (usize, u64),
-    (room, taken): (usize, usize),
-) -> (Result<Ended, SessionError>, MemoryOutput) {
-    let mut input = MemoryInput::new(bytes, step, fails_at);
-    let mut output = MemoryOutput::new(alloc, room, taken);
-    let ended = pipe(alloc, &mut input, &mut output, store);
-    (ended, output)
-}
-
-/// Like `played_over`, over a new, empty store.
-pub(crate) fn played(
-    alloc: Global,
-    keys: RandomState,
-    bytes: &[u8],
-    reads: (usize, u64),
-    writes: (usize, usize),
-) -> Result<Seen, Fail> {
-    let mut store = empty_store(alloc, keys)?;
-    let (ended, output) = played_over(alloc, &mut store, bytes, reads, writes);
-    let store = store.into_store();
-    let entries = store.entries().len();
-    let has_the_batch = has_the_batch(alloc, store.entries());
-    drop(store);
-    let (output, has_the_batch) = beside(output, has_the_batch)?;
-    Ok(Seen {
-        ended,
-        output,
-        entries,
-        has_the_batch,
-    })
-}
-
-/// Returns whether the entries are the batch that was sent, and nothing else.
-fn has_the_batch(alloc: Global, entries: &[Arc<Entry>]) -> Result<bool, Fail> {
-    let sent = decode(alloc, BATCH)?;
-    let said = match entries {
-        [entry] => entry.work.batch().is_some_and(|batch| batch.is_same(&sent)),
-        _ => false,
-    };
-    drop(sent);
-    Ok(said)
-}
-
-/// The three requests were answered, and the input ended after them.
-const ALL_ANSWERED: Ended = Ended {
-    answered: 3,
-    reason: EndReason::ClosedByClient,
-};
-
 /// Returns whether a session with the three requests answers them, with these numbers of bytes read and written at a
 /// time.
-fn is_answered(alloc: Global, keys: RandomState, given: usize, taken: usize) -> Result<bool, Fail> {
+fn is_answered(alloc: Global, keys: RandomState, step: usize, taken: usize) -> Result<bool, Fail> {
     let bytes = three_requests(alloc)?;
     let wanted = first_of(alloc, ROW, 3)?;
-    let played = played(alloc, keys, bytes.as_slice(), (given, 0), (10_000, taken))?;
-    Ok(played.ended == Ok(ALL_ANSWERED) && played.output.as_slice() == wanted.as_slice())
+    let devices = Devices {
+        step,
+        taken,
+        ..AMPLE
+    };
+    is_played(alloc, keys, &bytes, devices, (closed_by_client(3), &wanted))
 }
+
+/// The numbers of bytes that are read and written at a time.
+const STEPS: [(usize, usize); 5] = [(1, 10_000), (10_000, 1), (1, 1), (7, 7), (10_000, 10_000)];
 
 #[test]
 fn one_byte_a_call(rt: HostRuntime) -> Result<(), Fail> {
     let keys = RandomState::new(&rt)?;
-    for (given, taken) in [(1, 10_000), (10_000, 1), (1, 1), (7, 7), (10_000, 10_000)] {
-        assert!(rt; is_answered(rt.alloc(), keys, given, taken)?);
+    for (step, taken) in STEPS {
+        assert!(rt; is_answered(rt.alloc(), keys, step, taken)?);
     }
     Ok(())
 }
 
-/// Returns whether what was read is answered if the input fails at a certain call.
+/// Returns whether what was read is answered if the input fails after this number of reads.
 fn is_read_before(
     alloc: Global,
     keys: RandomState,
@@ -181,28 +108,26 @@ fn is_read_before(
     step: usize,
     before: usize,
 ) -> Result<bool, Fail> {
-    let fails_at = (before as u64).saturating_add(1);
     let answered = whole_requests(before.saturating_mul(step));
-    let stopped = SessionError {
-        answered,
-        written: 0,
-        cause: SessionErrorKind::Reading,
-    };
     let wanted = first_of(alloc, ROW, answered)?;
-    let played = played(alloc, keys, bytes, (step, fails_at), (10_000, 10_000))?;
-    Ok(played.ended == Err(stopped) && played.output.as_slice() == wanted.as_slice())
+    let devices = Devices {
+        step,
+        fails_at: (before as u64).saturating_add(1),
+        ..AMPLE
+    };
+    is_played(alloc, keys, bytes, devices, (unread(answered), &wanted))
 }
 
-/// Returns the first call at which a failing input leaves what was read before unanswered.
-fn first_unanswered(alloc: Global, keys: RandomState, step: usize) -> Result<Option<usize>, Fail> {
+/// Returns whether it is, at whichever call the input fails.
+fn are_read_before(alloc: Global, keys: RandomState, step: usize) -> Result<bool, Fail> {
     let bytes = three_requests(alloc)?;
     let calls = bytes.len().div_ceil(step.max(1)).saturating_add(1);
     for before in 0..calls {
-        if !is_read_before(alloc, keys, bytes.as_slice(), step, before)? {
-            return Ok(Some(before));
+        if !is_read_before(alloc, keys, &bytes, step, before)? {
+            return Ok(false);
         }
     }
-    Ok(None)
+    Ok(true)
 }
 
 /// The input fails at each of its calls, also at the one that would find the end. What was read before is answered.
@@ -210,65 +135,63 @@ fn first_unanswered(alloc: Global, keys: RandomState, step: usize) -> Result<Opt
 fn a_reader_that_fails_at_each_call(rt: HostRuntime) -> Result<(), Fail> {
     let keys = RandomState::new(&rt)?;
     for step in [1, 16] {
-        assert_eq!(rt; first_unanswered(rt.alloc(), keys, step)?, None);
+        assert!(rt; are_read_before(rt.alloc(), keys, step)?);
     }
     Ok(())
 }
 
-/// Returns how a session stopped that had no room for a response.
-fn unwritten((answered, written): (u64, u64)) -> SessionError {
-    SessionError {
-        answered,
-        written,
-        cause: SessionErrorKind::Writing,
-    }
-}
-
-/// Returns whether a session with this room wrote these bytes and stopped so, and the store has the batch.
+/// Returns whether a session with this room fills it and stops so, and the store has the batch.
 fn is_written_up_to(
     alloc: Global,
     keys: RandomState,
     (bytes, wanted): (&[u8], &[u8]),
     room: usize,
 ) -> Result<bool, Fail> {
-    let stopped = unwritten(whole_responses(room));
-    let played = played(alloc, keys, bytes, (10_000, 0), (room, 5))?;
-    let is_prefix = played.output.as_slice().len() == room
-        && wanted.starts_with(played.output.as_slice());
-    Ok(played.ended == Err(stopped) && is_prefix && played.has_the_batch)
+    let (answered, written) = whole_responses(room);
+    let devices = Devices {
+        taken: 5,
+        room,
+        ..AMPLE
+    };
+    let seen = played(alloc, keys, bytes, devices)?;
+    Ok(
+        seen.ended == unwritten(answered, written)
+            && seen.output.as_slice().len() == room
+            && wanted.starts_with(seen.output.as_slice())
+            && seen.trace.as_slice() == ONE_SPAN,
+    )
 }
 
-/// Returns the first room for which that isn't so.
-fn first_unwritten(alloc: Global, keys: RandomState) -> Result<Option<usize>, Fail> {
+/// Returns whether that is so for each room that is too small.
+fn are_written_up_to(alloc: Global, keys: RandomState) -> Result<bool, Fail> {
     let bytes = three_requests(alloc)?;
     let wanted = first_of(alloc, ROW, 3)?;
     for room in 0..wanted.len() {
-        let both = (bytes.as_slice(), wanted.as_slice());
-        if !is_written_up_to(alloc, keys, both, room)? {
-            return Ok(Some(room));
+        if !is_written_up_to(alloc, keys, (&bytes, &wanted), room)? {
+            return Ok(false);
         }
     }
-    Ok(None)
+    Ok(true)
 }
 
 /// The output fails after each byte, and the store keeps the batch that was sent.
 #[test]
 fn a_writer_that_fails_after_each_byte(rt: HostRuntime) -> Result<(), Fail> {
     let keys = RandomState::new(&rt)?;
-    assert_eq!(rt; first_unwritten(rt.alloc(), keys)?, None);
+    assert!(rt; are_written_up_to(rt.alloc(), keys)?);
     Ok(())
 }
 
 /// Returns how many responses a session wrote completely, and how many bytes of the next one, if it ended as one may in
 /// which memory ran out once.
-fn written_in(played: &Seen) -> Option<(u64, u64)> {
-    let cause = if played.output.failed() {
+fn written_in(seen: &Seen) -> Option<(u64, u64)> {
+    let cause = if seen.output.failed() {
         SessionErrorKind::Writing
     } else {
         SessionErrorKind::Memory
     };
-    match played.ended {
-        Ok(ended) if ended == ALL_ANSWERED => Some((ended.answered, 0)),
+    match seen.ended {
+        Ok(ended) if seen.ended == closed_by_client(3) => Some((ended.answered, 0)),
         Err(stopped) if stopped.cause == cause => Some((stopped.answered, stopped.written)),
         _ => None,
     }
@@ -283,35 +206,41 @@ fn is_between(bytes: &[u8], whole: &[u8], next: &[u8], written: u64) -> bool {
 
 /// Returns whether a session in which memory ran out once may have ended so with these responses: all three, or the
 /// first ones, complete unless the output itself ran out of memory.
-fn may_write(alloc: Global, row: [&[u8]; 3], played: &Seen) -> Result<bool, Fail> {
-    let Some((answered, written)) = written_in(played) else {
+fn may_write(alloc: Global, row: [&[u8]; 3], seen: &Seen) -> Result<bool, Fail> {
+    let Some((answered, written)) = written_in(seen) else {
         return Ok(false);
     };
     let whole = first_of(alloc, row, answered)?;
     let next = first_of(alloc, row, answered.saturating_add(1))?;
-    let bytes = played.output.as_slice();
     Ok(
-        is_between(bytes, whole.as_slice(), next.as_slice(), written)
-            && (written == 0 || played.output.failed()),
+        is_between(seen.output.as_slice(), &whole, &next, written)
+            && (written == 0 || seen.output.failed()),
     )
 }
 
 /// Returns whether the session may have ended so with one of the rows.
-fn may_write_any(alloc: Global, played: &Seen) -> Result<bool, Fail> {
-    let mut is_written = false;
+fn may_write_any(alloc: Global, seen: &Seen) -> Result<bool, Fail> {
     for row in ROWS_SHORT_OF_MEMORY {
-        is_written = is_written || may_write(alloc, row, played)?;
+        if may_write(alloc, row, seen)? {
+            return Ok(true);
+        }
     }
-    Ok(is_written)
+    Ok(false)
 }
 
-/// Returns whether a session with the three requests answered them, and whether it may have ended as it did.
+/// Returns whether a session with the three requests, 50 bytes at a time, may have ended as it did, and whether it
+/// answered all of them.
 fn is_written(alloc: Global, keys: RandomState) -> Result<(bool, bool), Fail> {
     let bytes = three_requests(alloc)?;
+    let devices = Devices {
+        step: 50,
+        taken: 50,
+        ..AMPLE
+    };
+    let seen = played(alloc, keys, &bytes, devices)?;
     let wanted = first_of(alloc, ROW, 3)?;
-    let played = played(alloc, keys, bytes.as_slice(), (50, 0), (10_000, 50))?;
-    let all = played.ended == Ok(ALL_ANSWERED) && played.output.as_slice() == wanted.as_slice();
-    Ok((all, all || may_write_any(alloc, &played)?))
+    let all = seen.ended == closed_by_client(3) && seen.output.as_slice() == wanted.as_slice();
+    Ok((all || may_write_any(alloc, &seen)?, all))
 }
 
 /// If memory runs out once, a response is a 500 and a batch answered so isn't kept, or the session ends after complete
@@ -319,15 +248,8 @@ fn is_written(alloc: Global, keys: RandomState) -> Result<(bool, bool), Fail> {
 #[test]
 fn memory_for_a_session(rt: HostRuntime) -> Result<(), Fail> {
     let keys = RandomState::new(&rt)?;
-    let (all, allowed) = is_written(rt.alloc(), keys)?;
-    assert!(rt; allowed);
-    if !all {
-        assert!(rt; is_answered_in_50s(rt.alloc(), keys)?);
-    }
+    let (is_allowed, all) = is_written(rt.alloc(), keys)?;
+    assert!(rt; is_allowed);
+    assert!(rt; all || is_answered(rt.alloc(), keys, 50, 50)?);
     Ok(())
-}
-
-/// Returns whether a session with the three requests answers them, 50 bytes at a time.
-fn is_answered_in_50s(alloc: Global, keys: RandomState) -> Result<bool, Fail> {
-    is_answered(alloc, keys, 50, 50)
 }

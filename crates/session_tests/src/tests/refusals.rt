@@ -1,15 +1,12 @@
 //! Each refusal of a store has its response.
 
-use crate::tests::pipes::joined;
-use http_session::{EndReason, Ended, session};
+use crate::tests::sessions::{AMPLE, closed_by_client, joined, played_over};
 use jaeger_model::Batch;
-use session_devices::{MemoryInput, MemoryOutput};
 use std::alloc::Global;
 use std::mem::drop;
 use std::test::*;
 use trace_model::{Answer, Backend, Limits, Query, Refusal};
 use trace_samples::exchanges::{BATCH, CONFLICT, POST, SERVICES};
-use trace_samples::first_mismatch;
 
 /// A store that refuses each batch and each query for one reason.
 #[derive(Drop)]
@@ -90,32 +87,21 @@ const ROWS: [Row; 11] = [
     (Refusal::Gone, INTERNAL),
 ];
 
-/// Two requests were answered, and the input ended after them.
-const BOTH_ANSWERED: Ended = Ended {
-    answered: 2,
-    reason: EndReason::ClosedByClient,
-};
-
-/// Whether a batch and a query that are refused so are each answered by this response.
+/// Returns whether a batch and a query that are refused so are each answered by this response.
 fn is_answered(alloc: Global, row: &Row) -> Result<bool, Fail> {
     let (why, response) = *row;
     let bytes = joined(alloc, &[POST, BATCH, SERVICES])?;
     let wanted = joined(alloc, &[response, response])?;
     let limits = Limits::new(1, 1, 0, 0).ok_or("limits")?;
     let mut store = Refusing { limits, why };
-    let mut input = MemoryInput::new(bytes.as_slice(), 10_000, 0);
-    let mut output = MemoryOutput::new(alloc, 10_000, 10_000);
-    let ended = session(&(), alloc, &mut input, &mut output, &mut store);
-    Ok(ended == Ok(BOTH_ANSWERED) && output.as_slice() == wanted.as_slice())
-}
-
-/// Returns the first row with another response, or `None`.
-fn first_not_answered(alloc: Global) -> Result<Option<usize>, Fail> {
-    first_mismatch(&ROWS, |row| is_answered(alloc, row))
+    let (ended, output) = played_over(alloc, &mut store, &bytes, AMPLE);
+    Ok(ended == closed_by_client(2) && output.as_slice() == wanted.as_slice())
 }
 
 #[test]
 fn each_refusal_is_answered(rt: HostRuntime) -> Result<(), Fail> {
-    assert_eq!(rt; first_not_answered(rt.alloc())?, None);
+    for row in &ROWS {
+        assert!(rt; is_answered(rt.alloc(), row)?);
+    }
     Ok(())
 }

@@ -1,11 +1,14 @@
+//! Clients that take a few bytes of a response at a time.
+
 use crate::tests::large::two_requests;
-use crate::tests::pipes::{empty_store, joined};
+use crate::tests::sessions::{empty_store, joined};
 use open_connections::{
     BufferedConnection, ConnectionProgress, ConnectionSet, ConnectionTurn, TryConnection, TurnTime,
 };
 use session_devices::{Failed, Input};
 use std::alloc::Global;
 use std::hash::RandomState;
+use std::mem::drop;
 use std::test::*;
 use std::time::Duration;
 use trace_model::Backend;
@@ -117,8 +120,8 @@ fn slow_client(alloc: Global, bytes: &[u8], step: usize, room: usize) -> SlowCli
     }
 }
 
-/// Returns whether everything that waits is written in a limited number of writes.
-fn is_flushed(buffered: &mut BufferedConnection<SlowClient<'_>>) -> bool {
+/// Writes everything that waits in a limited number of writes. Returns whether that succeeded.
+fn flush_all(buffered: &mut BufferedConnection<SlowClient<'_>>) -> bool {
     for _round in 0..1_000_000u32 {
         if buffered.flush().is_err() {
             return false;
@@ -130,39 +133,81 @@ fn is_flushed(buffered: &mut BufferedConnection<SlowClient<'_>>) -> bool {
     false
 }
 
+/// How a connection ended whose response waited for its client.
+#[derive(Drop)]
+struct Ending {
+    progress: ConnectionProgress,
+    /// Whether a response waited.
+    has_waited: bool,
+    /// Whether all of the last response was written in the end.
+    is_flushed: bool,
+    /// The bytes that the client took.
+    taken: Vec<u8>,
+}
+
+/// Serves a client that takes `step` bytes at a time, and `room` in all.
+fn ending_of(
+    alloc: Global,
+    keys: RandomState,
+    bytes: &[u8],
+    step: usize,
+    room: usize,
+) -> Result<Ending, Fail> {
+    let client = slow_client(alloc, bytes, step, room);
+    let mut store = empty_store(alloc, keys)?;
+    let served = serve_alone(alloc, client, &mut store);
+    drop(store);
+    let mut served = served?;
+    let is_flushed = flush_all(&mut served.buffered);
+    Ok(Ending {
+        progress: served.progress,
+        has_waited: served.waits > 0,
+        is_flushed,
+        taken: served.buffered.get_ref().taken.to_vec(alloc)?,
+    })
+}
+
+/// Returns whether a client that takes `step` bytes at a time gets both responses, after they have waited for it.
+fn is_served(alloc: Global, keys: RandomState, step: usize) -> Result<bool, Fail> {
+    let (bytes, wanted) = two_requests(alloc)?;
+    let ending = ending_of(alloc, keys, &bytes, step, usize::MAX)?;
+    Ok(
+        ending.progress == ConnectionProgress::ClosedByClient
+            && ending.has_waited
+            && ending.is_flushed
+            && ending.taken.as_slice() == wanted.as_slice(),
+    )
+}
+
 /// The responses are the same however few bytes the client takes at a time. They wait for it.
 #[test]
 fn a_few_bytes_at_a_time(rt: HostRuntime) -> Result<(), Fail> {
-    let alloc = rt.alloc();
-    let (bytes, wanted) = two_requests(alloc)?;
+    let keys = RandomState::new(&rt)?;
     for step in [1, 2, 7, 100, 16_383, 16_384, 40_000] {
-        let mut store = empty_store(alloc, RandomState::new(&rt)?)?;
-        let client = slow_client(alloc, &bytes, step, usize::MAX);
-        let mut served = serve_alone(alloc, client, &mut store)?;
-        assert!(rt; served.waits > 0, "{step}");
-        assert_eq!(rt; served.progress, ConnectionProgress::ClosedByClient);
-        assert!(rt; is_flushed(&mut served.buffered), "{step}");
-        let taken = served.buffered.get_ref().taken.as_slice();
-        assert!(rt; taken == wanted.as_slice(), "{step}");
+        assert!(rt; is_served(rt.alloc(), keys, step)?);
     }
     Ok(())
+}
+
+/// Returns whether a connection that fails after this number of bytes is removed from the set while its response waits.
+fn is_undelivered(alloc: Global, keys: RandomState, room: usize) -> Result<bool, Fail> {
+    let (bytes, wanted) = two_requests(alloc)?;
+    let twice = joined(alloc, &[&bytes, &bytes])?;
+    let ending = ending_of(alloc, keys, &twice, 1_000, room)?;
+    Ok(
+        ending.progress == ConnectionProgress::Undelivered
+            && ending.taken.len() == room
+            && wanted.starts_with(ending.taken.as_slice()),
+    )
 }
 
 /// A connection that fails while its response waits is removed from the set, and has taken the first bytes of the
 /// responses.
 #[test]
 fn a_failure_while_a_response_waits(rt: HostRuntime) -> Result<(), Fail> {
-    let alloc = rt.alloc();
-    let (bytes, wanted) = two_requests(alloc)?;
-    let twice = joined(alloc, &[&bytes, &bytes])?;
+    let keys = RandomState::new(&rt)?;
     for room in [10, 100, 16_500, 40_000] {
-        let mut store = empty_store(alloc, RandomState::new(&rt)?)?;
-        let client = slow_client(alloc, &twice, 1_000, room);
-        let served = serve_alone(alloc, client, &mut store)?;
-        assert_eq!(rt; served.progress, ConnectionProgress::Undelivered, "{room}");
-        let taken = served.buffered.get_ref().taken.as_slice();
-        assert_eq!(rt; taken.len(), room);
-        assert!(rt; wanted.as_slice().starts_with(taken), "{room}");
+        assert!(rt; is_undelivered(rt.alloc(), keys, room)?);
     }
     Ok(())
 }

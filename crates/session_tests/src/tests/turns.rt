@@ -1,11 +1,13 @@
+//! No read before the responses to the requests read are written.
+
 ghost use Rattle.std.specs.Prelude.{None, false};
 
-use crate::tests::pipes::empty_store;
-use http_session::EndReason;
-use pipe_session::pipe;
+use crate::tests::sessions::{closed_by_client, empty_store, run};
 use session_devices::{Failed, Input, Output};
+use std::alloc::Global;
 use std::cell::Cell;
 use std::hash::RandomState;
+use std::mem::drop;
 use std::test::*;
 use trace_samples::exchanges::{ACCEPTED, BATCH, ONE_SERVICE, POST, SERVICES};
 
@@ -47,10 +49,13 @@ impl<'a> Input for Sender<'a> {
     }
 }
 
-/// The output to that sender. It counts the bytes.
+/// An output that takes everything and counts it.
 #[derive(Drop)]
-struct Counter<'a> {
-    written: &'a Cell<usize>,
+pub(crate) struct Counter<'a> {
+    /// The number of bytes.
+    pub(crate) written: &'a Cell<usize>,
+    /// The number of bytes of the longest write, and of the longest of the others.
+    pub(crate) longest: (usize, usize),
 }
 
 impl<'a> Output for Counter<'a> {
@@ -65,9 +70,11 @@ impl<'a> Output for Counter<'a> {
     ghost takes_joined = { λ s t u front back one two. tt };
 
     fn write(&mut self, buf: &[u8]) -> Result<usize, Failed> {
-        self.written
-            .set(self.written.get().saturating_add(buf.len()));
-        Ok(buf.len())
+        let count = buf.len();
+        self.written.set(self.written.get().saturating_add(count));
+        let (first, second) = self.longest;
+        self.longest = (first.max(count), second.max(first.min(count)));
+        Ok(count)
     }
 
     fn failed(&self) -> bool {
@@ -75,19 +82,23 @@ impl<'a> Output for Counter<'a> {
     }
 }
 
-#[test]
-fn answers_before_it_reads_on(rt: HostRuntime) -> Result<(), Fail> {
-    let alloc = rt.alloc();
-    let accepted = ACCEPTED.len();
-    let looked = accepted + ONE_SERVICE.len();
-    let again = looked + ONE_SERVICE.len();
+/// The number of bytes of the first one, two and three responses.
+const ONE: usize = ACCEPTED.len();
+
+const TWO: usize = ONE + ONE_SERVICE.len();
+
+const THREE: usize = TWO + ONE_SERVICE.len();
+
+/// Returns whether three requests are answered of which the last two come once the response before is written. One of
+/// them comes in two parts.
+fn is_answered_in_turn(alloc: Global, keys: RandomState) -> Result<bool, Fail> {
     let parts: [(usize, &[u8]); 6] = [
         (0, POST),
         (0, BATCH),
-        (accepted, &SERVICES[..9]),
-        (accepted, &SERVICES[9..]),
-        (looked, SERVICES),
-        (again, b""),
+        (ONE, &SERVICES[..9]),
+        (ONE, &SERVICES[9..]),
+        (TWO, SERVICES),
+        (THREE, b""),
     ];
     let written = Cell::new(0);
     let mut input = Sender {
@@ -96,11 +107,19 @@ fn answers_before_it_reads_on(rt: HostRuntime) -> Result<(), Fail> {
         written: &written,
         failed: false,
     };
-    let mut output = Counter { written: &written };
-    let mut store = empty_store(alloc, RandomState::new(&rt)?)?;
-    let ended = pipe(alloc, &mut input, &mut output, &mut store).expect(&rt, "ended");
-    assert_eq!(rt; ended.answered, 3);
-    assert_eq!(rt; ended.reason, EndReason::ClosedByClient);
-    assert_eq!(rt; written.get(), again);
+    let mut output = Counter {
+        written: &written,
+        longest: (0, 0),
+    };
+    let mut store = empty_store(alloc, keys)?;
+    let ended = run(alloc, &mut input, &mut output, &mut store);
+    drop(store);
+    Ok(ended == closed_by_client(3) && written.get() == THREE)
+}
+
+#[test]
+fn answers_before_it_reads_on(rt: HostRuntime) -> Result<(), Fail> {
+    let keys = RandomState::new(&rt)?;
+    assert!(rt; is_answered_in_turn(rt.alloc(), keys)?);
     Ok(())
 }

@@ -1,7 +1,6 @@
 use crate::tests::entries::entry;
 use crate::tests::replays::replayed;
 use crate::tests::sameness::same_answer;
-use hash_tables::IdTable;
 use jaeger_model::{Text, TraceId};
 use span_store::SpanStore;
 use std::alloc::{AllocError, Global};
@@ -14,9 +13,6 @@ use trace_samples::{kept, list_of, span};
 
 /// The room of the tables.
 const ROOM: u32 = 40;
-
-/// The number of places of a full table.
-const FULL: u64 = 81;
 
 /// The number of places of a table with eight rows. The numbers for fewer rows divide it.
 const EIGHT: u64 = 20;
@@ -70,44 +66,6 @@ fn colliding_names(
         }
     }
     Ok(names)
-}
-
-/// Enters the ids, as long as there is room.
-fn enter_all(table: &mut IdTable, ids: &[TraceId]) {
-    for id in ids {
-        if table.has_room() {
-            table.enter_with_guess(0, *id);
-        }
-    }
-}
-
-/// Returns the number of ids that are in the row of their place among them.
-fn found_in_order(table: &IdTable, ids: &[TraceId]) -> usize {
-    let mut found = 0;
-    for (row, id) in ids.iter().enumerate() {
-        if let Some(at) = table.find(*id) {
-            if at as usize == row {
-                found = row + 1;
-            }
-        }
-    }
-    found
-}
-
-/// Returns the number of ids with one walk that a table finds, and where it finds one more.
-fn found_again(alloc: Global, keys: RandomState) -> Result<(usize, Option<u32>), AllocError> {
-    let mut ids = colliding_ids(alloc, &keys, FULL, 41)?;
-    let other = ids.pop().unwrap_or(TraceId { high: 0, low: 0 });
-    let mut table = IdTable::with_room(alloc, keys, ROOM)?;
-    enter_all(&mut table, &ids);
-    Ok((found_in_order(&table, &ids), table.find(other)))
-}
-
-#[test]
-fn colliding_ids_have_rows_of_their_own(rt: HostRuntime) -> Result<(), Fail> {
-    let found = found_again(rt.alloc(), RandomState::new(&rt)?)?;
-    assert_eq!(rt; found, (40, None));
-    Ok(())
 }
 
 /// A service and an operation of it, whose names are numbers.
@@ -225,7 +183,7 @@ fn collisions_as_the_plain_store(rt: HostRuntime) -> Result<(), Fail> {
     let keys = RandomState::new(&rt)?;
     let ids = colliding_ids(alloc, &keys, EIGHT, 8)?;
     let names = colliding_names(alloc, &keys, 8)?;
-    assert_eq!(rt; (ids.len(), names.len()), (8, 8));
+    assert!(rt; (ids.len(), names.len()) == (8, 8));
     for of_services in [true, false] {
         let named = all_named(alloc, &names, of_services)?;
         assert!(rt; same_of(alloc, keys, &ids, &named)?);

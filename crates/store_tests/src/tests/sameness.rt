@@ -9,7 +9,7 @@ use trace_model::{Query, Refusal};
 use trace_samples::retry;
 
 /// Returns the plain store's answer for the store's entries, as text.
-fn plainly(alloc: Global, store: &SpanStore, query: &Query) -> Result<String, AllocError> {
+fn plainly(alloc: Global, store: &SpanStore, query: &Query) -> Result<Vec<u8>, AllocError> {
     shown(
         alloc,
         plain_answer(alloc, store.entries(), store.limits(), query)?,
@@ -17,7 +17,7 @@ fn plainly(alloc: Global, store: &SpanStore, query: &Query) -> Result<String, Al
 }
 
 /// Returns the store's answer, as text, or `None` if there is none. If memory ran out, the store is asked once more.
-fn quickly(alloc: Global, store: &SpanStore, query: &Query) -> Result<Option<String>, AllocError> {
+fn quickly(alloc: Global, store: &SpanStore, query: &Query) -> Result<Option<Vec<u8>>, AllocError> {
     match retry(Refusal::NoMemory, || store.answer(query)) {
         Ok(answer) => Ok(Some(shown(alloc, answer)?)),
         Err(_) => Ok(None),

@@ -1,10 +1,11 @@
+//! Batches that are encoded, and running out of memory.
+
 use batch_codec::{DecodeError, decode, encode};
-use jaeger_model::Batch;
-use std::alloc::{AllocError, Global};
+use std::alloc::Global;
 use std::mem::drop;
 use std::test::*;
+use trace_samples::retry;
 use trace_samples::spellings::ALL;
-use trace_samples::{batch, retry};
 
 /// Returns the bytes of hexadecimal text, without its spaces.
 pub(crate) fn bytes_of(alloc: Global, text: &str) -> Result<Vec<u8>, Fail> {
@@ -34,14 +35,6 @@ fn memory_for_a_batch(rt: HostRuntime) -> Result<(), Fail> {
     Ok(())
 }
 
-/// The one fault that no bytes have; the texts of the others are in `cases/batches`.
-#[test]
-fn text_of_no_memory(rt: HostRuntime) -> Result<(), Fail> {
-    let text = DecodeError::Memory.text(rt.alloc())?;
-    assert_eq!(rt; text.as_str(), "22 NoMemory");
-    Ok(())
-}
-
 /// A batch up to its process's one tag, and what follows that.
 const TAG: &str = "0c0001 0b0001 00000001 61 0f0002 0c 00000001 0b0001 00000001 65";
 
@@ -50,59 +43,13 @@ const TAG_END: &str = "00 00 0f0002 0c 00000000 00";
 /// An encoded batch without spans, with the number 1.
 const NUMBERED: &str = "0c0001 0b0001 00000001 61 00 0f0002 0c 00000000 0a0003 0000000000000001 00";
 
-/// Returns a batch without spans, with the number 1.
-fn numbered(alloc: Global) -> Result<Batch, AllocError> {
-    let mut numbered = batch(alloc, "a", Vec::new(alloc))?;
-    numbered.seq_no = Some(1);
-    Ok(numbered)
-}
-
-/// Returns whether the bytes are decoded to the batch.
-fn is_read_as(alloc: Global, bytes: &[u8], batch: &Batch) -> Result<bool, DecodeError> {
-    let read = decode(alloc, bytes)?;
-    let same = read.is_same(batch);
-    drop(read);
-    Ok(same)
-}
-
-/// Encodes the batch. Returns its bytes, and whether they are decoded to the batch.
-fn written_and_read(alloc: Global, batch: &Batch) -> Result<(Vec<u8>, bool), DecodeError> {
-    let bytes = encode(alloc, batch)?;
-    let same = is_read_as(alloc, &bytes, batch)?;
-    Ok((bytes, same))
-}
-
-/// Encodes the batch with a number. Returns its bytes, and whether they are decoded to it.
-fn of_numbered(alloc: Global) -> Result<(Vec<u8>, bool), Fail> {
-    let batch = numbered(alloc)?;
-    let written = written_and_read(alloc, &batch);
-    drop(batch);
-    Ok(written?)
-}
-
-/// Decodes a batch and encodes it. Returns its new bytes, and whether they are decoded to it.
-fn of_spelled(alloc: Global, bytes: &[u8]) -> Result<(Vec<u8>, bool), Fail> {
-    let batch = decode(alloc, bytes)?;
-    let written = written_and_read(alloc, &batch);
-    drop(batch);
-    Ok(written?)
-}
-
+/// A batch is encoded to the bytes that it was decoded from, if they are its one spelling.
 #[test]
 fn one_spelling(rt: HostRuntime) -> Result<(), Fail> {
-    let want = bytes_of(rt.alloc(), NUMBERED)?;
-    let (bytes, same) = of_numbered(rt.alloc())?;
-    assert!(rt; bytes.as_slice() == want.as_slice());
-    assert!(rt; same && bytes.len() == 32);
-    Ok(())
-}
-
-#[test]
-fn one_spelling_of_every_field(rt: HostRuntime) -> Result<(), Fail> {
-    let all = bytes_of(rt.alloc(), ALL)?;
-    let (bytes, same) = of_spelled(rt.alloc(), all.as_slice())?;
-    assert!(rt; bytes.as_slice() == all.as_slice());
-    assert!(rt; same);
+    for text in [NUMBERED, ALL] {
+        let bytes = bytes_of(rt.alloc(), text)?;
+        assert!(rt; is_kept_at_last(rt.alloc(), bytes.as_slice()));
+    }
     Ok(())
 }
 
@@ -151,7 +98,7 @@ fn is_respelled(alloc: Global, read: &str, written: &str) -> Result<bool, Fail> 
 #[test]
 fn one_value_of_a_tag(rt: HostRuntime) -> Result<(), Fail> {
     for (read, written) in &SPELLINGS {
-        assert!(rt; is_respelled(rt.alloc(), read, written)?, "{read}");
+        assert!(rt; is_respelled(rt.alloc(), read, written)?);
     }
     Ok(())
 }

@@ -1,103 +1,98 @@
-use crate::tests::trace_values::{tag, with_tag};
-use batch_codec::{decode, encode};
-use jaeger_model::{Batch, Log, Seq, Span, Tag, Text, Value};
+//! A body of more than two megabytes, and one of many spans.
+
+use batch_codec::{DecodeError, decode, encode};
+use jaeger_model::Batch;
 use std::alloc::{AllocError, Global};
 use std::mem::drop;
 use std::test::*;
-use trace_samples::{batch, beside, kept, list_of, span};
 
 const MEGABYTE: usize = 1_000_000;
 
-const MANY: u64 = 5_000;
+const MANY: usize = 5_000;
 
-/// Returns a text and a binary of a megabyte each.
-fn long_values(alloc: Global) -> Result<Vec<Tag>, Fail> {
-    let text = Value::Text(Text::from_string("a".repeat(alloc, MEGABYTE)?));
-    let tags = with_tag(alloc, Vec::new(alloc), "text", text)?;
-    with_long_bytes(alloc, tags)
+/// A batch of service `a` up to the number of its spans.
+const HEAD: &[u8] = b"\x0c\x00\x01\x0b\x00\x01\x00\x00\x00\x01a\x00\x0f\x00\x02\x0c";
+
+/// The required fields of a span.
+const FIELDS: &[u8] = b"\
+    \x0a\x00\x01\x00\x00\x00\x00\x00\x00\x00\x01\
+    \x0a\x00\x02\x00\x00\x00\x00\x00\x00\x00\x00\
+    \x0a\x00\x03\x00\x00\x00\x00\x00\x00\x00\x02\
+    \x0a\x00\x04\x00\x00\x00\x00\x00\x00\x00\x00\
+    \x0b\x00\x05\x00\x00\x00\x02op\
+    \x08\x00\x07\x00\x00\x00\x01\
+    \x0a\x00\x08\x00\x00\x00\x00\x00\x00\x03\xe8\
+    \x0a\x00\x09\x00\x00\x00\x00\x00\x00\x002";
+
+/// The tags of a span up to a text of a megabyte; 5,002 tags in all.
+const TEXT: &[u8] = b"\
+    \x0f\x00\x0a\x0c\x00\x00\x13\x8a\
+    \x0b\x00\x01\x00\x00\x00\x04text\x08\x00\x02\x00\x00\x00\x00\x0b\x00\x03\x00\x0f\x42\x40";
+
+/// What is between that text and a binary of a megabyte.
+const BINARY: &[u8] =
+    b"\x00\x0b\x00\x01\x00\x00\x00\x05bytes\x08\x00\x02\x00\x00\x00\x04\x0b\x00\x07\x00\x0f\x42\x40";
+
+/// A tag of a number.
+const NUMBER: &[u8] =
+    b"\x0b\x00\x01\x00\x00\x00\x01n\x08\x00\x02\x00\x00\x00\x03\x0a\x00\x06\x00\x00\x00\x00\x00\x00\x00\x07\x00";
+
+/// A log up to its 5,000 fields.
+const LOG: &[u8] =
+    b"\x0f\x00\x0b\x0c\x00\x00\x00\x01\x0a\x00\x01\x00\x00\x00\x00\x00\x00\x00\x00\x0f\x00\x02\x0c\x00\x00\x13\x88";
+
+/// Returns a span with long values, many tags and a log with many fields.
+fn long_span(alloc: Global) -> Result<Vec<u8>, AllocError> {
+    let letters = b"a".repeat(alloc, MEGABYTE)?;
+    let numbers = NUMBER.repeat(alloc, MANY)?;
+    let parts: [&[u8]; 9] = [
+        FIELDS, TEXT, &letters, BINARY, &letters, b"\x00", &numbers, LOG, &numbers,
+    ];
+    let span = parts.concat(alloc)?;
+    Ok([span.as_slice(), b"\x00\x00"].concat(alloc)?)
 }
 
-/// Appends a binary of a megabyte to these tags.
-fn with_long_bytes(alloc: Global, tags: Vec<Tag>) -> Result<Vec<Tag>, Fail> {
-    let (tags, bytes) = beside(tags, vec![in alloc; 0x61; MEGABYTE])?;
-    with_tag(alloc, tags, "bytes", Value::Bytes(Seq::from_vec(bytes)))
+/// Returns a batch of these bytes of a span, and `count` short spans after it. The number of all spans is given as
+/// bytes.
+fn batch_with(
+    alloc: Global,
+    spans: &[u8; 4],
+    first: &[u8],
+    count: usize,
+) -> Result<Vec<u8>, AllocError> {
+    let short = [FIELDS, b"\x00"].concat(alloc)?.repeat(alloc, count)?;
+    let parts: [&[u8]; 5] = [HEAD, spans, first, &short, b"\x00"];
+    Ok(parts.concat(alloc)?)
 }
 
-/// Adds many tags.
-fn add_tags(alloc: Global, tags: &mut Vec<Tag>) -> Result<(), Fail> {
-    for number in 0..MANY {
-        tags.push(tag(alloc, "n", Value::Long(number as i64))?)?;
-    }
-    Ok(())
+/// Returns a batch of 8,000 spans, of about a megabyte.
+pub(crate) fn many_spans(alloc: Global) -> Result<Vec<u8>, AllocError> {
+    batch_with(alloc, b"\x00\x00\x1f\x40", b"", 8_000)
 }
 
-/// Appends many tags to these.
-fn with_many_tags(alloc: Global, tags: Vec<Tag>) -> Result<Seq<Tag>, Fail> {
-    let mut tags = tags;
-    let added = add_tags(alloc, &mut tags);
-    Ok(Seq::from_vec(kept(tags, added)?))
-}
-
-/// Gives the span long values, many tags and a log with many fields.
-fn lengthen(alloc: Global, span: &mut Span) -> Result<(), Fail> {
-    span.tags = with_many_tags(alloc, long_values(alloc)?)?;
-    let fields = with_many_tags(alloc, Vec::new(alloc))?;
-    span.logs = list_of(alloc, Log { at: 0, fields })?;
-    Ok(())
-}
-
-/// Returns a span with them.
-fn long_span(alloc: Global) -> Result<Span, Fail> {
-    let mut span = span(alloc, 1, 1)?;
-    let lengthened = lengthen(alloc, &mut span);
-    kept(span, lengthened)
-}
-
-/// Adds that span before many others.
-fn add_spans(alloc: Global, spans: &mut Vec<Span>) -> Result<(), Fail> {
-    spans.push(long_span(alloc)?)?;
-    for number in 0..MANY {
-        spans.push(span(alloc, number, number)?)?;
-    }
-    Ok(())
-}
-
-/// Returns a batch of these.
-fn large_batch(alloc: Global) -> Result<Batch, Fail> {
-    let mut spans = Vec::new(alloc);
-    let added = add_spans(alloc, &mut spans);
-    Ok(batch(alloc, "a", kept(spans, added)?)?)
-}
-
-/// Returns whether a copy of the batch equals it.
-fn is_copied(batch: &Batch) -> Result<bool, AllocError> {
-    let copy = batch.clone()?;
-    let same = batch.is_same(&copy);
-    drop(copy);
-    Ok(same)
-}
-
-/// Returns whether the batch's bytes are decoded to the batch.
-fn is_read(alloc: Global, batch: &Batch) -> Result<bool, Fail> {
-    let bytes = encode(alloc, batch).ok().ok_or("not written")?;
-    let read = decode(alloc, &bytes).ok().ok_or("not read")?;
-    let same = batch.is_same(&read);
-    drop(read);
-    Ok(same && bytes.len() > 2 * MEGABYTE)
-}
-
-/// Tests both for a large batch.
-fn is_kept(alloc: Global) -> Result<bool, Fail> {
-    let batch = large_batch(alloc)?;
-    let copied = is_copied(&batch);
-    let read = is_read(alloc, &batch);
+/// Returns whether the bytes are those of a copy of the batch that they are decoded to.
+fn is_kept(alloc: Global, bytes: &[u8]) -> Result<bool, DecodeError> {
+    let batch = decode(alloc, bytes)?;
+    let written = copy_bytes(alloc, &batch);
     drop(batch);
-    Ok(read? && copied?)
+    Ok(written?.as_slice() == bytes)
 }
 
-/// No function fails above some size: a body of more than two megabytes is written, read and copied.
+/// Returns the bytes of a copy of the batch.
+fn copy_bytes(alloc: Global, batch: &Batch) -> Result<Vec<u8>, DecodeError> {
+    let copy = batch.clone()?;
+    let written = encode(alloc, &copy);
+    drop(copy);
+    written
+}
+
+/// No function fails above some size: a body of more than two megabytes is read, copied and written.
 #[test]
 fn large_batches(rt: HostRuntime) -> Result<(), Fail> {
-    assert!(rt; is_kept(rt.alloc())?);
+    let alloc = rt.alloc();
+    let span = long_span(alloc)?;
+    let bytes = batch_with(alloc, b"\x00\x00\x13\x89", &span, MANY)?;
+    assert!(rt; bytes.len() > 2 * MEGABYTE);
+    assert!(rt; is_kept(alloc, &bytes) == Ok(true));
     Ok(())
 }
