@@ -95,6 +95,11 @@ def day(text):
     return f"{date.day} {date:%B} {date.year}"
 
 
+def listed(names):
+    """Names as a sentence has them: `A, B and C`."""
+    return " and ".join([", ".join(names[:-1]), names[-1]] if names[1:] else names)
+
+
 def row(*cells):
     return "| " + " | ".join(cells) + " |"
 
@@ -187,7 +192,7 @@ class Results:
         commits = sorted({it["commit"] for it in series if it.get("commit")})
         machines_of = sorted({it["machine"] for it in series})
         return note([f"{' to '.join(dict.fromkeys((dates[0], dates[-1])))}; program: {programs}, of commit{'s' if commits[1:] else ''} {', '.join(commits)}; "
-                     f"machine{'s' if machines_of[1:] else ''} {' and '.join(machines_of)}"])
+                     f"machine{'s' if machines_of[1:] else ''} {listed(machines_of)}"])
 
 
 def printed(name, heads, forms=()):
@@ -602,8 +607,7 @@ def unplaced(found):
     """What the page says of the series that have a date and no commit."""
     names = [f"`{name}`" for name, it in found.series.items() if it.get("date") and not it.get("commit")]
     if names:
-        listed = " and ".join([", ".join(names[:-1]), names[-1]] if names[1:] else names)
-        yield "bench/README.md", f"The commit wasn't written down for {len(names)} series: {listed}."
+        yield "bench/README.md", f"The commit wasn't written down for {len(names)} series: {listed(names)}."
 
 
 def held_quote(found):
