@@ -7,10 +7,10 @@
 A table is the text between `<!-- results: NAME -->` and `<!-- end of results -->`, NAME being a function of this file. The
 sentences that quote a figure are in `quotes` below: the pages must have them word for word. Plots are in bench/plots/.
 
-A comparison is printed as how many times as good `jaeger_one` is: 2 is twice the rate, or half of the time or memory, and
-below 1 the other one is better. A difference that is no larger than the series' `noise` is printed as such. If the series
-`serve` has `runs`, its ratios of spans a second over several runs by spans held, writers and run, their range is printed instead.
-Both are written by hand.
+A comparison is printed as a ratio, above 1 where `jaeger_one` is better: 2 is twice the rate, or half of the time or
+memory. A difference that is no larger than the series' `noise` is printed as such. If the series `serve` has `runs`, its
+ratios of spans a second over several runs by spans held, writers and run, their range is printed instead. Both are written
+by hand.
 """
 import datetime
 import glob
@@ -34,8 +34,9 @@ PROCESS_TAGS = [4, 12, 20]
 IN_BATCH = [100, 17, 10, 2, 1]
 CONNECTIONS = [1, 20]
 # The rule of docs/operating.md: what is reckoned for a span, for a tag of it, for a batch and for a tag of its process, in bytes; and for a place of a
-# batch's list of spans that no span takes.
-OF_SPAN, OF_TAG, OF_BATCH, OF_PROCESS_TAG, OF_PLACE = 300, 75, 530, 120, 150
+# batch's list of spans that no span takes. A span takes SINCE bytes more than in the program that was measured (calculated).
+OF_SPAN, OF_TAG, OF_BATCH, OF_PROCESS_TAG, OF_PLACE = 308, 75, 530, 120, 150
+SINCE = 8
 # The most bytes of memory for each byte of a body that comes in chunks which are cut at the head of each list: calculated, not measured.
 IN_CHUNKS = 9.6
 # The files of deploy/ that have limits, each with its limit of memory.
@@ -131,7 +132,7 @@ class Results:
         return found[0][0] if len(found[0]) == 1 else found[0]
 
     def gain(self, what, writers, held):
-        """How many times as good `jaeger_one` is as the plain server: of rates the ratio, of times its inverse."""
+        """The ratio of `jaeger_one` to the plain server, of times its inverse: above 1 `jaeger_one` is better."""
         ours, plain = self.of("serve", what, writers, held)
         return ours / plain if what.startswith("spans a second") else plain / ours
 
@@ -339,7 +340,7 @@ def waits(found):
 
 
 def serve(found):
-    heads = ["", *(head for size in SIZES for head in (f"`jaeger_one`, {size:,} held", "plain server", "times as good"))]
+    heads = ["", *(head for size in SIZES for head in (f"`jaeger_one`, {size:,} held", "plain server", "ratio"))]
     rows = []
     for what, writers in dict.fromkeys((it[0], it[1]) for it in found.rows("serve")):
         name = what if what.endswith("alone") or not writers or "4 writers" in what else f"{what}, writers: {writers}"
@@ -383,7 +384,7 @@ def connections_memory(found):
 
 
 def builds(found):
-    """Both builds; the ratios are times as good as the old one."""
+    """Both builds; a ratio above 1 says that the new one is better."""
     def within(*values):
         return "{:.2f} ({:.2f} to {:.2f})".format(*values)
 
@@ -397,8 +398,8 @@ def forms(found):
 
 
 def decoders(found):
-    """How many times as good decoding is, by instructions: as that of plain Rust, and of Apache Thrift."""
-    mine = found.of("compare --count", "rattle")
+    """The ratios of decoding a POST's body, by instructions: to plain Rust, and to Apache Thrift. A server decodes by a `Feeder`."""
+    mine = found.of("compare --count", "pieces")
     return [two(found.of("compare --count", name) / mine) for name in ("rust", "apache")]
 
 
@@ -415,7 +416,8 @@ def glance_beside(found):
     rust, apache = decoders(found)
     search = {name: two(scan / store) for name, _, store, scan in found.rows("searches")}
     rows = [
-        ["decoding, by instructions", f"{rust} of plain Rust; {apache} of Apache Thrift's C++, which checks no UTF-8", "`compare.py --count`"],
+        ["decoding a POST's body (a `Feeder`, in one piece), by instructions",
+         f"{rust} to plain Rust; {apache} to Apache Thrift's C++, which checks no UTF-8", "`compare.py --count`"],
         ["spans that `serve` takes in a second", by_writers(found.gains_alone), "`serve.py`"],
         ["the same for a second of the server's processors, in the last run", by_writers(lambda writers: found.gains(COST, writers)), "`serve.py`"],
         ["spans taken in a second beside two readers at full speed", found.gains(BESIDE, *WRITERS), "`serve.py`"],
@@ -428,7 +430,7 @@ def glance_beside(found):
          f"{search['no such tag']}, a duration {search['no such duration']}, a start {search['no such start']}", "`searches.py`"],
         ["dependencies", f"a window over a hundredth of the traces {search['links of a hundredth']}; over all {search['links of all time']}", "`searches.py`"],
     ]
-    return table(["What", "Times as good as plain", "By `bench/`"], rows) + found.captions("compare --count", "serve", "searches")
+    return table(["What", "Ratio to the plain one (above 1: Kiwibismuth is better)", "By `bench/`"], rows) + found.captions("compare --count", "serve", "searches")
 
 
 def glance_alone(found):
@@ -486,22 +488,20 @@ def speed(found):
         return [*sides, found.gains_alone(writers) if what == ALONE else found.gains(what, writers)]
 
     _, store_ms, scan_ms = found.of("searches", "20 of a common service, with JSON")
-    per_span = ", ".join(f"{found.of('memory', 100_000, tags)[2]:,} with {tags}" for tags in (1, 5, 10))
-    mine, plain = (cell(found.of("compare --count", name)) for name in ("rattle", "rust"))
+    mine, plain = (cell(found.of("compare --count", name)) for name in ("pieces", "rust"))
     mine_full, plain_full = found.of("growth", "the longest POST, ms", 10_000_000)
     rounds = re.search(r"--rounds (\d+)", found.series["growth"]["command"])[1]
     beside = max(it[5] for it in found.rows("held") if it[1:3] == [1_000_000, "spans"])
     rows = [
-        ["decoding, instructions a byte", mine, plain, decoders(found)[0]],
-        *([f"spans taken in a second from {writers} writer{'s' * (writers > 1)}", *of_both(ALONE, writers)] for writers in (1, 4)),
+        ["decoding a POST's body (in one piece), instructions a byte", mine, plain, decoders(found)[0]],
+        ["spans taken in a second from four writers", *of_both(ALONE, 4)],
         ["a POST of one of four writers, beside two readers at full speed, p99, ms", *of_both(POST, 4)],
         ["20 traces with their JSON among 100,000 spans, ms", f"{store_ms:.2f}", f"{scan_ms:.0f}", two(scan_ms / store_ms)],
-        ["the longest POST beside the queries of `held.py` over 1,000,000 spans, ms", f"{beside:.0f}", "not compared", ""],
-        [f"the longest POST while a store fills to 10,000,000 spans, the least of {rounds} rounds, ms", cell(mine_full), cell(plain_full), two(plain_full / mine_full)],
-        ["memory at 100,000 spans, bytes a span, by its tags", per_span, "not compared", ""],
+        ["the longest POST while large queries run, 1,000,000 spans held, ms", f"{beside:.0f}", "not compared", ""],
+        [f"the longest POST while a store fills to 10,000,000 spans, the lowest of {rounds} rounds, ms", cell(mine_full), cell(plain_full), two(plain_full / mine_full)],
     ]
-    heads = ["What", "Kiwibismuth", "Plain Rust", "Times as good"]
-    return table(heads, rows) + found.days("compare --count", "serve", "searches", "held", "growth", "memory")
+    heads = ["What", "Kiwibismuth", "Plain Rust", "Ratio (above 1: Kiwibismuth is better)"]
+    return table(heads, rows) + found.days("compare --count", "serve", "searches", "held", "growth")
 
 
 memory_processes = printed("memory --process-tags", [
@@ -654,7 +654,9 @@ def memory_quotes(found):
     of_bytes = [it[-2] for it in of_processes] + [it[3] / it[2] for it in found.rows("memory") if it[0] == 100_000]
     yield page, f"take {min(of_bytes):.1f} to {max(of_bytes):.1f} times the bytes that come"
     yield page, f"spans * ({OF_SPAN} + {OF_TAG} * tags of a span) + batches * ({OF_BATCH} + {OF_PROCESS_TAG} * tags of a process)"
-    yield page, f"= {megabytes(reckoned(2_880_000, 5, 576_000, 4) / 1e6)}"
+    yield page, (f"take 2,880,000 * {OF_SPAN + 5 * OF_TAG} + 576,000 * {OF_BATCH + 4 * OF_PROCESS_TAG:,} = "
+                 f"{megabytes(reckoned(2_880_000, 5, 576_000, 4) / 1e6)}")
+    yield page, f"plus {SINCE} bytes a span that the program has taken since"
     yield page, f"so with {reckoned(10, 5, 1, 4) / 10:.0f} bytes a span"
     yield page, f"Each unused place takes {OF_PLACE} bytes of a span"
     worst = worst_tags(found)
@@ -671,10 +673,33 @@ def memory_quotes(found):
     more = f"more if tags are long, up to {math.ceil(small)} times with one span a batch and twenty process tags"
     yield page, f"`that may take {told[0]} with one tag a span, {told[1]} with five; {more}`"
     yield page, f"at {start[0]} and {start[1]} bytes a span"
-    answer = span([it[-1] * 10 for it in (one, five)])
-    single = two(max(it[-1] for it in of_processes if it[2] == 1) * 10)
-    yield page, f"| of more | {answer} bytes for each span, or {single} if each trace has one span; and 272 KB |"
+    yield "docs/recipes.md", f"100,000 spans of five tags make {five[3]} MB of JSON"
+    yield from answer_quotes(found)
     yield from shipped_quotes()
+
+
+def most_of_an_answer(found):
+    """The bytes for each span of an answer while it is made: of ordinary traces, and the most of traces of less than ten spans."""
+    ordinary = max(found.of("memory", 100_000, tags)[-1] * 10 for tags in TAGS)
+    return round(ordinary), round(max(it[-1] for it in found.rows("memory --process-tags") if it[2] < 10) * 10)
+
+
+def answer_quotes(found):
+    """What a page says of the memory that answers take."""
+    page = "docs/operating.md"
+    ordinary, most = most_of_an_answer(found)
+
+    def gigabytes(spans):
+        return " to ".join(f"{4 * spans * each / 1e9:.1f}" for each in (ordinary, most))
+
+    yield page, f"{ordinary} bytes for each span of the largest answer, or {most} if its traces have one or two spans or all spans are of one trace"
+    yield page, f"all of 2,000,000 spans that is {gigabytes(2_000_000)} GB"
+    whole = megabytes(reckoned(5_000_000, 10, 500_000, 4) / 1e6)
+    yield page, f"{whole} by [the rule](#memory-how-much-it-needs); {gigabytes(5_000_000)} GB more while four workers show all of them"
+    yield page, f"| of more | {ordinary} bytes for each span, or up to {most} if each trace has one or two spans; and 272 KB |"
+    made, slow = (found.of("held --at-once", name, count) for name, count in (("one large trace", 8), ("one large trace to slow readers", 100)))
+    yield page, (f"an answer of one trace of 40,000 spans took [{made[2] * 1e6 / 8 / 40_000:.0f} bytes for each span](../bench/figures.md#heldpy) while it was made, and "
+                 f"{slow[4] * 1e6 / 40_000:.0f} until its client had read it")
 
 
 def shipped_quotes():
@@ -732,11 +757,15 @@ def too_small(found):
     for process_tags, tags, in_batch, count, *_, of_span, _, _ in found.rows("memory --process-tags"):
         measured = f"{of_span} bytes a span were measured of {tags} tags, {in_batch} spans a batch, {process_tags} tags of a process, {count} connections"
         by_rule = reckoned(1, tags, 1 / in_batch, process_tags if count > 1 else 0) + unused(in_batch)
-        if by_rule < of_span:
-            yield f"{measured}; the rule reckons with {by_rule:.0f}"
+        if by_rule < of_span + SINCE:
+            yield f"{measured}, and {SINCE} more are taken since; the rule reckons with {by_rule:.0f}"
         at_the_start = at_start()[TAGS.index(tags)]
         if (in_batch, process_tags) == (10, PROCESS_TAGS[0]) and at_the_start < of_span:
             yield f"{measured}; the line at the start reckons with {at_the_start}"
+    most = most_of_an_answer(found)[1]
+    for name, _, *of_span in found.rows("held --answers"):
+        if max(of_span) > most:
+            yield f"an answer of {name} takes {max(of_span)} bytes a span; docs/operating.md reckons with {most}"
 
 
 def below(found, name):
