@@ -1,12 +1,11 @@
 #!/usr/bin/env python3
-"""Whether one build of `jaeger_one` serves writers slower than another: both in turns, many times, on one machine.
+"""Whether one build of `jaeger_one` serves writers slower than another: both in turn, many times, on one machine.
 
     bench/builds.py OLD NEW [--writers 1,2,4,8] [--pairs 30] [--seconds 0.6] [--workers N] [--save KIND]
 
-For each number of writers at full speed, as in serve.py: how many spans a second each build takes, and how many times as many NEW takes as
-OLD, in a second and in a second of the server's processors: above 1 NEW is better. A ratio is the median of the pairs', and behind it
-stands where that median lies with 95 of 100 chances, as drawing from the pairs says. Each server has four workers more than writers, or as
-many as are asked for.
+For each number of writers at full speed, as in serve.py: the spans a second that each build takes, and the ratio of NEW to OLD, in a second
+and in a CPU second of the server: above 1 NEW is better. A ratio is the median of the pairs' ratios, followed by its 95 % bootstrap interval.
+Each server has four workers more than writers, or the number that `--workers` gives.
 """
 import random
 import statistics

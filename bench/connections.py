@@ -3,14 +3,14 @@
 
     bench/connections.py [--bin PATH] [--senders 1000] [--silent 10000] [--slow 1000] [--seconds 10] [--only WORD] [--save KIND]
 
-  senders       so many clients that stay connected and post a batch of 10 spans once a second each, with 4 workers: how many POSTs
-                were answered 202, and how long one took (p50, p99)
-  silent        so many clients that connect and send nothing: what memory they take, and processor time in ten seconds
-  parked        so many clients that each ask once and stay, and then five times as many: the same
-  slow senders  a trace by its id beside so many clients that send a body a byte a second, and alone (p50, p99)
-  slow readers  a trace by its id beside so many clients that have asked for an answer of 30,000 spans each and don't read it, and alone
-                (p50, p99); what memory these answers take
-  full          a server that has as many connections open as it may, while others wait: processor time in ten seconds
+  senders       `--senders` clients that stay connected and post a batch of 10 spans once a second each, with 4 workers: how many POSTs
+                got 202, and how long one took (p50, p99)
+  silent        `--silent` clients that connect and send nothing: the memory that they take, and processor time in ten seconds
+  parked        `--senders` clients that each ask once and stay connected, and then five times as many: the same
+  slow senders  a trace by its id beside `--slow` clients that send a body a byte a second, and alone (p50, p99)
+  slow readers  a trace by its id beside `--slow` clients that have asked for an answer of 30,000 spans each and don't read it, and alone
+                (p50, p99); the memory that these answers take
+  full          a server with the most connections that it may have open, while others wait: processor time in ten seconds
 
 Times are those of a client in Python on the same machine, so they include its own work. A figure of one run. Rows are kept only of a run
 of all parts.
@@ -55,7 +55,7 @@ class Rows:
 
 
 def started(program, connections, *more):
-    """A server of four workers that lets so many connections be open."""
+    """A server of four workers that allows this number of open connections."""
     return Server("--workers", 4, "--connections", connections, *ROOM, *more, binary=program)
 
 

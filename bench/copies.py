@@ -480,7 +480,7 @@ DEPS = "read_side sent_batches arrival_journal span_store batch_codec jaeger_mod
 
 
 def build(top, name, deps, files):
-    """Proves and builds a program of these sources in a copy, below this folder, of the crates that it stands on."""
+    """Proves and builds a program of these sources in a copy, below this folder, of the crates that it uses."""
     uses = lists()
     used = below(deps.split(), uses)
     for crate in used:

@@ -52,7 +52,7 @@ def tag(rng, key):
 
 
 def span(rng, trace, number, parent, tags=None):
-    """A span with so many tags, or with 5 to 15."""
+    """A span with this number of tags, or with 5 to 15."""
     operation = rng.choice(["GET /orders", "POST /orders", "SELECT", "publish", "HandleRequest"])
     start, duration = 1_600_000_000_000_000 + rng.randint(0, 10**9), rng.randint(10, 10**6)
     keys = rng.sample(KEYS, rng.randint(5, 15) if tags is None else tags)

@@ -5,9 +5,8 @@ it, tags and requested tags, and more.
 Each shape is a session of the built program, `jaeger_one pipe`, with a quarter of each part, with half and with the
 whole; each size is compared with the one before. Where a shape costs what its bytes cost, twice the parts take twice
 the seconds and twice the memory; where two parts multiply it takes four times. Seconds are processor time of the
-program, the least of some runs, less those of a session in which nothing is sent; with `--count` its instructions
-stand in their place, in millions, which callgrind counts and which are the same on a busy machine (Debian:
-`valgrind`). Memory is the program's greatest resident size, less that of the same.
+program, the lowest of the runs, less those of a session in which nothing is sent; `--count` replaces them by its
+instructions, in millions, which callgrind counts and which are the same on a busy machine (Debian: `valgrind`). Memory is the program's greatest resident size, less that of the same.
 
     bench/heavy.py [--bin PATH] [--runs 3] [--parts 1000] [--count] [--save KIND] [SHAPE..]
 
@@ -55,7 +54,7 @@ def reference(span):
 
 
 def span(number, parent=0, trace=TRACE, operation="op", more=b""):
-    """A span that starts by its number; `more` are fields behind the others, as wire.py has them."""
+    """A span that starts by its number; `more` are fields after the others, as wire.py has them."""
     return wire.span(trace, number, parent, operation, START + number, more=more)
 
 
@@ -72,7 +71,7 @@ def log(fields):
 
 
 def asked(pairs, service="a"):
-    """A search by so many tags, which no span has all of."""
+    """A search by this number of tags, which no span has all of."""
     tags = "".join(f"&tag=x{n}:y" for n in range(pairs))
     return get(f"/api/traces?service={service}&start=1&end={1 << 60}{tags}")
 
@@ -108,7 +107,7 @@ def hidden_matches(count):
 
 
 def pairs_of_services(count, size):
-    """Services with names of so many bytes, each of which calls each other one in one trace."""
+    """Services with names of this number of bytes, each of which calls each other one in one trace."""
     names = [f"{k:04}" + "s" * size for k in range(count)]
     roots = [post(batch(name, [], [span(1 + k)])) for k, name in enumerate(names)]
     calls = [post(batch(name, [], [span(1000 + k * count + j, 1 + j) for j in range(count)])) for k, name in enumerate(names)]

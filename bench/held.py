@@ -130,7 +130,7 @@ def in_few_batches(n):
 
 
 def by_duration(n, one_in):
-    """One in so many traces, less one. If that is in 128, a search without tags is just judged inside a copy."""
+    """One trace in `one_in`, less one. If that is one in 128, a search without tags is just judged inside a copy."""
     return [], spread_traces(n), search(f"&minDuration=1us&limit={40 * n // one_in - 1}")
 
 
@@ -240,7 +240,7 @@ def in_traces_of(length):
     return bodies
 
 
-# What fills a server of so many spans, and the query whose answer has all of them.
+# What fills a server of a number of spans, and the query whose answer has all of them.
 ANSWERED = {
     "traces of one span": (in_traces_of(1), search("&limit=0")),
     "traces of two spans": (in_traces_of(2), search("&limit=0")),
@@ -250,7 +250,7 @@ ANSWERED = {
 
 
 class Taken(NamedTuple):
-    """By how many bytes the memory of a server rose while so many answers were made at once, for each number of them."""
+    """By how many bytes the memory of a server rose while a number of answers were made at once, for each number."""
     name: str
     spans: int
     rises: dict

@@ -1,9 +1,9 @@
 #!/usr/bin/env python3
 """What a trace limit costs, by number of traces held.
 
-Each size is a run of the built program, `jaeger_one play`, on a script that puts that many traces, ten spans of
-ten traces to a batch; then the same with limits of 10 and of none in turn behind it. The first limit hides all
-traces but ten, and the others have nothing to do. Times are processor time of the program, the least of some runs.
+Each size is a run of the built program, `jaeger_one play`, on a script that submits that many traces, ten spans of
+ten traces to a batch; then the same followed by limits of 10 and of none in turn. The first limit hides all traces
+but ten, and the others have nothing to do. Times are processor time of the program, the lowest of the runs.
 
     bench/limits.py [--bin PATH] [--sizes 1000,10000,100000] [--limits 100000] [--runs 5] [--save KIND]
 """
@@ -21,7 +21,7 @@ def batch(rng):
 
 
 def script(size, limits):
-    """Puts so many traces, then so many limits."""
+    """Submits `size` traces, then `limits` limits."""
     rng = random.Random(1)
     for _ in range(size // IN_BATCH):
         yield "put 0 " + batch(rng).hex() + "\ntake\n"

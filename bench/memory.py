@@ -2,9 +2,9 @@
 """How much memory a server needs, by number of spans held and of tags that each span has, and how much an answer takes.
 
 Each row is a run of the built program, `jaeger_one serve`, which is given batches of 10 spans of one trace over one
-connection until so many spans are held. Memory is the program's greatest resident size, all together; what it has
-before the first batch is the row of 0 spans. The tags are those of bench/decode.py, 4 to 40 bytes each where they are text. Behind
-that stands what is taken while a search for all traces is answered: by how much the greatest size rises, beside the bytes of the answer.
+connection until that number of spans is held. Memory is the program's peak resident size in total; the row of 0 spans is what
+it has before the first batch. The tags are those of bench/decode.py, 4 to 40 bytes each if they are text. The last columns are of a search
+for all traces: the bytes of its answer, and by how much the peak rises while it is answered.
 
 With `--process-tags 4` each process has the tags that Jaeger's clients send: host name, address, version and an id of its own.
 With more it has those of a pod too, as an OpenTelemetry SDK gives them. `--connections` is how many connections take turns, batch
@@ -50,18 +50,18 @@ MEGABYTES_OF_MOST = 12
 
 
 def tags_of_process(number, count):
-    """So many tags of a process."""
+    """The first `count` tags of a process."""
     return [wire.text_tag(key, value.format(number)) for key, value in itertools.islice(PROCESS_TAGS.items(), count)]
 
 
 def batch(rng, tags, in_batch, of_process):
-    """Spans that each the one before it called, with so many tags."""
+    """Spans of which each was called by the one before it, with this number of tags."""
     trace = rng.getrandbits(63) | 1
     return wire.batch("orders", [span(rng, trace, number + 1, number, tags) for number in range(in_batch)], of_process)
 
 
 def read_accepted(client, count):
-    """Reads so many responses, which all have to be 202."""
+    """Reads this number of responses, which all have to be 202."""
     text = b""
     while text.count(b"\r\n\r\n") < count:
         text += client.recv(65536) or b"closed\r\n\r\n" * count
@@ -69,7 +69,7 @@ def read_accepted(client, count):
 
 
 def fill(server, size, tags, in_batch, connections, process_tags):
-    """Sends so many spans; gives how many bytes of bodies that were."""
+    """Sends this number of spans; returns the bytes of their bodies."""
     rng = random.Random(3)
     processes = [tags_of_process(number, process_tags) for number in range(connections)]
     clients = [socket.create_connection(("127.0.0.1", server.port)) for _ in processes]
@@ -107,19 +107,19 @@ def empty_tags(count):
 
 
 def with_empty_tags(count):
-    """The batch with a number: one span that has nothing but so many empty tags."""
+    """The batch with a number: one span that has nothing but this number of empty tags."""
     tags = wire.structs(10, empty_tags(count))
     return lambda number: wire.batch("a", [wire.span(number, 1, operation="", more=tags)])
 
 
 def with_empty_logs(count, tags=65):
-    """The batch with a number: one span that has nothing but so many logs of empty tags."""
+    """The batch with a number: one span that has nothing but this number of logs of empty tags."""
     logs = wire.structs(11, [wire.long(1, 0) + wire.structs(2, empty_tags(tags)) + b"\0"] * count)
     return lambda number: wire.batch("a", [wire.span(number, 1, operation="", more=logs)])
 
 
 def of_empty_spans(count):
-    """The batch with a number: so many spans that have nothing, each the only one of its trace."""
+    """The batch with a number: this number of spans that have nothing, each the only one of its trace."""
     return lambda number: wire.batch("a", [wire.span(number * count + at, 1, operation="") for at in range(count)])
 
 

@@ -1,14 +1,14 @@
 #!/usr/bin/env python3
 """What a batch with a seqNo costs beside one without, by how many are sent.
 
-Each row is a run of the built program, `jaeger_one play`, on a script that submits so many batches of one span:
+Each row is a run of the built program, `jaeger_one play`, on a script that submits that number of batches of one span:
 
     new numbers     one process, each batch with the next number
     one number      one number, processes whose 17 tags are the text `1` or the number 1, each another choice of these
     again           one batch, sent again and again
 
 once with the numbers and once without them. With numbers, 'again' stores one batch. Times are processor time of the
-program, the least of some runs, less those of a script in which nothing is submitted.
+program, the lowest of the runs, less those of a script in which nothing is submitted.
 
     bench/resent.py [--bin PATH] [--sizes 1000,10000,100000] [--runs 5] [--save KIND]
 """

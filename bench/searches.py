@@ -6,9 +6,9 @@
 Traces of 10 to 50 spans, each span with 5 to 15 tags, are sent in batches of up to 10 spans of one service, the traces mixed in time. Then each
 question is asked in turn by two programs, each a process of its own:
 
-  store  `SpanStore::answer` of the store of one thread, proved and built by `rt run` in a copy of the crates that it stands on (from a plain clone
+  store  `SpanStore::answer` of the store of one thread, proved and built by `rt run` in a copy of the crates that it uses (from a plain clone
          that takes long: the crates below are proved first; `--folder PATH` keeps the copy, and `--bin PATH` names a program that was built so)
-  scan   bench/compare/scan.rs, plain Rust without proofs: a list of batches that each question walks over from the front
+  scan   bench/compare/scan.rs, plain Rust without proofs: a list of batches that each question walks over from its start
 
 The bodies are the same, and so are the answers: the script compares how many traces or links each program found. A time is that of the
 machine's monotonic clock around one question, the least of the rounds, in milliseconds; `times as fast` is how often the store's goes into the

@@ -13,9 +13,9 @@
   processor time    of the server a span, beside the spans a second
   idle              processor time of `jaeger_one` in ten seconds after 1,000 spans, with nobody connected
 
-A figure is the median of the rounds. `times as good` is how many times as good `jaeger_one` is: of rates the ratio of the two
-medians, of times and of memory its inverse; behind it stand the least and the most of the rounds' own ones. With `--itself` the plain server is
-measured in the place of `jaeger_one` too: what differs then is noise.
+A figure is the median of the rounds. `times as good` is the ratio of the two medians, of times and of memory its inverse: above 1
+`jaeger_one` is better. It is followed by the lowest and the highest ratio of the rounds. With `--itself` the plain server is measured in the
+place of `jaeger_one` too: what differs then is noise.
 """
 import os
 import statistics
@@ -47,7 +47,7 @@ def first_trace():
 
 
 def started(program, workers):
-    """A server with so many workers and room for all that is measured."""
+    """A server with this number of workers and room for all that is measured."""
     return Server("--workers", workers, *LIMITS, binary=program)
 
 

@@ -1,7 +1,7 @@
 #!/usr/bin/env python3
 """What posts and reads cost in a session, by number of spans held.
 
-One run of `jaeger_one pipe` a size: batches of 10 spans are sent over HTTP until so many spans are
+One run of `jaeger_one pipe` a size: batches of 10 spans are sent over HTTP until that many spans are
 held, then each kind of question is asked in turn, and again. Every hundredth batch is of the service
 `rare`, the others of `common`; a trace is the spans of one batch, the child spans of each called from
 the next. What is timed is from the first byte of a group of requests to the last byte of its answers.

@@ -1,7 +1,7 @@
 #!/usr/bin/env python3
 """What twice the input costs, for shapes of input that a sender may pick.
 
-One run of `jaeger_one pipe` a shape and size: bodies of that shape are sent over HTTP until so many spans
+One run of `jaeger_one pipe` a shape and size: bodies of that shape are sent over HTTP until that many spans
 are held, then questions are asked whose answers grow with them. The shapes:
 
   traces       ordinary: 10 spans of one trace a body, which call one another across two services

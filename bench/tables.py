@@ -110,12 +110,12 @@ def table(heads, rows):
 
 
 def note(parts):
-    """What stands below a table."""
+    """The lines below a table."""
     return ["", *textwrap.wrap("*" + "; ".join(parts) + ".*", 150, break_long_words=False, break_on_hyphens=False)]
 
 
 class Results:
-    """The series, by their names, and the rows of one that have these values in front."""
+    """The series, by their names, and the rows of one that begin with these values."""
 
     def __init__(self):
         found = results.load()
@@ -360,7 +360,7 @@ def connections(found):
         times = (at(part, what) for what in ("a trace p50, ms", "a trace p99, ms", "alone p50, ms", "alone p99, ms"))
         return "a trace by its id p50 {} ms, p99 {} ms; alone {} and {} ms".format(*times)
 
-    posts = f"every POST was answered 202; p50 {at('senders', 'POST p50, ms')} ms, p99 {at('senders', 'POST p99, ms')} ms"
+    posts = f"every POST got 202; p50 {at('senders', 'POST p50, ms')} ms, p99 {at('senders', 'POST p99, ms')} ms"
     rows = [["1,000 senders for ten seconds", posts],
             ["beside 1,000 clients in the middle of a body", look("slow senders")],
             ["beside 1,000 clients that don't read an answer of 30,000 spans each", look("slow readers")],
@@ -460,7 +460,7 @@ def glance_connections(found):
     def beside(part):
         return f"{at(part, 'a trace p99, ms')} ms; alone {at(part, 'alone p99, ms')}"
 
-    posts = f"{at('senders', 'POST p99, ms')} ms, and each is answered 202"
+    posts = f"{at('senders', 'POST p99, ms')} ms, and each gets 202"
     yield "four workers and 1,000 senders that post once a second: a POST, p99", posts, "`connections.py`"
     silent = span(found.of("connections, memory", "silent", 10_000, "MB"), cell)
     yield "10,000 connections that are silent", f"{silent} MB", "`connections.py`"

@@ -1,22 +1,22 @@
 #!/usr/bin/env python3
 """Each allocation of the built program, and of some built tests, refused in turn.
 
-For `get` over the sample batches, and for `play` over a script: the run ends with status 5, and what it wrote is a beginning of what
+For `get` over the sample batches, and for `play` over a script: the run ends with status 5, and what it wrote is a prefix of what
 it writes with ample memory; or nothing has changed.
 
 For `pipe` over a session of batches and queries: the run ends with status 5, and what it wrote are the
-first responses; or one request is answered 500, and everything else as in a session in which it was not
-made, so a batch that was refused is nowhere and a batch that was accepted is found. The same for batches in chunks, which are
-answered as those by Content-Length.
+first responses; or one request gets 500, and every other response is that of a session without the request, so a
+batch that was refused is nowhere and a batch that was accepted is found. The same for batches in chunks, which get the
+responses of those by Content-Length.
 
 For each test of TESTS: it passes, or ends with the error that memory was short for what it needs itself. Each makes a
 call that finds no memory once more and compares what comes then, so a test that passes has seen either an answer or that
-memory ran out, and the right answer behind that. A pair of tests takes the same count of allocations: what the first
+memory ran out, and the right answer after that. A pair of tests takes the same count of allocations: what the first
 one does beyond the second takes none.
 
     checks/allocations.py [--bin PATH] [--tests FOLDER] [--every N] [--only WORD]
 
-It needs Python 3, a C compiler, the built program, and the tests built by `rt test` in the folders of their crates. The
+It needs Python 3.10, a C compiler, the built program, and the tests built by `rt test` in the folders of their crates. The
 last line is `N passed, M failed`.
 """
 import collections

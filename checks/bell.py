@@ -163,8 +163,8 @@ def schedule(came, state):
 
 def main():
     words = asked_of(__doc__, None)
-    words.add_argument("--seats", type=int, default=2, metavar="N", help="so many seats")
-    words.add_argument("--jobs", type=int, default=2, metavar="N", help="so many jobs of each")
+    words.add_argument("--seats", type=int, default=2, metavar="N", help="the number of seats")
+    words.add_argument("--jobs", type=int, default=2, metavar="N", help="the number of jobs of each")
     words.add_argument("--form", choices=RINGS, default="kept", help="the form of a ring")
     asked = words.parse_args()
     count, found = search(asked.seats, asked.jobs, asked.form)

@@ -9,7 +9,7 @@ from edits import apply
 FUNCTION = re.compile(r"(?P<indent> *)(?:pub(?:\([a-z ]+\))? )?(?P<const>const )?(?:unsafe )?fn (?P<name>\w+)")
 CLOSES = re.compile(r"(?P<indent> *)\}")
 OWNER = re.compile(r"(?:pub(?:\([a-z ]+\))? )?(?:impl|trait)\b")
-# What stands between a function's doc comment and its first line.
+# The lines between a function's doc comment and its first line.
 ABOVE = re.compile(r" *(?:#\[|//)")
 
 
@@ -128,7 +128,7 @@ def without_brackets(text):
 
 
 def without_leading(head):
-    """Returns what stands behind the parameters that an impl begins with."""
+    """Returns what follows the parameters that an impl begins with."""
     depth = 0
     for at, letter in enumerate(head):
         depth += letter == "<"
@@ -173,7 +173,7 @@ def names_of(lines, at, module):
     if owner is None:
         return []
     ends = [f"{name}::{begins['name']}" for name in owners_of(" ".join(lines[owner:at]))]
-    # (a method stands in the module of its type, which may be another)
+    # (a method is in the module of its type, which may be another)
     return [*(before + end for end in ends), *ends]
 
 

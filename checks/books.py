@@ -2,13 +2,13 @@
 """The books of a desk with each allocation refused in turn.
 
 Runs one test of `thread_tests`, `waiting_jobs_handed_back`, in which a clerk leaves while jobs wait and every seat is taken in, once for
-each allocation that it makes, with that one refused. A run passes where the test passes (memory was short behind the opening, and
+each allocation that it makes, with that one refused. A run passes if the test passes (memory was short after the opening, and
 nothing was lost), or ends with an error before the books (a store or a desk could not be opened).
 
     (cd crates/thread_tests && rt test)
     checks/books.py [--bin PATH]
 
-It needs Python 3 and a C compiler. The last line is `N passed, M failed`.
+It needs Python 3.10 and a C compiler. The last line is `N passed, M failed`.
 """
 import collections
 import sys

@@ -33,7 +33,7 @@ def statuses():
 
 
 def inputs(subject):
-    """The names of a subject's cases: of each three files stand there, or some are lacking."""
+    """The names of a subject's cases: each has three files there, or some are missing."""
     return sorted({it.name.split(".")[0] for it in (CASES / subject).iterdir()})
 
 

@@ -1,4 +1,4 @@
-"""The repository: which of its crates stand on which, by crates.txt, and what its scripts are asked."""
+"""The repository: which of its crates use which, by crates.txt, and the options of its scripts."""
 import argparse
 import os
 
@@ -21,7 +21,7 @@ def lists():
 
 
 def below(names, used):
-    """These crates and those that they stand on, of the repository, by what each uses."""
+    """These crates and those that they use, of the repository, directly or through others."""
     found, ahead = set(), [*names]
     while ahead:
         crate = ahead.pop()

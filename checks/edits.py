@@ -3,7 +3,7 @@
 
     checks/edits.py [--kit FOLDER]
 
-An edit applies if each of its `old:` lines stands once in the file that it names, after the edits of the lines before it. Nor does one
+An edit applies if each of its `old:` lines is in the file that it names exactly once, after the edits of the lines before it. Nor does one
 apply whose new text calls a function or method that neither its crate nor one below it nor the toolchain defines (a method has to take
 `self`), or returns a record that the type of its function doesn't name. Only names are looked up, so an edit that passes may still not
 compile. Without the toolchain's sources (`--kit`) no call is looked up, and it says so. A line is printed for each edit that doesn't
@@ -32,7 +32,7 @@ BOUND = re.compile(r"\b(?:let|Some\(|Ok\()\s*(?:mut\s+)?([a-z_]\w*)|\b([a-z_]\w*
 RETURNED = re.compile(r"\breturn Ok\(([A-Z]\w*) \{")
 # Methods of numbers that no source defines.
 BUILT_IN = {"wrapping_add", "wrapping_sub", "wrapping_mul"}
-# What stands before a parenthesis and calls nothing.
+# Words before a parenthesis that call nothing.
 WORDS = {"if", "in", "match", "while", "return", "for", "fn", "pub", "let", "else", "move", "mut", "ref"}
 
 
@@ -109,7 +109,7 @@ def names_of(folder):
 
 @functools.cache
 def known_to(crate, kit):
-    """Returns the names of the methods and of the other functions of a crate and of those that it stands on."""
+    """Returns the names of the methods and of the other functions of a crate and of those that it uses."""
     used = lists()
     own = below([crate.name], used)
     others = {name for mine in own for name in used[mine]} - own

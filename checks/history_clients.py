@@ -64,7 +64,7 @@ def span(trace, span_id, operation):
 
 
 def body_of(batch, page):
-    """Its span in the record stands first, and has another operation: a search for the batch finds its page alone."""
+    """Its span is first in the record, and has another operation: a search for the batch finds its page alone."""
     spans = [span(trace_id(RECORD), batch << 2 | 2, "record")]
     spans += [span(trace_id(page), batch << 2 | part, batch_name(batch)) for part in (0, 1)]
     return wire.batch(service_name(service_of(batch, page)), spans)
@@ -247,7 +247,7 @@ class Log:
         self.compare(subject_seen, items)
 
     def compare(self, subject_seen, items):
-        """Two looks of this client of which neither is a beginning of the other are told while both are at hand."""
+        """Two looks of this client of which neither is a prefix of the other are told while both are at hand."""
         before = self.seen_last.get(subject_seen, [])
         shorter, longer = sorted((before, items), key=len)
         agree = longer[:len(shorter)] == shorter if subject_seen >> PLACE == PAGE else set(shorter) <= set(longer)
@@ -477,7 +477,7 @@ class Client:
         return [Look(PageLook(RECORD, raw=True))]
 
     def cut(self, connection, data, least, most):
-        """The beginning of a request, and then nothing more."""
+        """The first bytes of a request, and then nothing more."""
         with_pause = self.rng.random() < 0.5
         connection.send(data[:self.rng.randint(least, most)])
         if with_pause:

@@ -10,7 +10,7 @@ from history_clients import (ABSENT, ACKNOWLEDGED, KEPT, OPEN, OPERATIONS, PAGE,
 NEVER = 1 << 62
 
 
-# The judge. A position is where a batch stands in the history, counted from 0; what isn't there stands at NEVER.
+# The judge. A position is that of a batch in the history, counted from 0; what isn't there has the position NEVER.
 
 class Shown:
     """What a subject shows as the history grows: its items, and the position by which each is there."""
@@ -117,7 +117,7 @@ class Judge:
     def service(self, batch):
         return service_of(batch, self.pages[batch]) if batch in self.pages else None
 
-    # Each batch stands as often as its answers say.
+    # Each batch is there as often as its answers say.
 
     def judge_batches(self):
         outcomes = collections.defaultdict(collections.Counter)
@@ -152,7 +152,7 @@ class Judge:
                 self.violates(moment, f"{log.name}, connection {connection}: {names}, which was submitted first")
             before = connection, batch
 
-    # No look of a connection stands in front of what the connection has to count in.
+    # No look of a connection is before what the connection has to count in.
 
     def judge_connection(self, log, connection):
         """`floor` is the position that each look has to show, and `cause` the event by which it has to; none at first."""
@@ -174,7 +174,7 @@ class Judge:
 
     def bounds(self, log, event):
         """The last position that the event shows to be there, and the first that it shows not to be; None where it shows no
-        beginning of the history."""
+        prefix of the history."""
         number = log.subjects[event]
         kind, which = parts_of(number)
         if kind == ACKNOWLEDGED:

@@ -9,7 +9,7 @@ It reads README.md, docs/, bench/figures.md and the READMEs of bench/, checks/, 
 * each path in backticks, from the top, from crates/ or by its last parts;
 * `crate::function`, `Type::function`, `module::test`, and single names: something has to be called so;
 * `Type::function`: `clause`, where the words after the colon have to be clauses of one of the functions before it;
-* `path/file.rt`: `function`, where they have to stand in that file;
+* `path/file.rt`: `function`, which has to be in that file;
 * `--option`, which the program or a script of checks/ or bench/ has to have;
 * that docs/ASSURANCE.md, of what is trusted, names each crate of the toolchain that crates.txt has;
 * that each decision of docs/DECISIONS.md says which form was rejected, except for the limits of the toolchain.

@@ -9,7 +9,7 @@
   refusals  a server whose journal is full refuses N batches (`--posts`, a million unless told otherwise), and the memory that it
             holds stays as it was after the first ten thousand
   idle      a server that nobody asks takes less than a hundredth of a core
-  told      what stands on standard error, each line once: at the start how much is held at most, that the journal is full, and
+  told      the lines on standard error, each of them once: at the start how much is held at most, that the journal is full, and
             of each worker that can accept no more why (the listening socket is shut from outside)
   files     a server at its limit of open files says so once and takes less than a tenth of a core; once the limit is lifted it accepts
             who waits; the same a second time
@@ -17,7 +17,7 @@
             so once, and serves others; it takes 300 MB and some twenty seconds
   texts     the same of answers that are one span of 25 MB of text, which is in memory as text: beyond 268 MB
   answers   a server without memory for an answer (its data may not grow) answers 500 and says so once, with the refusal's number and how
-            many there were; once the limit is lifted the same query is answered 200
+            many there were; once the limit is lifted the same query gets 200
   opening   a server without memory for a store with its limits ends with status 5 and says why
 
 Standard library alone, Linux. One line for each part; the last line is `N passed, M failed`.

@@ -72,7 +72,7 @@ VERDICT = re.compile(r"fn \w+::(?P<name>\S+): (?P<said>.*)")
 EXPECTED = re.compile(r" expected answers in [^;]*;")
 # What a verdict says of a function that the borrow checker can't read: no clause was looked at.
 BORROWS = re.compile(r"the borrow checker(?:'s part| does not cover)")
-# What stands in a verdict for the functions that this one calls, and where the name of a closure says in which function it is.
+# What a verdict has for the functions that this one calls, and where the name of a closure says in which function it is.
 CALLS = re.compile(r"(?:; |: )?it calls `.*")
 CLOSURE = re.compile(r"(?P<module>(?:\w+::)*)fn::(?P<name>.+)::\w+\+Fn(?:Mut|Once)?::\w+")
 
@@ -350,7 +350,7 @@ def try_round(room, changes, asked, spent=0.0):
 
 
 def by_layer():
-    """Returns the crates, each behind those that it stands on."""
+    """Returns the crates, each after those that it uses."""
     used, found = lists(), []
     while len(found) < len(used):
         found += [name for name in used if name not in found and all(it in found or it not in used for it in used[name])]
@@ -461,7 +461,7 @@ def arguments():
     words.add_argument("--only", metavar="WORD", default="", help="only edits whose name has this word")
     words.add_argument("--built", action="store_true", help="only crates below which all libraries are built")
     words.add_argument("--again", metavar="OUTCOME", choices=("all", *OUTCOMES), help="try those with this outcome anew")
-    words.add_argument("--minutes", type=float, default=float("inf"), help="begin no further check after so many minutes")
+    words.add_argument("--minutes", type=float, default=float("inf"), help="begin no further check after this number of minutes")
     words.add_argument("--jobs", type=int, default=1, metavar="N", help="this many crates side by side")
     words.add_argument("--counts", action="store_true", help="try nothing, and print what came of those that were tried")
     asked = words.parse_args()

@@ -61,7 +61,7 @@ def run_cases(cases, only):
 
 
 def in_url(host):
-    """The host as a URL has it in front of a port: an IPv6 address is in brackets."""
+    """The host as a URL has it before a port: an IPv6 address is in brackets."""
     return f"[{host}]" if ":" in host else host
 
 
@@ -101,7 +101,7 @@ class Response:
 
 
 class Client:
-    """One connection. Every wait ends after so many seconds, as a failure; `room` is what the system may hold for it unread."""
+    """One connection. Every wait ends after `patience` seconds, as a failure; `room` is what the system may hold for it unread."""
 
     def __init__(self, port, patience=PATIENCE, room=None, host="127.0.0.1"):
         self.input = b""
@@ -301,7 +301,7 @@ class Server:
         return status, (self.output + self.run.stdout.read()).decode()
 
     def served(self, count, acknowledged, refused=0):
-        """It ends with status 0 after so many sessions, in which so many batches were acknowledged and refused."""
+        """It ends with status 0 after this number of sessions, in which these numbers of batches were acknowledged and refused."""
         status, output = self.ends()
         check(status == 0, f"the status is {status}, and it printed {output!r}")
         check(output.splitlines()[1:] == [f"served {count}", f"books {acknowledged} {refused} 0"], f"it printed {output!r}")

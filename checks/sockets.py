@@ -473,7 +473,7 @@ def cut_at_each_byte():
 
 
 def large_store(server, count=100):
-    """A trace whose answer has so many spans with a long operation each; that answer."""
+    """A trace whose answer has this number of spans with a long operation each; that answer."""
     with server.client() as client:
         for _ in range(count):
             client.ask(post(1, operation="o" * 50_000), 202)
@@ -497,7 +497,7 @@ def slow_readers():
 
 
 def many_spans(server, count=200_000):
-    """A store of so many traces with a span each, in bodies of a thousand."""
+    """A store of this number of traces with a span each, in bodies of a thousand."""
     with server.client() as client:
         for first in range(1, count, 1000):
             client.ask(post_body(wire.batch("many", [wire.span(first + k, 1) for k in range(1000)])), 202)

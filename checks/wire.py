@@ -37,7 +37,7 @@ def text_tag(key, value):
 
 
 def span(trace, number, parent=0, operation="op", start=1000, duration=50, more=b""):
-    """A span; `trace` has both halves of the id. `more` are fields behind these: references (6), tags (10), logs (11)."""
+    """A span; `trace` has both halves of the id. `more` are fields after these: references (6), tags (10), logs (11)."""
     ids = long(1, trace) + long(2, trace >> 64) + long(3, number) + long(4, parent)
     return ids + field(TEXT, 5) + text(operation) + integer(7, 1) + long(8, start) + long(9, duration) + more + b"\0"
 
@@ -62,7 +62,7 @@ def post(body):
 
 
 def post_in_chunks(body, size, extension=b"", trailer=b""):
-    """The same body in chunks of so many bytes."""
+    """The same body in chunks of this number of bytes."""
     parts = [body[at : at + size] for at in range(0, len(body), size)]
     chunks = b"".join(b"%x%s\r\n%s\r\n" % (len(part), extension, part) for part in parts)
     return f"{POST}Transfer-Encoding: chunked\r\n\r\n".encode() + chunks + b"0\r\n" + trailer + b"\r\n"
