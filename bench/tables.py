@@ -574,9 +574,9 @@ def at_start():
     return [int(re.search(rf"const BYTES_WITH_{word}: u64 = (\d+);", source)[1]) for word in ("ONE_TAG", "FIVE_TAGS")]
 
 
-def most_waiting():
-    """The bytes of responses that may wait at a worker."""
-    number, bits = re.search(r"const MAX_WAITING_BYTES: usize = (\d+) << (\d+);", read("crates/trace_server/src/event_loop.rt")).groups()
+def most_waiting(what="WAITING"):
+    """The bytes of responses that may wait at a worker; with `MADE` those of them that are in memory as text."""
+    number, bits = re.search(rf"const MAX_{what}_BYTES: usize = (\d+) << (\d+);", read("crates/trace_server/src/event_loop.rt")).groups()
     return int(number) << int(bits)
 
 
@@ -726,7 +726,11 @@ def connection_quotes(found):
     yield "docs/serve.md", f"| silent after a request | {at('parked', 5000, 'bytes a connection')} bytes |"
     yield "docs/serve.md", f"| the same, with 1,000 clients instead of 5,000 | {at('parked', 1000, 'bytes a connection')} bytes |"
     yield "docs/operating.md", f"which takes {waits[0]} (spans with five tags) to {waits[1]} (spans without tags)"
-    yield "docs/operating.md", f"268 MB of text and {waits[1]} of what isn't text yet"
+    whole, made = most_waiting() / 1e9, most_waiting("MADE") / 1e6
+    yield "docs/operating.md", f"At one worker at most {whole:.1f} GB of text waits"
+    yield "docs/operating.md", f"At most {made:.0f} MB of it is in memory as text"
+    yield "docs/operating.md", f"(spans without tags) for {whole:.1f} GB of text"
+    yield "docs/operating.md", f"{made:.0f} MB of text and {waits[1]} of what isn't text yet"
     yield "docs/operating.md", f"and 272 KB | {read} bytes for each span, and 272 KB |"
 
 
