@@ -494,11 +494,11 @@ def speed(found):
     beside = max(it[5] for it in found.rows("held") if it[1:3] == [1_000_000, "spans"])
     rows = [
         ["decoding a POST's body (in one piece), instructions a byte", mine, plain, decoders(found)[0]],
-        ["spans taken in a second from four writers", *of_both(ALONE, 4)],
-        ["a POST of one of four writers, beside two readers at full speed, p99, ms", *of_both(POST, 4)],
+        ["spans taken a second, four writers", *of_both(ALONE, 4)],
+        ["a POST of four writers beside two readers at full speed, p99, ms", *of_both(POST, 4)],
         ["20 traces with their JSON among 100,000 spans, ms", f"{store_ms:.2f}", f"{scan_ms:.0f}", two(scan_ms / store_ms)],
         ["the longest POST while large queries run, 1,000,000 spans held, ms", f"{beside:.0f}", "not compared", ""],
-        [f"the longest POST while a store fills to 10,000,000 spans, the lowest of {rounds} rounds, ms", cell(mine_full), cell(plain_full), two(plain_full / mine_full)],
+        [f"the longest POST while a store fills to 10,000,000 spans, lowest of {rounds} rounds, ms", cell(mine_full), cell(plain_full), two(plain_full / mine_full)],
     ]
     heads = ["What", "Kiwibismuth", "Plain Rust", "Ratio (above 1: Kiwibismuth is better)"]
     return table(heads, rows) + found.days("compare --count", "serve", "searches", "held", "growth")
