@@ -397,6 +397,11 @@ def forms(found):
     return table(["Form", "Against the one that was kept"], found.rows("forms")) + found.caption("forms")
 
 
+def gate_by_crate(found):
+    rows = ([name if " " in name else f"`{name}`", *map(cell, values)] for name, *values in found.rows("gate, by crate"))
+    return table(["Crate", "CPU minutes", "of these its wrong bodies", "Memory, GB"], rows) + found.caption("gate, by crate", MACHINES)
+
+
 def decoders(found):
     """The ratios of decoding a POST's body, by instructions: to plain Rust, and to Apache Thrift. A server decodes by a `Feeder`."""
     mine = found.of("compare --count", "pieces")
@@ -582,7 +587,7 @@ def most_waiting(what="WAITING"):
 
 TABLES = {name: it for name, it in globals().items() if name in (
     "machines decode compare store session searches searches_load shapes heavy held held_at_once held_answers ids limits resent memory memory_processes memory_most copies serve grown "
-    "connections connections_memory builds forms glance_beside glance_alone speed operating_memory operating_spans operating_most").split()}
+    "connections connections_memory builds forms gate_by_crate glance_beside glance_alone speed operating_memory operating_spans operating_most").split()}
 
 
 def quotes(found):
@@ -736,17 +741,14 @@ def connection_quotes(found):
 
 def gate_quotes(found):
     """What pages say of the time that the gate takes."""
-    edits, processor, clock = found.of("gate", "an earlier version, with other work beside it")
-    whole = "the whole from nothing, commit 43f411d3, kit 13b, four cores of 2.5 GHz, beside up to eight other jobs"
-    tried, now, by_clock = found.of("gate", whole)
-    yield "docs/MAINTAINING.md", f"An earlier version with its {edits} wrong bodies took {processor} and {clock}, also beside other work"
-    yield "docs/MAINTAINING.md", f"with its {tried} wrong bodies took {now} minutes of a processor and {by_clock} by the clock"
-    code, tests = (found.of("gate", name)[1] for name in ("the product, commit bd1cc20c, kit 13f, in parts, six to ten jobs on four cores of 2.5 GHz, sampled",
-                                                          "the tests, the same"))
-    edits, processor, _ = found.of("gate", "the wrong bodies, the same")
-    yield "docs/MAINTAINING.md", f"the crates without tests {code} minutes of a processor, the test crates {tests}, the {edits} wrong bodies"
+    tried, processor, of_system, clock = found.of("gate", "the whole from nothing")
+    commit, parts = found.series["gate"]["commit"], found.rows("gate, by crate")
+    yield "docs/MAINTAINING.md", f"took {processor} CPU minutes, {of_system} of them in the system, and {clock} minutes of wall-clock time"
+    yield "docs/MAINTAINING.md", f"{sum(it[2] or 0 for it in parts):.0f} of them went into the {tried} wrong bodies"
+    yield "docs/MAINTAINING.md", f"which see {sum(it[1] for it in parts):.0f} of the {processor} minutes"
+    yield "docs/MAINTAINING.md", f"`rt ci` [{clock} minutes](#what-it-costs)"
     yield "README.md", f"tries {len(glob.glob('crates/*/must-fail/*.edit', root_dir=results.ROOT))} wrong bodies"
-    yield "README.md", f"{by_clock} minutes, of {re.search(r'commit [0-9a-f]+', whole)[0]} on four cores of 2.5 GHz beside other jobs"
+    yield "README.md", f"`rt ci` {clock} minutes, of commit {commit}, alone on four cores of 2.5 GHz"
     least, most = found.of("proofs", "a test crate before its first test")
     once, often = found.of("proofs", "a public function whose contract names much, once a crate")
     yield "docs/MAINTAINING.md", f"{least} to {most} seconds of a processor to read what it stands on, and {once} to {often} once for each public function"
