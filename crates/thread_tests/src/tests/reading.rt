@@ -4,12 +4,12 @@
 //! * `sent_again`: a batch that is resent.
 //! * `prefixes`: the lists that calls name, compared.
 //! * `machine`: the same steps on the stepped machine and on the two copies.
-//! * `holding`: several reads of one list, while another thread writes.
-//! * `threads`: three threads that read while another one writes.
-//! * `along`: the same with every kind of query, each answer compared with the plain store's.
+//! * `holding`: a list that is held while another thread writes; a receipt that is learnt late.
+//! * `along`: three threads that read while another one writes, with every kind of query, each answer compared with the
+//!   plain store's.
 //! * `fixture`: a store that is opened for a row.
 //! * `entries`: the entries that they submit.
-//! * `answers`: what an answer shows, as text.
+//! * `answers`: the text of an answer.
 
 mod along;
 mod answers;
@@ -20,4 +20,3 @@ mod machine;
 mod prefixes;
 mod rows;
 mod sent_again;
-mod threads;

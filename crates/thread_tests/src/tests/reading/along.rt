@@ -1,3 +1,6 @@
+//! Three threads read while another one writes: no front falls, and each answer is the plain store's for the list that it
+//! names.
+
 use crate::tests::reading::answers::shown;
 use crate::tests::reading::fixture::{Row, plays};
 use crate::tests::reading::holding::count_admitted;
@@ -13,10 +16,10 @@ use trace_model::{Entry, Find, Limits, Query, Refusal, TraceLimit, Work};
 use trace_samples::{batch, kept, list_of, service_find, span, submitted, text_tag};
 
 /// The number of entries that are admitted.
-const ENTRIES: u64 = 200;
+const ENTRIES: u64 = 100;
 
 /// The number of queries of each pass meanwhile.
-const QUERIES: u64 = 80;
+const QUERIES: u64 = 100;
 
 /// The trace limits that are submitted.
 const LIMITS: [u32; 5] = [0, 1, 7, 20, 35];
@@ -41,6 +44,10 @@ fn drawn_value(draw: u64) -> &'static str {
     ["x", "y", "z"][draw as usize % 3]
 }
 
+fn drawn_operation(draw: u64) -> &'static str {
+    ["op", "other"][draw as usize % 2]
+}
+
 fn drawn_kind(draw: u64) -> &'static str {
     ["", "client", "server"][draw as usize % 3]
 }
@@ -52,12 +59,15 @@ fn drawn_tags(alloc: Global, draw: u64) -> Result<Seq<Tag>, AllocError> {
     kept(tags, added)
 }
 
-/// Makes a span of one of 40 traces. Another one of the trace may be its parent, and starts don't rise.
+/// Makes a span of one of 40 traces. Another one of the trace may be its parent, and starts don't rise. Its operation is
+/// `op` or `other`, and its duration 0 to 99.
 fn drawn_span(alloc: Global, draw: u64) -> Result<Span, AllocError> {
     let tags = drawn_tags(alloc, draw >> 40)?;
     let mut span = span(alloc, drawn_trace(draw), 1 + (draw >> 8) % 6)?;
     span.parent = SpanId((draw >> 16) % 6);
     span.start = i64::try_from((draw >> 24) % 1009).unwrap_or(0);
+    span.duration = i64::try_from((draw >> 32) % 100).unwrap_or(0);
+    span.operation = Text::from_str(alloc, drawn_operation(draw >> 48))?;
     span.tags = tags;
     Ok(span)
 }
@@ -94,7 +104,8 @@ fn entries_along(alloc: Global) -> Result<Vec<Arc<Entry>>, Fail> {
     kept(entries, added)
 }
 
-/// Makes a search by a service, and with some draws by a tag or a window of starts as well. The limit is 0 to 3.
+/// Makes a search by a service, and with some draws by a tag, a window of starts, an operation or durations as well. The
+/// limit is 0 to 3.
 fn drawn_search(alloc: Global, draw: u64) -> Result<Find, AllocError> {
     let mut find = service_find(alloc, drawn_service(draw))?;
     find.limit = (draw >> 8) % 4;
@@ -105,6 +116,13 @@ fn drawn_search(alloc: Global, draw: u64) -> Result<Find, AllocError> {
     if (draw >> 32) % 3 == 0 {
         find.start_min = Some(200);
         find.start_max = Some(900);
+    }
+    if (draw >> 40) % 3 == 0 {
+        find.operation = Text::from_str(alloc, drawn_operation(draw >> 48))?;
+    }
+    if (draw >> 56) % 3 == 0 {
+        find.duration_min = 20;
+        find.duration_max = 80;
     }
     Ok(find)
 }
@@ -141,13 +159,25 @@ fn query_along(alloc: Global, number: u64) -> Result<Query, AllocError> {
 struct Told {
     number: u64,
     front: u64,
-    text: String,
+    text: Vec<u8>,
 }
 
-/// Reads for the query with the number.
+/// Holds the list and reads for the query. It needs no handle, so it can't wait.
+fn read_held<N: StoreName>(pass: &mut Pass<N>, query: &Query) -> Result<Reading, Refusal> {
+    let held = pass.hold()?;
+    let reading = held.read(query);
+    held.leave();
+    reading
+}
+
+/// Reads for the query with the number: after eight queries by `read`, eight inside a list that is held.
 fn read_for<N: StoreName>(alloc: Global, pass: &mut Pass<N>, number: u64) -> Result<Told, Refusal> {
     let query = query_along(alloc, number)?;
-    let reading = pass.read(&query);
+    let reading = if number / 8 % 2 == 0 {
+        pass.read(&query)
+    } else {
+        read_held(pass, &query)
+    };
     drop(query);
     let Reading { front, answer } = reading?;
     let text = shown(alloc, answer)?;
@@ -198,14 +228,14 @@ fn plainly(
     entries: &[Arc<Entry>],
     limits: Limits,
     number: u64,
-) -> Result<String, AllocError> {
+) -> Result<Vec<u8>, AllocError> {
     let query = query_along(alloc, number)?;
     let answer = plain_answer(alloc, entries, limits, &query);
     drop(query);
     shown(alloc, answer?)
 }
 
-/// Whether an answer is the plain store's for the first entries, as many as its front says.
+/// Returns whether an answer is the plain store's for the first entries, as many as its front says.
 fn is_of_its_front(
     alloc: Global,
     entries: &[Arc<Entry>],
@@ -218,30 +248,39 @@ fn is_of_its_front(
     }
 }
 
-/// Whether a pass answered all queries, each as the plain store of its front does.
-fn are_of_their_fronts<N: StoreName>(
+/// Returns whether a pass answered all queries, each as the plain store of its front does, and no front fell.
+fn are_of_their_fronts(
     alloc: Global,
     entries: &[Arc<Entry>],
     limits: Limits,
-    asked: &Asked<N>,
+    all: &[Told],
 ) -> Result<bool, Fail> {
-    let (_, all) = asked;
-    for told in all.as_slice() {
-        if !is_of_its_front(alloc, entries, limits, told)? {
+    let mut front = 0;
+    for told in all {
+        if told.front < front || !is_of_its_front(alloc, entries, limits, told)? {
             return Ok(false);
         }
+        front = told.front;
     }
     Ok(all.len() as u64 == QUERIES)
 }
 
+/// Returns whether a pass settles on all that the keeper has published.
+fn is_settled<N: StoreName>(keeper: &mut Keeper<N>, pass: &mut Pass<N>) -> bool {
+    let last = keeper.receipt();
+    let settled = pass.settle(&last);
+    drop(last);
+    settled == Ok(()) && pass.front() == ENTRIES
+}
+
 #[test]
-fn answers_of_their_fronts(rt: HostRuntime) -> Result<(), Fail> {
-    assert!(rt; plays(&rt, rt.alloc(), 200, 3, Row::AskedAlong)?.as_wanted);
+fn three_passes(rt: HostRuntime) -> Result<(), Fail> {
+    assert!(rt; plays(&rt, rt.alloc(), 100, 3, Row::AskedAlong)?.as_wanted);
     Ok(())
 }
 
-/// The row of `answers_of_their_fronts`: 200 entries, trace limits among them, are admitted while three threads read,
-/// and each answer is that of its front.
+/// The row of `three_passes`: 100 entries, trace limits among them, are admitted while three threads read 100 times each.
+/// No front falls, each answer is that of its front, and after all were joined each pass settles on the last entry.
 pub fn asked_along<N: StoreName + Send + Sync, R: Threads + Wait + Sync>(
     rt: &R,
     alloc: Global,
@@ -249,12 +288,14 @@ pub fn asked_along<N: StoreName + Send + Sync, R: Threads + Wait + Sync>(
     passes: &mut Vec<Pass<N>>,
     limits: Limits,
 ) -> Result<bool, Fail> {
-    let (entries, same) = (entries_along(alloc)?, entries_along(alloc)?);
+    let entries = entries_along(alloc)?;
+    let same = entries.clone()?;
     let passes = replace(passes, Vec::new(alloc));
-    let (taken, all) = beside(rt, alloc, keeper, passes, entries);
+    let (taken, readers) = beside(rt, alloc, keeper, passes, entries);
     let mut as_wanted = taken == ENTRIES;
-    for asked in all?.as_slice() {
-        as_wanted = as_wanted && are_of_their_fronts(alloc, same.as_slice(), limits, asked)?;
+    for (mut pass, all) in readers? {
+        let settled = is_settled(keeper, &mut pass);
+        as_wanted = as_wanted && settled && are_of_their_fronts(alloc, &same, limits, &all)?;
     }
     Ok(as_wanted)
 }

@@ -8,7 +8,6 @@ use crate::tests::reading::machine::followed;
 use crate::tests::reading::prefixes::prefixes_compared;
 use crate::tests::reading::rows::{all_or_nothing, moved_on, settled};
 use crate::tests::reading::sent_again::sent_twice;
-use crate::tests::reading::threads::read_beside;
 use read_side::{EmptyHistory, Keeper, Pass, StoreName, open};
 use std::alloc::Global;
 use std::hash::RandomState;
@@ -30,7 +29,6 @@ pub enum Row {
     HeldBeside,
     LearntLate,
     SentTwice,
-    ReadBeside,
     AskedAlong,
     PrefixesCompared,
 }
@@ -65,7 +63,6 @@ impl Row {
             Row::HeldBeside => held_beside(rt, alloc, keeper, passes),
             Row::LearntLate => learnt_late(rt, alloc, keeper, passes),
             Row::SentTwice => sent_twice(rt, alloc, keeper),
-            Row::ReadBeside => read_beside(rt, alloc, keeper, passes),
             Row::AskedAlong => asked_along(rt, alloc, keeper, passes, limits),
             Row::PrefixesCompared => prefixes_compared(rt, alloc, keeper, passes),
         }

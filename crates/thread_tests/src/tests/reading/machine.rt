@@ -15,8 +15,8 @@ use std::test::*;
 use trace_model::{Answer, Entry, Limits, Query, Refusal, TraceLimit, Work};
 use trace_samples::{beside, kept, service_find, submitted};
 
-/// What is seen of a store, one line of text after another.
-type Lines = Vec<String>;
+/// A line of text that says what is seen of a store.
+type Line = Vec<u8>;
 
 /// The number of entries that are submitted.
 const LAST: u64 = 20;
@@ -110,49 +110,70 @@ fn all_steps(alloc: Global) -> Result<Vec<Step>, Fail> {
     kept(steps, added)
 }
 
-/// What an answer shows.
-fn answered(alloc: Global, front: u64, answer: Answer) -> Result<String, Fail> {
+/// The line of what an answer shows.
+fn answered(alloc: Global, front: u64, answer: Answer) -> Result<Line, Fail> {
     let text = shown(alloc, answer)?;
-    Ok(format!(in alloc; "{front}: {text}")?)
+    let mut line = format!(in alloc; "{front}: ")?.into_bytes();
+    line.extend_from_slice(&text)?;
+    Ok(line)
 }
 
-/// The judgement of what was submitted: its place, or why it was refused.
-fn judged_line(alloc: Global, judged: Result<u64, Refusal>) -> Result<String, Fail> {
-    Ok(format!(in alloc; "judged {judged:?}")?)
+/// The line of the judgement of what was submitted: its place, or why it was refused.
+fn judged_line(alloc: Global, judged: Result<u64, Refusal>) -> Result<Line, Fail> {
+    Ok(format!(in alloc; "judged {judged:?}")?.into_bytes())
 }
 
-/// The number of entries that a reader knows that has learnt.
-fn learnt(alloc: Global, front: u64) -> Result<String, Fail> {
-    Ok(format!(in alloc; "learnt {front}")?)
+/// The line of the number of entries that a reader knows that has learnt.
+fn learnt(alloc: Global, front: u64) -> Result<Line, Fail> {
+    Ok(format!(in alloc; "learnt {front}")?.into_bytes())
 }
 
-/// Adds what is judged, answered or learnt by this outcome. A job that is taken and not refused is published next, as
-/// the last one.
-fn add_line(
+/// Returns the line of an outcome that is no answer, if it has one. A job that is taken and not refused is published
+/// next, as the last one.
+fn line_of(
     alloc: Global,
-    lines: &mut Lines,
     judged: &mut Option<Result<u64, Refusal>>,
-    outcome: Outcome,
-) -> Result<(), Fail> {
+    outcome: &Outcome,
+) -> Result<Option<Line>, Fail> {
     match outcome {
-        Outcome::Again { place, .. } => *judged = Some(Ok(place)),
-        Outcome::Refused(why) => *judged = Some(Err(why)),
+        Outcome::Again { place, .. } => *judged = Some(Ok(*place)),
+        Outcome::Refused(why) => *judged = Some(Err(*why)),
         Outcome::Published { front } => {
-            let said = judged.take().unwrap_or(Ok(front));
-            lines.push(judged_line(alloc, said)?)?
+            let said = judged.take().unwrap_or(Ok(*front));
+            return Ok(Some(judged_line(alloc, said)?));
         }
-        Outcome::Answered { front, answer } => lines.push(answered(alloc, front, answer)?)?,
-        Outcome::Learnt { front } => lines.push(learnt(alloc, front)?)?,
+        Outcome::Learnt { front } => return Ok(Some(learnt(alloc, *front)?)),
         Outcome::Held { .. } | Outcome::Inside | Outcome::Outside | Outcome::Unknown => {
             return Err("a step that was not made".into());
         }
         _ => {}
     }
+    Ok(None)
+}
+
+/// Adds the line of this outcome, if it has one.
+fn add_line(
+    alloc: Global,
+    lines: &mut Vec<Line>,
+    judged: &mut Option<Result<u64, Refusal>>,
+    outcome: Outcome,
+) -> Result<(), Fail> {
+    let line = match outcome {
+        Outcome::Answered { front, answer } => Some(answered(alloc, front, answer)?),
+        other => {
+            let line = line_of(alloc, judged, &other);
+            drop(other);
+            line?
+        }
+    };
+    if let Some(line) = line {
+        lines.push(line)?;
+    }
     Ok(())
 }
 
 /// Adds the lines of all of these outcomes.
-fn add_lines(alloc: Global, lines: &mut Lines, outcomes: Vec<Outcome>) -> Result<(), Fail> {
+fn add_lines(alloc: Global, lines: &mut Vec<Line>, outcomes: Vec<Outcome>) -> Result<(), Fail> {
     let mut judged = None;
     for outcome in outcomes {
         add_line(alloc, lines, &mut judged, outcome)?;
@@ -166,7 +187,7 @@ fn machine_lines(
     keys: RandomState,
     limits: Limits,
     steps: Vec<Step>,
-) -> Result<Lines, Fail> {
+) -> Result<Vec<Line>, Fail> {
     let outcomes = play(alloc, keys, steps, limits)?;
     let mut lines = Vec::new(alloc);
     let added = add_lines(alloc, &mut lines, outcomes);
@@ -189,7 +210,7 @@ struct Copies<'a, N: StoreName> {
     /// A receipt of each publish.
     receipts: Vec<Receipt<N>>,
     /// What was judged, answered and learnt.
-    lines: Lines,
+    lines: Vec<Line>,
 }
 
 impl<N: StoreName> Copies<'_, N> {
@@ -323,7 +344,7 @@ fn copies_lines<N: StoreName, R: Wait>(
     keeper: &mut Keeper<N>,
     passes: &mut Vec<Pass<N>>,
     steps: &[Step],
-) -> Result<Lines, Fail> {
+) -> Result<Vec<Line>, Fail> {
     let [five, six, seven] = passes.as_mut_slice() else {
         return Err("three passes were asked for".into());
     };
@@ -346,10 +367,10 @@ const PER_ENTRY: usize = 7;
 
 const JUDGING: usize = 2;
 
-/// Whether the work with the number was judged so.
+/// Returns whether the work with the number was judged so.
 fn has_judged_line(
     alloc: Global,
-    lines: &[String],
+    lines: &[Line],
     number: usize,
     said: Result<u64, Refusal>,
 ) -> Result<bool, Fail> {
@@ -366,13 +387,15 @@ fn has_judged_line(
 
 #[test]
 fn copies_follow_the_machine(rt: HostRuntime) -> Result<(), Fail> {
-    assert!(rt; plays(&rt, rt.alloc(), 20, 3, Row::Followed)?.as_wanted);
+    let played = plays(&rt, rt.alloc(), 20, 3, Row::Followed)?;
+    assert!(rt; played.as_wanted);
+    assert!(rt; played.gone == Some(Refusal::Gone));
     Ok(())
 }
 
-/// Whether these lines say how the fifth, the sixth and the nineteenth entry were judged, which are resent, and as
-/// much of each entry.
-fn are_judging(alloc: Global, lines: &[String]) -> Result<bool, Fail> {
+/// Returns whether these lines say how the fifth, the sixth and the nineteenth entry were judged, which are resent, and
+/// as much of each entry.
+fn are_judging(alloc: Global, lines: &[Line]) -> Result<bool, Fail> {
     let conflict = Refusal::Conflict { place: 3 };
     Ok(
         lines.len() as u64 == LAST.saturating_mul(PER_ENTRY as u64)
@@ -382,7 +405,7 @@ fn are_judging(alloc: Global, lines: &[String]) -> Result<bool, Fail> {
     )
 }
 
-/// Whether two copies that make the same steps show the same as the machine, line by line.
+/// Returns whether two copies that make the same steps show the same as the machine, line by line.
 pub fn followed<N: StoreName, R: Wait>(
     rt: &R,
     alloc: Global,

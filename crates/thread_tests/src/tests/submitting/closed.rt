@@ -26,8 +26,12 @@ pub(crate) fn closed_for_both<N: StoreName, R: Wait>(
     said
 }
 
-/// Whether a batch comes back since the desk is closed. It is made again if memory ran out.
-fn is_batch_refused<N: StoreName, R: Wait>(rt: &R, alloc: Global, seat: &mut Seat<N>) -> bool {
+/// Returns whether a batch comes back since the desk is closed. It is made again if memory ran out.
+pub(crate) fn is_batch_refused<N: StoreName, R: Wait>(
+    rt: &R,
+    alloc: Global,
+    seat: &mut Seat<N>,
+) -> bool {
     match retry(AllocError, || batch(alloc, 1)) {
         Ok(sent) => {
             let answer = seat.submit(rt, alloc, sent);
@@ -37,7 +41,7 @@ fn is_batch_refused<N: StoreName, R: Wait>(rt: &R, alloc: Global, seat: &mut Sea
     }
 }
 
-/// Whether a limit is refused since the desk is closed.
+/// Returns whether a limit is refused since the desk is closed.
 fn is_limit_refused<N: StoreName, R: Wait>(rt: &R, alloc: Global, seat: &mut Seat<N>) -> bool {
     let Some(limit) = TraceLimit::new(0) else {
         return false;

@@ -7,11 +7,13 @@ ghost use Rattle.intake.specs.Books.{Balances};
 ghost use Rattle.intake.specs.Seats.{IsNewSeat};
 ghost use Rattle.thread_tests.specs.Seats.{AllMaySubmit, KeepsSeat};
 
+use crate::tests::submitting::closed::is_batch_refused;
 use crate::tests::submitting::fixture::{Fixture, batch, opened};
 use intake::{Books, Clerk, DeskHandle, Seat, Ticket, Turn};
 use read_side::{EmptyHistory, Keeper, StoreName};
 use std::alloc::Global;
 use std::marker::Brand;
+use std::mem::drop;
 use std::process::Abort;
 use std::random::RandomSource;
 use std::sync::Wait;
@@ -39,8 +41,49 @@ struct Submitter<N: StoreName> {
     tickets: Vec<Ticket<N>>,
 }
 
-/// Tries at most `most` times to submit a batch, without waiting for an answer; the first time until there is room
-/// for it; fewer times if the desk is closed before. The first success is counted.
+/// The result of a try to submit a batch.
+#[derive(Clone, Copy)]
+enum Tried {
+    Submitted,
+    /// The queue was full.
+    Refused,
+    /// The desk is closed, or memory ran out.
+    Over,
+}
+
+/// Tries to submit a batch, without waiting for an answer.
+fn try_batch<N: StoreName, R: Wait>(
+    rt: &R,
+    alloc: Global,
+    submitter: &mut Submitter<N>,
+    id: u64,
+) -> Tried
+    ensures { KeepsSeat submitter.old.seat submitter.new.seat }
+{
+    if submitter.tickets.reserve(1).is_err() {
+        return Tried::Over;
+    }
+    let Ok(batch) = batch(alloc, id) else {
+        return Tried::Over;
+    };
+    match submitter.seat.submit(rt, alloc, batch) {
+        Ok(ticket) => {
+            submitter.tickets.push_reserved(ticket);
+            Tried::Submitted
+        }
+        Err((why, batch)) => {
+            drop(batch);
+            if why == Refusal::Closed {
+                Tried::Over
+            } else {
+                Tried::Refused
+            }
+        }
+    }
+}
+
+/// Tries at most `most` times to submit a batch; the first time until there is room for it; fewer times if the desk is
+/// closed before. The first success is counted.
 fn submit_batches<N: StoreName, R: Wait>(
     rt: &R,
     alloc: Global,
@@ -55,25 +98,14 @@ fn submit_batches<N: StoreName, R: Wait>(
         if tries >= most {
             break;
         }
-        if submitter.tickets.reserve(1).is_err() {
-            break;
-        }
-        let Ok(batch) = batch(alloc, id) else {
-            break;
-        };
-        match submitter.seat.submit(rt, alloc, batch) {
-            Ok(ticket) => {
-                if submitter.tickets.is_empty() {
+        match try_batch(rt, alloc, submitter, id) {
+            Tried::Submitted => {
+                if submitter.tickets.len() == 1 {
                     begun.fetch_add(1, Ordering::SeqCst);
                 }
-                submitter.tickets.push_reserved(ticket);
             }
-            Err((why, _batch)) => {
-                if why == Refusal::Closed {
-                    break;
-                }
-                yield_now();
-            }
+            Tried::Refused => yield_now(),
+            Tried::Over => break,
         }
         if !submitter.tickets.is_empty() {
             tries = tries.saturating_add(1);
@@ -288,7 +320,7 @@ fn take_in<N: StoreName, R: Wait>(rt: &R, books: &mut Books<N>, seat: &mut Seat<
     }
 }
 
-/// Whether the seat's job with this number is left.
+/// Returns whether the seat's job with this number is left.
 fn is_left<N: StoreName>(books: &Books<N>, seat: u16, number: u64) -> bool {
     books
         .unjudged
@@ -318,13 +350,14 @@ impl Answers {
         self.full.saturating_add(self.without_memory)
     }
 
-    /// Whether no job was refused as of a full store before the store was full.
+    /// Returns whether no job was refused as of a full store before the store was full.
     fn fills_first(self) -> bool {
         self.full == 0 || self.acknowledged == u64::from(MAX_BATCHES)
     }
 }
 
-/// Whether the job was refused by a full store or for want of memory, which is counted. No other refusal is due.
+/// Returns whether the job was refused by a full store or for want of memory, which is counted. No other refusal is
+/// due.
 fn is_refused(why: Refusal, answers: &mut Answers) -> bool {
     match why {
         Refusal::JournalFull { batches, spans } => {
@@ -340,7 +373,7 @@ fn is_refused(why: Refusal, answers: &mut Answers) -> bool {
     }
 }
 
-/// Whether the ticket says that the desk was closed exactly if its job is left. Another answer is counted: each
+/// Returns whether the ticket says that the desk was closed exactly if its job is left. Another answer is counted: each
 /// refusal has to be the one that is due.
 fn is_answered<N: StoreName, R: Wait>(
     rt: &R,
@@ -363,7 +396,7 @@ fn is_answered<N: StoreName, R: Wait>(
     !is_left
 }
 
-/// Whether the books answer each ticket, and a further batch is refused. The store's answers are counted.
+/// Returns whether the books answer each ticket, and a further batch is refused. The store's answers are counted.
 fn is_whole<N: StoreName, R: Wait>(
     rt: &R,
     alloc: Global,
@@ -373,16 +406,12 @@ fn is_whole<N: StoreName, R: Wait>(
 ) -> bool {
     let Submitter { mut seat, tickets } = submitter;
     let mut number = 0u64;
+    let mut answered = true;
     for ticket in tickets {
         number = number.saturating_add(1);
-        if !is_answered(rt, books, ticket, seat.number(), number, answers) {
-            return false;
-        }
+        answered = is_answered(rt, books, ticket, seat.number(), number, answers) && answered;
     }
-    let Ok(late) = batch(alloc, 1) else {
-        return true;
-    };
-    seat.submitted() == number && matches!(seat.submit(rt, alloc, late), Err((Refusal::Closed, _)))
+    answered && seat.submitted() == number && is_batch_refused(rt, alloc, &mut seat)
 }
 
 /// The number of jobs that are left, and of those that were refused for want of memory.
@@ -390,6 +419,59 @@ fn is_whole<N: StoreName, R: Wait>(
 struct Leftover {
     jobs: u64,
     without_memory: u64,
+}
+
+/// Returns whether the counts of jobs, accounts and entries agree.
+fn are_counted<N: StoreName>(books: &mut Books<N>, four: &Four<N>) -> bool {
+    let mut all = 0u64;
+    for submitter in [&four.a, &four.b, &four.c, &four.d] {
+        all = all.saturating_add(submitter.tickets.len() as u64);
+    }
+    let left = books.unjudged.len() as u64;
+    let answered = books.acknowledged.saturating_add(books.refused);
+    let receipt = books.keeper.receipt();
+    let front = receipt.front();
+    drop(receipt);
+    all == answered.saturating_add(left) && front == books.acknowledged
+}
+
+/// Returns whether the books answer each ticket of the seats, and a further batch of each is refused. The store's
+/// answers are counted.
+fn are_whole<N: StoreName, R: Wait>(
+    rt: &R,
+    alloc: Global,
+    books: &Books<N>,
+    four: Four<N>,
+    answers: &mut Answers,
+) -> bool {
+    // For the prover: each seat is given up by a call, and none on one side of an `&&` alone.
+    let Four { a, b, c, d } = four;
+    let a = is_whole(rt, alloc, books, a, answers);
+    let b = is_whole(rt, alloc, books, b, answers);
+    let c = is_whole(rt, alloc, books, c, answers);
+    let d = is_whole(rt, alloc, books, d, answers);
+    a && b && c && d
+}
+
+/// Returns what is left in the books after all seats were taken in.
+fn leftover_of<N: StoreName, R: Wait>(
+    rt: &R,
+    alloc: Global,
+    books: &mut Books<N>,
+    four: Four<N>,
+) -> Option<Leftover> {
+    let counted = are_counted(books, &four);
+    let mut answers = Answers::none();
+    let whole = are_whole(rt, alloc, books, four, &mut answers);
+    let booked = answers.acknowledged == books.acknowledged && answers.refused() == books.refused;
+    if counted && whole && booked && answers.fills_first() {
+        Some(Leftover {
+            jobs: books.unjudged.len() as u64,
+            without_memory: answers.without_memory,
+        })
+    } else {
+        None
+    }
 }
 
 /// Takes all seats in, and returns what is left. Returns None if some submitted job isn't in the books once, with
@@ -406,39 +488,14 @@ fn left_over<N: StoreName, R: Wait>(
         submitters.c.seat submitters.d.seat }
 {
     let mut books = books;
-    let Four {
-        mut a,
-        mut b,
-        mut c,
-        mut d,
-    } = submitters;
-    take_in(rt, &mut books, &mut a.seat);
-    take_in(rt, &mut books, &mut b.seat);
-    take_in(rt, &mut books, &mut c.seat);
-    take_in(rt, &mut books, &mut d.seat);
-    let mut all = 0u64;
-    for submitter in [&a, &b, &c, &d] {
-        all = all.saturating_add(submitter.tickets.len() as u64);
-    }
-    let left = books.unjudged.len() as u64;
-    let answered = books.acknowledged.saturating_add(books.refused);
-    let counted = all == answered.saturating_add(left)
-        && books.keeper.receipt().front() == books.acknowledged;
-    let mut answers = Answers::none();
-    let whole = is_whole(rt, alloc, &books, a, &mut answers)
-        && is_whole(rt, alloc, &books, b, &mut answers)
-        && is_whole(rt, alloc, &books, c, &mut answers)
-        && is_whole(rt, alloc, &books, d, &mut answers);
-    let booked = answers.acknowledged == books.acknowledged && answers.refused() == books.refused;
+    let mut four = submitters;
+    take_in(rt, &mut books, &mut four.a.seat);
+    take_in(rt, &mut books, &mut four.b.seat);
+    take_in(rt, &mut books, &mut four.c.seat);
+    take_in(rt, &mut books, &mut four.d.seat);
+    let left = leftover_of(rt, alloc, &mut books, four);
     books.close(rt);
-    if counted && whole && booked && answers.fills_first() {
-        Some(Leftover {
-            jobs: left,
-            without_memory: answers.without_memory,
-        })
-    } else {
-        None
-    }
+    left
 }
 
 /// Two seats submit five jobs. The clerk serves one; the desk is closed, and the clerk leaves: four are
@@ -463,6 +520,7 @@ fn leaves<N: StoreName, R: Wait>(rt: &R, alloc: Global, opened: OpenDesk<N>) -> 
     let submitted = (four.a.tickets.len() as u64).saturating_add(four.b.tickets.len() as u64);
     let served = matches!(clerk.turn(rt, &mut keeper), Ok(Turn::Served { .. }));
     desk.close();
+    drop(desk);
     let books = clerk.leave(keeper);
     match left_over(rt, alloc, books, four) {
         Some(left) => left.jobs == submitted.saturating_sub(served as u64),
@@ -470,7 +528,7 @@ fn leaves<N: StoreName, R: Wait>(rt: &R, alloc: Global, opened: OpenDesk<N>) -> 
     }
 }
 
-/// Whether each seat has submitted something.
+/// Returns whether each seat has submitted something.
 fn have_begun<N: StoreName>(four: &Four<N>) -> bool {
     [&four.a, &four.b, &four.c, &four.d]
         .iter()
@@ -499,20 +557,31 @@ fn races<N: StoreName + Send + Sync, R: Threads + Wait + Sync>(
     };
     all_day(rt, alloc, &mut office, &mut floor);
     let Office {
-        clerk: _clerk,
+        clerk,
         keeper,
         books,
     } = office;
+    drop(clerk);
     if let Some(keeper) = keeper {
         keeper.close(rt);
     }
-    let Some(books) = books else {
-        return false;
-    };
-    let begun = have_begun(&floor.four);
-    match left_over(rt, alloc, books, floor.four) {
-        Some(left) => left.without_memory == 0 && begun,
-        None => false,
+    let Floor {
+        four,
+        desk,
+        turns: _,
+        begun: _,
+    } = floor;
+    drop(desk);
+    let begun = have_begun(&four);
+    match books {
+        Some(books) => {
+            let left = left_over(rt, alloc, books, four);
+            begun && left.is_some_and(|left| left.without_memory == 0)
+        }
+        None => {
+            drop(four);
+            false
+        }
     }
 }
 
@@ -548,29 +617,36 @@ fn round<N: StoreName + Send + Sync, R: Threads + Wait + Abort + RandomSource + 
 {
     let Fixture {
         keeper,
-        passes: _passes,
+        passes,
         desk,
         seats,
         clerk,
     } = opened::<N, _>(rt, alloc, name, limits, 1, ROOM)?;
-    let Some(four) = four_of(alloc, &clerk, seats) else {
-        keeper.close(rt);
-        return Ok(false);
-    };
-    let floor = Floor {
-        four,
-        desk,
-        turns: ending.turns(),
-        begun: AtomicU64::new(0),
-    };
-    let opened = OpenDesk {
-        clerk,
-        keeper,
-        floor,
-    };
-    match ending {
-        Ending::Race(_) => Ok(races(rt, alloc, opened)),
-        Ending::Leaves => Ok(leaves(rt, alloc, opened)),
+    drop(passes);
+    match four_of(alloc, &clerk, seats) {
+        Some(four) => {
+            let floor = Floor {
+                four,
+                desk,
+                turns: ending.turns(),
+                begun: AtomicU64::new(0),
+            };
+            let opened = OpenDesk {
+                clerk,
+                keeper,
+                floor,
+            };
+            match ending {
+                Ending::Race(_) => Ok(races(rt, alloc, opened)),
+                Ending::Leaves => Ok(leaves(rt, alloc, opened)),
+            }
+        }
+        None => {
+            keeper.close(rt);
+            drop(desk);
+            drop(clerk);
+            Ok(false)
+        }
     }
 }
 

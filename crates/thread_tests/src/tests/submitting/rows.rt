@@ -1,35 +1,31 @@
-//! The rows.
+//! Worked rows: a limit that waits after two batches; a queue that is full; a clerk that was dropped; four seats at once.
 
 ghost use Rattle.std.specs.Prelude.{◌≡◌, ◌≤◌};
 
 use crate::tests::submitting::closed::closed_for_both;
 use crate::tests::submitting::fixture::{Fixture, batch, played};
-use crate::tests::submitting::limits::a_limit_is_in_force;
-use crate::tests::submitting::resent::a_resent_job_is_acknowledged;
-use intake::{Books, Clerk, DeskHandle, Seat, Ticket, Turn};
-use jaeger_model::Batch;
-use read_side::{EmptyHistory, Keeper, Pass, Receipt, StoreName};
+use intake::{Clerk, DeskHandle, Seat, Ticket, Turn};
+use jaeger_model::{Batch, TraceId};
+use read_side::{EmptyHistory, Keeper, Pass, StoreName};
 use std::alloc::{AllocError, Global};
 use std::marker::Brand;
-use std::mem::drop;
+use std::mem::{drop, replace};
 use std::random::RandomSource;
 use std::sync::Wait;
 use std::test::*;
-use std::thread::{Threads, join, yield_now};
-use trace_model::{Limits, Refusal};
+use std::thread::{Threads, map_vec};
+use trace_model::{Answer, Limits, Query, Refusal, TraceLimit};
 use trace_samples::retry;
 
 /// What is played.
 #[derive(Clone, Copy)]
 pub enum Row {
-    SeatAndClerk,
+    LimitBySeat,
     FullThenClosed,
     ClosedForBoth,
     ClerkGone,
     ClosedAndClerkGone,
     FourSeats,
-    LimitBySeat,
-    Resent,
 }
 
 impl Row {
@@ -41,87 +37,63 @@ impl Row {
         fixture: Fixture<N>,
     ) -> bool {
         match self {
-            Row::SeatAndClerk => seat_and_clerk(rt, alloc, fixture),
+            Row::LimitBySeat => limit_after_two(rt, alloc, fixture),
             Row::FullThenClosed => full_then_closed(rt, alloc, fixture),
             Row::ClosedForBoth => closed_for_both(rt, alloc, fixture),
             Row::ClerkGone => clerk_gone(rt, alloc, fixture, false),
             Row::ClosedAndClerkGone => clerk_gone(rt, alloc, fixture, true),
             Row::FourSeats => four_seats(rt, alloc, fixture),
-            Row::LimitBySeat => a_limit_is_in_force(rt, alloc, fixture),
-            Row::Resent => a_resent_job_is_acknowledged(rt, alloc, fixture),
         }
     }
 }
 
-/// Plays a row over a store with room for this number of batches and 100,000 spans, and a queue with room for this
-/// number of jobs.
+/// Plays a row over a store with room for 1,000 batches and 100,000 spans, and a queue with room for this number of
+/// jobs.
 fn plays<R: Threads + Wait + RandomSource + Sync>(
     rt: &R,
     alloc: Global,
-    batches: u32,
     capacity: usize,
     row: Row,
 ) -> Result<bool, Fail>
     requires { (1 ≤ capacity) × (capacity ≤ 4096) }
 {
-    let limits = Limits::new(batches, 100_000, 0, 0).ok_or("limits")?;
+    let limits = Limits::new(1000, 100_000, 0, 0).ok_or("limits")?;
     played::<Brand, _>(rt, alloc, EmptyHistory::new(), limits, capacity, row)
 }
 
-/// Like [`plays`], over a store with room for three batches, and a queue for one job.
-fn plays_small<R: Threads + Wait + RandomSource + Sync>(
-    rt: &R,
-    alloc: Global,
-    row: Row,
-) -> Result<bool, Fail> {
-    plays(rt, alloc, 3, 1, row)
-}
-
 #[test]
-fn a_seat_waits_while_the_clerk_turns(rt: HostRuntime) -> Result<(), Fail> {
-    assert!(rt; plays_small(&rt, rt.alloc(), Row::SeatAndClerk)?);
+fn limit_by_seat(rt: HostRuntime) -> Result<(), Fail> {
+    assert!(rt; plays(&rt, rt.alloc(), 4, Row::LimitBySeat)?);
     Ok(())
 }
 
 #[test]
 fn a_full_queue_and_a_closed_desk(rt: HostRuntime) -> Result<(), Fail> {
-    assert!(rt; plays_small(&rt, rt.alloc(), Row::FullThenClosed)?);
+    assert!(rt; plays(&rt, rt.alloc(), 1, Row::FullThenClosed)?);
     Ok(())
 }
 
 #[test]
 fn closed_before_no_memory(rt: HostRuntime) -> Result<(), Fail> {
-    assert!(rt; plays_small(&rt, rt.alloc(), Row::ClosedForBoth)?);
+    assert!(rt; plays(&rt, rt.alloc(), 1, Row::ClosedForBoth)?);
     Ok(())
 }
 
 #[test]
 fn no_reply_from_a_clerk_that_went(rt: HostRuntime) -> Result<(), Fail> {
-    assert!(rt; plays_small(&rt, rt.alloc(), Row::ClerkGone)?);
-    assert!(rt; plays_small(&rt, rt.alloc(), Row::ClosedAndClerkGone)?);
+    assert!(rt; plays(&rt, rt.alloc(), 1, Row::ClerkGone)?);
+    assert!(rt; plays(&rt, rt.alloc(), 1, Row::ClosedAndClerkGone)?);
     Ok(())
 }
 
 #[test]
 fn one_of_four_seats(rt: HostRuntime) -> Result<(), Fail> {
-    assert!(rt; plays_small(&rt, rt.alloc(), Row::FourSeats)?);
-    Ok(())
-}
-
-#[test]
-fn limit_by_seat(rt: HostRuntime) -> Result<(), Fail> {
-    assert!(rt; plays(&rt, rt.alloc(), 1000, 4, Row::LimitBySeat)?);
-    Ok(())
-}
-
-#[test]
-fn a_batch_submitted_again(rt: HostRuntime) -> Result<(), Fail> {
-    assert!(rt; plays_small(&rt, rt.alloc(), Row::Resent)?);
+    assert!(rt; plays(&rt, rt.alloc(), 1, Row::FourSeats)?);
     Ok(())
 }
 
 /// The answer to a batch that is submitted, if there is memory for it.
-pub(crate) type Answer<N> = Option<Result<Ticket<N>, (Refusal, Batch)>>;
+pub(crate) type SeatAnswer<N> = Option<Result<Ticket<N>, (Refusal, Batch)>>;
 
 /// Submits a batch with this id. Returns None if memory ran out before.
 pub(crate) fn submit_span<N: StoreName, R: Wait>(
@@ -129,14 +101,14 @@ pub(crate) fn submit_span<N: StoreName, R: Wait>(
     alloc: Global,
     seat: &mut Seat<N>,
     id: u64,
-) -> Answer<N> {
+) -> SeatAnswer<N> {
     match batch(alloc, id) {
         Ok(batch) => Some(seat.submit(rt, alloc, batch)),
         Err(_) => None,
     }
 }
 
-/// Whether this is the batch with the id, which is made again if memory ran out.
+/// Returns whether this is the batch with the id, which is made again if memory ran out.
 fn is_batch(alloc: Global, back: &Batch, id: u64) -> bool {
     match retry(AllocError, || batch(alloc, id)) {
         Ok(sent) => {
@@ -148,10 +120,10 @@ fn is_batch(alloc: Global, back: &Batch, id: u64) -> bool {
     }
 }
 
-/// Whether the batch with the id came back, with this refusal.
+/// Returns whether the batch with the id came back, with this refusal.
 pub(crate) fn came_back<N: StoreName>(
     alloc: Global,
-    answer: Answer<N>,
+    answer: SeatAnswer<N>,
     why: Refusal,
     id: u64,
 ) -> bool {
@@ -163,31 +135,26 @@ pub(crate) fn came_back<N: StoreName>(
     said
 }
 
-/// The place that a ticket returns and the front of its receipt, or the refusal.
-fn place_and_front<N: StoreName, R: Wait>(
-    rt: &R,
-    answer: Result<Ticket<N>, (Refusal, Batch)>,
-) -> Result<(u64, u64), Refusal> {
+/// Returns the ticket, if the batch was taken.
+fn ticket_of<N: StoreName>(answer: SeatAnswer<N>) -> Option<Ticket<N>> {
     match answer {
-        Ok(ticket) => {
-            let ack = ticket.wait(rt)?;
-            let said = (ack.place, ack.receipt.front());
-            drop(ack);
-            Ok(said)
-        }
-        Err((why, batch)) => {
+        Some(Ok(ticket)) => Some(ticket),
+        Some(Err((_, batch))) => {
             drop(batch);
-            Err(why)
+            None
         }
+        None => None,
     }
 }
 
-/// The place that a ticket returns, or the refusal.
-fn returned<N: StoreName, R: Wait>(rt: &R, answer: Answer<N>) -> Result<u64, Refusal> {
-    let Some(answer) = answer else {
+/// Returns the place that a ticket returns, if its receipt has it, or the refusal.
+fn place_of<N: StoreName, R: Wait>(rt: &R, ticket: Option<Ticket<N>>) -> Result<u64, Refusal> {
+    let Some(ticket) = ticket else {
         return Err(Refusal::NoMemory);
     };
-    let (place, front) = place_and_front(rt, answer)?;
+    let ack = ticket.wait(rt)?;
+    let (place, front) = (ack.place, ack.receipt.front());
+    drop(ack);
     if front >= place {
         Ok(place)
     } else {
@@ -195,141 +162,112 @@ fn returned<N: StoreName, R: Wait>(rt: &R, answer: Answer<N>) -> Result<u64, Ref
     }
 }
 
-/// The store's answers to the batches 1 to 4.
-const FOUR: [(u64, Result<u64, Refusal>); 4] = [
-    (1, Ok(1)),
-    (2, Ok(2)),
-    (3, Ok(3)),
-    (
-        4,
-        Err(Refusal::JournalFull {
-            batches: 3,
-            spans: 3,
-        }),
-    ),
-];
-
-/// Submits four batches, one after the other, each after the answer to the one before.
-fn four_answered<N: StoreName, R: Wait>(rt: &R, alloc: Global, seat: &mut Seat<N>) -> bool {
-    for (id, wanted) in &FOUR {
-        if returned(rt, submit_span(rt, alloc, seat, *id)) != *wanted {
-            return false;
-        }
-    }
-    true
+/// Returns the place that is answered to a batch, or the refusal.
+fn returned<N: StoreName, R: Wait>(rt: &R, answer: SeatAnswer<N>) -> Result<u64, Refusal> {
+    place_of(rt, ticket_of(answer))
 }
 
-/// Turns until four jobs were served. The last one has this seat and number.
-fn four_served<N: StoreName, R: Wait>(
-    rt: &R,
-    clerk: &mut Clerk<N>,
-    keeper: &mut Keeper<N>,
-) -> Turn {
-    let mut served = 0u64;
-    for _ in rt.forever() {
-        match clerk.turn(rt, keeper) {
-            Ok(Turn::Served { seat, number }) => {
-                if served == 3 {
-                    return Turn::Served { seat, number };
-                }
-                served = served.saturating_add(1);
-            }
-            _ => yield_now(),
-        }
-    }
-    unreachable!()
-}
-
-/// Whether four batches are answered and served as wanted, by the seat and the clerk, each in its thread.
-fn four_between<N: StoreName + Send + Sync, R: Threads + Wait + Sync>(
+/// Submits a trace limit.
+fn limit_to<N: StoreName, R: Wait>(
     rt: &R,
     alloc: Global,
     seat: &mut Seat<N>,
-    clerk: &mut Clerk<N>,
-    keeper: &mut Keeper<N>,
-) -> bool {
-    let (answered, last) = join(
-        rt,
-        || -> bool { four_answered(rt, alloc, seat) },
-        || -> Turn { four_served(rt, clerk, keeper) },
-    );
-    answered && last == (Turn::Served { seat: 3, number: 4 })
-}
-
-/// Whether the pass settles on the receipt, and then knows its list.
-fn is_settled<N: StoreName>(pass: &mut Pass<N>, receipt: &Receipt<N>) -> bool {
-    pass.settle(receipt).is_ok() && pass.front() == receipt.front()
-}
-
-/// Returns the number of passes that settle on what the desk vouches for, if that is this number of entries.
-fn settled<N: StoreName, R: Wait>(
-    rt: &R,
-    desk: &DeskHandle<N>,
-    passes: &mut Vec<Pass<N>>,
-    kept: u64,
-) -> Result<u64, Refusal> {
-    let receipt = desk.vouch(rt)?;
-    let mut settled = 0u64;
-    for pass in passes.iter_mut() {
-        if receipt.front() == kept && is_settled(pass, &receipt) {
-            settled = settled.saturating_add(1);
-        }
+    traces: u32,
+) -> Option<Ticket<N>> {
+    match TraceLimit::new(traces) {
+        Some(limit) => seat.submit_limit(rt, alloc, limit).ok(),
+        None => None,
     }
-    drop(receipt);
-    Ok(settled)
 }
 
-/// Returns the number of entries of the books' keeper.
-pub(crate) fn kept<N: StoreName>(books: &mut Books<N>) -> u64 {
-    let receipt = books.keeper.receipt();
-    let front = receipt.front();
-    drop(receipt);
-    front
+/// The tickets of three jobs, if they were taken.
+type Three<N> = (Option<Ticket<N>>, Option<Ticket<N>>, Option<Ticket<N>>);
+
+/// Submits a span each of traces 1 and 2, and a limit of one trace.
+fn three_jobs<N: StoreName, R: Wait>(rt: &R, alloc: Global, seat: &mut Seat<N>) -> Three<N> {
+    let first = ticket_of(submit_span(rt, alloc, seat, 1));
+    let second = ticket_of(submit_span(rt, alloc, seat, 2));
+    let limit = limit_to(rt, alloc, seat, 1);
+    (first, second, limit)
 }
 
-/// Whether a job was submitted. Its ticket is dropped.
-fn is_queued<N: StoreName>(answer: Answer<N>) -> bool {
-    let queued = matches!(answer, Some(Ok(_)));
-    drop(answer);
-    queued
+/// Returns whether the pass finds the trace.
+fn is_found<N: StoreName>(pass: &mut Pass<N>, low: u64) -> bool {
+    let id = TraceId { high: 0, low };
+    let reading = pass.read(&Query::Trace { id, raw: true });
+    let found = match &reading {
+        Ok(reading) => matches!(&reading.answer, Answer::Trace(Some(_))),
+        Err(_) => false,
+    };
+    drop(reading);
+    found
 }
 
-/// One seat and the clerk, each in its thread. At the end a job waits when the desk is closed, and the clerk judges it
-/// before it ends. Then the desk vouches for all that the keeper has, and each pass settles on that.
-fn seat_and_clerk<N: StoreName + Send + Sync, R: Threads + Wait + Sync>(
+/// Returns the place of the job whose receipt the pass learns, or why it was refused.
+fn learnt<N: StoreName, R: Wait>(
     rt: &R,
-    alloc: Global,
-    fixture: Fixture<N>,
+    pass: &mut Pass<N>,
+    ticket: Option<Ticket<N>>,
+) -> Result<u64, Refusal> {
+    let ack = ticket.ok_or(Refusal::NoMemory)?.wait(rt)?;
+    pass.learn(&ack.receipt);
+    let place = ack.place;
+    drop(ack);
+    Ok(place)
+}
+
+/// Returns whether the limit is at place 3, and a pass that learns of it finds trace 2 and not trace 1.
+fn is_in_force<N: StoreName, R: Wait>(
+    rt: &R,
+    pass: &mut Pass<N>,
+    limit: Option<Ticket<N>>,
 ) -> bool {
+    learnt(rt, pass, limit) == Ok(3) && is_found(pass, 2) && !is_found(pass, 1)
+}
+
+/// Returns whether the pass settles on what the desk vouches for, the three entries of the keeper.
+fn is_settled<N: StoreName, R: Wait>(rt: &R, desk: &DeskHandle<N>, pass: &mut Pass<N>) -> bool {
+    let settled = match desk.vouch(rt) {
+        Ok(receipt) => {
+            let settled = pass.settle(&receipt);
+            drop(receipt);
+            settled
+        }
+        Err(why) => Err(why),
+    };
+    settled == Ok(()) && pass.front() == 3
+}
+
+/// A span each of traces 1 and 2 and a limit of one trace wait when the desk is closed, and the clerk judges them before it
+/// ends.
+fn limit_after_two<N: StoreName, R: Wait>(rt: &R, alloc: Global, fixture: Fixture<N>) -> bool {
     let Fixture {
-        mut keeper,
+        keeper,
         mut passes,
         desk,
         mut seats,
-        mut clerk,
+        clerk,
     } = fixture;
-    let served = match seats.last_mut() {
-        Some(seat) => {
-            four_between(rt, alloc, seat, &mut clerk, &mut keeper)
-                && is_queued(submit_span(rt, alloc, seat, 5))
-        }
-        None => false,
+    let (first, second, limit) = match seats.last_mut() {
+        Some(seat) => three_jobs(rt, alloc, seat),
+        None => (None, None, None),
     };
     drop(seats);
     desk.close();
-    let mut books = clerk.run(rt, keeper);
-    let kept = kept(&mut books);
-    let settled = settled(rt, &desk, &mut passes, kept);
+    let books = clerk.run(rt, keeper);
+    let places = (place_of(rt, first), place_of(rt, second));
+    let in_force = match passes.last_mut() {
+        Some(pass) => is_in_force(rt, pass, limit) && is_settled(rt, &desk, pass),
+        None => {
+            drop(limit);
+            false
+        }
+    };
+    let counts = (books.accounts.count(), books.acknowledged, books.refused);
+    let left = books.close(rt);
     drop(desk);
     drop(passes);
-    let counts = (
-        books.accounts.count(),
-        books.acknowledged,
-        books.refused,
-        books.unjudged.len(),
-    );
-    books.close(rt);
-    served && counts == (5, 3, 2, 0) && (kept, settled) == (3, Ok(2))
+    places == (Ok(1), Ok(2)) && in_force && counts == (3, 3, 0) && left == 0
 }
 
 /// The queue has a job: a second one comes back, from the same seat and from another, and uses no number. The first
@@ -429,9 +367,9 @@ fn clerk_gone<N: StoreName, R: Wait>(
     said == Err(wanted)
 }
 
-/// 1 if the queue took the batch, 100 if the seat was refused because the queue was full.
-fn taken_or_full<N: StoreName, R: Wait>(rt: &R, alloc: Global, seat: &mut Seat<N>) -> u64 {
-    let answer = submit_span(rt, alloc, seat, 1);
+/// Returns 1 if the queue took a batch, 100 if the seat was refused because the queue was full.
+fn taken_or_full<N: StoreName, R: Wait>(rt: &R, alloc: Global, mut seat: Seat<N>) -> u64 {
+    let answer = submit_span(rt, alloc, &mut seat, 1);
     let said = match &answer {
         Some(Ok(_)) => 1,
         Some(Err((Refusal::Busy, _))) => 100,
@@ -441,36 +379,18 @@ fn taken_or_full<N: StoreName, R: Wait>(rt: &R, alloc: Global, seat: &mut Seat<N
     said
 }
 
-/// Two of the seats, each in its thread.
-fn two_seats<N: StoreName + Send + Sync, R: Threads + Wait + Sync>(
+/// Returns the sum of what becomes of a batch of each seat, each in its thread.
+fn sum_of_seats<N: StoreName + Send + Sync, R: Threads + Wait + Sync>(
     rt: &R,
     alloc: Global,
-    seat: &mut Seat<N>,
-    other: &mut Seat<N>,
-) -> u64 {
-    let (one, two) = join(
-        rt,
-        || -> u64 { taken_or_full(rt, alloc, seat) },
-        || -> u64 { taken_or_full(rt, alloc, other) },
-    );
-    one.saturating_add(two)
-}
-
-/// Two pairs of them, each in its thread.
-fn two_pairs<N: StoreName + Send + Sync, R: Threads + Wait + Sync>(
-    rt: &R,
-    alloc: Global,
-    seats: &mut Vec<Seat<N>>,
-) -> u64 {
-    let [a, b, c, d] = seats.as_mut_slice() else {
-        return 0;
-    };
-    let (one, two) = join(
-        rt,
-        || -> u64 { two_seats(rt, alloc, a, b) },
-        || -> u64 { two_seats(rt, alloc, c, d) },
-    );
-    one.saturating_add(two)
+    seats: Vec<Seat<N>>,
+) -> Result<u64, AllocError> {
+    let taken = map_vec(rt, seats, &|seat| taken_or_full(rt, alloc, seat))?;
+    let mut sum = 0u64;
+    for one in taken {
+        sum = sum.saturating_add(one);
+    }
+    Ok(sum)
 }
 
 /// Four seats, each in its thread, while the clerk does nothing: the queue takes one job.
@@ -479,7 +399,8 @@ fn four_seats<N: StoreName + Send + Sync, R: Threads + Wait + Sync>(
     alloc: Global,
     mut fixture: Fixture<N>,
 ) -> bool {
-    let sum = two_pairs(rt, alloc, &mut fixture.seats);
+    let seats = replace(&mut fixture.seats, Vec::new(alloc));
+    let sum = sum_of_seats(rt, alloc, seats);
     fixture.close(rt);
-    sum == 301
+    sum == Ok(301)
 }
