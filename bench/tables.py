@@ -747,6 +747,9 @@ def gate_quotes(found):
     yield "docs/MAINTAINING.md", f"{sum(it[2] or 0 for it in parts):.0f} of them went into the {tried} wrong bodies"
     yield "docs/MAINTAINING.md", f"which see {sum(it[1] for it in parts):.0f} of the {processor} minutes"
     yield "docs/MAINTAINING.md", f"`rt ci` [{clock} minutes](#what-it-costs)"
+    _, built, _, waited = found.of("gate", "rt try of the program in a fresh clone, beside three other jobs")
+    yield "docs/MAINTAINING.md", f"`rt try` took {built} CPU minutes and {waited} of wall-clock time, beside three other jobs"
+    yield "README.md", f"compiles the program unproved and runs it (`--steps 1` leaves out `rt try`'s interpreter) | {waited} minutes, beside other jobs |"
     yield "README.md", f"tries {len(glob.glob('crates/*/must-fail/*.edit', root_dir=results.ROOT))} wrong bodies"
     yield "README.md", f"`rt ci` {clock} minutes, of commit {commit}, alone on four cores of 2.5 GHz"
     least, most = found.of("proofs", "a test crate before its first test")
