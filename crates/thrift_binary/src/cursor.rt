@@ -4,7 +4,7 @@ ghost use Rattle.thrift_binary.specs.Spelling.{Beginning, IsBool, IsI32, IsI64, 
 ghost use Rattle.thrift_binary.specs.Reading.{Reads, bytes_at, byte_at, bool_at, number_at, signed_at, size_at, string_at, field_at, list_at, map_at};
 
 use crate::fault::WireError;
-use crate::types::{STOP, is_code};
+use crate::types::{MAX_LENGTH, STOP, is_code};
 use byteorder::{BigEndian, ByteOrder};
 use std::marker::Model;
 
@@ -241,7 +241,7 @@ impl<'a> Cursor<'a> {
         ensures shorter { OnOk result (length self.new < length self.old) }
     {
         let number = self.read_u32()?;
-        if number > 0x7fff_ffff {
+        if number > MAX_LENGTH {
             return self.refuse(WireError::BadLength);
         }
         Ok(number)

@@ -3,14 +3,12 @@ ghost use Rattle.thrift_binary.specs.Writing.{Writes, WritesSized, refusal_numbe
 ghost use Rattle.thrift_binary.specs.Writing.{stop_text, list_head_text};
 ghost use Rattle.thrift_binary.specs.declared.out.WriteError.TheVariants.{Memory};
 
+use crate::types::{MAX_LENGTH, STOP};
 use byteorder::{BigEndian, ByteOrder};
 use std::alloc::{AllocError, Global};
 use std::error::Error;
 use std::fmt;
 use std::marker::Model;
-
-/// The greatest length or size of the protocol.
-const MAX_LENGTH: usize = 0x7fff_ffff;
 
 /// Why a value could not be written.
 #[derive(Clone, Copy, Debug, PartialEq, Eq)]
@@ -123,7 +121,7 @@ impl Out {
     pub fn stop(&mut self) -> Result<(), WriteError>
         ensures appends { Writes stop_text self.old result self.new }
     {
-        self.append(&[0])
+        self.append(&[STOP])
     }
 
     /// Writes a bool: one byte, 1 for true and 0 for false. (Thrift binary protocol, base types.)
@@ -182,7 +180,7 @@ impl Out {
         ensures appends { WritesSized (length bytes.now) (string_text bytes.now) self.old result
             self.new }
     {
-        if bytes.len() > MAX_LENGTH {
+        if bytes.len() > MAX_LENGTH as usize {
             return Err(WriteError::BadLength);
         }
         let start = self.bytes.len();
@@ -205,7 +203,7 @@ impl Out {
     pub fn list_head(&mut self, code: u8, size: usize) -> Result<(), WriteError>
         ensures appends { WritesSized size (list_head_text code size) self.old result self.new }
     {
-        if size > MAX_LENGTH {
+        if size > MAX_LENGTH as usize {
             return Err(WriteError::BadLength);
         }
         let mut text = [code, 0, 0, 0, 0];

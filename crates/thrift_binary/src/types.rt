@@ -27,6 +27,9 @@ pub const SET: u8 = 14;
 /// An element type, a size of four bytes, then that many elements.
 pub const LIST: u8 = 15;
 
+/// The greatest length of a string, and the greatest size of a list, set or map.
+pub const MAX_LENGTH: u32 = 0x7fff_ffff;
+
 /// Returns whether the code is in this table.
 #[inline]
 pub fn is_code(code: u8) -> bool

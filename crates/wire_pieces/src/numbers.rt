@@ -6,6 +6,7 @@ ghost use Rattle.wire_pieces.specs.Pieces.{Continues, OkTakes, moment};
 use crate::fault::PieceError;
 use crate::partial_bytes::PartialBytes;
 use byteorder::{BigEndian, ByteOrder};
+use thrift_binary::types::MAX_LENGTH;
 use thrift_binary::{Cursor, WireError};
 
 /// A bool: one byte, 1 for true and 0 for false.
@@ -68,7 +69,7 @@ impl Size {
             return Ok(None);
         };
         let number = BigEndian::read_u32(&whole);
-        if number > 0x7fff_ffff {
+        if number > MAX_LENGTH {
             return Err(PieceError::Wire(WireError::BadLength));
         }
         Ok(Some(number))
@@ -86,7 +87,7 @@ pub fn size_of(bytes: &[u8]) -> Option<u32>
         return None;
     }
     let number = BigEndian::read_u32(bytes);
-    if number > 0x7fff_ffff {
+    if number > MAX_LENGTH {
         return None;
     }
     Some(number)
