@@ -1,11 +1,11 @@
 ghost use Rattle.std.specs.Prelude.{◌≡◌, ◌<◌, ◌≤◌, ◌++◌, List, ℕ, length, OnOk};
 ghost use Rattle.thrift_binary.specs.Spelling.{Beginning, IsValue};
 ghost use Rattle.thrift_binary.specs.Reading.{Reads};
-ghost use Rattle.thrift_binary.specs.Skipping.{value_at, skip_at, past, text, struct, items, pairs, times, both, container, leaf, is_container};
+ghost use Rattle.thrift_binary.specs.Skipping.{value_at, skip_at, past, text, struct, items, pairs, times, both, container, leaf};
 
 use crate::cursor::Cursor;
 use crate::fault::WireError;
-use crate::types;
+use crate::types::{self, is_container, width};
 
 /// The greatest number of levels of containers in a skipped value.
 pub const MAX_LEVELS: u8 = 64;
@@ -33,14 +33,14 @@ impl<'a> Cursor<'a> {
         ensures exact { Reads (λ _. tt) (leaf code) self.old result self.new }
         ensures no_longer { OnOk result (length self.new ≤ length self.old) }
     {
-        match code {
-            types::BOOL | types::BYTE => self.skip_bytes(1),
-            types::I16 => self.skip_bytes(2),
-            types::I32 => self.skip_bytes(4),
-            types::I64 | types::DOUBLE => self.skip_bytes(8),
-            types::STRING => self.skip_text(),
-            _ => self.refuse(WireError::BadType),
+        if code == types::STRING {
+            return self.skip_text();
         }
+        let width = width(code);
+        if width == 0 {
+            return self.refuse(WireError::BadType);
+        }
+        self.skip_bytes(width)
     }
 
     /// Skips a value of the type, which is a code of the table ([`crate::types`]). The value has at most 64 levels of
@@ -132,10 +132,4 @@ impl<'a> Cursor<'a> {
         }
         Ok(())
     }
-}
-
-fn is_container(code: u8) -> bool
-    ensures { result ≡ is_container code }
-{
-    types::STRUCT <= code && code <= types::LIST
 }

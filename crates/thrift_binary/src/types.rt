@@ -1,6 +1,7 @@
-//! The type codes of the protocol. No other code is a type.
+//! The type codes of the protocol, and the sizes of their values. No other code is a type.
 ghost use Rattle.std.specs.Prelude.{◌≡◌};
 ghost use Rattle.thrift_binary.specs.Reading.{is_code};
+ghost use Rattle.thrift_binary.specs.Skipping.{is_container, width};
 
 /// No type. In place of a field's type it is the stop byte, which ends a struct.
 pub const STOP: u8 = 0;
@@ -36,4 +37,26 @@ pub fn is_code(code: u8) -> bool
     ensures table { result ≡ is_code code }
 {
     matches!(code, BOOL | BYTE | DOUBLE | I16 | I32 | I64 | STRING..=LIST)
+}
+
+/// Returns whether a value of the type contains others.
+#[inline]
+pub fn is_container(code: u8) -> bool
+    ensures { result ≡ is_container code }
+{
+    STRUCT <= code && code <= LIST
+}
+
+/// Returns the number of bytes of each value of the type; 0 if they differ in size, or if no type has the code.
+#[inline]
+pub fn width(code: u8) -> usize
+    ensures { result ≡ width code }
+{
+    match code {
+        BOOL | BYTE => 1,
+        I16 => 2,
+        I32 => 4,
+        DOUBLE | I64 => 8,
+        _ => 0,
+    }
 }

@@ -1,7 +1,7 @@
 ghost use Rattle.std.specs.Prelude.{◌≡◌, ◌<◌, ◌≤◌, ◌+◌, ◌*◌, List, ℕ, [], ◌∷◌, ◌++◌, length, true, Ok, Err, OnOk, IfOk, MatchResult};
 ghost use Rattle.thrift_binary.specs.Reading.{is_code};
 ghost use Rattle.thrift_binary.specs.declared.fault.WireError.TheVariants.{BadType};
-ghost use Rattle.thrift_binary.specs.Skipping.{width, is_container, skip_at, leaf, past};
+ghost use Rattle.thrift_binary.specs.Skipping.{is_container, skip_at, leaf, past};
 ghost use Rattle.wire_pieces.specs.declared.fault.PieceError.TheVariants.{Wire, Memory};
 ghost use Rattle.wire_pieces.specs.declared.skip.Current.TheVariants.{Nothing};
 ghost use Rattle.wire_pieces.specs.Pieces.{Continues, moment};
@@ -13,7 +13,8 @@ use crate::maps::MapHead;
 use crate::numbers::Size;
 use crate::past::SkippedBytes;
 use arrayvec::ArrayVec;
-use thrift_binary::{Cursor, WireError, types};
+use thrift_binary::types::{self, is_container, width};
+use thrift_binary::{Cursor, WireError};
 
 /// The greatest number of frames: those of 64 levels of containers, and that of the value itself.
 const MAX_FRAMES: usize = thrift_binary::MAX_LEVELS as usize + 1;
@@ -66,24 +67,6 @@ pub struct Skipping {
     now: Current,
     around: ArrayVec<Frame, MAX_FRAMES>,
     ghost room: { opens now + length around.items ≤ 65 },
-}
-
-fn width(code: u8) -> usize
-    ensures { result ≡ width code }
-{
-    match code {
-        types::BOOL | types::BYTE => 1,
-        types::I16 => 2,
-        types::I32 => 4,
-        types::DOUBLE | types::I64 => 8,
-        _ => 0,
-    }
-}
-
-fn is_container(code: u8) -> bool
-    ensures { result ≡ is_container code }
-{
-    types::STRUCT <= code && code <= types::LIST
 }
 
 /// Skips a number of bytes, which may be 0.
