@@ -2,6 +2,7 @@ ghost use Rattle.std.specs.Prelude.{◌≡◌, ◌≤◌, length, OnOk, IfErr};
 ghost use Rattle.batch_codec.specs.declared.fault.DecodeError.TheVariants.{BadEnum};
 ghost use Rattle.batch_codec.specs.Decoding.{Decodes, Spends};
 ghost use Rattle.batch_codec.specs.ReferenceReading.{reference_at, reference_from, kind_at, kind_of_number};
+ghost use Rattle.batch_codec.specs.Batches.{kind_number};
 ghost use Rattle.batch_codec.specs.Changes.{change};
 
 use crate::fault::{DecodeError, Decoded, Part};
@@ -98,6 +99,16 @@ pub fn kind_of_number(number: i32) -> Decoded<RefKind>
         0 => Ok(RefKind::ChildOf),
         1 => Ok(RefKind::FollowsFrom),
         _ => Err(DecodeError::BadEnum),
+    }
+}
+
+/// Returns the number that the kind has in `jaeger.thrift` (`SpanRefType`).
+pub(crate) fn kind_number(kind: RefKind) -> i32
+    ensures { result ≡ kind_number kind }
+{
+    match kind {
+        RefKind::ChildOf => 0,
+        RefKind::FollowsFrom => 1,
     }
 }
 

@@ -2,6 +2,7 @@ ghost use Rattle.std.specs.Prelude.{◌≡◌, ◌≤◌, ◌<◌, length, OnOk,
 ghost use Rattle.batch_codec.specs.declared.fault.DecodeError.TheVariants.{BadEnum};
 ghost use Rattle.batch_codec.specs.Decoding.{Decodes, Gives, Spends};
 ghost use Rattle.batch_codec.specs.TagReading.{tag_at, tag_from, type_at, type_of_number};
+ghost use Rattle.batch_codec.specs.Batches.{type_number};
 ghost use Rattle.batch_codec.specs.Changes.{change};
 
 use crate::fault::{DecodeError, Decoded, Part};
@@ -100,6 +101,19 @@ pub fn type_of_number(number: i32) -> Decoded<TagType>
         3 => Ok(TagType::Long),
         4 => Ok(TagType::Binary),
         _ => Err(DecodeError::BadEnum),
+    }
+}
+
+/// Returns the number that the type has in `jaeger.thrift`.
+pub(crate) fn type_number(kind: TagType) -> i32
+    ensures { result ≡ type_number kind }
+{
+    match kind {
+        TagType::Text => 0,
+        TagType::Double => 1,
+        TagType::Bool => 2,
+        TagType::Long => 3,
+        TagType::Binary => 4,
     }
 }
 

@@ -3,7 +3,7 @@ ghost use Rattle.std.specs.List.{AllByRecursion, flat_map, list_all};
 ghost use Rattle.std.specs.Int.{w32, w64};
 ghost use Rattle.std.proofs.Common.{SFits};
 ghost use Rattle.batch_codec.specs.BatchReading.{decoded};
-ghost use Rattle.batch_codec.specs.Batches.{IsBatch, type_number, kind_number};
+ghost use Rattle.batch_codec.specs.Batches.{IsBatch};
 ghost use Rattle.batch_codec.specs.EncodedBatches.{WritesBatch};
 ghost use Rattle.batch_codec.specs.CanonicalTexts.{Encodes, fits_length, front_text, text_field, i32_field, i64_field, id_field, double_field};
 ghost use Rattle.batch_codec.specs.CanonicalTexts.{list_field, list_fits, list_if_any, value_type, value_field, value_fits};
@@ -15,7 +15,9 @@ ghost use Rattle.batch_codec.specs.Changes.{change};
 
 use crate::fault::{DecodeError, Decoded};
 use crate::field_ids::{batch, log, process, reference, span, tag};
-use jaeger_model::{Batch, Log, Process, RefKind, Span, SpanRef, Tag, TagValue, ValueRef};
+use crate::reference::kind_number;
+use crate::tag::{TagType, type_number};
+use jaeger_model::{Batch, Log, Process, Span, SpanRef, Tag, TagValue, ValueRef};
 use std::alloc::Global;
 use thrift_binary::{Out, WireError, WriteError, types};
 
@@ -118,16 +120,16 @@ fn write_if_any<T: Spelled>(out: &mut Out, id: i16, items: &[T]) -> Result<(), W
     write_list(out, id, items)
 }
 
-/// Returns the number of a value's type (`TagType`).
-fn type_number(value: &TagValue) -> i32
-    ensures { result ≡ type_number (value_type value.now) }
+/// Returns the type of a tag's value.
+fn value_type(value: &TagValue) -> TagType
+    ensures { result ≡ value_type value.now }
 {
     match value.get() {
-        ValueRef::Text(_) => 0,
-        ValueRef::Double(_) => 1,
-        ValueRef::Bool(_) => 2,
-        ValueRef::Long(_) => 3,
-        ValueRef::Bytes(_) => 4,
+        ValueRef::Text(_) => TagType::Text,
+        ValueRef::Double(_) => TagType::Double,
+        ValueRef::Bool(_) => TagType::Bool,
+        ValueRef::Long(_) => TagType::Long,
+        ValueRef::Bytes(_) => TagType::Binary,
     }
 }
 
@@ -162,7 +164,7 @@ impl Spelled for Tag {
     #[tactic(auto, unfolding(crate::specs::CanonicalTexts::canon_tag, crate::specs::CanonicalTexts::tag_fits))]
     fn write(&self, out: &mut Out) -> Result<(), WriteError> {
         write_text(out, tag::KEY, self.key.as_str().as_bytes())?;
-        write_i32(out, tag::V_TYPE, type_number(&self.value))?;
+        write_i32(out, tag::V_TYPE, type_number(value_type(&self.value)))?;
         write_value(out, &self.value)?;
         out.stop()
     }
@@ -183,16 +185,6 @@ impl Spelled for Log {
         write_i64(out, log::TIMESTAMP, self.at)?;
         write_list(out, log::FIELDS, self.fields.as_slice())?;
         out.stop()
-    }
-}
-
-/// Returns the number of a reference's kind (`SpanRefType`).
-fn kind_number(kind: RefKind) -> i32
-    ensures { result ≡ kind_number kind }
-{
-    match kind {
-        RefKind::ChildOf => 0,
-        RefKind::FollowsFrom => 1,
     }
 }
 
