@@ -53,11 +53,7 @@ fields_text (f ∷ fs) = field_text f.code f.id ++ (f.text ++ fields_text fs)
 abbrev pub list_text : {A : Type 0} → ℕ → (A → List ℕ) → List A → List ℕ
 list_text c one xs = list_head_text c (length xs) ++ flat_map one xs
 
--- an error's number, and its name, which is how it prints
-abbrev pub refusal_number : WriteError → ℕ
-refusal_number BadLength = 2
-refusal_number Memory = 22
-
+-- an error's name, which is how it prints
 abbrev pub refusal_name : WriteError → List ℕ
 refusal_name BadLength = codes "BadLength"
 refusal_name Memory = codes "NoMemory"

@@ -1,5 +1,5 @@
 ghost use Rattle.std.specs.Prelude.{◌≡◌, Some, List, ℕ, [], length};
-ghost use Rattle.thrift_binary.specs.Writing.{Writes, WritesSized, refusal_number, refusal_name, bool_text, i32_text, i64_text, string_text, field_text};
+ghost use Rattle.thrift_binary.specs.Writing.{Writes, WritesSized, refusal_name, bool_text, i32_text, i64_text, string_text, field_text};
 ghost use Rattle.thrift_binary.specs.Writing.{stop_text, list_head_text};
 ghost use Rattle.thrift_binary.specs.declared.out.WriteError.TheVariants.{Memory};
 
@@ -28,16 +28,6 @@ impl From<AllocError> for WriteError {
 }
 
 impl WriteError {
-    /// Returns the error's number: 2 for a length, as in reading, and 22 if memory ran out.
-    pub fn number(self) -> u8
-        ensures number { result ≡ refusal_number self }
-    {
-        match self {
-            WriteError::BadLength => 2,
-            WriteError::Memory => 22,
-        }
-    }
-
     /// Returns the error's name.
     pub fn name(self) -> &'static str
         ensures name { result.now ≡ refusal_name self }
