@@ -5,18 +5,15 @@
 //! as `span.start = 900`. Only tests use this crate.
 //!
 //! * `parts`: tags, processes, spans, batches and entries of them, and searches.
-//! * `seeing`: spans that are borrowed.
 //! * `exchanges`: requests that submit a batch and query it, and their responses, as bytes.
 //! * `spellings`: batches as hexadecimal digits, as Apache Thrift spells them among them.
 #![tactic(auto)]
 
 pub mod exchanges;
 mod parts;
-mod seeing;
 pub mod spellings;
 
 pub use parts::{
-    batch, beside, first_mismatch, host_process, kept, list_of, placed, process, retry,
-    service_find, span, submitted, text_tag,
+    batch, beside, host_process, kept, list_of, placed, process, retry, service_find, span,
+    submitted, text_tag,
 };
-pub use seeing::seen_trace;

@@ -159,22 +159,6 @@ pub fn beside<T: Drop, U, E>(value: T, made: Result<U, E>) -> Result<(T, U), E>
     }
 }
 
-/// Returns the index of the first row that isn't as the test wants it, each judged after the ones before; None if
-/// all are.
-pub fn first_mismatch<T, E, F: FnMut(&T) -> Result<bool, E>>(
-    rows: &[T],
-    mut is_so: F,
-) -> Result<Option<usize>, E>
-    requires { F.IsAlwaysCallable is_so }
-{
-    for (number, row) in rows.iter().enumerate() {
-        if !is_so(row)? {
-            return Ok(Some(number));
-        }
-    }
-    Ok(None)
-}
-
 /// Returns the result of a call, which is repeated once if it ran out of memory.
 pub fn retry<T, E: PartialEq + Copy, F: Fn() -> Result<T, E>>(no_memory: E, call: F) -> Result<T, E>
     requires { F.IsAlwaysCallable call }
