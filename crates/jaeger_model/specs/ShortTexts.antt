@@ -1,8 +1,8 @@
 -- The bytes of a text, whether they are stored inline or not.
 use Rattle.std.specs.Prelude.{ℕ, List, string_bytes}
 use Rattle.jaeger_model.specs.declared.text.Bytes.{Bytes}
-use Rattle.jaeger_model.specs.declared.text.Bytes.TheVariants.{Short, Long}
+use Rattle.jaeger_model.specs.declared.text.Bytes.TheVariants.{Inline, Heap}
 
 abbrev pub bytes_of : Bytes → List ℕ
-bytes_of (Short s) = s
-bytes_of (Long s) = string_bytes s
+bytes_of (Inline s) = s
+bytes_of (Heap s) = string_bytes s

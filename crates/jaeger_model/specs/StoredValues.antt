@@ -8,11 +8,11 @@ use Rattle.jaeger_model.specs.declared.tag.Value.{Value}
 use Rattle.jaeger_model.specs.declared.tag.Value.TheVariants as value
 
 abbrev pub stored_value : StoredValue → Value
-stored_value (held.Short t) = value.Text t
-stored_value (held.Long t) = value.Text (string_bytes t)
+stored_value (held.Inline t) = value.Text t
+stored_value (held.Heap t) = value.Text (string_bytes t)
 stored_value (held.Double bytes) = value.Double bytes
 stored_value (held.Bool flag) = value.Bool flag
-stored_value (held.Number z) = value.Long z
+stored_value (held.Long z) = value.Long z
 stored_value (held.Bytes bytes) = value.Bytes bytes
 
 abbrev pub borrowed_value : ValueRef → Value

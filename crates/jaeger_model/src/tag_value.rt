@@ -16,11 +16,11 @@ use std::mem::size_of;
 /// discriminant.
 #[derive(Debug, Drop)]
 pub(crate) enum StoredValue {
-    Short(ShortText),
-    Long(String),
+    Inline(ShortText),
+    Heap(String),
     Double([u8; 8]),
     Bool(bool),
-    Number(i64),
+    Long(i64),
     Bytes(Seq<u8>),
 }
 
@@ -58,12 +58,12 @@ impl TagValue {
     {
         let held = match value {
             Value::Text(text) => match text.into_bytes() {
-                Bytes::Short(text) => StoredValue::Short(text),
-                Bytes::Long(text) => StoredValue::Long(text),
+                Bytes::Inline(text) => StoredValue::Inline(text),
+                Bytes::Heap(text) => StoredValue::Heap(text),
             },
             Value::Double(bytes) => StoredValue::Double(bytes),
             Value::Bool(flag) => StoredValue::Bool(flag),
-            Value::Long(number) => StoredValue::Number(number),
+            Value::Long(number) => StoredValue::Long(number),
             Value::Bytes(bytes) => StoredValue::Bytes(bytes),
         };
         TagValue { held }
@@ -74,11 +74,11 @@ impl TagValue {
         ensures { borrowed_value result ≡ self.now }
     {
         match &self.held {
-            StoredValue::Short(text) => ValueRef::Text(text.as_str()),
-            StoredValue::Long(text) => ValueRef::Text(text.as_str()),
+            StoredValue::Inline(text) => ValueRef::Text(text.as_str()),
+            StoredValue::Heap(text) => ValueRef::Text(text.as_str()),
             StoredValue::Double(bytes) => ValueRef::Double(bytes),
             StoredValue::Bool(flag) => ValueRef::Bool(*flag),
-            StoredValue::Number(number) => ValueRef::Long(*number),
+            StoredValue::Long(number) => ValueRef::Long(*number),
             StoredValue::Bytes(bytes) => ValueRef::Bytes(bytes.as_slice()),
         }
     }
@@ -89,11 +89,11 @@ impl Clone for TagValue {
 
     fn clone(&self) -> Result<Self, AllocError> {
         let held = match &self.held {
-            StoredValue::Short(text) => StoredValue::Short(text.copy()),
-            StoredValue::Long(text) => StoredValue::Long(text.clone()?),
+            StoredValue::Inline(text) => StoredValue::Inline(text.copy()),
+            StoredValue::Heap(text) => StoredValue::Heap(text.clone()?),
             StoredValue::Double(bytes) => StoredValue::Double(*bytes),
             StoredValue::Bool(flag) => StoredValue::Bool(*flag),
-            StoredValue::Number(number) => StoredValue::Number(*number),
+            StoredValue::Long(number) => StoredValue::Long(*number),
             StoredValue::Bytes(bytes) => StoredValue::Bytes(bytes.clone()?),
         };
         Ok(TagValue { held })
