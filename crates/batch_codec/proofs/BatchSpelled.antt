@@ -8,7 +8,7 @@ use Rattle.jaeger_model.specs.declared.batch.Batch.{Batch}
 use Rattle.thrift_binary.proofs.ReadBytesSpell.{bind_ok, pass_ok, ok_is}
 use Rattle.batch_codec.specs.declared.fault.DecodeError.{DecodeError}
 use Rattle.batch_codec.specs.declared.fault.DecodeError.TheVariants.{Memory, Wire, Missing, BadEnum, Trailing}
-use Rattle.batch_codec.specs.declared.fault.Part.TheVariants as parts
+use Rattle.batch_codec.specs.declared.fault.StructName.TheVariants as structs
 use Rattle.batch_codec.specs.declared.batch.BatchSlots.{BatchSlots}
 use Rattle.batch_codec.specs.Decoding.{Gives}
 use Rattle.batch_codec.specs.BatchReading.{take_batch, batch_from, batch_at, at_end, decoded}
@@ -33,8 +33,8 @@ all_there s x a b c = rw (a, b, c) refl
 made : (s : BatchSlots) (x : Batch) → batch_from s ≡ Ok x → s ≡ whole_batch x
 unfolding batch_from
 made s x e =
-    let a = required_found s.process parts.Batch 1 _ x e in
-    let b = required_found s.spans parts.Batch 2 _ x a.2 in
+    let a = required_found s.process structs.Batch 1 _ x e in
+    let b = required_found s.spans structs.Batch 2 _ x a.2 in
     let whole : Batch = record { process = a.0; spans = b.0; seq_no = s.seq_no } in
     let same : whole ≡ x = ok_is whole x b.2 in
     let there : s ≡ whole_batch whole = all_there s whole a.1 b.1 refl in

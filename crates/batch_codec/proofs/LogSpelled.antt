@@ -3,7 +3,7 @@ use Rattle.std.proofs.Common.{◌≡◌, ℕ, ℤ, pos, eqb, ◌&&◌, Some, Ok,
 use Rattle.std.specs.Ordering.{int_eq}
 use Rattle.jaeger_model.specs.declared.span.Log.{Log}
 use Rattle.thrift_binary.proofs.ReadBytesSpell.{ok_is}
-use Rattle.batch_codec.specs.declared.fault.Part.TheVariants as parts
+use Rattle.batch_codec.specs.declared.fault.StructName.TheVariants as structs
 use Rattle.batch_codec.specs.declared.log.LogSlots.{LogSlots}
 use Rattle.batch_codec.specs.LogReading.{take_log, log_from, log_at}
 use Rattle.batch_codec.specs.Batches.{LogField, whole_log, log_rule, IsLog}
@@ -24,8 +24,8 @@ all_there s x a b = rw (a, b) refl
 made : (s : LogSlots) (x : Log) → log_from s ≡ Ok x → s ≡ whole_log x
 unfolding log_from
 made s x e =
-    let a = required_found s.at parts.Log 1 _ x e in
-    let b = required_found s.fields parts.Log 2 _ x a.2 in
+    let a = required_found s.at structs.Log 1 _ x e in
+    let b = required_found s.fields structs.Log 2 _ x a.2 in
     let whole : Log = record { at = a.0; fields = b.0 } in
     let same : whole ≡ x = ok_is whole x b.2 in
     let there : s ≡ whole_log whole = all_there s whole a.1 b.1 in

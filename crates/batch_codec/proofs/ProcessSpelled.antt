@@ -3,7 +3,7 @@ use Rattle.std.proofs.Common.{◌≡◌, ℕ, ℤ, pos, eqb, ◌&&◌, Some, Ok,
 use Rattle.std.specs.Ordering.{int_eq}
 use Rattle.jaeger_model.specs.declared.batch.Process.{Process}
 use Rattle.thrift_binary.proofs.ReadBytesSpell.{ok_is}
-use Rattle.batch_codec.specs.declared.fault.Part.TheVariants as parts
+use Rattle.batch_codec.specs.declared.fault.StructName.TheVariants as structs
 use Rattle.batch_codec.specs.declared.process.ProcessSlots.{ProcessSlots}
 use Rattle.batch_codec.specs.ProcessReading.{take_process, process_from, process_at}
 use Rattle.batch_codec.specs.Batches.{ProcessField, whole_process, process_rule, IsProcess}
@@ -24,7 +24,7 @@ all_there s x a b = rw (a, b) refl
 made : (s : ProcessSlots) (x : Process) → process_from s ≡ Ok x → s ≡ whole_process x
 unfolding process_from
 made s x e =
-    let a = required_found s.service parts.Process 1 _ x e in
+    let a = required_found s.service structs.Process 1 _ x e in
     let whole : Process = record { service = a.0; tags = s.tags } in
     let same : whole ≡ x = ok_is whole x a.2 in
     let there : s ≡ whole_process whole = all_there s whole a.1 refl in

@@ -3,7 +3,7 @@ use Rattle.std.proofs.Common.{◌≡◌, ℕ, ℤ, pos, eqb, ◌&&◌, Some, Ok,
 use Rattle.std.specs.Ordering.{int_eq}
 use Rattle.jaeger_model.specs.declared.span.SpanRef.{SpanRef}
 use Rattle.thrift_binary.proofs.ReadBytesSpell.{ok_is}
-use Rattle.batch_codec.specs.declared.fault.Part.TheVariants as parts
+use Rattle.batch_codec.specs.declared.fault.StructName.TheVariants as structs
 use Rattle.batch_codec.specs.declared.reference.ReferenceSlots.{ReferenceSlots}
 use Rattle.batch_codec.specs.ReferenceReading.{take_reference, reference_from, reference_at}
 use Rattle.batch_codec.specs.Batches.{ReferenceField, whole_reference, reference_rule, IsReference}
@@ -27,10 +27,10 @@ all_there s x a b c d = rw (a, b, c, d) refl
 made : (s : ReferenceSlots) (x : SpanRef) → reference_from s ≡ Ok x → s ≡ whole_reference x
 unfolding reference_from
 made s x e =
-    let a = required_found s.kind parts.SpanRef 1 _ x e in
-    let b = required_found s.trace_low parts.SpanRef 2 _ x a.2 in
-    let c = required_found s.trace_high parts.SpanRef 3 _ x b.2 in
-    let d = required_found s.id parts.SpanRef 4 _ x c.2 in
+    let a = required_found s.kind structs.SpanRef 1 _ x e in
+    let b = required_found s.trace_low structs.SpanRef 2 _ x a.2 in
+    let c = required_found s.trace_high structs.SpanRef 3 _ x b.2 in
+    let d = required_found s.id structs.SpanRef 4 _ x c.2 in
     let whole : SpanRef = record { kind = a.0; trace = record { high = c.0; low = b.0 }; id = record { 0 = d.0 } } in
     let same : whole ≡ x = ok_is whole x d.2 in
     let there : s ≡ whole_reference whole = all_there s whole a.1 b.1 c.1 d.1 in

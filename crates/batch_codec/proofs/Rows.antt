@@ -9,7 +9,7 @@ use Rattle.thrift_binary.specs.Reading.{size_at, string_at, field_at, list_at}
 use Rattle.thrift_binary.specs.Fields.{fields_in, fields_at}
 use Rattle.thrift_binary.specs.Lists.{items_at, list_of}
 use Rattle.batch_codec.specs.declared.fault.DecodeError.TheVariants.{Wire, Missing, Trailing}
-use Rattle.batch_codec.specs.declared.fault.Part.TheVariants as parts
+use Rattle.batch_codec.specs.declared.fault.StructName.TheVariants as structs
 use Rattle.batch_codec.specs.Decoding.{text_at}
 use Rattle.batch_codec.specs.ProcessReading.{take_process, process_from, process_at}
 use Rattle.batch_codec.specs.SpanReading.{span_at}
@@ -69,7 +69,7 @@ unfolding decoded batch_at fields_at fields_in
 nothing = refl
 
 -- a missing field is reported before trailing bytes
-stop_alone : decoded (0 ∷ 0 ∷ []) ≡ Err (Missing parts.Batch 1)
+stop_alone : decoded (0 ∷ 0 ∷ []) ≡ Err (Missing structs.Batch 1)
 unfolding decoded batch_at batch_from fields_at fields_in field_at
 stop_alone = refl
 

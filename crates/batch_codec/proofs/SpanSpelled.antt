@@ -3,7 +3,7 @@ use Rattle.std.proofs.Common.{◌≡◌, ℕ, ℤ, pos, eqb, ◌&&◌, Some, Ok,
 use Rattle.std.specs.Ordering.{int_eq}
 use Rattle.jaeger_model.specs.declared.span.Span.{Span}
 use Rattle.thrift_binary.proofs.ReadBytesSpell.{ok_is}
-use Rattle.batch_codec.specs.declared.fault.Part.TheVariants as parts
+use Rattle.batch_codec.specs.declared.fault.StructName.TheVariants as structs
 use Rattle.batch_codec.specs.declared.span.SpanSlots.{SpanSlots}
 use Rattle.batch_codec.specs.SpanReading.{take_span, span_from, span_at}
 use Rattle.batch_codec.specs.Batches.{SpanField, whole_span, span_rule, IsSpan}
@@ -37,14 +37,14 @@ all_there s x a b c d e f g h i j k = rw (a, b, c, d, e, f, g, h, i, j, k) refl
 made : (s : SpanSlots) (x : Span) → span_from s ≡ Ok x → s ≡ whole_span x
 unfolding span_from
 made s x e =
-    let a = required_found s.trace_low parts.Span 1 _ x e in
-    let b = required_found s.trace_high parts.Span 2 _ x a.2 in
-    let c = required_found s.id parts.Span 3 _ x b.2 in
-    let d = required_found s.parent parts.Span 4 _ x c.2 in
-    let e = required_found s.operation parts.Span 5 _ x d.2 in
-    let f = required_found s.flags parts.Span 7 _ x e.2 in
-    let g = required_found s.start parts.Span 8 _ x f.2 in
-    let h = required_found s.duration parts.Span 9 _ x g.2 in
+    let a = required_found s.trace_low structs.Span 1 _ x e in
+    let b = required_found s.trace_high structs.Span 2 _ x a.2 in
+    let c = required_found s.id structs.Span 3 _ x b.2 in
+    let d = required_found s.parent structs.Span 4 _ x c.2 in
+    let e = required_found s.operation structs.Span 5 _ x d.2 in
+    let f = required_found s.flags structs.Span 7 _ x e.2 in
+    let g = required_found s.start structs.Span 8 _ x f.2 in
+    let h = required_found s.duration structs.Span 9 _ x g.2 in
     let whole : Span = record {
       trace = record { high = b.0; low = a.0 };
       id = record { 0 = c.0 };

@@ -12,7 +12,7 @@ use Rattle.thrift_binary.proofs.SkippedAreValues.{skip_found}
 use Rattle.thrift_binary.proofs.ValuesAreSkipped.{skip_again}
 use Rattle.thrift_binary.proofs.Lists.{list_found, list_again}
 use Rattle.batch_codec.specs.declared.fault.DecodeError.{DecodeError}
-use Rattle.batch_codec.specs.declared.fault.Part.{Part}
+use Rattle.batch_codec.specs.declared.fault.StructName.{StructName}
 use Rattle.batch_codec.specs.Decoding.{Reading, wire, skipped, required}
 use Rattle.batch_codec.specs.StructRules.{StructRule}
 use Rattle.batch_codec.specs.Batches.{Gathers, IsStruct, IsStructList}
@@ -104,7 +104,7 @@ module _ {S X : Type 0} (take : Take S DecodeError) (rule : StructRule S X) (fro
           rw (fields, whole) refl
 
 -- a required slot that is filled
-pub required_found : {A B : Type 0} (o : Option A) (part : Part) (i : ℕ) (f : A → Result B DecodeError) (y : B) → (required o part i >>= f) ≡ Ok y → (x : A)
+pub required_found : {A B : Type 0} (o : Option A) (name : StructName) (i : ℕ) (f : A → Result B DecodeError) (y : B) → (required o name i >>= f) ≡ Ok y → (x : A)
     × (o ≡ Some x) × (f x ≡ Ok y)
-required_found None part i f y e = absurd cc
-required_found (Some x) part i f y e = (x, refl, e)
+required_found None name i f y e = absurd cc
+required_found (Some x) name i f y e = (x, refl, e)

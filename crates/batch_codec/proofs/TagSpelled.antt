@@ -4,7 +4,7 @@ use Rattle.std.specs.Ordering.{int_eq}
 use Rattle.jaeger_model.specs.declared.tag.Tag.{Tag}
 use Rattle.jaeger_model.specs.declared.tag.Value.{Value}
 use Rattle.thrift_binary.proofs.ReadBytesSpell.{ok_is}
-use Rattle.batch_codec.specs.declared.fault.Part.TheVariants as parts
+use Rattle.batch_codec.specs.declared.fault.StructName.TheVariants as structs
 use Rattle.batch_codec.specs.declared.tag.TagSlots.{TagSlots}
 use Rattle.batch_codec.specs.EmptySlots.{value_named}
 use Rattle.batch_codec.specs.TagReading.{take_tag, tag_from, tag_at}
@@ -27,8 +27,8 @@ tag_field_is s c i =
 made : (s : TagSlots) (x : Tag) → tag_from s ≡ Ok x → MakesTag s x
 unfolding tag_from
 made s x e =
-    let k = required_found s.key parts.Tag 1 _ x e in
-    let n = required_found s.kind parts.Tag 2 _ x k.2 in
+    let k = required_found s.key structs.Tag 1 _ x e in
+    let n = required_found s.kind structs.Tag 2 _ x k.2 in
     let tag : Tag = record { key = k.0; value = value_named n.0 s } in
     let same : tag ≡ x = ok_is tag x n.2 in
     record {

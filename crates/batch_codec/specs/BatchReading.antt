@@ -4,7 +4,7 @@ use Rattle.std.specs.Ordering.{int_eq}
 use Rattle.thrift_binary.specs.Reading.{◌>>=◌}
 use Rattle.thrift_binary.specs.Fields.{Take, fields_at}
 use Rattle.batch_codec.specs.declared.fault.DecodeError.{DecodeError}
-use Rattle.batch_codec.specs.declared.fault.Part.TheVariants as parts
+use Rattle.batch_codec.specs.declared.fault.StructName.TheVariants as structs
 use Rattle.jaeger_model.specs.declared.batch.Batch.{Batch}
 use Rattle.batch_codec.specs.declared.fault.DecodeError.TheVariants.{Trailing}
 use Rattle.batch_codec.specs.declared.batch.BatchSlots.{BatchSlots}
@@ -23,8 +23,8 @@ take_batch s c i w =
 
 unfoldable pub batch_from : BatchSlots → Result Batch DecodeError
 batch_from s = do
-  process ← required s.process parts.Batch 1
-  spans ← required s.spans parts.Batch 2
+  process ← required s.process structs.Batch 1
+  spans ← required s.spans structs.Batch 2
   Ok (record { process = process; spans = spans; seq_no = s.seq_no })
 
 unfoldable pub batch_at : Reading Batch

@@ -10,7 +10,7 @@ use Rattle.thrift_binary.specs.Skipping.{skip_at}
 use Rattle.thrift_binary.specs.Fields.{Take}
 use Rattle.batch_codec.specs.declared.fault.DecodeError.{DecodeError}
 use Rattle.batch_codec.specs.declared.fault.DecodeError.TheVariants.{Wire, Missing, BadEnum, Trailing, Memory}
-use Rattle.batch_codec.specs.declared.fault.Part.{Part}
+use Rattle.batch_codec.specs.declared.fault.StructName.{StructName}
 use Rattle.batch_codec.specs.Changes.{Change, FieldChange}
 
 -- the value and the bytes after it, or the first fault
@@ -53,9 +53,9 @@ abbrev pub skipped : {S : Type 0} → S → ℕ → Reading S
 skipped s c w = lift wire (skip_at c w) >>= λ x. Ok (s, x.1)
 
 -- a required field at its struct's stop byte
-abbrev pub required : {A : Type 0} → Option A → Part → ℕ → Result A DecodeError
-required None part i = Err (Missing part i)
-required (Some x) part i = Ok x
+abbrev pub required : {A : Type 0} → Option A → StructName → ℕ → Result A DecodeError
+required None name i = Err (Missing name i)
+required (Some x) name i = Ok x
 
 -- ---- calls
 

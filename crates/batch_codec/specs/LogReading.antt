@@ -4,7 +4,7 @@ use Rattle.std.specs.Ordering.{int_eq}
 use Rattle.thrift_binary.specs.Reading.{◌>>=◌}
 use Rattle.thrift_binary.specs.Fields.{Take, fields_at}
 use Rattle.batch_codec.specs.declared.fault.DecodeError.{DecodeError}
-use Rattle.batch_codec.specs.declared.fault.Part.TheVariants as parts
+use Rattle.batch_codec.specs.declared.fault.StructName.TheVariants as structs
 use Rattle.jaeger_model.specs.declared.span.Log.{Log}
 use Rattle.batch_codec.specs.declared.log.LogSlots.{LogSlots}
 use Rattle.batch_codec.specs.Decoding.{Reading, wire, skipped, required, i64_at}
@@ -20,8 +20,8 @@ take_log s c i w =
 
 unfoldable pub log_from : LogSlots → Result Log DecodeError
 log_from s = do
-  at ← required s.at parts.Log 1
-  fields ← required s.fields parts.Log 2
+  at ← required s.at structs.Log 1
+  fields ← required s.fields structs.Log 2
   Ok (record { at = at; fields = fields })
 
 unfoldable pub log_at : Reading Log

@@ -4,7 +4,7 @@ use Rattle.std.specs.Ordering.{int_eq}
 use Rattle.thrift_binary.specs.Reading.{◌>>=◌}
 use Rattle.thrift_binary.specs.Fields.{Take, fields_at}
 use Rattle.batch_codec.specs.declared.fault.DecodeError.{DecodeError}
-use Rattle.batch_codec.specs.declared.fault.Part.TheVariants as parts
+use Rattle.batch_codec.specs.declared.fault.StructName.TheVariants as structs
 use Rattle.jaeger_model.specs.declared.batch.Process.{Process}
 use Rattle.batch_codec.specs.declared.process.ProcessSlots.{ProcessSlots}
 use Rattle.batch_codec.specs.Decoding.{Reading, wire, skipped, required, text_at}
@@ -20,7 +20,7 @@ take_process s c i w =
 
 unfoldable pub process_from : ProcessSlots → Result Process DecodeError
 process_from s = do
-  service ← required s.service parts.Process 1
+  service ← required s.service structs.Process 1
   Ok (record { service = service; tags = s.tags })
 
 unfoldable pub process_at : Reading Process

@@ -4,7 +4,7 @@ use Rattle.std.specs.Ordering.{int_eq}
 use Rattle.thrift_binary.specs.Reading.{◌>>=◌}
 use Rattle.thrift_binary.specs.Fields.{Take, fields_at}
 use Rattle.batch_codec.specs.declared.fault.DecodeError.{DecodeError}
-use Rattle.batch_codec.specs.declared.fault.Part.TheVariants as parts
+use Rattle.batch_codec.specs.declared.fault.StructName.TheVariants as structs
 use Rattle.jaeger_model.specs.declared.span.RefKind.{RefKind}
 use Rattle.jaeger_model.specs.declared.span.RefKind.TheVariants.{ChildOf, FollowsFrom}
 use Rattle.jaeger_model.specs.declared.span.SpanRef.{SpanRef}
@@ -36,10 +36,10 @@ take_reference s c i w =
 
 unfoldable pub reference_from : ReferenceSlots → Result SpanRef DecodeError
 reference_from s = do
-  kind ← required s.kind parts.SpanRef 1
-  low ← required s.trace_low parts.SpanRef 2
-  high ← required s.trace_high parts.SpanRef 3
-  id ← required s.id parts.SpanRef 4
+  kind ← required s.kind structs.SpanRef 1
+  low ← required s.trace_low structs.SpanRef 2
+  high ← required s.trace_high structs.SpanRef 3
+  id ← required s.id structs.SpanRef 4
   Ok (record { kind = kind; trace = record { high = high; low = low }; id = record { 0 = id } })
 
 unfoldable pub reference_at : Reading SpanRef

@@ -4,7 +4,7 @@ use Rattle.std.specs.Ordering.{int_eq}
 use Rattle.thrift_binary.specs.Reading.{◌>>=◌}
 use Rattle.thrift_binary.specs.Fields.{Take, fields_at}
 use Rattle.batch_codec.specs.declared.fault.DecodeError.{DecodeError}
-use Rattle.batch_codec.specs.declared.fault.Part.TheVariants as parts
+use Rattle.batch_codec.specs.declared.fault.StructName.TheVariants as structs
 use Rattle.jaeger_model.specs.declared.span.Span.{Span}
 use Rattle.batch_codec.specs.declared.span.SpanSlots.{SpanSlots}
 use Rattle.batch_codec.specs.Decoding.{Reading, wire, skipped, required, i32_at, i64_at, id_at, text_at}
@@ -31,14 +31,14 @@ take_span s c i w =
 
 unfoldable pub span_from : SpanSlots → Result Span DecodeError
 span_from s = do
-  low ← required s.trace_low parts.Span 1
-  high ← required s.trace_high parts.Span 2
-  id ← required s.id parts.Span 3
-  parent ← required s.parent parts.Span 4
-  operation ← required s.operation parts.Span 5
-  flags ← required s.flags parts.Span 7
-  start ← required s.start parts.Span 8
-  duration ← required s.duration parts.Span 9
+  low ← required s.trace_low structs.Span 1
+  high ← required s.trace_high structs.Span 2
+  id ← required s.id structs.Span 3
+  parent ← required s.parent structs.Span 4
+  operation ← required s.operation structs.Span 5
+  flags ← required s.flags structs.Span 7
+  start ← required s.start structs.Span 8
+  duration ← required s.duration structs.Span 9
   Ok (record {
     trace = record { high = high; low = low };
     id = record { 0 = id };

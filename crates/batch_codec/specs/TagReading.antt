@@ -4,7 +4,7 @@ use Rattle.std.specs.Ordering.{int_eq}
 use Rattle.thrift_binary.specs.Reading.{◌>>=◌}
 use Rattle.thrift_binary.specs.Fields.{Take, fields_at}
 use Rattle.batch_codec.specs.declared.fault.DecodeError.{DecodeError}
-use Rattle.batch_codec.specs.declared.fault.Part.TheVariants as parts
+use Rattle.batch_codec.specs.declared.fault.StructName.TheVariants as structs
 use Rattle.jaeger_model.specs.declared.tag.Tag.{Tag}
 use Rattle.batch_codec.specs.declared.fault.DecodeError.TheVariants.{BadEnum}
 use Rattle.batch_codec.specs.declared.tag.TagType.{TagType}
@@ -42,8 +42,8 @@ take_tag s c i w =
 
 unfoldable pub tag_from : TagSlots → Result Tag DecodeError
 tag_from s = do
-  key ← required s.key parts.Tag 1
-  kind ← required s.kind parts.Tag 2
+  key ← required s.key structs.Tag 1
+  kind ← required s.kind structs.Tag 2
   Ok (record { key = key; value = value_named kind s })
 
 unfoldable pub tag_at : Reading Tag

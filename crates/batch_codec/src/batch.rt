@@ -5,7 +5,7 @@ ghost use Rattle.batch_codec.specs.Decoding.{Decodes, Gives};
 ghost use Rattle.batch_codec.specs.ProcessReading.{process_at};
 ghost use Rattle.batch_codec.specs.Changes.{change};
 
-use crate::fault::{DecodeError, Decoded, Part};
+use crate::fault::{DecodeError, Decoded, StructName};
 use crate::field_ids::batch::{PROCESS, SEQ_NO, SPANS};
 use crate::fields::{Slots, read_fields, required};
 use crate::items::read_list;
@@ -49,8 +49,8 @@ impl BatchSlots {
     pub fn whole(self) -> Decoded<Batch>
         ensures exact { result ≡ batch_from self }
     {
-        let process = required(self.process, Part::Batch, PROCESS as u8)?;
-        let spans = required(self.spans, Part::Batch, SPANS as u8)?;
+        let process = required(self.process, StructName::Batch, PROCESS as u8)?;
+        let spans = required(self.spans, StructName::Batch, SPANS as u8)?;
         Ok(Batch {
             process,
             spans,

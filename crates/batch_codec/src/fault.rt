@@ -7,9 +7,9 @@ use std::error::Error;
 use std::fmt;
 use thrift_binary::WireError;
 
-/// A struct of `jaeger.thrift`.
+/// The name of a struct of `jaeger.thrift`.
 #[derive(Clone, Copy, Debug, PartialEq, Eq)]
-pub enum Part {
+pub enum StructName {
     Batch,
     Process,
     Span,
@@ -18,18 +18,18 @@ pub enum Part {
     Tag,
 }
 
-impl Part {
+impl StructName {
     /// Returns the struct's name in `jaeger.thrift`.
-    pub fn name(self) -> &'static str
+    pub fn as_str(self) -> &'static str
         ensures { result.now ≡ struct_name self }
     {
         match self {
-            Part::Batch => "Batch",
-            Part::Process => "Process",
-            Part::Span => "Span",
-            Part::SpanRef => "SpanRef",
-            Part::Log => "Log",
-            Part::Tag => "Tag",
+            StructName::Batch => "Batch",
+            StructName::Process => "Process",
+            StructName::Span => "Span",
+            StructName::SpanRef => "SpanRef",
+            StructName::Log => "Log",
+            StructName::Tag => "Tag",
         }
     }
 }
@@ -40,7 +40,7 @@ pub enum DecodeError {
     /// The bytes break the protocol, or the value of a known field isn't of its type.
     Wire(WireError),
     /// A required field is absent at its struct's stop byte. If several are, this has the least id.
-    Missing(Part, u8),
+    Missing(StructName, u8),
     /// The number of an enum isn't in its table.
     BadEnum,
     /// Bytes follow the batch.
@@ -99,9 +99,9 @@ impl fmt::Display for DecodeError {
         let number = self.number();
         let name = self.name();
         match self {
-            DecodeError::Missing(part, id) => {
-                let part = part.name();
-                write!(f, "{number} {name} {part} {id}")
+            DecodeError::Missing(struct_name, id) => {
+                let struct_name = struct_name.as_str();
+                write!(f, "{number} {name} {struct_name} {id}")
             }
             _ => write!(f, "{number} {name}"),
         }

@@ -4,7 +4,7 @@ ghost use Rattle.batch_codec.specs.Decoding.{Takes, Decodes, required, wire};
 ghost use Rattle.thrift_binary.specs.Fields.{fields_at};
 ghost use Rattle.batch_codec.specs.Changes.{change};
 
-use crate::fault::{DecodeError, Decoded, Part};
+use crate::fault::{DecodeError, Decoded, StructName};
 use std::alloc::Global;
 use thrift_binary::Cursor;
 
@@ -44,10 +44,10 @@ pub(crate) fn read_fields<'a, S: Slots<'a>>(
 
 /// Returns the value of a required field, or the error that it is missing.
 #[inline]
-pub fn required<T>(slot: Option<T>, part: Part, id: u8) -> Decoded<T>
-    ensures { result ≡ required slot part id }
+pub fn required<T>(slot: Option<T>, struct_name: StructName, id: u8) -> Decoded<T>
+    ensures { result ≡ required slot struct_name id }
 {
-    slot.ok_or(DecodeError::Missing(part, id))
+    slot.ok_or(DecodeError::Missing(struct_name, id))
 }
 
 /// Stores the value that was read in its slot. For the prover: `put` of a span then holds no list where a call may fail.

@@ -37,7 +37,7 @@ mod values;
 mod writer;
 
 pub use batch::{BatchSlots, decode};
-pub use fault::{DecodeError, Decoded, Part};
+pub use fault::{DecodeError, Decoded, StructName};
 pub use fields::required;
 pub use hex_fault::HexFault;
 pub use hex_text::decode_hex;

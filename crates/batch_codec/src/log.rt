@@ -1,7 +1,7 @@
 ghost use Rattle.std.specs.Prelude.{◌≡◌};
 ghost use Rattle.batch_codec.specs.LogReading.{log_at, log_from};
 
-use crate::fault::{Decoded, Part};
+use crate::fault::{Decoded, StructName};
 use crate::field_ids::log::{FIELDS, TIMESTAMP};
 use crate::fields::{Slots, read_fields, required};
 use crate::items::{Element, read_list};
@@ -45,8 +45,8 @@ impl LogSlots {
     pub fn whole(self) -> Decoded<Log>
         ensures exact { result ≡ log_from self }
     {
-        let at = required(self.at, Part::Log, TIMESTAMP as u8)?;
-        let fields = required(self.fields, Part::Log, FIELDS as u8)?;
+        let at = required(self.at, StructName::Log, TIMESTAMP as u8)?;
+        let fields = required(self.fields, StructName::Log, FIELDS as u8)?;
         Ok(Log { at, fields })
     }
 }

@@ -3,7 +3,7 @@ ghost use Rattle.batch_codec.specs.Decoding.{Decodes, Gives};
 ghost use Rattle.batch_codec.specs.ProcessReading.{process_at, process_from};
 ghost use Rattle.batch_codec.specs.Changes.{change};
 
-use crate::fault::{Decoded, Part};
+use crate::fault::{Decoded, StructName};
 use crate::field_ids::process::{SERVICE_NAME, TAGS};
 use crate::fields::{Slots, read_fields, required};
 use crate::items::read_list;
@@ -40,7 +40,7 @@ impl<'a> Slots<'a> for ProcessSlots<'a> {
 fn process_of(alloc: Global, slots: ProcessSlots<'_>) -> Decoded<Process>
     ensures { Gives result (process_from slots.entry) }
 {
-    let service = required(slots.service, Part::Process, SERVICE_NAME as u8)?;
+    let service = required(slots.service, StructName::Process, SERVICE_NAME as u8)?;
     Ok(Process {
         service: service.to_text(alloc)?,
         tags: slots.tags,

@@ -5,7 +5,7 @@ ghost use Rattle.batch_codec.specs.ReferenceReading.{reference_at, reference_fro
 ghost use Rattle.batch_codec.specs.Batches.{kind_number};
 ghost use Rattle.batch_codec.specs.Changes.{change};
 
-use crate::fault::{DecodeError, Decoded, Part};
+use crate::fault::{DecodeError, Decoded, StructName};
 use crate::field_ids::reference::{REF_TYPE, SPAN_ID, TRACE_ID_HIGH, TRACE_ID_LOW};
 use crate::fields::{Slots, read_fields, required};
 use crate::items::Element;
@@ -54,10 +54,10 @@ impl ReferenceSlots {
     pub fn whole(self) -> Decoded<SpanRef>
         ensures exact { result ≡ reference_from self }
     {
-        let kind = required(self.kind, Part::SpanRef, REF_TYPE as u8)?;
-        let low = required(self.trace_low, Part::SpanRef, TRACE_ID_LOW as u8)?;
-        let high = required(self.trace_high, Part::SpanRef, TRACE_ID_HIGH as u8)?;
-        let id = required(self.id, Part::SpanRef, SPAN_ID as u8)?;
+        let kind = required(self.kind, StructName::SpanRef, REF_TYPE as u8)?;
+        let low = required(self.trace_low, StructName::SpanRef, TRACE_ID_LOW as u8)?;
+        let high = required(self.trace_high, StructName::SpanRef, TRACE_ID_HIGH as u8)?;
+        let id = required(self.id, StructName::SpanRef, SPAN_ID as u8)?;
         Ok(SpanRef {
             kind,
             trace: TraceId { high, low },

@@ -3,7 +3,7 @@ ghost use Rattle.batch_codec.specs.Decoding.{Decodes, Spends, Takes};
 ghost use Rattle.batch_codec.specs.SpanReading.{span_at, span_from, take_span};
 ghost use Rattle.batch_codec.specs.Changes.{change};
 
-use crate::fault::{Decoded, Part};
+use crate::fault::{Decoded, StructName};
 use crate::field_ids::span::{
     DURATION, FLAGS, LOGS, OPERATION_NAME, PARENT_SPAN_ID, REFERENCES, SPAN_ID, START_TIME, TAGS,
     TRACE_ID_HIGH, TRACE_ID_LOW,
@@ -109,14 +109,14 @@ impl SpanSlots {
     pub fn whole(self) -> Decoded<Span>
         ensures exact { result ≡ span_from self }
     {
-        let low = required(self.trace_low, Part::Span, TRACE_ID_LOW as u8)?;
-        let high = required(self.trace_high, Part::Span, TRACE_ID_HIGH as u8)?;
-        let id = required(self.id, Part::Span, SPAN_ID as u8)?;
-        let parent = required(self.parent, Part::Span, PARENT_SPAN_ID as u8)?;
-        let operation = required(self.operation, Part::Span, OPERATION_NAME as u8)?;
-        let flags = required(self.flags, Part::Span, FLAGS as u8)?;
-        let start = required(self.start, Part::Span, START_TIME as u8)?;
-        let duration = required(self.duration, Part::Span, DURATION as u8)?;
+        let low = required(self.trace_low, StructName::Span, TRACE_ID_LOW as u8)?;
+        let high = required(self.trace_high, StructName::Span, TRACE_ID_HIGH as u8)?;
+        let id = required(self.id, StructName::Span, SPAN_ID as u8)?;
+        let parent = required(self.parent, StructName::Span, PARENT_SPAN_ID as u8)?;
+        let operation = required(self.operation, StructName::Span, OPERATION_NAME as u8)?;
+        let flags = required(self.flags, StructName::Span, FLAGS as u8)?;
+        let start = required(self.start, StructName::Span, START_TIME as u8)?;
+        let duration = required(self.duration, StructName::Span, DURATION as u8)?;
         Ok(Span {
             trace: TraceId { high, low },
             id: SpanId(id),

@@ -5,7 +5,7 @@ ghost use Rattle.batch_codec.specs.TagReading.{tag_at, tag_from, type_at, type_o
 ghost use Rattle.batch_codec.specs.Batches.{type_number};
 ghost use Rattle.batch_codec.specs.Changes.{change};
 
-use crate::fault::{DecodeError, Decoded, Part};
+use crate::fault::{DecodeError, Decoded, StructName};
 use crate::field_ids::tag::{KEY, V_BINARY, V_BOOL, V_DOUBLE, V_LONG, V_STR, V_TYPE};
 use crate::fields::{Slots, read_fields, required};
 use crate::items::Element;
@@ -140,8 +140,8 @@ pub fn read_type(cursor: &mut Cursor<'_>) -> Decoded<TagType>
 fn tag_of(alloc: Global, slots: TagSlots<'_>) -> Decoded<Tag>
     ensures { Gives result (tag_from slots.entry) }
 {
-    let key = required(slots.key, Part::Tag, KEY as u8)?;
-    let kind = required(slots.kind, Part::Tag, V_TYPE as u8)?;
+    let key = required(slots.key, StructName::Tag, KEY as u8)?;
+    let kind = required(slots.kind, StructName::Tag, V_TYPE as u8)?;
     let value = match kind {
         TagType::Text => Value::Text(slots.text.to_text(alloc)?),
         TagType::Double => Value::Double(slots.double),

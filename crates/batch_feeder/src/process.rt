@@ -6,7 +6,7 @@ use crate::structs::Struct;
 use crate::tag::PartialTag;
 use crate::texts::PartialText;
 use batch_codec::field_ids::process::{SERVICE_NAME, TAGS};
-use batch_codec::{Decoded, Part, read_owned_text, required};
+use batch_codec::{Decoded, StructName, read_owned_text, required};
 use jaeger_model::{Process, Seq, Tag, Text};
 use std::alloc::Global;
 use std::marker::Model;
@@ -118,7 +118,7 @@ impl PieceSlots for PartialProcess {
     #[tactic(auto, unfolding(batch_codec::specs::ProcessReading::process_from))]
     #[inline(always)]
     fn whole(self) -> Decoded<Process> {
-        let service = required(self.service, Part::Process, SERVICE_NAME as u8)?;
+        let service = required(self.service, StructName::Process, SERVICE_NAME as u8)?;
         Ok(Process {
             service,
             tags: self.tags,

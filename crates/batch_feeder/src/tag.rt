@@ -8,8 +8,8 @@ use crate::texts::{PartialBinary, PartialText};
 use crate::values::{PartialBool, PartialDouble, PartialI64};
 use batch_codec::field_ids::tag::{KEY, V_BINARY, V_BOOL, V_DOUBLE, V_LONG, V_STR, V_TYPE};
 use batch_codec::{
-    Decoded, MIN_TAG_BYTES, Part, TagType, read_bool, read_double, read_i64, read_owned_binary,
-    read_owned_text, read_type, required,
+    Decoded, MIN_TAG_BYTES, StructName, TagType, read_bool, read_double, read_i64,
+    read_owned_binary, read_owned_text, read_type, required,
 };
 use jaeger_model::{Seq, Tag, TagValue, Text, Value};
 use std::alloc::Global;
@@ -163,8 +163,8 @@ impl PieceSlots for PartialTag {
             long,
             binary,
         } = self;
-        let key = required(key, Part::Tag, KEY as u8)?;
-        let kind = required(kind, Part::Tag, V_TYPE as u8)?;
+        let key = required(key, StructName::Tag, KEY as u8)?;
+        let kind = required(kind, StructName::Tag, V_TYPE as u8)?;
         let value = match kind {
             TagType::Text => Value::Text(text),
             TagType::Double => Value::Double(double),

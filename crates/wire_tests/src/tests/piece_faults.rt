@@ -1,6 +1,6 @@
 //! A fault is reported for the piece that has its last byte, and from then on.
 
-use batch_codec::{DecodeError, Part, decode};
+use batch_codec::{DecodeError, StructName, decode};
 use batch_feeder::Feeder;
 use jaeger_model::Batch;
 use std::alloc::{AllocError, Global};
@@ -27,7 +27,7 @@ fn answers(alloc: Global, first: &[u8], second: &[u8]) -> [Result<(), DecodeErro
 fn a_refusal_stays(rt: HostRuntime) {
     let alloc = rt.alloc();
     let trailing = Err(DecodeError::Trailing);
-    let missing = Err(DecodeError::Missing(Part::Batch, 1));
+    let missing = Err(DecodeError::Missing(StructName::Batch, 1));
     assert!(rt; answers(alloc, WHOLE, &[]) == [Ok(()); 4]);
     assert!(rt; answers(alloc, WHOLE, &[0]) == [Ok(()), trailing, trailing, trailing]);
     assert!(rt; answers(alloc, &[0], WHOLE) == [missing; 4]);
