@@ -85,12 +85,3 @@ impl Batch {
         self == other
     }
 }
-
-impl Process {
-    /// Returns whether the processes are equal: the service, and the tags in order.
-    pub fn is_same(&self, other: &Process) -> bool
-        ensures { IsTrue result ↔ (self.now ≡ other.now) }
-    {
-        self == other
-    }
-}
