@@ -2,18 +2,16 @@
 use Rattle.std.specs.Prelude.{◌≡◌, ℕ, ℤ, List, ◌++◌, ◌<◌, length, Option, Some, None, Ok, Err, ◌||◌, ◌==◌, if◌then◌else◌}
 use Rattle.thrift_binary.specs.declared.fault.WireError.TheVariants.{Truncated}
 use Rattle.thrift_binary.specs.Reading.{◌>>=◌, field_at}
-use Rattle.thrift_binary.specs.Skipping.{Skip, past, text}
+use Rattle.thrift_binary.specs.Skipping.{Skip, past, text, width}
 
 -- the least number of bytes of a value of a type: 0 if no type has the code
 abbrev pub least : ℕ → ℕ
 least c =
-    if (c == 2) || (c == 3) || (c == 12) then 1
-    else if c == 6 then 2
-    else if (c == 8) || (c == 11) then 4
-    else if (c == 14) || (c == 15) then 5
+    if c == 11 then 4
+    else if c == 12 then 1
     else if c == 13 then 6
-    else if (c == 4) || (c == 10) then 8
-    else 0
+    else if (c == 14) || (c == 15) then 5
+    else width c
 
 -- that number of bytes of a value, and all bytes of a string: with fewer, the only fault of a value of the type is too few bytes
 unfoldable pub least_bytes : ℕ → Skip

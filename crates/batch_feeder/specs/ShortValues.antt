@@ -1,6 +1,6 @@
 -- Laws that the impls of this crate name, and their lemmas. They are in specs/, since a clause can't name its own crate's proofs/.
 -- Reading a value from fewer bytes than every value of its type has yields too few bytes.
-use Rattle.std.proofs.Common.{◌≡◌, ℕ, ◌<◌, eqb, ltb, cond, ◌&&◌, ◌||◌, List, [], ◌∷◌, length, drop, Result, Ok, Err, Bool, true, false, refl, ap, sym, ◌∙◌}
+use Rattle.std.proofs.Common.{◌≡◌, ℕ, ◌<◌, eqb, ltb, cond, ◌&&◌, List, [], ◌∷◌, length, drop, Result, Ok, Err, Bool, true, false, refl, ap, sym, ◌∙◌}
 use Rattle.std.proofs.Common.{arith}
 use Rattle.std.proofs.lemmas.Bool.{ltb-true, lt-ltb, eqb-true, eqb-false, ne_eqb}
 use Rattle.thrift_binary.specs.declared.fault.WireError.TheVariants.{Truncated, BadType}
@@ -169,15 +169,6 @@ container_short value c w inside h = at (eqb c 12) refl (eqb c 13) refl
     at false n2 true is = let k : c ≡ 13 = eqb-true c 13 is in rw (n2, is, few_of_map w (rw k at h)) refl
     at false n2 false n3 = rw (n2, n3, head n2 n3 (eqb c 14) refl) refl
 
--- the number of bytes of a value that is no container
-width_is : (a b d e f : Bool) → ◌≡◌ {A = ℕ} (cond (a || b || false) 1 (cond d 2 (cond (e || false) 4 (cond (false || false) 5 (cond false 6 (cond f 8 0))))))
-    (cond (a || b) 1 (cond d 2 (cond e 4 (cond f 8 0))))
-width_is true b d e f = refl
-width_is false true d e f = refl
-width_is false false true e f = refl
-width_is false false false true f = refl
-width_is false false false false f = refl
-
 past_some : (n : ℕ) (w : List ℕ) → past n w ≡ Err Truncated → cond (ltb 0 n) (past n w) (Err BadType) ≡ Err Truncated
 past_some n w h =
     let k : length w < n = ltb-true _ _ (few n w h) in
@@ -192,7 +183,7 @@ leaf_short c w outside h = at (eqb c 11) refl h
     apart k is = ne_eqb c k (λ e. absurd (let f : false ≡ true = sym outside ∙ ap is_container e ∙ is in cc))
 
     same : eqb c 11 ≡ false → least c ≡ width c
-    same isnt = rw (isnt, apart 12 refl, apart 13 refl, apart 14 refl, apart 15 refl) (width_is (eqb c 2) (eqb c 3) (eqb c 6) (eqb c 8) (eqb c 4 || eqb c 10))
+    same isnt = rw (isnt, apart 12 refl, apart 13 refl, apart 14 refl, apart 15 refl) refl
 
     at : (b : Bool) → eqb c 11 ≡ b → cond b (text w) (past (least c) w) ≡ Err Truncated
         → cond b (text w) (cond (ltb 0 (width c)) (past (width c) w) (Err BadType)) ≡ Err Truncated

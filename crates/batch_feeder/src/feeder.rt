@@ -12,9 +12,7 @@ use crate::structs::Struct;
 use batch_codec::{BatchSlots, DecodeError, Decoded};
 use jaeger_model::Batch;
 use std::alloc::Global;
-use thrift_binary::types::{
-    BOOL, BYTE, DOUBLE, I16, I32, I64, LIST, MAP, SET, STOP, STRING, STRUCT,
-};
+use thrift_binary::types::{LIST, MAP, SET, STOP, STRING, STRUCT, width};
 use thrift_binary::{Cursor, WireError};
 use wire_pieces::size_of;
 
@@ -154,13 +152,11 @@ fn min_bytes(code: u8) -> usize
     ensures table { result ≡ least code }
 {
     match code {
-        BOOL | BYTE | STRUCT => 1,
-        I16 => 2,
-        I32 | STRING => 4,
-        SET | LIST => 5,
+        STRING => 4,
+        STRUCT => 1,
         MAP => 6,
-        I64 | DOUBLE => 8,
-        _ => 0,
+        SET | LIST => 5,
+        _ => width(code),
     }
 }
 
