@@ -93,6 +93,18 @@ impl<'q> EntryFilter<'q> {
     pub(crate) fn may_meet(&self, outline: Outline) -> bool
         ensures { result ≡ may_meet self.now outline }
     {
+        // Each field is named, so that the compiler stops here when a search has a new condition. An outline has no
+        // service and no operation.
+        let Find {
+            service: _,
+            operation: _,
+            tags: _,
+            start_min: _,
+            start_max: _,
+            duration_min: _,
+            duration_max: _,
+            limit: _,
+        } = self.query;
         may_meet_durations(outline.times, self.query)
             && may_meet_starts(outline.times, self.query)
             && may_meet_tags(&outline.tags, &self.mask)

@@ -54,10 +54,21 @@ pub fn is_named(at: Seen, query: &Find) -> bool
 pub fn is_timed(at: Seen, query: &Find) -> bool
     ensures { result ≡ is_timed query.now (seen at.entry) }
 {
-    is_at_least(duration_bound(query.duration_min), at.span.duration)
-        && is_at_most(duration_bound(query.duration_max), at.span.duration)
-        && is_at_least(query.start_min, at.span.start)
-        && is_at_most(query.start_max, at.span.start)
+    // Each field is named, so that the compiler stops here when a search has a new condition.
+    let Find {
+        service: _,
+        operation: _,
+        tags: _,
+        start_min,
+        start_max,
+        duration_min,
+        duration_max,
+        limit: _,
+    } = query;
+    is_at_least(duration_bound(*duration_min), at.span.duration)
+        && is_at_most(duration_bound(*duration_max), at.span.duration)
+        && is_at_least(*start_min, at.span.start)
+        && is_at_most(*start_max, at.span.start)
 }
 
 /// Returns whether the span meets the conditions of the search that need neither its process nor its tags: operation,

@@ -30,17 +30,39 @@ const COMMON_ONE_IN: u64 = 8;
 
 /// Returns whether a search has a condition on the service, and no other on spans.
 fn is_by_service_alone(query: &Find) -> bool {
-    query.operation.as_str().is_empty()
-        && query.tags.as_slice().is_empty()
-        && query.start_min.is_none()
-        && query.start_max.is_none()
-        && query.duration_min == 0
-        && query.duration_max == 0
+    // Each field is named, so that the compiler stops here when a search has a new condition.
+    let Find {
+        service: _,
+        operation,
+        tags,
+        start_min,
+        start_max,
+        duration_min,
+        duration_max,
+        limit: _,
+    } = query;
+    operation.as_str().is_empty()
+        && tags.as_slice().is_empty()
+        && start_min.is_none()
+        && start_max.is_none()
+        && *duration_min == 0
+        && *duration_max == 0
 }
 
 /// Returns whether a search has a window of starts.
 fn has_window(query: &Find) -> bool {
-    query.start_min.is_some() || query.start_max.is_some()
+    // Each field is named, so that the compiler stops here when a search has a new condition.
+    let Find {
+        service: _,
+        operation: _,
+        tags: _,
+        start_min,
+        start_max,
+        duration_min: _,
+        duration_max: _,
+        limit: _,
+    } = query;
+    start_min.is_some() || start_max.is_some()
 }
 
 /// The factor by which each try has more traces than the one before.
