@@ -1,11 +1,11 @@
 -- The requested operation, identified by the rows of operations.
-use Rattle.std.proofs.Common.{◌≡◌, ℕ, zero, suc, ◌+◌, ◌-◌, ◌<◌, true, false, ◌||◌, List, [], ◌∷◌, ◌++◌, map, length, get_or, take, refl, sym, ap, ◌∙◌, arith}
+use Rattle.std.proofs.Common.{◌≡◌, ℕ, zero, suc, ◌+◌, ◌-◌, ◌<◌, true, false, ◌||◌, List, [], ◌∷◌, ◌++◌, map, length, get_or, take, refl, sym, ap, subst, ◌∙◌, arith}
 use Rattle.std.proofs.Common.{length-append}
 use Rattle.std.specs.Prelude.{Option, Some, None, option_map, slice_get}
 use Rattle.std.specs.Option.{option_and_then}
 use Rattle.std.proofs.lemmas.List.{get_or-map}
 use Rattle.std.proofs.lemmas.List.Concat.{flat_map-cons}
-use Rattle.std.proofs.lemmas.Option.{slice_get_within, get_or_from_slice_get}
+use Rattle.std.proofs.lemmas.Option.{slice_get_within, slice_get-get_or, get_or_from_slice_get}
 use Rattle.jaeger_model.specs.declared.batch.Batch.{Batch}
 use Rattle.jaeger_model.specs.declared.placed.Placed.{Placed}
 use Rattle.jaeger_model.specs.Parents.{needs_no_reference}
@@ -23,7 +23,7 @@ use Rattle.service_index.specs.declared.operation_rows.OperationRows.{OperationR
 use Rattle.service_index.specs.OperationRows.{rows_in}
 use Rattle.service_index.specs.KeptNames.{TellOperation, reported_at}
 use Rattle.collected_traces.specs.AdoptedSpans.{adopted}
-use Rattle.journal_traces.specs.Told.{AreOperationsTold}
+use Rattle.journal_traces.specs.Told.{AreOperationsTold, row_at, is_requested_row}
 use Rattle.collected_traces.specs.EntriesAtPlaces.{batch_at}
 use Rattle.journal_traces.specs.SpansAtSpots.{placed_in}
 use Rattle.collected_traces.proofs.ParentReferences.{placed_if}
@@ -62,16 +62,16 @@ arrived (x ∷ h) (suc k) i n e p at is own =
     ∙ sym (ap (λ (ps : List Placed). slice_get ps n) (flat_map-cons (λ (y : Entry). placed_brought y.work) x h))
 
 -- its number, and what it reports
-abbrev Reports : List Entry → ℕ → Placed → Type 0
-Reports h n p = (n < length (arrivals h)) × (reported_at h n ≡ listed p)
+abbrev Reports : List Entry → List ℕ → ℕ → ℕ → Placed → Type 0
+Reports h firsts place n p = (place - 1 < length firsts) × (n < length (arrivals h)) × (reported_at h n ≡ listed p)
 
 reports : (h : List Entry) (entry_of firsts : List ℕ) (place index : ℕ) (p : Placed) → AreOf h entry_of firsts
-    → Some p ≡ span_at h (record { place = place; index = index }) → Reports h (get_or firsts (place - 1) 0 + index) p
+    → Some p ≡ span_at h (record { place = place; index = index }) → Reports h firsts place (get_or firsts (place - 1) 0 + index) p
 reports h entry_of firsts zero index p are is = absurd (cc is)
 reports h entry_of firsts (suc k) index p are is = there (slice_get h k) refl is
   where
     there : (o : Option Entry) → slice_get h k ≡ o → Some p ≡ option_and_then (λ (e : Entry). slice_get (placed_brought e.work) index) o
-        → Reports h (get_or firsts (suc k - 1) 0 + index) p
+        → Reports h firsts (suc k) (get_or firsts (suc k - 1) 0 + index) p
     there None e own = absurd (cc own)
     there (Some x) e own =
         let within : k < length h = slice_get_within h k x e in
@@ -81,20 +81,31 @@ reports h entry_of firsts (suc k) index p are is = there (slice_get h k) refl is
         let got : slice_get (arrivals h) n ≡ Some p =
         sym (arrived h k index n x p (ap (λ (j : ℕ). j + index) first) (sym e) own) in
         let below : n < length (arrivals h) = slice_get_within (arrivals h) n p got in
-        (below, get_or-map listed (arrivals h) n p (service_alone []) below ∙ ap listed (get_or_from_slice_get (arrivals h) n p p got))
+        let as_many : length firsts ≡ length h = are.starts in
+        let has_first : suc k - 1 < length firsts = omega (arith, m, within, as_many) in
+        (has_first, below, get_or-map listed (arrivals h) n p (service_alone []) below ∙ ap listed (get_or_from_slice_get (arrivals h) n p p got))
 
 -- ---- the rows of a search
+row_there : (firsts rows : List ℕ) (place index : ℕ) → place - 1 < length firsts → get_or firsts (place - 1) 0 + index < length rows
+    → row_at firsts rows place index ≡ Some (get_or rows (get_or firsts (place - 1) 0 + index) 0)
+row_there firsts rows place index first row =
+    ap (option_and_then (λ (n : ℕ). slice_get rows (n + index))) (slice_get-get_or firsts (place - 1) 0 first)
+    ∙ slice_get-get_or rows (get_or firsts (place - 1) 0 + index) 0 row
+
 pub any_operation : (q : Find) (h : List Entry) (firsts rows : List ℕ) → same_text q.operation [] ≡ true → AreOperationsTold q h firsts rows None
 any_operation q h firsts rows e = record { tells = λ s p is own. sym (ap (λ b. b || same_text q.operation p.span.operation) e) }
 
 pub one_operation : (q : Find) (h : List Entry) (entry_of firsts rows : List ℕ) (requested : OperationRows) → AreOf h entry_of firsts
+    → length rows ≡ length (arrivals h)
     → TellOperation h rows q.service q.operation (rows_in requested) → same_text q.operation [] ≡ false → AreOperationsTold q h firsts rows (Some requested)
-one_operation q h entry_of firsts rows requested are tell e = record {
+one_operation q h entry_of firsts rows requested are all_rows tell e = record {
   tells = λ s p is own.
       let n = get_or firsts (s.place - 1) 0 + s.index in
       let there = reports h entry_of firsts s.place s.index p are is in
-      tell.tells n there.0 (ap (λ (l : Listed). same_text q.service l.service) there.1 ∙ own)
-      ∙ ap (λ (l : Listed). same_text q.operation l.operation.name) there.1
+      let below : n < length rows = subst (λ (m : ℕ). n < m) (sym all_rows) there.1 in
+      ap (is_requested_row (Some requested)) (row_there firsts rows s.place s.index there.0 below)
+      ∙ tell.tells n there.1 (ap (λ (l : Listed). same_text q.service l.service) there.2 ∙ own)
+      ∙ ap (λ (l : Listed). same_text q.operation l.operation.name) there.2
       ∙ sym (ap (λ b. b || same_text q.operation p.span.operation) e);
 }
 

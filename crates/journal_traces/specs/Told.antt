@@ -1,5 +1,6 @@
 -- How a search's service and its operation are identified.
-use Rattle.std.specs.Prelude.{◌≡◌, ◌+◌, ◌-◌, ◌<◌, ◌^◌, ℕ, Bool, true, List, length, get_or, Option, Some, None}
+use Rattle.std.specs.Prelude.{◌≡◌, ◌+◌, ◌-◌, ◌<◌, ◌^◌, ℕ, Bool, true, false, List, length, Option, Some, None, slice_get}
+use Rattle.std.specs.Option.{option_and_then}
 use Rattle.jaeger_model.specs.declared.placed.Placed.{Placed}
 use Rattle.jaeger_model.specs.Texts.{same_text}
 use Rattle.trace_model.specs.declared.entry.Entry.{Entry}
@@ -18,14 +19,15 @@ pub record AreTold (q : Find) (h : List Entry) (service_numbers : List ℕ) (ser
   pub asked : service ≡ service_number_of h q.service
 
 -- the row of the operation of the span at an index of the entry at a place, by the number of arrivals before the first
--- span of each entry
-abbrev pub row_at : List ℕ → List ℕ → ℕ → ℕ → ℕ
-row_at firsts rows place index = get_or rows (get_or firsts (place - 1) 0 + index) 0
+-- span of each entry; none of a span that isn't there
+abbrev pub row_at : List ℕ → List ℕ → ℕ → ℕ → Option ℕ
+row_at firsts rows place index = option_and_then (λ (first : ℕ). slice_get rows (first + index)) (slice_get firsts (place - 1))
 
 -- the row is one of those requested; without requested rows each is
-abbrev pub is_requested_row : Option OperationRows → ℕ → Bool
+abbrev pub is_requested_row : Option OperationRows → Option ℕ → Bool
 is_requested_row None row = true
-is_requested_row (Some requested) row = is_among (rows_in requested) row
+is_requested_row (Some requested) None = false
+is_requested_row (Some requested) (Some row) = is_among (rows_in requested) row
 
 -- of the spans of the requested service those have the requested operation whose rows are requested
 pub record AreOperationsTold (q : Find) (h : List Entry) (firsts rows : List ℕ) (requested : Option OperationRows) : Type 0 where

@@ -1,6 +1,6 @@
 //! Judges the conditions of a search other than those on tags by numbers: no text is read.
 
-ghost use Rattle.std.specs.Prelude.{◌≡◌, ◌+◌, ◌-◌, ◌<◌, ◌^◌, true, Some, IsSome, get_or};
+ghost use Rattle.std.specs.Prelude.{◌≡◌, ◌+◌, ◌-◌, ◌<◌, ◌^◌, true, Some, IsSome, slice_get};
 ghost use Rattle.jaeger_model.specs.declared.batch.Process.{Process as ProcessValue};
 ghost use Rattle.jaeger_model.specs.declared.placed.Placed.{Placed as PlacedValue};
 ghost use Rattle.jaeger_model.specs.Texts.{same_text};
@@ -19,41 +19,39 @@ use span_steps::is_timed;
 use std::marker::Model;
 use trace_model::Find;
 
-/// Returns the number at an index, or 0 past the end.
-fn number_at(numbers: &[u32], index: usize) -> u32
-    ensures { result ≡ get_or numbers.now index 0 }
+/// Returns the number at an index, if there is one.
+fn number_at(numbers: &[u32], index: usize) -> Option<u32>
+    ensures { result ≡ slice_get numbers.now index }
 {
-    if index < numbers.len() {
-        numbers[index]
-    } else {
-        0
-    }
+    numbers.get(index).copied()
 }
 
-/// Returns the number of arrivals before the first span of the entry at a place, which counts from 1.
-pub(crate) fn first_of(store: StoreView<'_>, place: u64) -> u32
-    ensures { result ≡ get_or store.entry.names.now.numbers.firsts (place - 1) 0 }
+/// Returns the number of arrivals before the first span of the entry at a place, which counts from 1, if there is
+/// such an entry.
+pub(crate) fn first_of(store: StoreView<'_>, place: u64) -> Option<u32>
+    ensures { result ≡ slice_get store.entry.names.now.numbers.firsts (place - 1) }
 {
     number_at(store.names.firsts(), place.saturating_sub(1) as usize)
 }
 
-/// Returns the row of the operation of the span at an index of the entry at a place.
-fn row_at(store: StoreView<'_>, place: u64, index: usize) -> u32
+/// Returns the row of the operation of the span at an index of the entry at a place, if there is such a span.
+fn row_at(store: StoreView<'_>, place: u64, index: usize) -> Option<u32>
     requires { index < 2 ^ 63 }
     ensures { result ≡ row_at store.entry.names.now.numbers.firsts
         store.entry.names.now.operation_rows place index }
 {
-    let arrival = first_of(store, place) as usize + index;
-    number_at(store.names.operation_rows(), arrival)
+    let first = first_of(store, place)?;
+    number_at(store.names.operation_rows(), first as usize + index)
 }
 
-/// Returns whether a row is requested. Without requested rows, every row is.
-fn is_requested_row(requested: Option<OperationRows>, row: u32) -> bool
+/// Returns whether the row of a span is requested; a missing row isn't. Without requested rows, every span's row is.
+fn is_requested_row(requested: Option<OperationRows>, row: Option<u32>) -> bool
     ensures { result ≡ is_requested_row requested row }
 {
-    match requested {
-        Some(rows) => rows.contains(row),
-        None => true,
+    match (requested, row) {
+        (None, _) => true,
+        (Some(_), None) => false,
+        (Some(rows), Some(row)) => rows.contains(row),
     }
 }
 

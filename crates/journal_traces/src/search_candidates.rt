@@ -32,7 +32,7 @@ use trace_ring::Ring;
 #[derive(Clone, Copy)]
 struct RowGuesses<'a> {
     assembly: &'a Assembly,
-    /// The number of spans of the entries before.
+    /// The number of spans of the entries before. It only leads to guesses.
     before: u32,
 }
 
@@ -202,7 +202,7 @@ fn marks_along(
     for place in places {
         let rows = RowGuesses {
             assembly: store.assembly,
-            before: first_of(store, place),
+            before: first_of(store, place).unwrap_or(0),
         };
         mark_entry(
             &mut marks,

@@ -29,4 +29,4 @@ returns c =
     (subst (λ (t : List ℕ). TellOperation entries names.operation_rows t q.operation (rows_in rows)) c.as_str-service.ensures.value
     (subst (λ (t : List ℕ). TellOperation entries names.operation_rows c.as_str-service.result.now t (rows_in rows)) c.as_str-operation.ensures.value
     c.rows_of_operation-rows.ensures)) in
-    one_operation q h names.numbers.entry_of names.numbers.firsts names.operation_rows rows c.requires.kept.numbers tell asked
+    one_operation q h names.numbers.entry_of names.numbers.firsts names.operation_rows rows c.requires.kept.numbers c.requires.kept.all_rows tell asked
