@@ -17,7 +17,8 @@ use trace_model::Entry;
 /// An entry with the hash of its batch, its outline and the kinds of its first spans.
 ///
 /// It is computed once, before the entry is queued, and passed to the journal and to both copies of the store, so
-/// that none of them reads the spans for it. Contracts see the entry.
+/// that none of them reads the spans for it. Contracts see the entry. A value of it is called `recorded`, because
+/// `record` is a word of clauses.
 #[derive(Drop)]
 pub struct Record {
     entry: Arc<Entry>,

@@ -31,7 +31,7 @@ impl Model for StoreCopy {
 /// What a publish does to a copy: it adds an entry that the keeper admitted, or nothing.
 #[derive(Drop)]
 pub struct Change {
-    entry: Option<Record>,
+    recorded: Option<Record>,
     /// The history that ends with the entry.
     seen: SeenLog<Entry>,
 }
@@ -42,7 +42,7 @@ impl Model for Change {
 
     ghost Value = { Option AddedEntry };
 
-    ghost view = { λ c. option_map (λ e. record { entry = e; log = c.seen.log; book = c.seen.book }) c.entry };
+    ghost view = { λ c. option_map (λ e. record { entry = e; log = c.seen.log; book = c.seen.book }) c.recorded };
 }
 
 impl StoreCopy {
@@ -92,15 +92,18 @@ impl Change {
     pub fn nothing(seen: SeenLog<Entry>) -> Change
         ensures { result ≡ None }
     {
-        Change { entry: None, seen }
+        Change {
+            recorded: None,
+            seen,
+        }
     }
 
     /// Makes a change that adds an entry, with the history that ends with it.
-    pub fn add(entry: Record, seen: SeenLog<Entry>) -> Change
-        ensures { result ≡ Some (record { entry = entry; log = seen.log; book = seen.book }) }
+    pub fn add(recorded: Record, seen: SeenLog<Entry>) -> Change
+        ensures { result ≡ Some (record { entry = recorded; log = seen.log; book = seen.book }) }
     {
         Change {
-            entry: Some(entry),
+            recorded: Some(recorded),
             seen,
         }
     }
@@ -109,12 +112,12 @@ impl Change {
     fn try_clone(&self) -> Result<Change, AllocError>
         ensures { IfOk result (λ c. c ≡ self.now) }
     {
-        let entry = match &self.entry {
-            Some(entry) => Some(entry.try_clone()?),
+        let recorded = match &self.recorded {
+            Some(recorded) => Some(recorded.try_clone()?),
             None => None,
         };
         Ok(Change {
-            entry,
+            recorded,
             seen: self.seen.again(),
         })
     }
@@ -139,17 +142,17 @@ impl Absorb<Change> for StoreCopy {
     /// always added. `Absorb` has no premise that could say so; therefore the copy judges once more before it
     /// appends.
     fn absorb_second(&mut self, operation: Change, _other: &StoreCopy) -> Result<(), Change> {
-        let Some(entry) = &operation.entry else {
+        let Some(recorded) = &operation.recorded else {
             return Ok(());
         };
-        if self.store.judge(entry) != Ok(Admission::Added) {
+        if self.store.judge(recorded) != Ok(Admission::Added) {
             // Impossible: the keeper admitted it.
             return Err(operation);
         }
-        let Change { entry, seen } = operation;
+        let Change { recorded, seen } = operation;
         // Impossible: `None`, which has returned above.
-        if let Some(entry) = entry {
-            self.store.append(entry);
+        if let Some(recorded) = recorded {
+            self.store.append(recorded);
             self.seen = seen;
         }
         Ok(())

@@ -174,9 +174,9 @@ impl SpanStore {
             (admission_by self.old (arc_value entry)) }
         ensures legal { IsLegal self.new.limits self.new.entries }
     {
-        let entry = self.journal.recorded(entry);
-        match self.journal.judge(&entry)? {
-            Admission::Added => Ok(self.append(entry)),
+        let recorded = self.journal.recorded(entry);
+        match self.journal.judge(&recorded)? {
+            Admission::Added => Ok(self.append(recorded)),
             Admission::Resent { place } => Ok(place),
         }
     }
@@ -186,24 +186,24 @@ impl SpanStore {
     /// # Errors
     ///
     /// Those of [`apply`](Self::apply).
-    pub fn judge(&self, entry: &Record) -> Result<Admission, Refusal>
-        ensures { result ≡ admission_by self.now entry.now }
+    pub fn judge(&self, recorded: &Record) -> Result<Admission, Refusal>
+        ensures { result ≡ admission_by self.now recorded.now }
     {
-        self.journal.judge(entry)
+        self.journal.judge(recorded)
     }
 
     /// Appends an entry that was judged to be added, and returns its place. Judges nothing, can't be refused and
     /// allocates nothing.
-    pub fn append(&mut self, entry: Record) -> u64
-        requires { admission_by self.old entry ≡ Ok Added }
-        ensures appended { self.new ≡ followed_by self.old entry }
+    pub fn append(&mut self, recorded: Record) -> u64
+        requires { admission_by self.old recorded ≡ Ok Added }
+        ensures appended { self.new ≡ followed_by self.old recorded }
         ensures place { result ≡ length self.old.entries + 1 }
         ensures legal { IsLegal self.new.limits self.new.entries }
     {
         let place = self.journal.len() + 1;
-        apply_entry(entry.entry(), place, &mut self.shown, &mut self.starts);
-        let kinds = entry.kinds().again();
-        self.journal.append(entry);
+        apply_entry(recorded.entry(), place, &mut self.shown, &mut self.starts);
+        let kinds = recorded.kinds().again();
+        self.journal.append(recorded);
         let entries = self.journal.entries();
         self.by_service.add(entries);
         self.names.add(entries, &self.by_service, &kinds);

@@ -7,7 +7,7 @@ use Rattle.read_side.proofs.keeper.Keeper.admit_new.Goals as goal
 pub receipt_for-requires : goal.receipt_for-requires
 receipt_for-requires g c =
     let old = c.args.self.now in
-    let e = c.args.entry in
+    let e = c.args.recorded in
     let shown : c.publish.new.self ≡ all_published (with_pending old e) = search rules in
     let place : c.in_ok-placed.placed.0 ≡ length (accepted old) + 1 = search rules in
     let same : arc_value c.in_ok-placed.placed.1 ≡ e = search rules in

@@ -24,7 +24,7 @@ apply_entry-requires-clause-within c =
 pub apply_entry-requires-clause-fits : goal.apply_entry-requires-clause-fits
 apply_entry-requires-clause-fits c =
     let was = c.self.inside in
-    let e : Entry = c.args.entry in
+    let e : Entry = c.args.recorded in
     let may : admission_by was.journal.held e ≡ Ok Added = ap (λ (v : LimitedHistory). admission_by v e) c.self.view_is ∙ c.requires in
     let fits : length (spans_brought e.work) < 2 ^ 32 = spans_fit was.journal.held e may in
     search rules
@@ -32,7 +32,7 @@ apply_entry-requires-clause-fits c =
 pub apply_entry-requires-clause-room : goal.apply_entry-requires-clause-room
 apply_entry-requires-clause-room c =
     let was = c.self.inside in
-    let e : Entry = c.args.entry in
+    let e : Entry = c.args.recorded in
     let may : admission_by was.journal.held e ≡ Ok Added = ap (λ (v : LimitedHistory). admission_by v e) c.self.view_is ∙ c.requires in
     let room : was.shown.used + length (spans_brought e.work) ≤ was.shown.room =
     kept_room was.journal.held e was.shown was.starts was.names was.by_service c.self.invariant may in
@@ -41,7 +41,7 @@ apply_entry-requires-clause-room c =
 pub invariant_of-self : goal.invariant_of-self
 invariant_of-self c =
     let was = c.self.inside in
-    let e : Entry = c.args.entry in
+    let e : Entry = c.args.recorded in
     let held : c.append.new.self.held ≡ followed_by was.journal.held e = c.append.ensures.appended in
     let place : c.len-place.result + 1 ≡ length was.journal.held.entries + 1 = ap (λ k. k + 1) c.len-place.ensures.length in
     let n = was.journal.held.limits.traces in
@@ -76,10 +76,10 @@ invariant_of-self c =
 
 pub add-requires-2-clause-numbers : goal.add-requires-2-clause-numbers
 add-requires-2-clause-numbers c =
-    arrivals_fit c.self.inside.journal.held _ (c.args.entry) (map (arc_value {X = Entry} {Z = Global}) c.entries-entries.result.now)
+    arrivals_fit c.self.inside.journal.held _ (c.args.recorded) (map (arc_value {X = Entry} {Z = Global}) c.entries-entries.result.now)
     _ c.append.ensures.appended c.append.ensures.legal c.entries-entries.ensures c.self.invariant.named.numbers
 
 pub add-requires-2-clause-index : goal.add-requires-2-clause-index
 add-requires-2-clause-index c =
-    arrivals_fit c.self.inside.journal.held _ (c.args.entry) (map (arc_value {X = Entry} {Z = Global}) c.entries-entries.result.now)
+    arrivals_fit c.self.inside.journal.held _ (c.args.recorded) (map (arc_value {X = Entry} {Z = Global}) c.entries-entries.result.now)
     _ c.append.ensures.appended c.append.ensures.legal c.entries-entries.ensures c.self.invariant.named.index
