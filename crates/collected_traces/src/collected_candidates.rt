@@ -329,6 +329,7 @@ impl<'q> CollectedCandidates<'q> {
         count
     }
 
+    // For the prover: no code reads `prepared`. The clauses name its search.
     /// Returns the indices of the traces that have a span of an entry that may meet the search, by what was judged of
     /// the entries. The search finds the same among these as among all. No trace is looked at if no entry has such a
     /// span.

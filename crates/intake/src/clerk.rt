@@ -34,11 +34,11 @@ const JOB_SPINS: u32 = 40;
 /// The result of a turn.
 #[derive(Clone, Copy, PartialEq, Eq, Debug)]
 pub enum Turn {
-    /// The queue was empty, which is tested.
+    /// The queue was empty (tested, not proved).
     Idle,
     /// This job was judged and answered.
     Served { seat: u16, number: u64 },
-    /// The desk was closed, and then the queue was empty, which is tested.
+    /// The desk was closed, and then the queue was empty (tested, not proved).
     Ended,
 }
 

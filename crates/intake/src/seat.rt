@@ -118,7 +118,8 @@ impl<N: StoreName> Seat<N> {
     /// # Errors
     ///
     /// [`Refusal::Closed`]: the desk was closed, the seat has ended, or its numbers are used up; then
-    /// [`Refusal::NoMemory`]; then [`Refusal::Busy`]: the queue was full at some moment of the call, which is tested.
+    /// [`Refusal::NoMemory`]; then [`Refusal::Busy`]: the queue was full at some moment of the call (tested, not
+    /// proved).
     pub fn submit<R: Wait>(
         &mut self,
         rt: &R,

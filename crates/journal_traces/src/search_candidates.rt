@@ -67,6 +67,7 @@ fn is_trace_before(before: Option<TraceId>, trace: TraceId) -> bool
     }
 }
 
+// For the prover: it only calls `is_met`. Its clause is about a search without tags.
 /// Returns whether the span at an index of an entry of the requested service meets every condition of the search but
 /// those on tags.
 fn is_met_without_tags(
