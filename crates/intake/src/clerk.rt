@@ -99,22 +99,22 @@ fn judge_entry<N: StoreName, R: Wait>(
     rt: &R,
     alloc: Global,
     keeper: &mut Keeper<N>,
-    entry: Record,
+    recorded: Record,
 ) -> Result<Ack<N>, Denial<N>>
-    ensures judged { Answers (admit_call N.limits keeper.old entry keeper.new)
+    ensures judged { Answers (admit_call N.limits keeper.old recorded keeper.new)
         (place_or_refusal (λ a. a.place) (λ d. d.refusal) result) }
     ensures answered { IfOk result (λ a.
-        AnsweredAt (arc_value a.receipt).entries a.place entry) }
-    ensures denied { IfErr result (λ d. IsDenied N.limits entry d.refusal d.list) }
+        AnsweredAt (arc_value a.receipt).entries a.place recorded) }
+    ensures denied { IfErr result (λ d. IsDenied N.limits recorded d.refusal d.list) }
 {
     let accepted = keeper.history();
     let Ok(room) = Arc::new(alloc, keeper.receipt()) else {
         return Err(Denial {
-            refusal: keeper.refusal_without_receipt(&entry),
+            refusal: keeper.refusal_without_receipt(&recorded),
             list: Some(accepted),
         });
     };
-    let receipt = match keeper.admit_record(rt, entry) {
+    let receipt = match keeper.admit_record(rt, recorded) {
         Ok(receipt) => receipt,
         Err(refusal) => {
             return Err(Denial {
@@ -182,8 +182,8 @@ impl<N: StoreName> Clerk<N> {
             return Ok(if closed { Turn::Ended } else { Turn::Idle });
         };
         let (seat, number) = job.id();
-        let (entry, slot) = job.split();
-        let answer = judge_entry(rt, self.alloc, keeper, entry);
+        let (recorded, slot) = job.split();
+        let answer = judge_entry(rt, self.alloc, keeper, recorded);
         let account = Account {
             seat,
             number,

@@ -14,7 +14,7 @@ use trace_model::{Entry, Refusal};
 /// An entry on its way to the clerk, and where its answer goes. Contracts see the entry.
 #[derive(Drop)]
 pub(crate) struct Job<N: StoreName> {
-    entry: Record,
+    recorded: Record,
     slot: Arc<AnswerSlot<N>>,
 }
 
@@ -25,9 +25,9 @@ impl<N: StoreName> Model for Job<N> {
 
     ghost Value = { Entry };
 
-    ghost view = { λ j. j.entry };
+    ghost view = { λ j. j.recorded };
 
-    ghost invariant = { λ j. arc_value j.slot ≡ j.entry };
+    ghost invariant = { λ j. arc_value j.slot ≡ j.recorded };
 }
 
 impl<N: StoreName> Job<N> {
@@ -42,24 +42,24 @@ impl<N: StoreName> Job<N> {
         ensures { IfOk result (λ j. j ≡ arc_value entry.now) }
     {
         let slot = Arc::try_clone(slot)?;
-        let entry = Record::new(keys, Arc::try_clone(entry)?);
-        Ok(Job { entry, slot })
+        let recorded = Record::new(keys, Arc::try_clone(entry)?);
+        Ok(Job { recorded, slot })
     }
 
     /// Returns the seat that submitted it, and its number there.
     pub(crate) fn id(&self) -> (u16, u64)
         ensures { (result.0 ≡ self.now.seat) × (result.1 ≡ self.now.number) }
     {
-        let entry = self.entry.entry();
+        let entry = self.recorded.entry();
         (entry.seat, entry.number)
     }
 
-    /// Returns the entry, and where its answer goes.
+    /// Returns the entry with its record, and where its answer goes.
     pub(crate) fn split(self) -> (Record, Arc<AnswerSlot<N>>)
         ensures entry { result.0 ≡ self }
         ensures slot { arc_value result.1 ≡ self }
     {
-        let Job { entry, slot } = self;
-        (entry, slot)
+        let Job { recorded, slot } = self;
+        (recorded, slot)
     }
 }

@@ -101,10 +101,10 @@ impl Copies {
         ensures admitted { self.new ≡ after_admission self.old (arc_value entry)
             (admission_by (all_of self.old) (arc_value entry)) }
     {
-        let entry = self.accepted.recorded(entry);
-        let admission = self.accepted.judge(&entry)?;
+        let recorded = self.accepted.recorded(entry);
+        let admission = self.accepted.judge(&recorded)?;
         if admission == Admission::Added {
-            self.accepted.append(entry);
+            self.accepted.append(recorded);
         }
         Ok(admission)
     }
