@@ -140,7 +140,7 @@ impl Journal {
         self.entries.is_empty()
     }
 
-    /// Returns the number of spans of all entries. Only tests call it.
+    /// Returns the number of spans of all entries. No crate calls it: it is part of the interface that was specified.
     pub fn span_count(&self) -> u64
         ensures { result ≡ span_count self.now.held.entries }
     {
@@ -262,8 +262,8 @@ impl Journal {
     }
 
     /// Adds an entry at the end and returns its place; the first one is 1. If its batch was sent before with the
-    /// same spans, nothing is added, and the place is that of the entry that has it. Only tests call it: a store calls
-    /// [`judge`](Self::judge) and [`append`](Self::append).
+    /// same spans, nothing is added, and the place is that of the entry that has it. No crate calls it, since a store
+    /// calls [`judge`](Self::judge) and [`append`](Self::append): it is part of the interface that was specified.
     ///
     /// # Errors
     ///

@@ -1,4 +1,4 @@
-ghost use Rattle.std.specs.Prelude.{◌≡◌, ◌<◌, ◌≤◌, [], ◌∷◌, ◌++◌, None, Some, IsTrue, ◌↔◌, length, IfOk, position};
+ghost use Rattle.std.specs.Prelude.{◌≡◌, ◌<◌, ◌≤◌, [], ◌∷◌, ◌++◌, None, Some, length, IfOk, position};
 ghost use Rattle.std.specs.Bool.{OnTrue};
 ghost use Rattle.jaeger_model.specs.Parents.{same_trace};
 ghost use Rattle.hash_tables.specs.IdRows.{id_at, IsEntered};
@@ -61,13 +61,6 @@ impl IdTable {
         ensures within { result ≤ self.now.room }
     {
         self.ids.len() as u32
-    }
-
-    /// Returns whether one more id may be added. Only tests call it.
-    pub fn has_room(&self) -> bool
-        ensures { IsTrue result ↔ (length self.now.ids < self.now.room) }
-    {
-        self.used() < self.places.room()
     }
 
     /// Returns the id of a row.

@@ -67,13 +67,6 @@ impl RowPlaces {
         })
     }
 
-    /// Returns the number of rows that there is room for, in all.
-    pub fn room(&self) -> u32
-        ensures { result ≡ self.now.room }
-    {
-        self.room
-    }
-
     /// Finds a row that is sought, by its hash. All rows that are sought have this hash.
     pub fn find<S: Sought>(&self, hash: u64, sought: &S) -> Option<u32>
         requires can_read { S.can_read sought.now }

@@ -43,13 +43,6 @@ impl Direct {
         let _legal = store.len();
         Direct { store }
     }
-
-    /// Returns the store. Only tests call it.
-    pub fn into_store(self) -> SpanStore
-        ensures { result ≡ self }
-    {
-        self.store
-    }
 }
 
 impl<T> Backend<T> for Direct {

@@ -42,5 +42,5 @@ pub use lent_span::LentSpan;
 pub use lent_spans::LentSpans;
 pub use showing::{show, show_answered, show_lone};
 pub use skew::{adjust_skew, adjusted};
-// No crate of this repository uses it from here.
+// No crate uses it from here: it is part of the interface that was specified.
 pub use span_steps::parent_first;
