@@ -117,7 +117,7 @@ impl Record {
             keys: self.keys,
             hash: self.hash,
             outline: self.outline,
-            kinds: self.kinds.again(),
+            kinds: self.kinds.duplicate(),
         })
     }
 }

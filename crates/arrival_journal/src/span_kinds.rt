@@ -62,7 +62,7 @@ impl SpanKinds {
     }
 
     /// Returns a copy. `Copy` can't be derived for a type whose `Model` has no inverse.
-    pub fn again(&self) -> Self
+    pub fn duplicate(&self) -> Self
         ensures { result ≡ self.now }
     {
         SpanKinds {

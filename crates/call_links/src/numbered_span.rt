@@ -91,7 +91,7 @@ impl<'a> NumberedSpan<'a> {
     }
 
     /// Returns a copy. `Copy` can't be derived for a type with a lifetime and a `Model`.
-    pub(crate) fn again(&self) -> NumberedSpan<'a>
+    pub(crate) fn duplicate(&self) -> NumberedSpan<'a>
         ensures { result ≡ self.now }
     {
         NumberedSpan {

@@ -33,8 +33,8 @@ fn services_met<'a>(
 {
     let mut services = BTreeMap::new(alloc);
     for (numbers, tally) in tallies {
-        services.insert(numbers.0, tally.caller.again())?;
-        services.insert(numbers.1, tally.callee.again())?;
+        services.insert(numbers.0, tally.caller.duplicate())?;
+        services.insert(numbers.1, tally.callee.duplicate())?;
     }
     Ok(services)
 }

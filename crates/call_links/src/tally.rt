@@ -44,8 +44,8 @@ pub(crate) fn link_tally_after<'a>(
     };
     let (caller, callee) = call;
     Ok(LinkTally {
-        caller: caller.again(),
-        callee: callee.again(),
+        caller: caller.duplicate(),
+        callee: callee.duplicate(),
         calls,
     })
 }

@@ -71,7 +71,7 @@ impl<N: StoreName> Live<N> {
     pub fn refused_by(&self) -> HistoryPrefix<N>
         ensures { result ≡ self.now.refused_by }
     {
-        self.refused_by.again()
+        self.refused_by.duplicate()
     }
 
     /// Learns the list of a receipt, which it knows from then on.

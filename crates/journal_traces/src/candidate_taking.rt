@@ -162,7 +162,7 @@ pub fn take_candidates<'q>(
         filter: EntryFilter::new(query),
     };
     for trace in spots {
-        take_spots(&mut taken, &mut numbers, &matcher, trace.again())?;
+        take_spots(&mut taken, &mut numbers, &matcher, trace.duplicate())?;
     }
     Ok(taken)
 }

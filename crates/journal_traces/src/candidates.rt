@@ -43,14 +43,14 @@ impl<'a> Searched for CandidateSearch<'a> {
 
     fn start_at(&self, index: usize) -> i64 {
         match self.spots.get(index) {
-            Some(spots) => first_start(self.store.journal, spots.again()),
+            Some(spots) => first_start(self.store.journal, spots.duplicate()),
             None => 0,
         }
     }
 
     fn id_at(&self, index: usize) -> Option<TraceId> {
         match self.spots.get(index) {
-            Some(spots) => first_id(self.store.journal, spots.again()),
+            Some(spots) => first_id(self.store.journal, spots.duplicate()),
             None => None,
         }
     }
@@ -59,7 +59,7 @@ impl<'a> Searched for CandidateSearch<'a> {
         match self.spots.get(index) {
             Some(spots) => {
                 let judging = Judging::new(self.store, self.prepared, self.requested);
-                is_found(alloc, &judging, spots.again())
+                is_found(alloc, &judging, spots.duplicate())
             }
             None => Ok(false),
         }

@@ -41,7 +41,7 @@ pub fn gather(
         (placed_taken g.spans.items) (numbers_taken g.spans.items)) }
     ensures form { IfOk result (λ g. (g.max_skew ≡ max_skew) × (g.raw ≡ raw)) }
 {
-    let count = spot_count(spots.again());
+    let count = spot_count(spots.duplicate());
     let mut spans = Vec::with_capacity(alloc, count)?;
     for spot in spots {
         // Impossible in a store: a spot of no span. No clause says so.

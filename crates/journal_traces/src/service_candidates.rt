@@ -72,7 +72,7 @@ pub fn spots_reported<'a>(
     let mut found = Vec::new(alloc);
     for index in 0..assembly.ring().len() {
         let spots = assembly.spots_at(index);
-        if are_reported(journal, by_service, service_number, spots.again()) {
+        if are_reported(journal, by_service, service_number, spots.duplicate()) {
             push_tightly(&mut found, spots)?;
         }
     }

@@ -160,7 +160,7 @@ pub fn take_within(
     let mut index = store.starts.next_within(0, window);
     while index < store.starts.len() {
         let spots = store.assembly.spots_at(index);
-        if reaches_window(store.journal, spots.again(), end_ms, lookback_ms) {
+        if reaches_window(store.journal, spots.duplicate(), end_ms, lookback_ms) {
             take_spots(&mut taken, &mut numbers, store, spots)?;
         }
         index = store.starts.next_within(index + 1, window);

@@ -30,7 +30,7 @@ impl<T> Model for SeenLog<T> {
 
 impl<T> SeenLog<T> {
     /// Returns a copy.
-    pub fn again(&self) -> SeenLog<T>
+    pub fn duplicate(&self) -> SeenLog<T>
         ensures { result ≡ self.now }
     {
         SeenLog {

@@ -56,11 +56,11 @@ impl<N: StoreName> HistoryPrefix<N> {
     }
 
     /// Returns a copy.
-    pub fn again(&self) -> HistoryPrefix<N>
+    pub fn duplicate(&self) -> HistoryPrefix<N>
         ensures { result ≡ self.now }
     {
         HistoryPrefix {
-            seen: self.seen.again(),
+            seen: self.seen.duplicate(),
             len: self.len,
             of: PhantomData,
         }
@@ -80,7 +80,7 @@ impl<N: StoreName> HistoryPrefix<N> {
             (IsPrefix other.now self.now × (length other.now < length self.now)) }
     {
         // For the prover: this copy learns both lists, so that one of them is a prefix of the other. It has no size.
-        let mut both = self.seen.again();
+        let mut both = self.seen.duplicate();
         both.learn(&other.seen);
         self.len <= other.len
     }
@@ -92,9 +92,9 @@ impl<N: StoreName> HistoryPrefix<N> {
         ensures one_of { (result ≡ self.now) ⊎ (result ≡ other.now) }
     {
         if self.is_prefix_of(other) {
-            other.again()
+            other.duplicate()
         } else {
-            self.again()
+            self.duplicate()
         }
     }
 }
@@ -109,7 +109,7 @@ pub fn longest<N: StoreName>(
     ensures others { All (λ p. IsPrefix p result) others.now }
     ensures legal { IsLegal N.limits result }
 {
-    let mut longest = first.again();
+    let mut longest = first.duplicate();
     for other in others {
         longest = longest.longer(other);
     }

@@ -118,7 +118,7 @@ impl Change {
         };
         Ok(Change {
             recorded,
-            seen: self.seen.again(),
+            seen: self.seen.duplicate(),
         })
     }
 }

@@ -25,7 +25,7 @@ fn take_at(
         AreNumberedByPlace traces.now.store.journal.now.held.entries taken.new) }
 {
     match traces.spots.get(index) {
-        Some(spots) => take_trace(taken, traces.store.journal, spots.again()),
+        Some(spots) => take_trace(taken, traces.store.journal, spots.duplicate()),
         None => taken.begin(),
     }
 }

@@ -202,7 +202,7 @@ impl SpanStore {
     {
         let place = self.journal.len() + 1;
         apply_entry(recorded.entry(), place, &mut self.shown, &mut self.starts);
-        let kinds = recorded.kinds().again();
+        let kinds = recorded.kinds().duplicate();
         self.journal.append(recorded);
         let entries = self.journal.entries();
         self.by_service.add(entries);

@@ -17,11 +17,11 @@ loop-numbers-preserved c =
     let numbers = c.in-Some.numbers.now in
     let first =
     ap (map service_entry) c.in_ok-insert.ensures.entries
-    ∙ service_put c.loop-numbers.services.entries numbers.0 c.again.result
-    ∙ (λ i. insert_entry nat_cmp (c.loop-numbers.invariant i) numbers.0 (text_in (c.again.ensures i).span)) in
+    ∙ service_put c.loop-numbers.services.entries numbers.0 c.duplicate.result
+    ∙ (λ i. insert_entry nat_cmp (c.loop-numbers.invariant i) numbers.0 (text_in (c.duplicate.ensures i).span)) in
     ap (map service_entry) c.in_ok-insert-2.ensures.entries
-    ∙ service_put c.insert.new.self.entries numbers.1 c.again-in-loop-numbers.result
-    ∙ (λ i. insert_entry nat_cmp (first i) numbers.1 (text_in (c.again-in-loop-numbers.ensures i).span))
+    ∙ service_put c.insert.new.self.entries numbers.1 c.duplicate-in-loop-numbers.result
+    ∙ (λ i. insert_entry nat_cmp (first i) numbers.1 (text_in (c.duplicate-in-loop-numbers.ensures i).span))
     ∙ sym (ap (λ es. services_met (tallies_seen es)) (map_push deref_pair c.loop-numbers.yielded _) ∙ ap services_met (map_push tally_seen done _)
     ∙ fold_push with_services [] (tallies_seen done) _)
 

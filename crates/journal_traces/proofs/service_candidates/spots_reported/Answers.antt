@@ -18,7 +18,7 @@ loop-index-preserved c =
     let i = c.loop-index.index in
     let le : i < length ids = omega (arith, c.loop-index-test.true, c.len-index-end.ensures.length ∙ ap (λ (w : RingValue). length w.ids) c.ring.ensures) in
     let at : c.spots_at-spots.result ≡ f (get_or ids i no_id) = c.spots_at-spots.ensures in
-    let read = c.are_reported.ensures ∙ ap own (c.again.ensures ∙ at) in
+    let read = c.are_reported.ensures ∙ ap own (c.duplicate.ensures ∙ at) in
     elim c.if-are_reported.branch [
       | then-are_reported+in_ok-push_tightly w ↦
           ap (λ v. v.items) w.found-is ∙ w.in_ok-push_tightly.ensures.items

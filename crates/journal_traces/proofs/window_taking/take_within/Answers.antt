@@ -61,7 +61,7 @@ loop-index-preserved c =
     let e = to_z-of_z w64 c.args.end_ms c.ranges.end_ms in
     let l = to_z-of_z w64 c.args.lookback_ms c.ranges.lookback_ms in
     let determined : c.reaches_window.result ≡ w (f (get_or ids i no_id)) =
-    (rw (e, l) at c.reaches_window.ensures) ∙ ap (λ ss. w (spans_named h ss)) c.again.ensures ∙ ap w spots in
+    (rw (e, l) at c.reaches_window.ensures) ∙ ap (λ ss. w (spans_named h ss)) c.duplicate.ensures ∙ ap w spots in
     let before : map placed_taken (traces_reported c.loop-index.taken) ≡ filter w (map f (take i ids)) = rw (e, l) at c.loop-index.invariant.within in
     let next = c.next_within-index-in-loop-index.ensures in
     let place = c.next_within-index-in-loop-index.result in

@@ -29,7 +29,7 @@ pub fn prefixes_compared<N: StoreName, R: Wait>(
     keeper.includes(&one.history());
     keeper.includes(&known);
     let lengths = [none.len(), known.len(), one.history().len(), all.len()];
-    let longest = longest(&none, &[two.history(), known.again()]);
+    let longest = longest(&none, &[two.history(), known.duplicate()]);
     Ok(
         lengths == [0, 1, 1, 2]
             && longest.len() == 2

@@ -15,9 +15,9 @@ returns-in-Some-clause-found c =
     let traces = c.args.self.now in
     let h = traces.store.journal.now.held.entries in
     let q = traces.prepared.now in
-    IfOk-weaker c.is_found.result (λ b. b ≡ list_any (matches c.new-judging.result.0) (spans_named c.new-judging.result.1 c.again.result))
+    IfOk-weaker c.is_found.result (λ b. b ≡ list_any (matches c.new-judging.result.0) (spans_named c.new-judging.result.1 c.duplicate.result))
     (λ b. b ≡ list_any (matches q) (trace_at (traces_of traces) c.args.index))
-    (λ b e. e ∙ ap (λ (j : Find × List Entry). list_any (matches j.0) (spans_named j.1 c.again.result)) c.new-judging.ensures
-    ∙ ap (list_any (matches q)) (ap (spans_named h) c.again.ensures
+    (λ b e. e ∙ ap (λ (j : Find × List Entry). list_any (matches j.0) (spans_named j.1 c.duplicate.result)) c.new-judging.ensures
+    ∙ ap (list_any (matches q)) (ap (spans_named h) c.duplicate.ensures
     ∙ trace_there h traces.spots.now c.args.index c.get.result c.in-Some.spots c.get.ensures.lookup c.in-Some.is))
     c.is_found.ensures

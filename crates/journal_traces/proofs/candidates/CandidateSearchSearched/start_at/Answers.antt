@@ -11,6 +11,6 @@ returns-in-Some c =
     let traces = c.args.self.now in
     let e : c.first_start.result ≡ first_start (trace_at (traces_named traces.store.journal.now.held.entries traces.spots.now) c.args.index) =
     c.first_start.ensures ∙ ap first_start
-    (ap (spans_named traces.store.journal.now.held.entries) c.again.ensures
+    (ap (spans_named traces.store.journal.now.held.entries) c.duplicate.ensures
     ∙ trace_there traces.store.journal.now.held.entries traces.spots.now c.args.index c.get.result c.in-Some.spots c.get.ensures.lookup c.in-Some.is) in
     search rules
