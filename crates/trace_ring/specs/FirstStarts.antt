@@ -1,5 +1,6 @@
 -- The first starts of traces, and which traces start after some time.
-use Rattle.std.specs.Prelude.{◌≡◌, ℕ, suc, ℤ, pos, ◌+◌, ◌/◌, ◌^◌, ◌<◌, ◌≤◌, int_lt, false, List, [], ◌∷◌, length, get_or, if◌then◌else◌}
+use Rattle.std.specs.Prelude.{◌≡◌, ℕ, suc, ℤ, pos, ◌+◌, ◌-◌, ◌/◌, ◌^◌, ◌<◌, ◌≤◌, int_lt, false, List, [], ◌∷◌, length, get_or, if◌then◌else◌}
+use Rattle.trace_ring.specs.declared.first_starts.bounds.TheConstants.{BLOCK}
 use Rattle.trace_ring.specs.declared.first_starts.ranges.Range.{Range}
 
 -- the starts, that of the trace opened first at the front; the number that was pushed in all, and that may be; the
@@ -19,10 +20,14 @@ positions_from time position (s ∷ ss) = if int_lt time s then position ∷ pos
 abbrev pub positions_after : ℤ → List ℤ → List ℕ
 positions_after time ss = positions_from time 0 ss
 
+-- the number of blocks that this number of starts takes
+abbrev pub block_count : ℕ → ℕ
+block_count n = (n + (BLOCK - 1)) / BLOCK
+
 -- no start is above the bound of its block
 pub record IsBounded (room evicted : ℕ) (opened bounds : List ℤ) : Type 0 where
   pub fits : room < 2 ^ 32
   pub within : length opened ≤ room
   pub few : evicted ≤ length opened
-  pub blocks : length bounds ≡ (length opened + 255) / 256
-  pub above : (i : ℕ) → i < length opened → int_lt (get_or bounds (i / 256) (pos 0)) (get_or opened i (pos 0)) ≡ false
+  pub blocks : length bounds ≡ block_count (length opened)
+  pub above : (i : ℕ) → i < length opened → int_lt (get_or bounds (i / BLOCK) (pos 0)) (get_or opened i (pos 0)) ≡ false

@@ -1,5 +1,6 @@
 -- The ranges of the starts of spans.
 use Rattle.std.specs.Prelude.{◌≡◌, ℕ, ℤ, pos, Bool, true, false, ◌&&◌, ◌+◌, ◌/◌, int_lt, get_or, Option, Some, None}
+use Rattle.trace_ring.specs.declared.first_starts.bounds.TheConstants.{BLOCK}
 use Rattle.trace_ring.specs.declared.first_starts.ranges.Range.{Range}
 use Rattle.trace_ring.specs.declared.first_starts.ranges.Window.{Window}
 use Rattle.trace_ring.specs.FirstStarts.{Starts}
@@ -19,7 +20,7 @@ pub record IsWider (r s : Range) : Type 0 where
 
 -- the range of the block of the trace at a position; the oldest one is at 0
 abbrev pub range_at : Starts → ℕ → Range
-range_at s k = get_or s.ranges ((s.evicted + k) / 256) no_range
+range_at s k = get_or s.ranges ((s.evicted + k) / BLOCK) no_range
 
 abbrev pub ends_after : Range → Option ℤ → Bool
 ends_after r None = true

@@ -24,7 +24,8 @@ pub struct FirstStarts {
 
 impl Model for FirstStarts {
     ghost use Rattle.std.specs.Prelude.{◌≡◌, ◌≤◌, ◌+◌, ◌/◌, length, drop, vec_capacity};
-    ghost use Rattle.trace_ring.specs.FirstStarts.{Starts, IsBounded};
+    ghost use Rattle.trace_ring.specs.declared.first_starts.bounds.TheConstants.{BLOCK};
+    ghost use Rattle.trace_ring.specs.FirstStarts.{Starts, IsBounded, block_count};
 
     ghost Value = { Starts };
 
@@ -37,10 +38,10 @@ impl Model for FirstStarts {
     } };
 
     ghost invariant = { λ s. (s.room ≤ vec_capacity s.opened)
-        × (s.room / 256 + 2 ≤ vec_capacity s.bounds)
+        × (s.room / BLOCK + 2 ≤ vec_capacity s.bounds)
         × IsBounded s.room s.evicted s.opened.items s.bounds.items
-        × (s.room / 256 + 2 ≤ vec_capacity s.ranges)
-        × (length s.ranges.items ≡ (length s.opened.items + 255) / 256) };
+        × (s.room / BLOCK + 2 ≤ vec_capacity s.ranges)
+        × (length s.ranges.items ≡ block_count (length s.opened.items)) };
 }
 
 impl FirstStarts {

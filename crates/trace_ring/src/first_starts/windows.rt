@@ -29,7 +29,7 @@ impl FirstStarts {
         self.len()
     }
 
-    /// Counts 256 traces for each block whose range overlaps the window, even if it is partly filled or partly
+    /// Counts [`BLOCK`] traces for each block whose range overlaps the window, even if it is partly filled or partly
     /// evicted: no fewer than the traces that may have a span there. It is a guess, and no answer.
     pub fn estimate_within(&self, window: Window) -> usize {
         let mut count: usize = 0;
