@@ -11,7 +11,7 @@ use crate::fault::{Parameter, QueryFault};
 use crate::number::{read_duration, read_number};
 use crate::paths::{Endpoint, find_endpoint};
 use crate::query_string::{Pair, find_parameter, query_pairs, split_query};
-use crate::tags::{copy_text, requested_tags};
+use crate::tags::requested_tags;
 use jaeger_model::{Text, parse_trace};
 use matchit::Router;
 use percent_encoding::{DecodeError, percent_decode};
@@ -69,7 +69,7 @@ fn required_value(pairs: &[Pair], parameter: Parameter) -> Result<&str, QueryFau
 fn optional_text(alloc: Global, pairs: &[Pair], name: &str) -> Result<Text, AllocError>
     ensures { IfOk result (λ t. t ≡ text_parameter name.now pairs.now) }
 {
-    copy_text(alloc, find_parameter(pairs, name).unwrap_or(""))
+    Text::from_str(alloc, find_parameter(pairs, name).unwrap_or(""))
 }
 
 /// Parses a search. The error names the first invalid parameter, in the order in which they are read here.
@@ -85,7 +85,7 @@ fn read_find(alloc: Global, pairs: &[Pair]) -> Result<Find, QueryFault>
     let duration_max = optional_duration(pairs, Parameter::MaxDuration)?;
     let tags = requested_tags(alloc, pairs)?;
     // The texts are copied last: an invalid query copies none.
-    let service = copy_text(alloc, service)?;
+    let service = Text::from_str(alloc, service)?;
     let operation = optional_text(alloc, pairs, "operation")?;
     Ok(Find {
         service,
@@ -140,7 +140,7 @@ fn read_operations(alloc: Global, pairs: &[Pair]) -> Result<Query, QueryFault>
     ensures { IsAsRead (λ q. q) result (operations_at pairs.now) }
 {
     let service = required_value(pairs, Parameter::Service)?;
-    let service = copy_text(alloc, service)?;
+    let service = Text::from_str(alloc, service)?;
     let kind = optional_text(alloc, pairs, "spanKind")?;
     Ok(Query::Operations { service, kind })
 }

@@ -12,13 +12,6 @@ use jaeger_model::{Seq, Text};
 use serde_json::{Map, Value};
 use std::alloc::{AllocError, Global};
 
-/// Copies a text.
-pub(crate) fn copy_text(alloc: Global, text: &str) -> Result<Text, AllocError>
-    ensures { IfOk result (λ t. t ≡ text.now) }
-{
-    Ok(Text::from_string(String::from_str(alloc, text)?))
-}
-
 /// Returns the values of all parameters `tag`.
 fn tag_values<'a>(alloc: Global, pairs: &'a [Pair]) -> Result<Vec<&'a str>, AllocError>
     ensures { IfOk result (λ v. map (λ s. s.now) v.items ≡ given_values (codes "tag") pairs.now) }
@@ -39,7 +32,7 @@ fn read_tag(alloc: Global, tag: &str) -> Result<(Text, Text), QueryFault>
     let Some((key, value)) = split_tag(tag) else {
         return Err(QueryFault::Bad(Parameter::Tag));
     };
-    Ok((copy_text(alloc, key)?, copy_text(alloc, value)?))
+    Ok((Text::from_str(alloc, key)?, Text::from_str(alloc, value)?))
 }
 
 /// Returns the requested pairs of key and text of all parameters `tag`, in order, each split at its first colon.
@@ -66,7 +59,10 @@ fn object_texts(
         let Some(value) = value.as_str() else {
             return Err(QueryFault::Bad(Parameter::Tags));
         };
-        pairs.push((copy_text(alloc, key.as_str())?, copy_text(alloc, value)?))?;
+        pairs.push((
+            Text::from_str(alloc, key.as_str())?,
+            Text::from_str(alloc, value)?,
+        ))?;
     }
     Ok(pairs)
 }
