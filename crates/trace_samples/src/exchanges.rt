@@ -91,3 +91,15 @@ pub const CONFLICT: &[u8] = b"\
     HTTP/1.1 409 Conflict\r\nContent-Type: application/json\r\nContent-Length: 85\r\n\r\n\
     {\"data\":null,\"errors\":[{\"code\":409,\"msg\":\"conflict\"}],\"limit\":0,\"offset\":0,\
     \"total\":0}";
+
+/// The response to a path that no endpoint has.
+pub const NO_SUCH_PATH: &[u8] = b"\
+    HTTP/1.1 404 Not Found\r\nContent-Type: application/json\r\nContent-Length: 89\r\n\r\n\
+    {\"data\":null,\"errors\":[{\"code\":404,\"msg\":\"no such path\"}],\"limit\":0,\"offset\":0,\
+    \"total\":0}";
+
+/// The response to a batch for which the store has no room.
+pub const JOURNAL_FULL: &[u8] = b"\
+    HTTP/1.1 503 Service Unavailable\r\nContent-Type: application/json\r\nContent-Length: 89\r\n\r\n\
+    {\"data\":null,\"errors\":[{\"code\":503,\"msg\":\"journal full\"}],\"limit\":0,\"offset\":0,\
+    \"total\":0}";

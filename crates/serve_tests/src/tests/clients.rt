@@ -1,8 +1,7 @@
 //! The clients of a server.
 
 use crate::tests::requests::{
-    CUT, DELETE, FULL, HUGE, NO_SUCH_PATH, NOT_ALLOWED, NOWHERE, TRUNCATED, UNSUPPORTED, UNTYPED,
-    joined,
+    CUT, DELETE, HUGE, NOT_ALLOWED, NOWHERE, TRUNCATED, UNSUPPORTED, UNTYPED, joined,
 };
 use crate::tests::server::{ask, close_and_read, reads};
 use std::alloc::Global;
@@ -12,8 +11,8 @@ use std::mem::drop;
 use std::net::{Net, SocketAddr, TcpListener, TcpStream};
 use std::thread::{Threads, join, map_indices};
 use trace_samples::exchanges::{
-    ACCEPTED, BATCH, CONFLICT, NO_SERVICES, NUMBERED, ONE_SERVICE, ONE_SPAN, POST, POST_NUMBERED,
-    RENUMBERED, SERVICES, TOO_LARGE, TRACE,
+    ACCEPTED, BATCH, CONFLICT, JOURNAL_FULL, NO_SERVICES, NO_SUCH_PATH, NUMBERED, ONE_SERVICE,
+    ONE_SPAN, POST, POST_NUMBERED, RENUMBERED, SERVICES, TOO_LARGE, TRACE,
 };
 
 /// Which clients come.
@@ -60,7 +59,7 @@ const NOTHING: &[u8] = b"";
 const SUBMITS: [Exchange; 1] = [(POST, BATCH, ACCEPTED)];
 
 /// A second batch has no room.
-const ONE_TOO_MANY: [Exchange; 2] = [(POST, BATCH, ACCEPTED), (POST, BATCH, FULL)];
+const ONE_TOO_MANY: [Exchange; 2] = [(POST, BATCH, ACCEPTED), (POST, BATCH, JOURNAL_FULL)];
 
 /// A batch with a `seqNo`, twice.
 const REPEATS: [Exchange; 3] = [

@@ -1,4 +1,5 @@
-//! Requests that are refused, and their responses. `trace_samples::exchanges` has those that are accepted.
+//! Requests that are refused, and their responses. `trace_samples::exchanges` has those that are accepted, and the
+//! responses that other crates test too.
 
 use std::alloc::{AllocError, Global};
 
@@ -29,20 +30,10 @@ pub const TRUNCATED: &[u8] =
     b"HTTP/1.1 400 Bad Request\r\nContent-Type: application/json\r\nContent-Length: 103\r\n\r\n\
       {\"data\":null,\"errors\":[{\"code\":400,\"msg\":\"batch refused: 1 Truncated\"}],\"limit\":0,\"offset\":0,\"total\":0}";
 
-/// The response to a path that no endpoint has.
-pub const NO_SUCH_PATH: &[u8] =
-    b"HTTP/1.1 404 Not Found\r\nContent-Type: application/json\r\nContent-Length: 89\r\n\r\n\
-      {\"data\":null,\"errors\":[{\"code\":404,\"msg\":\"no such path\"}],\"limit\":0,\"offset\":0,\"total\":0}";
-
 /// The response to a method that the endpoint of services doesn't accept.
 pub const NOT_ALLOWED: &[u8] =
     b"HTTP/1.1 405 Method Not Allowed\r\nContent-Type: application/json\r\nContent-Length: 95\r\nAllow: GET\r\nConnection: close\r\n\r\n\
       {\"data\":null,\"errors\":[{\"code\":405,\"msg\":\"method not allowed\"}],\"limit\":0,\"offset\":0,\"total\":0}";
-
-/// The response to a batch for which the store has no room.
-pub const FULL: &[u8] =
-    b"HTTP/1.1 503 Service Unavailable\r\nContent-Type: application/json\r\nContent-Length: 89\r\n\r\n\
-      {\"data\":null,\"errors\":[{\"code\":503,\"msg\":\"journal full\"}],\"limit\":0,\"offset\":0,\"total\":0}";
 
 /// Concatenates the parts.
 pub fn joined(alloc: Global, parts: &[&[u8]]) -> Result<Vec<u8>, AllocError> {

@@ -1,6 +1,7 @@
 //! Complete sessions of three requests, with devices that return and take a few bytes at a time or fail, and one in
 //! which memory runs out.
 
+use crate::tests::refusals::NO_MEMORY;
 use crate::tests::sessions::{
     AMPLE, Devices, Seen, closed_by_client, is_played, joined, played, unread, unwritten,
 };
@@ -16,10 +17,6 @@ use trace_samples::exchanges::{
 const NO_TRACE: &[u8] =
     b"HTTP/1.1 404 Not Found\r\nContent-Type: application/json\r\nContent-Length: 92\r\n\r\n\
         {\"data\":null,\"errors\":[{\"code\":404,\"msg\":\"trace not found\"}],\"limit\":0,\"offset\":0,\"total\":0}";
-
-const NO_MEMORY: &[u8] =
-    b"HTTP/1.1 500 Internal Server Error\r\nContent-Type: application/json\r\nContent-Length: 90\r\n\r\n\
-        {\"data\":null,\"errors\":[{\"code\":500,\"msg\":\"out of memory\"}],\"limit\":0,\"offset\":0,\"total\":0}";
 
 /// The parts of three requests: the batch, the services, its trace.
 const REQUESTS: [&[&[u8]]; 3] = [&[POST, BATCH], &[SERVICES], &[TRACE]];

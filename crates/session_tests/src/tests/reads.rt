@@ -6,13 +6,10 @@ use session_devices::MemoryInput;
 use std::alloc::Global;
 use std::hash::RandomState;
 use std::test::*;
-use trace_samples::exchanges::TOO_LARGE;
+use trace_samples::exchanges::{NO_SUCH_PATH, TOO_LARGE};
 
-const NO_PATH: &[u8] =
-    b"HTTP/1.1 404 Not Found\r\nContent-Type: application/json\r\nContent-Length: 89\r\n\r\n\
-        {\"data\":null,\"errors\":[{\"code\":404,\"msg\":\"no such path\"}],\"limit\":0,\"offset\":0,\"total\":0}";
-
-const NO_PATH_AND_CLOSE: &[u8] =
+/// [`NO_SUCH_PATH`] to a request that asks to close the connection.
+const NO_SUCH_PATH_AND_CLOSE: &[u8] =
     b"HTTP/1.1 404 Not Found\r\nContent-Type: application/json\r\nContent-Length: 89\r\nConnection: close\r\n\r\n\
         {\"data\":null,\"errors\":[{\"code\":404,\"msg\":\"no such path\"}],\"limit\":0,\"offset\":0,\"total\":0}";
 
@@ -39,7 +36,7 @@ const OPEN: [&[u8]; 4] = [
 const CLOSED: [Row; 33] = [
     (
         b"\r\n\r\nGET / HTTP/1.0\r\nconnection: x, Close\r\n\r\n",
-        NO_PATH_AND_CLOSE,
+        NO_SUCH_PATH_AND_CLOSE,
     ),
     (b"GET / HTTP/2\r\n", BAD_HEAD),
     (b"GET / HTTP/1.2\r\n\r\n", BAD_HEAD),
@@ -189,7 +186,7 @@ fn is_decided(
 fn no_read_too_many(rt: HostRuntime) -> Result<(), Fail> {
     let (alloc, keys) = (rt.alloc(), RandomState::new(&rt)?);
     for bytes in OPEN {
-        assert!(rt; is_decided(alloc, keys, (bytes, NO_PATH), 0, unread(1))?);
+        assert!(rt; is_decided(alloc, keys, (bytes, NO_SUCH_PATH), 0, unread(1))?);
     }
     for row in CLOSED {
         assert!(rt; is_decided(alloc, keys, row, 0, closed_by_response())?);

@@ -6,7 +6,7 @@ use std::alloc::Global;
 use std::mem::drop;
 use std::test::*;
 use trace_model::{Answer, Backend, Limits, Query, Refusal};
-use trace_samples::exchanges::{BATCH, CONFLICT, POST, SERVICES};
+use trace_samples::exchanges::{BATCH, CONFLICT, JOURNAL_FULL, POST, SERVICES};
 
 /// A store that refuses each batch and each query for one reason.
 #[derive(Drop)]
@@ -40,10 +40,6 @@ impl<T> Backend<T> for Refusing {
     }
 }
 
-const FULL: &[u8] =
-    b"HTTP/1.1 503 Service Unavailable\r\nContent-Type: application/json\r\nContent-Length: 89\r\n\r\n\
-        {\"data\":null,\"errors\":[{\"code\":503,\"msg\":\"journal full\"}],\"limit\":0,\"offset\":0,\"total\":0}";
-
 const DEFERRED: &[u8] =
     b"HTTP/1.1 503 Service Unavailable\r\nContent-Type: application/json\r\nContent-Length: 85\r\n\r\n\
         {\"data\":null,\"errors\":[{\"code\":503,\"msg\":\"deferred\"}],\"limit\":0,\"offset\":0,\"total\":0}";
@@ -56,7 +52,7 @@ const CLOSED: &[u8] =
     b"HTTP/1.1 503 Service Unavailable\r\nContent-Type: application/json\r\nContent-Length: 83\r\n\r\n\
         {\"data\":null,\"errors\":[{\"code\":503,\"msg\":\"closed\"}],\"limit\":0,\"offset\":0,\"total\":0}";
 
-const NO_MEMORY: &[u8] =
+pub(crate) const NO_MEMORY: &[u8] =
     b"HTTP/1.1 500 Internal Server Error\r\nContent-Type: application/json\r\nContent-Length: 90\r\n\r\n\
         {\"data\":null,\"errors\":[{\"code\":500,\"msg\":\"out of memory\"}],\"limit\":0,\"offset\":0,\"total\":0}";
 
@@ -73,7 +69,7 @@ const ROWS: [Row; 11] = [
             batches: 1,
             spans: 2,
         },
-        FULL,
+        JOURNAL_FULL,
     ),
     (Refusal::Stale { last: 1 }, INTERNAL),
     (Refusal::NoMemory, NO_MEMORY),
