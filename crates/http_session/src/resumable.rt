@@ -55,13 +55,6 @@ impl Session {
         }
     }
 
-    /// Returns the number of responses written.
-    pub fn answered(&self) -> u64
-        ensures { result ≡ self.now.answered }
-    {
-        self.answered
-    }
-
     /// Returns whether bytes were received that were not answered yet, such as those of a pipelined request. The
     /// connection need not become readable again for them: continue such a session before it pauses.
     pub fn holds_bytes(&self) -> bool

@@ -1,8 +1,6 @@
--- The names of parameters, and the numbers of faults.
+-- The names of parameters.
 use Rattle.std.specs.Prelude.{ℕ, List, codes}
 use Rattle.query_http.specs.declared.fault.Parameter.{Parameter}
-use Rattle.query_http.specs.declared.fault.QueryFault.{QueryFault}
-use Rattle.query_http.specs.declared.fault.QueryFault.TheVariants.{NoPath, Bad, NoMemory}
 use Rattle.query_http.specs.declared.fault.Parameter.TheVariants.{TraceId, Service, Start, End, Limit, MinDuration, MaxDuration, Tag, Tags, EndTs, Lookback}
 
 abbrev pub parameter_name : Parameter → List ℕ
@@ -17,13 +15,3 @@ parameter_name Tag = codes "tag"
 parameter_name Tags = codes "tags"
 parameter_name EndTs = codes "endTs"
 parameter_name Lookback = codes "lookback"
-
-abbrev pub query_fault_number : QueryFault → ℕ
-query_fault_number (Bad parameter) = 40
-query_fault_number NoPath = 41
-query_fault_number NoMemory = 22
-
-abbrev pub query_fault_name : QueryFault → List ℕ
-query_fault_name (Bad parameter) = codes "BadQuery"
-query_fault_name NoPath = codes "NoPath"
-query_fault_name NoMemory = codes "NoMemory"

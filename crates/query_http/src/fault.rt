@@ -1,5 +1,5 @@
 ghost use Rattle.std.specs.Prelude.{◌≡◌};
-ghost use Rattle.query_http.specs.Faults.{parameter_name, query_fault_name, query_fault_number};
+ghost use Rattle.query_http.specs.Faults.{parameter_name};
 ghost use Rattle.query_http.specs.declared.fault.QueryFault.TheVariants.{Bad, NoMemory};
 
 use std::alloc::{AllocError, AllocFailed};
@@ -41,38 +41,15 @@ impl Parameter {
     }
 }
 
-/// Why a request's target isn't a query.
+/// Why a request's target isn't a query. The numbers are those of `docs/refusals.md`; the program prints none of them.
 #[derive(Clone, Copy, Debug, PartialEq, Eq)]
 pub enum QueryFault {
-    /// No endpoint has this path.
+    /// 41 NoPath: no endpoint has this path.
     NoPath,
-    /// The first invalid parameter, in the order of the endpoint's table.
+    /// 40 BadQuery: the first invalid parameter, in the order of the endpoint's table.
     Bad(Parameter),
+    /// 22 NoMemory.
     NoMemory,
-}
-
-impl QueryFault {
-    /// Returns the stable number of the fault.
-    pub fn number(self) -> u8
-        ensures { result ≡ query_fault_number self }
-    {
-        match self {
-            QueryFault::Bad(_) => 40,
-            QueryFault::NoPath => 41,
-            QueryFault::NoMemory => 22,
-        }
-    }
-
-    /// Returns the name, without the parameter.
-    pub fn name(self) -> &'static str
-        ensures { result.now ≡ query_fault_name self }
-    {
-        match self {
-            QueryFault::Bad(_) => "BadQuery",
-            QueryFault::NoPath => "NoPath",
-            QueryFault::NoMemory => "NoMemory",
-        }
-    }
 }
 
 impl From<Parameter> for QueryFault {
