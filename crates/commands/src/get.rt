@@ -17,10 +17,9 @@ mod batches;
 mod line_fault;
 mod trace_lines;
 
+use crate::get::batches::Batches;
 use crate::get::trace_lines::write_trace;
-pub use batches::Batches;
 use jaeger_model::TraceId;
-pub use line_fault::LineFault;
 use session_devices::{Input, Output};
 use std::alloc::Global;
 use std::hash::RandomState;

@@ -19,8 +19,7 @@ mod serve_words;
 mod words;
 
 pub use command::run;
-pub use get::{Batches, LineFault, run_get};
+pub use get::run_get;
 pub use pipe::run_pipe;
-pub use play::{Script, run_play};
-pub use serve::run_serve;
+pub use play::run_play;
 pub use words::{Command, read_words};

@@ -15,7 +15,7 @@ ghost use Rattle.commands.specs.PlayRuns.{IsMachineAt, output_of, status_at, sta
 
 mod script;
 
-pub use script::Script;
+use crate::play::script::Script;
 use session_devices::{Input, Output};
 use std::alloc::Global;
 use std::hash::RandomState;

@@ -37,7 +37,7 @@ fn write_cannot_listen<W: Output>(
 
 /// Serves connections on a host's port over an empty store, until the requested number has ended. Returns the exit
 /// status: `DeviceFailed` if the address can't be used, otherwise that of [`serve_with`](trace_server::serve_with).
-pub fn run_serve<H, W>(
+pub(crate) fn run_serve<H, W>(
     rt: &H,
     alloc: Global,
     keys: RandomState,

@@ -23,6 +23,5 @@ mod tags;
 pub use fault::{Parameter, QueryFault};
 pub use paths::{Endpoint, endpoints, find_endpoint};
 pub use query::{parse_query, read_query, split_target};
-pub use query_string::{Pair, query_pairs};
 pub use response::{respond, response_head};
 pub use status::Status;

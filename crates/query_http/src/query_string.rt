@@ -6,7 +6,7 @@ use std::marker::Model;
 
 /// A name with its value, both decoded.
 #[derive(Debug, Drop)]
-pub struct Pair {
+pub(crate) struct Pair {
     name: String,
     value: String,
 }
@@ -21,7 +21,7 @@ impl Model for Pair {
 
 impl Pair {
     /// Returns the decoded value.
-    pub fn value(&self) -> &str
+    pub(crate) fn value(&self) -> &str
         ensures { result.now ≡ self.now.1 }
     {
         self.value.as_str()
@@ -54,7 +54,7 @@ pub(crate) fn split_tag(tag: &str) -> Option<(&str, &str)>
 /// # Errors
 ///
 /// Out of memory, and nothing else.
-pub fn query_pairs(alloc: Global, query_string: &[u8]) -> Result<Vec<Pair>, AllocError>
+pub(crate) fn query_pairs(alloc: Global, query_string: &[u8]) -> Result<Vec<Pair>, AllocError>
     ensures { IfOk result (λ v. v.items ≡ pairs_of query_string.now) }
 {
     let mut all = Vec::new(alloc);

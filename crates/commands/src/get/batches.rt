@@ -77,7 +77,7 @@ fn write_fault(reply: &mut Vec<u8>, number: u64, fault: LineFault) -> Result<(),
 
 /// A store that reads a batch from each line, and replies with the reason if it can't.
 #[derive(Drop)]
-pub struct Batches {
+pub(crate) struct Batches {
     store: SpanStore,
 }
 
@@ -95,7 +95,7 @@ impl Batches {
     /// # Errors
     ///
     /// Out of memory, and nothing else.
-    pub fn new(alloc: Global, keys: RandomState, limits: Limits) -> Result<Self, AllocError>
+    pub(crate) fn new(alloc: Global, keys: RandomState, limits: Limits) -> Result<Self, AllocError>
         ensures { IfOk result (λ batches. batches ≡ nothing_held limits) }
     {
         let store = SpanStore::open(alloc, keys, limits)?;
@@ -103,7 +103,7 @@ impl Batches {
     }
 
     /// Returns the store.
-    pub fn store(&self) -> &SpanStore
+    pub(crate) fn store(&self) -> &SpanStore
         ensures { result.now ≡ self.now }
     {
         &self.store

@@ -7,7 +7,7 @@ use trace_model::Refusal;
 
 /// Why a line of `get` can't be used.
 #[derive(Clone, Copy, Debug, PartialEq, Eq)]
-pub enum LineFault {
+pub(crate) enum LineFault {
     /// Its text is not a batch.
     NoBatch(HexFault),
     /// The store refused the batch.

@@ -76,7 +76,7 @@ fn play_step(
 /// A machine that reads a step from each line and replies with its outcome. Contracts see the state to which its steps
 /// led, or `None` once memory ran out.
 #[derive(Drop)]
-pub struct Script {
+pub(crate) struct Script {
     router: Router<Endpoint>,
     world: World,
 }
@@ -99,7 +99,7 @@ impl Script {
     /// # Errors
     ///
     /// Out of memory, and nothing else.
-    pub fn new(alloc: Global, keys: RandomState, limits: Limits) -> Result<Self, AllocError>
+    pub(crate) fn new(alloc: Global, keys: RandomState, limits: Limits) -> Result<Self, AllocError>
         ensures { IfOk result (λ s. s ≡ Some (new_machine limits)) }
     {
         let Ok(router) = endpoints(alloc) else {
