@@ -1,6 +1,8 @@
 -- Connections that stay open while others are served, and sets that lose or gain one.
-use Rattle.std.proofs.Common.{◌≡◌, ◌≢◌, ℕ, Bool, true, false, List, Option, Some, None, Result, Ok, Err, sym, ◌∙◌, ap, subst, inl, inr, ⊎_elim}
+use Rattle.std.proofs.Common.{◌≡◌, ◌≢◌, ℕ, Bool, false, List, Option, Some, None, Result, Ok, Err, refl, sym, ◌∙◌, ap, subst, ⊎_elim}
+use Rattle.std.specs.Prelude.{IsSome}
 use Rattle.std.proofs.lemmas.Bool.Decides.{eqb_tells}
+use Rattle.std.specs.Option.{option_map}
 use Rattle.slab.specs.Slab.{Slab, get, Updates}
 use Rattle.std.specs.Io.KnownBytes.{append_known}
 use Rattle.http_session.specs.ResponseOrder.{ConnectionModel, connection_moment, IsTwoWay}
@@ -15,15 +17,15 @@ use Rattle.http_session.specs.declared.resumable.Session.{Session}
 use Rattle.http_session.specs.declared.whole_session.Ended.{Ended as EndedSession}
 use Rattle.http_session.specs.declared.whole_session.SessionError.{SessionError}
 use Rattle.http_session.proofs.SessionPieces.{Promises, others_go_on, others_forget_nothing}
-use Rattle.open_connections.specs.OpenConnections.{IsOpen, SessionEnded, HasFailed, HasCome, HasBroken, Delivers, AllOpen, IsRest, stays_open}
+use Rattle.open_connections.specs.OpenConnections.{IsOpen, SessionEnded, HasFailed, HasCome, HasBroken, Delivers, DeliversTo, AllOpen, IsRest, StayedOpen}
 use Rattle.open_connections.specs.BufferedConnections.{buffered_model, bytes_waiting}
 use Rattle.open_connections.specs.ReadEffects.{KeepsContents}
 use Rattle.session_devices.specs.ByteTransfers.{ByteTransfer}
 use Rattle.open_connections.specs.declared.open.OpenConnection.{OpenConnection}
 use Rattle.open_connections.specs.declared.buffered.BufferedConnection.{BufferedConnection}
 use Rattle.open_connections.specs.declared.open.ConnectionProgress.{ConnectionProgress}
-use Rattle.open_connections.specs.declared.open.ConnectionProgress.TheVariants.{Answered, HoldsBytes, Paused, Writing}
-use Rattle.open_connections.specs.declared.open.ConnectionProgress.TheVariants.{ClosedByClient, ClosedByResponse, Failed, Undelivered}
+use Rattle.open_connections.specs.declared.open.ConnectionProgress.TheVariants.{StaysOpen, Ended}
+use Rattle.open_connections.specs.declared.open.ConnectionEnd.TheVariants.{ClosedByClient, ClosedByResponse, Failed, Undelivered}
 
 module _ {S C : Type 0} (store : Store S) (promises : Promises store) (model : ConnectionModel (BufferedConnection C)) where
   -- while another one is served
@@ -53,6 +55,15 @@ module _ {S C : Type 0} (store : Store S) (promises : Promises store) (model : C
         output_works = is.output_works;
       }
 
+-- the connection that was put in under its key
+pub stayed : {C : Type 0} (before after : Option (OpenConnection C)) (it : OpenConnection C) → after ≡ Some it
+    → option_map (λ (o : OpenConnection C). o.began.value) before ≡ Some it.began.value
+    → StayedOpen before after
+stayed before after it still began = record { it = it; still = still; began = began }
+
+pub still_there : {C : Type 0} (before after : Option (OpenConnection C)) → StayedOpen before after → IsSome after
+still_there before after is = subst IsSome (sym is.still) refl
+
 none_is_none : {T : Type 0} (x : Option T) (y : T) → x ≡ None → x ≡ Some y → ⊥
 none_is_none x y none some = absurd (cc (none, some))
 
@@ -77,27 +88,6 @@ module _ {S C : Type 0} (store : Store S) (model : ConnectionModel (BufferedConn
       (λ same. subst (λ (x : OpenConnection C). IsOpen store model now x) (cc (ap (get new) same.1 ∙ put.changed, e)) is)
       (λ other. all k it (sym (put.others k other.1) ∙ e))
       (eqb_tells k key)
-
-  pub open_if_it_stays : (it : OpenConnection C) (p : ConnectionProgress) → stays_open p ≡ true → HasCome store model now it p → IsOpen store model now it
-  open_if_it_stays it Answered stays is = is
-  open_if_it_stays it HoldsBytes stays is = is
-  open_if_it_stays it Paused stays is = is
-  open_if_it_stays it Writing stays is = is
-  open_if_it_stays it ClosedByClient stays is = absurd (cc stays)
-  open_if_it_stays it ClosedByResponse stays is = absurd (cc stays)
-  open_if_it_stays it Failed stays is = absurd (cc stays)
-  open_if_it_stays it Undelivered stays is = absurd (cc stays)
-
-  -- it has come to what its turn says, if that says that it stays open
-  pub come_open : (it : OpenConnection C) (p : ConnectionProgress) → stays_open p ≡ true → IsOpen store model now it → HasCome store model now it p
-  come_open it Answered stays is = is
-  come_open it HoldsBytes stays is = is
-  come_open it Paused stays is = is
-  come_open it Writing stays is = is
-  come_open it ClosedByClient stays is = absurd (cc stays)
-  come_open it ClosedByResponse stays is = absurd (cc stays)
-  come_open it Failed stays is = absurd (cc stays)
-  come_open it Undelivered stays is = absurd (cc stays)
 
   -- nothing changed but what its thread notes of it
   pub moved_open : (old new : OpenConnection C) → new.connection ≡ old.connection → new.session ≡ old.session → new.began.value ≡ old.began.value
@@ -163,18 +153,22 @@ module _ {S C : Type 0} (store : Store S) (now : S) (remaining : C → Option (L
       (lasts (connection_moment old.began.value is.then) (session_moment old.connection now old.session) new.connection is.underway
       delivers.nothing_new delivers.kept))
 
+  delivered_to : (q : ConnectionProgress) → DeliversTo old.connection.failed new.connection.failed q → HasCome store model now new q
+  delivered_to (StaysOpen progress) stays = record {
+    then = is.then;
+    underway = still_underway;
+    ready = subst (λ (x : Session). CanContinue (remaining new.connection.connection) x) (sym delivers.session)
+        (subst (λ (r : Option (List ℕ)). CanContinue r old.session) (sym delivers.nothing_new.1) is.ready);
+    input_works = delivers.nothing_new.2 ∙ is.input_works;
+    output_works = stays ∙ is.output_works;
+  }
+  delivered_to (Ended Undelivered) breaks = record { then = is.then; underway = still_underway; output_failed = breaks }
+  delivered_to (Ended ClosedByClient) never = absurd never
+  delivered_to (Ended ClosedByResponse) never = absurd never
+  delivered_to (Ended Failed) never = absurd never
+
   pub delivered : HasCome store model now new p
-  delivered = elim delivers.comes_to [
-    | inl stays ↦ come_open store model now new p stays.0 (record {
-      then = is.then;
-      underway = still_underway;
-      ready = subst (λ (x : Session). CanContinue (remaining new.connection.connection) x) (sym delivers.session)
-          (subst (λ (r : Option (List ℕ)). CanContinue r old.session) (sym delivers.nothing_new.1) is.ready);
-      input_works = delivers.nothing_new.2 ∙ is.input_works;
-      output_works = stays.1 ∙ is.output_works;
-    })
-    | inr breaks ↦ subst (HasCome store model now new) (sym breaks.0) (record { then = is.then; underway = still_underway; output_failed = breaks.1 })
-  ]
+  delivered = delivered_to p delivers.comes_to
 
 -- ---- one turn
 

@@ -30,7 +30,7 @@ mod waiting_bytes;
 
 pub use buffered::BufferedConnection;
 pub use nonblocking::TryConnection;
-pub use open::{ConnectionProgress, OpenConnection, TurnTime};
+pub use open::{ConnectionEnd, ConnectionProgress, OpenConnection, OpenProgress, TurnTime};
 pub use readiness::{Event, MAX_EVENTS, Readiness};
 pub use set::{ConnectionSet, ConnectionTurn};
 pub use socket::Socket;

@@ -1,11 +1,11 @@
 //! A connection and its session.
 
-ghost use Rattle.std.specs.Prelude.{◌≡◌, true, false, OnOk};
+ghost use Rattle.std.specs.Prelude.{◌≡◌, false, OnOk};
 ghost use Rattle.query_http.specs.Paths.{endpoint_rows};
 ghost use Rattle.http_session.specs.Sessions.{store_of};
 ghost use Rattle.http_session.specs.ResumableSessions.{AsksOnce, CanContinue, session_moment, RunsPiece, IfOpen, no_requests_yet, piece_of};
 ghost use Rattle.open_connections.specs.BufferedConnections.{buffered_model};
-ghost use Rattle.open_connections.specs.OpenConnections.{IsOpen, HasCome, Delivers, stays_open};
+ghost use Rattle.open_connections.specs.OpenConnections.{IsOpen, HasCome, Delivers};
 
 use crate::buffered::BufferedConnection;
 use crate::nonblocking::TryConnection;
@@ -34,9 +34,9 @@ pub struct OpenConnection<C> {
     holds_request_bytes: bool,
 }
 
-/// The result of a connection's turn.
+/// What a connection that stays open awaits after a turn.
 #[derive(Clone, Copy, Debug, PartialEq, Eq)]
-pub enum ConnectionProgress {
+pub enum OpenProgress {
     /// A request was answered, and the connection waits for the next one.
     Answered,
     /// A request was answered, and bytes after it were received already.
@@ -45,6 +45,11 @@ pub enum ConnectionProgress {
     Paused,
     /// A request was answered, and the client has not yet taken all of the response. Nothing is read meanwhile.
     Writing,
+}
+
+/// How a connection ended in a turn.
+#[derive(Clone, Copy, Debug, PartialEq, Eq)]
+pub enum ConnectionEnd {
     /// The session has ended: the client closed the connection after its last request.
     ClosedByClient,
     /// The session has ended by a response that closes the connection. The client may still be sending.
@@ -55,26 +60,18 @@ pub enum ConnectionProgress {
     Undelivered,
 }
 
+/// The result of a connection's turn.
+#[derive(Clone, Copy, Debug, PartialEq, Eq)]
+pub enum ConnectionProgress {
+    StaysOpen(OpenProgress),
+    Ended(ConnectionEnd),
+}
+
 /// When a thread serves a connection: the time, and the thread's round.
 #[derive(Clone, Copy, Debug)]
 pub struct TurnTime {
     pub now: Duration,
     pub round: u64,
-}
-
-impl ConnectionProgress {
-    /// Returns whether the connection stays open.
-    pub fn is_open(self) -> bool
-        ensures { result ≡ stays_open self }
-    {
-        matches!(
-            self,
-            ConnectionProgress::Answered
-                | ConnectionProgress::HoldsBytes
-                | ConnectionProgress::Paused
-                | ConnectionProgress::Writing
-        )
-    }
 }
 
 impl<C: TryConnection> OpenConnection<C> {
@@ -154,33 +151,32 @@ impl<C: TryConnection> OpenConnection<C> {
         ensures { Delivers C.remaining C.has_failed C.contents self.old self.new result }
     {
         if self.connection.flush().is_err() {
-            return ConnectionProgress::Undelivered;
+            return ConnectionProgress::Ended(ConnectionEnd::Undelivered);
         }
         if self.connection.has_waiting() {
-            return ConnectionProgress::Writing;
+            return ConnectionProgress::StaysOpen(OpenProgress::Writing);
         }
         if self.holds_request_bytes {
-            return ConnectionProgress::HoldsBytes;
+            return ConnectionProgress::StaysOpen(OpenProgress::HoldsBytes);
         }
         self.must_reregister = true;
-        ConnectionProgress::Answered
+        ConnectionProgress::StaysOpen(OpenProgress::Answered)
     }
 
-    /// Returns the result of a turn in which a response was handed over.
-    fn after_response(&mut self) -> ConnectionProgress
-        ensures open { stays_open result ≡ true }
+    /// Returns what the connection awaits after a turn in which a response was handed over.
+    fn after_response(&mut self) -> OpenProgress
         ensures connection { self.new.connection ≡ self.old.connection }
         ensures session { self.new.session ≡ self.old.session }
         ensures began { self.new.began.value ≡ self.old.began.value }
     {
         self.holds_request_bytes = self.session.holds_bytes();
         if self.connection.has_waiting() {
-            return ConnectionProgress::Writing;
+            return OpenProgress::Writing;
         }
         if self.holds_request_bytes {
-            return ConnectionProgress::HoldsBytes;
+            return OpenProgress::HoldsBytes;
         }
-        ConnectionProgress::Answered
+        OpenProgress::Answered
     }
 
     /// Continues the session by at most one read, and answers one request if it is complete. Between two turns the
@@ -214,14 +210,18 @@ impl<C: TryConnection> OpenConnection<C> {
         self.must_reregister = self.holds_request_bytes;
         self.holds_request_bytes = false;
         let Ok(piece) = taken else {
-            return ConnectionProgress::Failed;
+            return ConnectionProgress::Ended(ConnectionEnd::Failed);
         };
         match piece {
-            Progress::Paused => ConnectionProgress::Paused,
-            Progress::Answered => self.after_response(),
+            Progress::Paused => ConnectionProgress::StaysOpen(OpenProgress::Paused),
+            Progress::Answered => ConnectionProgress::StaysOpen(self.after_response()),
             Progress::Ended(ended) => match ended.reason {
-                EndReason::ClosedByClient => ConnectionProgress::ClosedByClient,
-                EndReason::ClosedByResponse => ConnectionProgress::ClosedByResponse,
+                EndReason::ClosedByClient => ConnectionProgress::Ended(
+                    ConnectionEnd::ClosedByClient,
+                ),
+                EndReason::ClosedByResponse => ConnectionProgress::Ended(
+                    ConnectionEnd::ClosedByResponse,
+                ),
             },
         }
     }

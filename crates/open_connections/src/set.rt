@@ -1,6 +1,7 @@
 //! The connections of a thread, with their sessions.
 
-ghost use Rattle.std.specs.Prelude.{◌≡◌, false, IfOk};
+ghost use Rattle.std.specs.Prelude.{◌≡◌, false, IfOk, option_copied};
+ghost use Rattle.slab.specs.Slab.{get};
 ghost use Rattle.http_session.specs.Sessions.{store_of};
 ghost use Rattle.http_session.specs.ResumableSessions.{AsksOnce};
 ghost use Rattle.open_connections.specs.BufferedConnections.{buffered_model};
@@ -8,7 +9,7 @@ ghost use Rattle.open_connections.specs.OpenConnections.{AllOpen, IsEmpty, IsRes
 
 use crate::buffered::BufferedConnection;
 use crate::nonblocking::TryConnection;
-use crate::open::{ConnectionProgress, OpenConnection, TurnTime};
+use crate::open::{ConnectionEnd, ConnectionProgress, OpenConnection, OpenProgress, TurnTime};
 use crate::waiting_bytes::WaitingBytes;
 use http_session::SpareRoom;
 use http_session::laws::a_new_session_is_underway;
@@ -51,9 +52,9 @@ pub enum ConnectionTurn<C> {
     /// There is no connection under this key.
     Absent,
     /// The connection stays open.
-    Open(ConnectionProgress),
+    Open(OpenProgress),
     /// The connection was removed from the set.
-    Removed(ConnectionProgress, BufferedConnection<C>),
+    Removed(ConnectionEnd, BufferedConnection<C>),
 }
 
 impl<C: TryConnection + Drop> ConnectionSet<C> {
@@ -92,7 +93,9 @@ impl<C: TryConnection + Drop> ConnectionSet<C> {
     }
 
     /// Returns the connection under a key, if there is one.
-    pub fn get(&self, key: usize) -> Option<&OpenConnection<C>> {
+    pub fn get(&self, key: usize) -> Option<&OpenConnection<C>>
+        ensures { option_copied result ≡ get self.now key }
+    {
         self.connections.get(key)
     }
 
@@ -153,29 +156,32 @@ impl<C: TryConnection + Drop> ConnectionSet<C> {
 
         ensures turn { TurnsTo (store_of B.submits B.reads B.knows B.limits)
             (buffered_model C.remaining C.gives C.has_failed C.contents)
-            backend.new self.old key result }
+            backend.new (get self.old key) (get self.new key) result }
     {
         let Some(mut open) = self.connections.try_remove(key) else {
             return ConnectionTurn::Absent;
         };
         self.waiting = self.waiting.without(open.connection.waiting_bytes());
-        let progress = open.take_turn(rt, alloc, &self.router, backend, &mut self.spare);
-        if !progress.is_open() {
-            let OpenConnection {
-                connection,
-                session,
-                ..
-            } = open;
-            // For the prover: an explicit drop is cheaper than one at the end of the block.
-            drop(session);
-            return ConnectionTurn::Removed(progress, connection);
+        match open.take_turn(rt, alloc, &self.router, backend, &mut self.spare) {
+            ConnectionProgress::StaysOpen(progress) => {
+                open.active = at.now;
+                open.round = at.round;
+                self.waiting = self.waiting.and(open.connection.waiting_bytes());
+                // It keeps its key, which `try_remove` has reserved.
+                let _key = self.connections.insert_reserved(open);
+                ConnectionTurn::Open(progress)
+            }
+            ConnectionProgress::Ended(end) => {
+                let OpenConnection {
+                    connection,
+                    session,
+                    ..
+                } = open;
+                // For the prover: an explicit drop is cheaper than one at the end of the block.
+                drop(session);
+                ConnectionTurn::Removed(end, connection)
+            }
         }
-        open.active = at.now;
-        open.round = at.round;
-        self.waiting = self.waiting.and(open.connection.waiting_bytes());
-        // It keeps its key, which `try_remove` has reserved.
-        let _key = self.connections.insert_reserved(open);
-        ConnectionTurn::Open(progress)
     }
 
     /// Returns when the connection that has been silent longest was last active.

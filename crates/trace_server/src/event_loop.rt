@@ -1,6 +1,7 @@
 //! A worker's event loop: waits for its connections, and gives each one that is ready a turn.
 
 ghost use Rattle.std.specs.Prelude.{◌≡◌, IfOk};
+ghost use Rattle.slab.specs.Slab.{ContainsKey};
 ghost use Rattle.intake.specs.LiveStores.{SeatGoesOn};
 ghost use Rattle.open_connections.specs.OpenConnections.{IsEmpty, IsRest};
 ghost use Rattle.trace_server.specs.WorkerConnections.{AllUnderway};
@@ -14,8 +15,8 @@ use crate::source::Source;
 use crate::worker::ServerContext;
 use crate::worker_store::WorkerStore;
 use open_connections::{
-    BufferedConnection, ConnectionProgress, ConnectionSet, ConnectionTurn, Event, MAX_EVENTS,
-    Readiness, Socket, TurnTime, WaitingBytes,
+    BufferedConnection, ConnectionEnd, ConnectionSet, ConnectionTurn, Event, MAX_EVENTS,
+    OpenProgress, Readiness, Socket, TurnTime, WaitingBytes,
 };
 use read_side::StoreName;
 use std::alloc::Global;
@@ -120,26 +121,50 @@ impl EventLoop {
         self.connections.is_empty() && self.lingering.is_empty()
     }
 
-    /// Schedules a connection that stays open: at once if it holds unanswered bytes; when its client takes more if a
-    /// response waits; or by registering it again if bytes may have come that aren't reported. Returns whether that
-    /// succeeded.
-    fn schedule(&mut self, key: usize, progress: ConnectionProgress, peer_closed: bool) -> bool
+    /// Counts the bytes that wait for the clients of this worker.
+    fn waiting_bytes(&self) -> WaitingBytes {
+        self.connections
+            .waiting_bytes()
+            .and(self.lingering.waiting_bytes())
+    }
+
+    /// Returns whether to drop a connection whose response waits, because too many bytes wait in all.
+    fn must_drop(&mut self, key: usize) -> bool
+        requires there { ContainsKey self.old.connections key }
         ensures open { self.new.connections ≡ self.old.connections }
     {
-        if let ConnectionProgress::HoldsBytes = progress {
-            return self.holding.push_back((key, peer_closed)).is_ok();
-        }
         let Some(connection) = self.connections.get(key) else {
-            // Impossible: the connection was served a moment ago, and is still open.
-            return true;
+            unreachable!();
+        };
+        let own = connection.connection.waiting_bytes();
+        let must_drop = is_too_much(own, self.waiting_bytes().without(own));
+        self.has_given_up |= must_drop;
+        must_drop
+    }
+
+    /// Registers a connection for when its client takes more of the response. Returns whether that succeeded.
+    fn await_writes(&mut self, key: usize) -> bool
+        requires there { ContainsKey self.old.connections key }
+        ensures open { self.new.connections ≡ self.old.connections }
+    {
+        let Some(connection) = self.connections.get(key) else {
+            unreachable!();
+        };
+        let descriptor = connection.connection.get_ref().raw_fd();
+        self.readiness
+            .reregister_for_writes(descriptor, Source::Open(key).token())
+            .is_ok()
+    }
+
+    /// Registers a connection again if bytes may have come that aren't reported. Returns whether that succeeded.
+    fn await_reads(&mut self, key: usize, peer_closed: bool) -> bool
+        requires there { ContainsKey self.old.connections key }
+        ensures open { self.new.connections ≡ self.old.connections }
+    {
+        let Some(connection) = self.connections.get(key) else {
+            unreachable!();
         };
         let socket = connection.connection.get_ref();
-        if let ConnectionProgress::Writing = progress {
-            return self
-                .readiness
-                .reregister_for_writes(socket.raw_fd(), Source::Open(key).token())
-                .is_ok();
-        }
         if peer_closed || connection.must_reregister || socket.last_read_was_full() {
             return self
                 .readiness
@@ -149,36 +174,31 @@ impl EventLoop {
         true
     }
 
-    /// Counts the bytes that wait for the clients of this worker.
-    fn waiting_bytes(&self) -> WaitingBytes {
-        self.connections
-            .waiting_bytes()
-            .and(self.lingering.waiting_bytes())
-    }
-
-    /// Returns whether to drop a connection because its response waits and too many bytes wait in all.
-    fn must_drop(&mut self, key: usize, progress: ConnectionProgress) -> bool
+    /// Schedules the next turn of a connection that stays open: at once if it holds unanswered bytes; when its client
+    /// takes more if a response waits; otherwise when bytes come. Returns whether that succeeded: not if a response
+    /// waits and too many bytes wait in all.
+    fn schedule(&mut self, key: usize, progress: OpenProgress, peer_closed: bool) -> bool
+        requires there { ContainsKey self.old.connections key }
         ensures open { self.new.connections ≡ self.old.connections }
     {
-        let ConnectionProgress::Writing = progress else {
-            return false;
-        };
-        let Some(connection) = self.connections.get(key) else {
-            // Impossible: the connection was served a moment ago, and is still open.
-            return false;
-        };
-        let own = connection.connection.waiting_bytes();
-        let must_drop = is_too_much(own, self.waiting_bytes().without(own));
-        self.has_given_up |= must_drop;
-        must_drop
+        match progress {
+            OpenProgress::HoldsBytes => self.holding.push_back((key, peer_closed)).is_ok(),
+            OpenProgress::Writing => {
+                if self.must_drop(key) {
+                    return false;
+                }
+                self.await_writes(key)
+            }
+            OpenProgress::Answered | OpenProgress::Paused => self.await_reads(key, peer_closed),
+        }
     }
 
     /// Keeps a connection open, if it can be scheduled.
-    fn keep(&mut self, key: usize, progress: ConnectionProgress, peer_closed: bool)
+    fn keep(&mut self, key: usize, progress: OpenProgress, peer_closed: bool)
+        requires there { ContainsKey self.old.connections key }
         ensures rest { IsRest self.old.connections self.new.connections }
     {
-        let stays = !self.must_drop(key, progress) && self.schedule(key, progress, peer_closed);
-        if !stays {
+        if !self.schedule(key, progress, peer_closed) {
             drop(self.connections.remove(key));
         }
     }
@@ -208,17 +228,14 @@ impl EventLoop {
 
     /// Closes a connection that was removed from the set. Its client can read the last response before, unless the
     /// connection has failed.
-    fn close_connection(
-        &mut self,
-        progress: ConnectionProgress,
-        buffered: BufferedConnection<Socket>,
-    )
+    fn close_connection(&mut self, end: ConnectionEnd, buffered: BufferedConnection<Socket>)
         ensures open { self.new.connections ≡ self.old.connections }
     {
-        match progress {
-            ConnectionProgress::ClosedByResponse => self.linger(buffered),
-            ConnectionProgress::ClosedByClient if buffered.has_waiting() => self.linger(buffered),
-            _ => drop(buffered),
+        match end {
+            ConnectionEnd::ClosedByResponse => self.linger(buffered),
+            ConnectionEnd::ClosedByClient if buffered.has_waiting() => self.linger(buffered),
+            ConnectionEnd::ClosedByClient | ConnectionEnd::Failed | ConnectionEnd::Undelivered =>
+                drop(buffered),
         }
     }
 
@@ -257,9 +274,7 @@ impl EventLoop {
     {
         match self.connections.take_turn(rt, alloc, key, self.at, store) {
             ConnectionTurn::Open(progress) => self.keep(key, progress, peer_closed),
-            ConnectionTurn::Removed(progress, buffered) => self.close_connection(
-                progress, buffered,
-            ),
+            ConnectionTurn::Removed(end, buffered) => self.close_connection(end, buffered),
             ConnectionTurn::Absent => {}
         }
     }

@@ -3,7 +3,8 @@
 use crate::tests::large::two_requests;
 use crate::tests::sessions::{empty_store, joined};
 use open_connections::{
-    BufferedConnection, ConnectionProgress, ConnectionSet, ConnectionTurn, TryConnection, TurnTime,
+    BufferedConnection, ConnectionEnd, ConnectionSet, ConnectionTurn, OpenProgress, TryConnection,
+    TurnTime,
 };
 use session_devices::{Failed, Input};
 use std::alloc::Global;
@@ -75,7 +76,7 @@ impl<'a> TryConnection for SlowClient<'a> {
 #[derive(Drop)]
 struct Served<'a> {
     buffered: BufferedConnection<SlowClient<'a>>,
-    progress: ConnectionProgress,
+    end: ConnectionEnd,
     waits: u32,
 }
 
@@ -94,12 +95,12 @@ fn serve_alone<'a, B: Backend<()>>(
             round,
         };
         match connections.take_turn(&(), alloc, key, at, store) {
-            ConnectionTurn::Open(ConnectionProgress::Writing) => waits = waits.saturating_add(1),
+            ConnectionTurn::Open(OpenProgress::Writing) => waits = waits.saturating_add(1),
             ConnectionTurn::Open(_) => {}
-            ConnectionTurn::Removed(progress, buffered) => {
+            ConnectionTurn::Removed(end, buffered) => {
                 return Ok(Served {
                     buffered,
-                    progress,
+                    end,
                     waits,
                 });
             }
@@ -136,7 +137,7 @@ fn flush_all(buffered: &mut BufferedConnection<SlowClient<'_>>) -> bool {
 /// How a connection ended whose response waited for its client.
 #[derive(Drop)]
 struct Ending {
-    progress: ConnectionProgress,
+    end: ConnectionEnd,
     /// Whether a response waited.
     has_waited: bool,
     /// Whether all of the last response was written in the end.
@@ -160,7 +161,7 @@ fn ending_of(
     let mut served = served?;
     let is_flushed = flush_all(&mut served.buffered);
     Ok(Ending {
-        progress: served.progress,
+        end: served.end,
         has_waited: served.waits > 0,
         is_flushed,
         taken: served.buffered.get_ref().taken.to_vec(alloc)?,
@@ -172,7 +173,7 @@ fn is_served(alloc: Global, keys: RandomState, step: usize) -> Result<bool, Fail
     let (bytes, wanted) = two_requests(alloc)?;
     let ending = ending_of(alloc, keys, &bytes, step, usize::MAX)?;
     Ok(
-        ending.progress == ConnectionProgress::ClosedByClient
+        ending.end == ConnectionEnd::ClosedByClient
             && ending.has_waited
             && ending.is_flushed
             && ending.taken.as_slice() == wanted.as_slice(),
@@ -195,7 +196,7 @@ fn is_undelivered(alloc: Global, keys: RandomState, room: usize) -> Result<bool,
     let twice = joined(alloc, &[&bytes, &bytes])?;
     let ending = ending_of(alloc, keys, &twice, 1_000, room)?;
     Ok(
-        ending.progress == ConnectionProgress::Undelivered
+        ending.end == ConnectionEnd::Undelivered
             && ending.taken.len() == room
             && wanted.starts_with(ending.taken.as_slice()),
     )

@@ -1,6 +1,6 @@
 use Rattle.std.proofs.Common.{refl, ◌∙◌}
 use Rattle.http_session.specs.declared.resumable.Progress.TheVariants.{Paused, Answered}
-use Rattle.open_connections.proofs.OpenConnections.{came_on, came_to_end, came_failed, come_open, moved_open}
+use Rattle.open_connections.proofs.OpenConnections.{came_on, came_to_end, came_failed, moved_open}
 use Rattle.open_connections.proofs.open.OpenConnection.continue_session.Goals as goal
 
 pub returns-in-Paused-clause-comes : goal.returns-in-Paused-clause-comes
@@ -14,9 +14,8 @@ returns-in-Answered-clause-comes g c =
     let came = c.in-Ok.ensures in
     let is = came_on _ _ _ _ c.args.self.now c.run_piece-taken.new.self _ _ c.borrow_room.ensures refl c.run_piece-taken.ensures.began c.requires.underway _
     Answered c.in-Answered.is refl came.goes_on came.open came.works in
-    come_open _ _ _ _ _ c.after_response.ensures.open
-    (moved_open _ _ _ c.run_piece-taken.new.self c.after_response.new.self c.after_response.ensures.connection
-    (c.after_response.ensures.session ∙ c.return_room.ensures) c.after_response.ensures.began is)
+    moved_open _ _ _ c.run_piece-taken.new.self c.after_response.new.self c.after_response.ensures.connection
+    (c.after_response.ensures.session ∙ c.return_room.ensures) c.after_response.ensures.began is
 
 pub returns-in-ClosedByClient-clause-comes : goal.returns-in-ClosedByClient-clause-comes
 returns-in-ClosedByClient-clause-comes g c =

@@ -1,9 +1,12 @@
 use Rattle.std.proofs.Common.{sym, subst}
 use Rattle.open_connections.specs.OpenConnections.{socket_model}
-use Rattle.open_connections.proofs.OpenConnections.{rest_is_open}
+use Rattle.open_connections.proofs.OpenConnections.{rest_is_open, still_there}
 use Rattle.trace_server.specs.WorkerConnections.{live_store, AllUnderway}
 use Rattle.trace_server.proofs.SessionPieces.{asking_goes_on}
 use Rattle.trace_server.proofs.event_loop.EventLoop.serve.Goals as goal
+
+pub keep-requires : goal.keep-requires
+keep-requires g c = record { there = still_there _ _ c.in-Open.ensures.turn }
 
 pub returns-in-Open-clause-underway : goal.returns-in-Open-clause-underway
 returns-in-Open-clause-underway g c =
