@@ -9,7 +9,7 @@ use Rattle.batch_feeder.specs.ContinuedCalls.{Faults}
 use Rattle.http_session.specs.Verdicts.{JudgesBatch}
 use Rattle.http_session.specs.Questions.{JudgesRead}
 use Rattle.http_session.specs.BodySinks.{Follows}
-use Rattle.http_session.specs.declared.verdict.ErrorReply.TheVariants.{NoSuchPath, NotAllowed, UnsupportedType, BadBatch, BadParameter, NoMemory}
+use Rattle.http_session.specs.declared.verdict.ErrorReply.TheVariants.{NoSuchPath, MethodNotAllowed, UnsupportedMediaType, BadBatch, BadParameter, NoMemory}
 use Rattle.http_session.specs.declared.verdict.Verdict.{Verdict}
 use Rattle.http_session.specs.declared.verdict.Verdict.TheVariants.{Submit, Ask, Reject}
 
@@ -36,8 +36,8 @@ module _ (old new : List ℕ → Result Reported DecodeError) (body : List ℕ) 
   batch_verdict (Reject (BadBatch f)) (inl same) is = (refl, sym (all same) ∙ is.0)
   batch_verdict (Reject (BadBatch f)) (inr want) is = absurd (is.1 (cc (want.0.all [], is.0)))
   batch_verdict (Reject NoMemory) follows is = refl
-  batch_verdict (Reject UnsupportedType) follows is = absurd is
+  batch_verdict (Reject UnsupportedMediaType) follows is = absurd is
   batch_verdict (Reject NoSuchPath) follows is = absurd is
-  batch_verdict (Reject (NotAllowed e)) follows is = absurd is
+  batch_verdict (Reject (MethodNotAllowed e)) follows is = absurd is
   batch_verdict (Reject (BadParameter p)) follows is = absurd is
   batch_verdict (Ask q) follows is = absurd is

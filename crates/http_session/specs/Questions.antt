@@ -7,7 +7,7 @@ use Rattle.http_requests.specs.HeadContents.{Asked}
 use Rattle.http_session.specs.Verdicts.{JudgesBatch, Judges}
 use Rattle.http_session.specs.declared.question.Question.{Question}
 use Rattle.http_session.specs.declared.question.Question.TheVariants.{Settled, Batch}
-use Rattle.http_session.specs.declared.verdict.ErrorReply.TheVariants.{NoSuchPath, NotAllowed, UnsupportedType, BadBatch, BadParameter, NoMemory}
+use Rattle.http_session.specs.declared.verdict.ErrorReply.TheVariants.{NoSuchPath, MethodNotAllowed, UnsupportedMediaType, BadBatch, BadParameter, NoMemory}
 use Rattle.http_session.specs.declared.verdict.Verdict.{Verdict}
 use Rattle.http_session.specs.declared.verdict.Verdict.TheVariants.{Submit, Ask, Reject}
 
@@ -25,8 +25,8 @@ abbrev pub JudgesRead : Result BatchValue DecodeError → Verdict → Type 0
 JudgesRead read (Submit b) = read ≡ Ok b
 JudgesRead read (Reject (BadBatch f)) = (read ≡ Err f) × (f ≢ Memory)
 JudgesRead read (Reject NoMemory) = read ≡ Err Memory
-JudgesRead read (Reject UnsupportedType) = ⊥
+JudgesRead read (Reject UnsupportedMediaType) = ⊥
 JudgesRead read (Reject NoSuchPath) = ⊥
-JudgesRead read (Reject (NotAllowed e)) = ⊥
+JudgesRead read (Reject (MethodNotAllowed e)) = ⊥
 JudgesRead read (Reject (BadParameter p)) = ⊥
 JudgesRead read (Ask q) = ⊥

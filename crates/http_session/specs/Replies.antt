@@ -15,7 +15,7 @@ use Rattle.query_http.specs.Statuses.{refusal_status}
 use Rattle.answer_trees.specs.Trees.{answer_tree, error_tree}
 use Rattle.http_session.specs.Verdicts.{takes_post}
 use Rattle.http_session.specs.declared.verdict.ErrorReply.{ErrorReply}
-use Rattle.http_session.specs.declared.verdict.ErrorReply.TheVariants.{NoSuchPath, NotAllowed, UnsupportedType, BadBatch, BadParameter, NoMemory}
+use Rattle.http_session.specs.declared.verdict.ErrorReply.TheVariants.{NoSuchPath, MethodNotAllowed, UnsupportedMediaType, BadBatch, BadParameter, NoMemory}
 use Rattle.http_session.specs.declared.reply.Reply.{Reply}
 use Rattle.http_session.specs.declared.reply.Reply.TheVariants.{Accepted, Answered, Refused, Error, NoRequest}
 
@@ -34,16 +34,16 @@ refusal_message why.Gone = codes "internal error"
 
 abbrev pub error_status : ErrorReply → ℕ
 error_status NoSuchPath = 404
-error_status (NotAllowed e) = 405
-error_status UnsupportedType = 415
+error_status (MethodNotAllowed e) = 405
+error_status UnsupportedMediaType = 415
 error_status (BadBatch f) = 400
 error_status (BadParameter p) = 400
 error_status NoMemory = 500
 
 abbrev pub error_message : ErrorReply → List ℕ
 error_message NoSuchPath = codes "no such path"
-error_message (NotAllowed e) = codes "method not allowed"
-error_message UnsupportedType = codes "unsupported content type"
+error_message (MethodNotAllowed e) = codes "method not allowed"
+error_message UnsupportedMediaType = codes "unsupported content type"
 error_message (BadBatch f) = codes "batch refused: " ++ fault_text f
 error_message (BadParameter p) = codes "bad parameter: " ++ parameter_name p
 error_message NoMemory = codes "out of memory"
@@ -89,9 +89,9 @@ abbrev pub methods_of : Endpoint → List ℕ
 methods_of e = if takes_post e then codes "GET, POST" else codes "GET"
 
 abbrev pub allowed_by : ErrorReply → List ℕ
-allowed_by (NotAllowed e) = methods_of e
+allowed_by (MethodNotAllowed e) = methods_of e
 allowed_by NoSuchPath = []
-allowed_by UnsupportedType = []
+allowed_by UnsupportedMediaType = []
 allowed_by (BadBatch f) = []
 allowed_by (BadParameter p) = []
 allowed_by NoMemory = []
@@ -105,9 +105,9 @@ allow_of (Refused r) = []
 allow_of (NoRequest b) = []
 
 abbrev pub error_closes : ErrorReply → Bool
-error_closes (NotAllowed e) = true
+error_closes (MethodNotAllowed e) = true
 error_closes NoSuchPath = false
-error_closes UnsupportedType = false
+error_closes UnsupportedMediaType = false
 error_closes (BadBatch f) = false
 error_closes (BadParameter p) = false
 error_closes NoMemory = false

@@ -14,7 +14,7 @@ use Rattle.query_http.specs.declared.paths.Endpoint.TheVariants.{Traces, Trace, 
 use Rattle.query_http.specs.Paths.{IsPath, IsNoPath}
 use Rattle.query_http.specs.QueryStrings.{pairs_of}
 use Rattle.query_http.specs.Queries.{query_at, path_of, query_string_of}
-use Rattle.http_session.specs.declared.verdict.ErrorReply.TheVariants.{NoSuchPath, NotAllowed, UnsupportedType, BadBatch, BadParameter, NoMemory}
+use Rattle.http_session.specs.declared.verdict.ErrorReply.TheVariants.{NoSuchPath, MethodNotAllowed, UnsupportedMediaType, BadBatch, BadParameter, NoMemory}
 use Rattle.http_session.specs.declared.verdict.Verdict.{Verdict}
 use Rattle.http_session.specs.declared.verdict.Verdict.TheVariants.{Submit, Ask, Reject}
 
@@ -42,8 +42,8 @@ abbrev pub JudgesQuery : Result Query Parameter → Verdict → Type 0
 JudgesQuery read (Ask q) = read ≡ Ok q
 JudgesQuery read (Reject (BadParameter p)) = read ≡ Err p
 JudgesQuery read (Reject NoSuchPath) = ⊥
-JudgesQuery read (Reject (NotAllowed e)) = ⊥
-JudgesQuery read (Reject UnsupportedType) = ⊥
+JudgesQuery read (Reject (MethodNotAllowed e)) = ⊥
+JudgesQuery read (Reject UnsupportedMediaType) = ⊥
 JudgesQuery read (Reject (BadBatch f)) = ⊥
 JudgesQuery read (Reject NoMemory) = ⊥
 JudgesQuery read (Submit b) = ⊥
@@ -53,9 +53,9 @@ abbrev pub JudgesBatch : Bool → List ℕ → Verdict → Type 0
 JudgesBatch has_type body (Submit b) = (has_type ≡ true) × (decoded body ≡ Ok b)
 JudgesBatch has_type body (Reject (BadBatch f)) = (has_type ≡ true) × (decoded body ≡ Err f)
 JudgesBatch has_type body (Reject NoMemory) = has_type ≡ true
-JudgesBatch has_type body (Reject UnsupportedType) = has_type ≡ false
+JudgesBatch has_type body (Reject UnsupportedMediaType) = has_type ≡ false
 JudgesBatch has_type body (Reject NoSuchPath) = ⊥
-JudgesBatch has_type body (Reject (NotAllowed e)) = ⊥
+JudgesBatch has_type body (Reject (MethodNotAllowed e)) = ⊥
 JudgesBatch has_type body (Reject (BadParameter p)) = ⊥
 JudgesBatch has_type body (Ask q) = ⊥
 
@@ -82,7 +82,7 @@ abbrev pub JudgesMethod : Asked → List ℕ → Verdict → Endpoint → List �
 JudgesMethod a body v e part =
     ((a.method ≡ Get) × JudgesQuery (query_at e part (pairs_of (query_string_of a.target))) v)
     ⊎ ((takes_post e ≡ true) × (a.method ≡ Post) × JudgesBatch a.has_batch_type body v)
-    ⊎ ((allows e a.method ≡ false) × (v ≡ Reject (NotAllowed e)))
+    ⊎ ((allows e a.method ≡ false) × (v ≡ Reject (MethodNotAllowed e)))
 
 -- no endpoint has the path, or the verdict is that of its endpoint
 abbrev pub Judges : Asked → List ℕ → Verdict → Type 0

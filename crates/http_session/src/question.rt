@@ -98,11 +98,11 @@ pub(crate) fn question_of(
             if request.has_batch_type {
                 Ok(Question::Batch)
             } else {
-                Ok(Question::Settled(Verdict::Reject(ErrorReply::UnsupportedType)))
+                Ok(Question::Settled(Verdict::Reject(ErrorReply::UnsupportedMediaType)))
             }
         }
         Method::Post | Method::Other => {
-            Ok(Question::Settled(Verdict::Reject(ErrorReply::NotAllowed(endpoint))))
+            Ok(Question::Settled(Verdict::Reject(ErrorReply::MethodNotAllowed(endpoint))))
         }
     }
 }

@@ -59,8 +59,8 @@ fn error_status(error: ErrorReply) -> Status
 {
     match error {
         ErrorReply::NoSuchPath => Status::NotFound,
-        ErrorReply::NotAllowed(_) => Status::MethodNotAllowed,
-        ErrorReply::UnsupportedType => Status::UnsupportedMediaType,
+        ErrorReply::MethodNotAllowed(_) => Status::MethodNotAllowed,
+        ErrorReply::UnsupportedMediaType => Status::UnsupportedMediaType,
         ErrorReply::BadBatch(_) | ErrorReply::BadParameter(_) => Status::BadRequest,
         ErrorReply::NoMemory => Status::InternalServerError,
     }
@@ -71,8 +71,8 @@ fn error_message(alloc: Global, error: ErrorReply) -> Result<String, AllocError>
 {
     match error {
         ErrorReply::NoSuchPath => String::from_str(alloc, "no such path"),
-        ErrorReply::NotAllowed(_) => String::from_str(alloc, "method not allowed"),
-        ErrorReply::UnsupportedType => String::from_str(alloc, "unsupported content type"),
+        ErrorReply::MethodNotAllowed(_) => String::from_str(alloc, "method not allowed"),
+        ErrorReply::UnsupportedMediaType => String::from_str(alloc, "unsupported content type"),
         ErrorReply::BadBatch(fault) => format!(in alloc; "batch refused: {fault}"),
         ErrorReply::BadParameter(parameter) => {
             let name = parameter.name();
@@ -198,7 +198,7 @@ impl Reply {
         ensures { result.now ≡ allow_of self.now }
     {
         match self {
-            Reply::Error(ErrorReply::NotAllowed(endpoint)) => methods_of(*endpoint),
+            Reply::Error(ErrorReply::MethodNotAllowed(endpoint)) => methods_of(*endpoint),
             _ => "",
         }
     }
@@ -209,7 +209,7 @@ impl Reply {
     {
         matches!(
             self,
-            Reply::Error(ErrorReply::NotAllowed(_)) | Reply::NoRequest(_)
+            Reply::Error(ErrorReply::MethodNotAllowed(_)) | Reply::NoRequest(_)
         )
     }
 

@@ -8,9 +8,9 @@ use trace_model::Query;
 pub enum ErrorReply {
     NoSuchPath,
     /// The endpoint accepts other methods.
-    NotAllowed(Endpoint),
+    MethodNotAllowed(Endpoint),
     /// The body has a content coding, or another type than the binary Thrift protocol.
-    UnsupportedType,
+    UnsupportedMediaType,
     BadBatch(DecodeError),
     BadParameter(Parameter),
     /// Memory ran out for the batch.

@@ -13,7 +13,7 @@ use Rattle.query_http.specs.QueryStrings.{pairs_of}
 use Rattle.query_http.specs.Queries.{query_at, path_of, query_string_of}
 use Rattle.query_http.proofs.PathLaws.{one_endpoint}
 use Rattle.http_session.specs.Verdicts.{takes_post, allows, JudgesQuery, JudgesBatch, JudgesMethod, Judges}
-use Rattle.http_session.specs.declared.verdict.ErrorReply.TheVariants.{NoSuchPath, NotAllowed, UnsupportedType, BadBatch, BadParameter, NoMemory}
+use Rattle.http_session.specs.declared.verdict.ErrorReply.TheVariants.{NoSuchPath, MethodNotAllowed, UnsupportedMediaType, BadBatch, BadParameter, NoMemory}
 use Rattle.http_session.specs.declared.verdict.Verdict.{Verdict}
 use Rattle.http_session.specs.declared.verdict.Verdict.TheVariants.{Submit, Ask, Reject}
 
@@ -24,15 +24,15 @@ query_verdict (Ok q) = Ask q
 query_verdict (Err p) = Reject (BadParameter p)
 
 batch_verdict : Bool → Result Batch DecodeError → Verdict
-batch_verdict false read = Reject UnsupportedType
+batch_verdict false read = Reject UnsupportedMediaType
 batch_verdict true (Ok b) = Submit b
 batch_verdict true (Err f) = Reject (BadBatch f)
 
 -- of an endpoint with the verdict of a query and the one of a batch
 method_verdict : Method → Endpoint → Verdict → Verdict → Verdict
 method_verdict Get e query batch = query
-method_verdict Post e query batch = if takes_post e then batch else Reject (NotAllowed e)
-method_verdict Other e query batch = Reject (NotAllowed e)
+method_verdict Post e query batch = if takes_post e then batch else Reject (MethodNotAllowed e)
+method_verdict Other e query batch = Reject (MethodNotAllowed e)
 
 verdict_at : Asked → List ℕ → Endpoint → List ℕ → Verdict
 verdict_at a body e part =
@@ -45,8 +45,8 @@ unfolding query_verdict
 by_query read (Ask q) is = sym (ap query_verdict is)
 by_query read (Reject (BadParameter p)) is = sym (ap query_verdict is)
 by_query read (Reject NoSuchPath) is = absurd is
-by_query read (Reject (NotAllowed e)) is = absurd is
-by_query read (Reject UnsupportedType) is = absurd is
+by_query read (Reject (MethodNotAllowed e)) is = absurd is
+by_query read (Reject UnsupportedMediaType) is = absurd is
 by_query read (Reject (BadBatch f)) is = absurd is
 by_query read (Reject NoMemory) is = absurd is
 by_query read (Submit b) is = absurd is
@@ -56,9 +56,9 @@ unfolding batch_verdict
 by_batch has_type body (Submit b) memory is = sym (ap (λ (t : Bool). batch_verdict t (decoded body)) is.0 ∙ ap (batch_verdict true) is.1)
 by_batch has_type body (Reject (BadBatch f)) memory is = sym (ap (λ (t : Bool). batch_verdict t (decoded body)) is.0 ∙ ap (batch_verdict true) is.1)
 by_batch has_type body (Reject NoMemory) memory is = absurd (memory refl)
-by_batch has_type body (Reject UnsupportedType) memory is = sym (ap (λ (t : Bool). batch_verdict t (decoded body)) is)
+by_batch has_type body (Reject UnsupportedMediaType) memory is = sym (ap (λ (t : Bool). batch_verdict t (decoded body)) is)
 by_batch has_type body (Reject NoSuchPath) memory is = absurd is
-by_batch has_type body (Reject (NotAllowed e)) memory is = absurd is
+by_batch has_type body (Reject (MethodNotAllowed e)) memory is = absurd is
 by_batch has_type body (Reject (BadParameter p)) memory is = absurd is
 by_batch has_type body (Ask q) memory is = absurd is
 
@@ -69,12 +69,12 @@ by_get m e query batch is = sym (ap (λ (n : Method). method_verdict n e query b
 by_post : (m : Method) (e : Endpoint) (query batch : Verdict) → m ≡ Post → takes_post e ≡ true → batch ≡ method_verdict m e query batch
 unfolding method_verdict
 by_post m e query batch is at =
-    sym (ap (λ (n : Method). method_verdict n e query batch) is ∙ ap (λ (t : Bool). if t then batch else Reject (NotAllowed e)) at)
+    sym (ap (λ (n : Method). method_verdict n e query batch) is ∙ ap (λ (t : Bool). if t then batch else Reject (MethodNotAllowed e)) at)
 
-by_neither : (m : Method) (e : Endpoint) (query batch : Verdict) → allows e m ≡ false → Reject (NotAllowed e) ≡ method_verdict m e query batch
+by_neither : (m : Method) (e : Endpoint) (query batch : Verdict) → allows e m ≡ false → Reject (MethodNotAllowed e) ≡ method_verdict m e query batch
 unfolding method_verdict
 by_neither Get e query batch not = absurd (cc not)
-by_neither Post e query batch not = sym (ap (λ (t : Bool). if t then batch else Reject (NotAllowed e)) not)
+by_neither Post e query batch not = sym (ap (λ (t : Bool). if t then batch else Reject (MethodNotAllowed e)) not)
 by_neither Other e query batch not = refl
 
 by_method : (a : Asked) (body : List ℕ) (v : Verdict) (e : Endpoint) (part : List ℕ) → v ≢ Reject NoMemory → JudgesMethod a body v e part
