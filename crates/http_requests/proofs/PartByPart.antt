@@ -11,7 +11,7 @@ use Rattle.http_requests.specs.declared.request.BodyLength.{BodyLength}
 use Rattle.http_requests.specs.declared.request.RequestFault.{RequestFault}
 use Rattle.http_requests.specs.declared.request.RequestFault.TheVariants as fault
 use Rattle.http_requests.specs.declared.body_reader.BodyReader.{BodyReader}
-use Rattle.http_requests.specs.declared.body_reader.BodyLook.TheVariants.{Whole, More, Fault}
+use Rattle.http_requests.specs.declared.body_reader.BodyStatus.TheVariants.{Complete, Partial, Invalid}
 use Rattle.http_requests.specs.declared.read_buffer.ReadError.{ReadError}
 use Rattle.http_requests.proofs.Readings.{nothing_yet, with_text, read_after, stops_reading}
 use Rattle.http_requests.proofs.Parts.{awaits_body, ended_breaks, breaks_anyway}
@@ -24,7 +24,7 @@ module _ {S R : Type 0} (takes : ByteTransfer S) (source : Source R) where
 
   module _ (joined : TakesJoined S takes) (s t : R) (old here new : ReadBuffer) (before now after : S) (size : BodyLength) (was is : BodyReader)
       (so : TakesPart (body_call takes source size) (body_moment s old before) (body_moment t here now) was) where
-    pub more_body : ContinuesBody takes (reader_moment was here now) (reader_moment is new after) (Some More)
+    pub more_body : ContinuesBody takes (reader_moment was here now) (reader_moment is new after) (Some Partial)
         → TakesPart (body_call takes source size) (body_moment s old before) (body_moment t new after) is
     more_body on = record {
       text = so.text ++ on.text;
@@ -34,7 +34,7 @@ module _ {S R : Type 0} (takes : ByteTransfer S) (source : Source R) where
       put = joined before now after so.content on.content so.put on.put;
     }
 
-    pub whole_body : ContinuesBody takes (reader_moment was here now) (reader_moment is new after) (Some Whole)
+    pub whole_body : ContinuesBody takes (reader_moment was here now) (reader_moment is new after) (Some Complete)
         → TakesBody (body_call takes source size) (body_moment s old before) (body_moment t new after)
     whole_body on = record {
       text = so.text ++ on.text;
@@ -44,7 +44,7 @@ module _ {S R : Type 0} (takes : ByteTransfer S) (source : Source R) where
       put = joined before now after so.content on.content so.put on.put;
     }
 
-    pub malformed_body : (why : RequestFault) → ContinuesBody takes (reader_moment was here now) (reader_moment is new after) (Some (Fault why))
+    pub malformed_body : (why : RequestFault) → ContinuesBody takes (reader_moment was here now) (reader_moment is new after) (Some (Invalid why))
         → BreaksBody (body_call takes source size) (body_moment s old before) (body_moment t new after) why
     malformed_body why on = record {
       text = so.text ++ on.text;

@@ -21,8 +21,8 @@ use Rattle.http_requests.specs.Bodies.{IsLineEnd}
 use Rattle.http_requests.specs.PartialRequests.{IsPartAt, IsPart, HasLookedAt, HasLooked, AwaitsAt}
 use Rattle.http_requests.specs.PartialRequests.{AwaitsMoreBody, BodyPart, body_part, ReaderMoment, reader_moment, sinkless_moment, HasStepOutcome}
 use Rattle.http_requests.specs.PartialRequests.{ContinuesBody, ContinuesWithoutData}
-use Rattle.http_requests.specs.declared.body_reader.BodyLook.{BodyLook}
-use Rattle.http_requests.specs.declared.body_reader.BodyLook.TheVariants.{Whole, More, Fault}
+use Rattle.http_requests.specs.declared.body_reader.BodyStatus.{BodyStatus}
+use Rattle.http_requests.specs.declared.body_reader.BodyStatus.TheVariants.{Complete, Partial, Invalid}
 use Rattle.http_requests.proofs.ChunkParts.{none_after, awaited_after, line_awaited, no_size, passes, each_with, sum_with, texts_with, content_awaited}
 use Rattle.http_requests.proofs.ChunkParts.{no_more_content, trailer_awaited, no_trailer_comes, chunks_whole}
 
@@ -281,12 +281,12 @@ cut_of : (old : ReadBuffer) (count : ℕ) → old ≡ put_back (take count old.h
 cut_of old count = ap (λ (l : List ℕ). record old { held = l }) (sym (take-append-drop count old.held))
 
 -- so many bytes were taken, and no data are in them
-pub text_taken : (old new : ReadBuffer) (was is : BodyReader) (look : Option BodyLook) (count : ℕ)
+pub text_taken : (old new : ReadBuffer) (was is : BodyReader) (status : Option BodyStatus) (count : ℕ)
     → new ≡ record old { held = drop count old.held }
     → ((of : BodyLength) (front fed : List ℕ) → IsPart of front fed was
-    → HasStepOutcome of (body_part (front ++ take count old.held) (fed ++ [])) (sinkless_moment is new) look)
-    → ContinuesWithoutData (sinkless_moment was old) (sinkless_moment is new) look
-text_taken old new was is look count new_is outcome = record {
+    → HasStepOutcome of (body_part (front ++ take count old.held) (fed ++ [])) (sinkless_moment is new) status)
+    → ContinuesWithoutData (sinkless_moment was old) (sinkless_moment is new) status
+text_taken old new was is status count new_is outcome = record {
   text = take count old.held;
   content = [];
   cut = cut_of old count ∙ ap (put_back (take count old.held)) (sym new_is);
@@ -295,27 +295,27 @@ text_taken old new was is look count new_is outcome = record {
 }
 
 -- nothing was taken
-pub none_taken : (old : ReadBuffer) (was is : BodyReader) (look : Option BodyLook)
-    → ((of : BodyLength) (front fed : List ℕ) → IsPart of front fed was → HasStepOutcome of (body_part front fed) (sinkless_moment is old) look)
-    → ContinuesWithoutData (sinkless_moment was old) (sinkless_moment is old) look
-none_taken old was is look outcome = record {
+pub none_taken : (old : ReadBuffer) (was is : BodyReader) (status : Option BodyStatus)
+    → ((of : BodyLength) (front fed : List ℕ) → IsPart of front fed was → HasStepOutcome of (body_part front fed) (sinkless_moment is old) status)
+    → ContinuesWithoutData (sinkless_moment was old) (sinkless_moment is old) status
+none_taken old was is status outcome = record {
   text = [];
   content = [];
   cut = refl;
   put = refl;
   outcome =
-      λ of front fed part. subst (λ (l : List ℕ). HasStepOutcome of (body_part l (fed ++ [])) (sinkless_moment is old) look) (sym (append-nil front))
-      (subst (λ (l : List ℕ). HasStepOutcome of (body_part front l) (sinkless_moment is old) look) (sym (append-nil fed)) (outcome of front fed part));
+      λ of front fed part. subst (λ (l : List ℕ). HasStepOutcome of (body_part l (fed ++ [])) (sinkless_moment is old) status) (sym (append-nil front))
+      (subst (λ (l : List ℕ). HasStepOutcome of (body_part front l) (sinkless_moment is old) status) (sym (append-nil fed)) (outcome of front fed part));
 }
 
 module _ {S : Type 0} (takes : ByteTransfer S) where
   -- the first bytes were taken and pushed into the sink
-  pub data_taken : (old new : ReadBuffer) (before after : S) (was is : BodyReader) (look : Option BodyLook) (count : ℕ)
+  pub data_taken : (old new : ReadBuffer) (before after : S) (was is : BodyReader) (status : Option BodyStatus) (count : ℕ)
       → takes before (take count old.held) after → new ≡ record old { held = drop count old.held }
       → ((of : BodyLength) (front fed : List ℕ) → IsPart of front fed was
-      → HasStepOutcome of (body_part (front ++ take count old.held) (fed ++ take count old.held)) (reader_moment is new after) look)
-      → ContinuesBody takes (reader_moment was old before) (reader_moment is new after) look
-  data_taken old new before after was is look count put new_is outcome =
+      → HasStepOutcome of (body_part (front ++ take count old.held) (fed ++ take count old.held)) (reader_moment is new after) status)
+      → ContinuesBody takes (reader_moment was old before) (reader_moment is new after) status
+  data_taken old new before after was is status count put new_is outcome =
       record {
         text = take count old.held;
         content = take count old.held;
@@ -325,29 +325,29 @@ module _ {S : Type 0} (takes : ByteTransfer S) where
       }
 
   -- an outcome doesn't depend on the sink
-  same_outcome : (of : BodyLength) (part : BodyPart) (new : ReadBuffer) (is : BodyReader) (s : S) (look : Option BodyLook)
-      → HasStepOutcome of part (sinkless_moment is new) look → HasStepOutcome of part (reader_moment is new s) look
+  same_outcome : (of : BodyLength) (part : BodyPart) (new : ReadBuffer) (is : BodyReader) (s : S) (status : Option BodyStatus)
+      → HasStepOutcome of part (sinkless_moment is new) status → HasStepOutcome of part (reader_moment is new s) status
   same_outcome of part new is s None outcome = outcome
-  same_outcome of part new is s (Some Whole) outcome = outcome
-  same_outcome of part new is s (Some More) outcome = outcome
-  same_outcome of part new is s (Some (Fault why)) outcome = outcome
+  same_outcome of part new is s (Some Complete) outcome = outcome
+  same_outcome of part new is s (Some Partial) outcome = outcome
+  same_outcome of part new is s (Some (Invalid why)) outcome = outcome
 
-  pub with_sink : TakesNothing S takes → (old new : ReadBuffer) (s : S) (was is : BodyReader) (look : Option BodyLook)
-      → ContinuesWithoutData (sinkless_moment was old) (sinkless_moment is new) look
-      → ContinuesBody takes (reader_moment was old s) (reader_moment is new s) look
-  with_sink nothing old new s was is look taken =
+  pub with_sink : TakesNothing S takes → (old new : ReadBuffer) (s : S) (was is : BodyReader) (status : Option BodyStatus)
+      → ContinuesWithoutData (sinkless_moment was old) (sinkless_moment is new) status
+      → ContinuesBody takes (reader_moment was old s) (reader_moment is new s) status
+  with_sink nothing old new s was is status taken =
       record {
         text = taken.text;
         content = taken.content;
         cut = taken.cut;
         put = subst (λ (l : List ℕ). takes s l s) (sym taken.put) (nothing s);
         outcome =
-            λ of front fed part. same_outcome of (body_part (front ++ taken.text) (fed ++ taken.content)) new is s look (taken.outcome of front fed part);
+            λ of front fed part. same_outcome of (body_part (front ++ taken.text) (fed ++ taken.content)) new is s status (taken.outcome of front fed part);
       }
 
-  pub taken_in_turn : TakesJoined S takes → (before mid after : ReaderMoment S) (look : Option BodyLook)
-      → ContinuesBody takes before mid None → ContinuesBody takes mid after look → ContinuesBody takes before after look
-  taken_in_turn joined before mid after look first second = record {
+  pub taken_in_turn : TakesJoined S takes → (before mid after : ReaderMoment S) (status : Option BodyStatus)
+      → ContinuesBody takes before mid None → ContinuesBody takes mid after status → ContinuesBody takes before after status
+  taken_in_turn joined before mid after status first second = record {
     text = first.text ++ second.text;
     content = first.content ++ second.content;
     cut =
@@ -355,9 +355,9 @@ module _ {S : Type 0} (takes : ByteTransfer S) where
         ∙ ap (λ (l : List ℕ). record after.received { held = l }) (sym (append_assoc first.text second.text after.received.held));
     put = joined before.sink mid.sink after.sink first.content second.content first.put second.put;
     outcome = λ of front fed part.
-        subst (λ (l : List ℕ). HasStepOutcome of (body_part l (fed ++ (first.content ++ second.content))) after look)
+        subst (λ (l : List ℕ). HasStepOutcome of (body_part l (fed ++ (first.content ++ second.content))) after status)
         (append_assoc front first.text second.text)
-        (subst (λ (l : List ℕ). HasStepOutcome of (body_part ((front ++ first.text) ++ second.text) l) after look)
+        (subst (λ (l : List ℕ). HasStepOutcome of (body_part ((front ++ first.text) ++ second.text) l) after status)
         (append_assoc fed first.content second.content)
         (second.outcome of (front ++ first.text) (fed ++ first.content) (first.outcome of front fed part)));
   }

@@ -3,7 +3,7 @@ use Rattle.std.specs.Prelude.{◌≡◌, ℕ, ◌≤◌, ◌==◌, ◌&&◌, Boo
 use Rattle.std.specs.Io.KnownBytes.{IsAtEnd}
 use Rattle.httparse.specs.Ascii.{crlf_bytes}
 use Rattle.http_requests.specs.Chunks.{IsSomeSizeLine, HasNone}
-use Rattle.http_requests.specs.ChunkLooks.{EndsNoLine}
+use Rattle.http_requests.specs.ChunkSearches.{EndsNoLine}
 use Rattle.http_requests.specs.Requests.{HasBody, BodyBreaks, AwaitsBody}
 use Rattle.http_requests.specs.AwaitedReads.{Source}
 use Rattle.http_requests.specs.ReceivedBytes.{ReadBuffer, ReadMoment, read_moment, ReadsOnWhile, put_back}

@@ -14,4 +14,4 @@ pub mod PartialRequests
 pub mod LineEnds
 pub mod LineLaws
 pub mod Chunks
-pub mod ChunkLooks
+pub mod ChunkSearches

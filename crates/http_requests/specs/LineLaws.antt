@@ -115,7 +115,7 @@ trailer_not_due bytes seen none not =
     let new = not_due bytes seen MAX_TRAILER_BYTES not in
     subst (HasNone IsTrailer) (take-append-drop seen bytes) (none_longer IsTrailer (take seen bytes) (drop seen bytes) trailer_ends none new.1)
 
--- where one byte makes a look due there are none
+-- if one byte makes a search due, there are none
 pub one_not_due : (P : List ℕ → Type 0) → P [] → (bytes : List ℕ) (seen : ℕ) → P (take seen bytes) → is_due bytes seen 1 ≡ false → P bytes
 one_not_due P none [] seen before not = none
 one_not_due P none (b ∷ bs) seen before not = absurd (omega (arith, (not_due (b ∷ bs) seen 1 not).0))

@@ -1,15 +1,15 @@
--- A request that was received in part: what is known about it between two looks at the bytes received.
+-- A request that was received in part: what is known about it between two searches of the bytes received.
 use Rattle.std.specs.Prelude.{◌≡◌, ℕ, ◌+◌, ◌<◌, ◌≤◌, List, [], ◌++◌, length, take, All, Option, Some, None}
 use Rattle.http_requests.specs.Chunks.{IsSizeLine, IsContent, IsTrailer, Chunk, IsChunk, texts, contents, HasNone}
-use Rattle.http_requests.specs.declared.chunked.looks.Look.{Look}
-use Rattle.http_requests.specs.declared.chunked.looks.Look.TheVariants as look
+use Rattle.http_requests.specs.declared.chunked.parse_status.ParseStatus.{ParseStatus}
+use Rattle.http_requests.specs.declared.chunked.parse_status.ParseStatus.TheVariants as status
 use Rattle.session_devices.specs.ByteTransfers.{ByteTransfer}
 use Rattle.http_requests.specs.declared.request.TheConstants.{MAX_BODY_BYTES}
 use Rattle.http_requests.specs.declared.request.BodyLength.{BodyLength}
 use Rattle.http_requests.specs.declared.request.BodyLength.TheVariants.{Bytes, Chunked, Unreadable, TooLarge}
 use Rattle.http_requests.specs.declared.request.RequestFault.TheVariants as fault
-use Rattle.http_requests.specs.declared.body_reader.BodyLook.{BodyLook}
-use Rattle.http_requests.specs.declared.body_reader.BodyLook.TheVariants.{Whole, More, Fault}
+use Rattle.http_requests.specs.declared.body_reader.BodyStatus.{BodyStatus}
+use Rattle.http_requests.specs.declared.body_reader.BodyStatus.TheVariants.{Complete, Partial, Invalid}
 use Rattle.http_requests.specs.declared.body_reader.BodyReader.{BodyReader}
 use Rattle.http_requests.specs.declared.body_reader.Stage.{Stage}
 use Rattle.http_requests.specs.declared.body_reader.Stage.TheVariants.{Length, SizeLine, Data, Trailer}
@@ -27,10 +27,10 @@ abbrev pub HasSeen : HeadWait → List ℕ → Type 0
 HasSeen wait held = (wait.seen ≤ length held) × AwaitsHead (take wait.seen held)
 
 -- if a head is still awaited, all bytes were examined
-abbrev pub SeesAll : {T : Type 0} → HeadWait → List ℕ → Look T → Type 0
-SeesAll wait held (look.Whole found) = Unit {0}
-SeesAll wait held look.More = wait.seen ≡ length held
-SeesAll wait held look.Never = Unit {0}
+abbrev pub SeesAll : {T : Type 0} → HeadWait → List ℕ → ParseStatus T → Type 0
+SeesAll wait held (status.Complete found) = Unit {0}
+SeesAll wait held status.Partial = wait.seen ≡ length held
+SeesAll wait held status.Invalid = Unit {0}
 
 -- ---- the part of a body that was taken, with the data in it
 
@@ -108,7 +108,7 @@ AwaitsAt (stage.Unreadable why) held = ⊥
 abbrev pub AwaitsMoreBody : BodyReader → List ℕ → Type 0
 AwaitsMoreBody reader held = AwaitsAt reader.stage held
 
--- ---- what a look finds
+-- ---- the status of a body
 
 -- the states of a reader, of the bytes received and of the sink at one moment
 pub record ReaderMoment (S : Type 0) : Type 0 where
@@ -121,44 +121,44 @@ reader_moment reader received sink = record { reader = reader; received = receiv
 
 -- what became of a body of this length, of which this part was taken: it is complete, the reader has taken this part, or
 -- the part with the bytes that follow is malformed
-abbrev pub HasOutcome : {S : Type 0} → BodyLength → BodyPart → ReaderMoment S → BodyLook → Type 0
-HasOutcome size part after Whole = HasBody size part.text part.content
-HasOutcome size part after More = IsPart size part.text part.content after.reader
-HasOutcome size part after (Fault why) = BodyBreaks ⊥ why size (part.text ++ after.received.held)
+abbrev pub HasOutcome : {S : Type 0} → BodyLength → BodyPart → ReaderMoment S → BodyStatus → Type 0
+HasOutcome size part after Complete = HasBody size part.text part.content
+HasOutcome size part after Partial = IsPart size part.text part.content after.reader
+HasOutcome size part after (Invalid why) = BodyBreaks ⊥ why size (part.text ++ after.received.held)
 
--- the same after one step of a look, which decides nothing if another step may follow
-abbrev pub HasStepOutcome : {S : Type 0} → BodyLength → BodyPart → ReaderMoment S → Option BodyLook → Type 0
+-- the same after one step, which decides nothing if another step may follow
+abbrev pub HasStepOutcome : {S : Type 0} → BodyLength → BodyPart → ReaderMoment S → Option BodyStatus → Type 0
 HasStepOutcome size part after None = IsPart size part.text part.content after.reader
-HasStepOutcome size part after (Some look) = HasOutcome size part after look
+HasStepOutcome size part after (Some status) = HasOutcome size part after status
 
 -- if nothing is decided, more of the body is awaited
-abbrev pub AwaitsIfMore : BodyReader → List ℕ → BodyLook → Type 0
-AwaitsIfMore reader held Whole = Unit {0}
-AwaitsIfMore reader held More = AwaitsMoreBody reader held
-AwaitsIfMore reader held (Fault why) = Unit {0}
+abbrev pub AwaitsIfMore : BodyReader → List ℕ → BodyStatus → Type 0
+AwaitsIfMore reader held Complete = Unit {0}
+AwaitsIfMore reader held Partial = AwaitsMoreBody reader held
+AwaitsIfMore reader held (Invalid why) = Unit {0}
 
--- the same after one step of a look: the bytes that were examined hold no trailer if another step may follow
-abbrev pub AwaitsAfterStep : BodyReader → List ℕ → Option BodyLook → Type 0
+-- the same after one step: the bytes that were examined hold no trailer if another step may follow
+abbrev pub AwaitsAfterStep : BodyReader → List ℕ → Option BodyStatus → Type 0
 AwaitsAfterStep reader held None = HasLooked reader held
-AwaitsAfterStep reader held (Some look) = AwaitsIfMore reader held look
+AwaitsAfterStep reader held (Some status) = AwaitsIfMore reader held status
 
 -- A text was taken from the bytes received, and the data in it were pushed into the sink. Whatever part the reader had
 -- taken before, that part with this text has this outcome.
-pub record ContinuesBody {S : Type 0} (takes : ByteTransfer S) (before after : ReaderMoment S) (look : Option BodyLook) : Type 0 where
+pub record ContinuesBody {S : Type 0} (takes : ByteTransfer S) (before after : ReaderMoment S) (status : Option BodyStatus) : Type 0 where
   pub text : List ℕ
   pub content : List ℕ
   pub cut : before.received ≡ put_back text after.received
   pub put : takes before.sink content after.sink
   pub outcome : (size : BodyLength) (front fed : List ℕ) → IsPart size front fed before.reader
-      → HasStepOutcome size (body_part (front ++ text) (fed ++ content)) after look
+      → HasStepOutcome size (body_part (front ++ text) (fed ++ content)) after status
 
 -- the states of a reader and of the bytes received at one moment, without a sink
 abbrev pub sinkless_moment : BodyReader → ReadBuffer → ReaderMoment (Unit {0})
 sinkless_moment reader received = reader_moment reader received tt
 
 -- like ContinuesBody, for a text without data
-abbrev pub ContinuesWithoutData : ReaderMoment (Unit {0}) → ReaderMoment (Unit {0}) → Option BodyLook → Type 0
-ContinuesWithoutData before after look = ContinuesBody {S = Unit {0}} (λ s content t. content ≡ []) before after look
+abbrev pub ContinuesWithoutData : ReaderMoment (Unit {0}) → ReaderMoment (Unit {0}) → Option BodyStatus → Type 0
+ContinuesWithoutData before after status = ContinuesBody {S = Unit {0}} (λ s content t. content ≡ []) before after status
 
 -- a part of a body was taken, and its data were pushed into the sink; each read for it was made while more was awaited
 pub record TakesPart {R S : Type 0} (call : BodyCall R S) (before after : BodyMoment R S) (reader : BodyReader) : Type 0 where

@@ -4,7 +4,7 @@ ghost use Rattle.http_requests.specs.AwaitedReads.{source_of};
 ghost use Rattle.http_requests.specs.ReceivedBytes.{KnowsItsEnd, StopsWhile, SameUnlessReading, read_moment, failed_call};
 ghost use Rattle.http_requests.specs.Bodies.{ReadsBody, body_call, body_moment};
 
-use crate::body_reader::{BodyLook, BodyReader};
+use crate::body_reader::{BodyReader, BodyStatus};
 use crate::read_buffer::{ReadBuffer, ReadError};
 use crate::request::{BodyLength, RequestFault};
 use crate::sink::Sink;
@@ -39,10 +39,10 @@ pub fn read_body<R: Input, S: Sink>(
     // For the prover: its proof names the loop by the label.
     'reads: loop {
         match reader.take_from(received, sink) {
-            BodyLook::Whole => return Ok(Ok(())),
-            BodyLook::Fault(why) => return Ok(Err(why)),
-            BodyLook::More if received.has_ended() => return Ok(Err(RequestFault::Body)),
-            BodyLook::More => received.read_more(input)?,
+            BodyStatus::Complete => return Ok(Ok(())),
+            BodyStatus::Invalid(why) => return Ok(Err(why)),
+            BodyStatus::Partial if received.has_ended() => return Ok(Err(RequestFault::Body)),
+            BodyStatus::Partial => received.read_more(input)?,
         }
     }
 }

@@ -8,7 +8,7 @@ ghost use Rattle.http_requests.specs.PartialRequests.{IsPart, HasLooked, AwaitsI
 ghost use Rattle.http_requests.specs.PartialRequests.{ContinuesBody, ContinuesWithoutData, reader_moment, sinkless_moment};
 ghost use Rattle.http_requests.specs.declared.body_reader.Stage.TheVariants as stage;
 
-use crate::chunked::{Look, MAX_TRAILER_BYTES, look_for_size, look_for_trailer};
+use crate::chunked::{MAX_TRAILER_BYTES, ParseStatus, look_for_size, look_for_trailer};
 use crate::read_buffer::ReadBuffer;
 use crate::request::{BodyLength, MAX_BODY_BYTES, RequestFault};
 use crate::searching::{Search, look_when_due};
@@ -16,13 +16,13 @@ use crate::sink::Sink;
 
 /// What became of a body with the bytes received so far.
 #[derive(Clone, Copy, Debug, PartialEq, Eq)]
-pub enum BodyLook {
+pub enum BodyStatus {
     /// It was taken completely.
-    Whole,
+    Complete,
     /// More of it is awaited.
-    More,
+    Partial,
     /// It can't be read, whatever follows.
-    Fault(RequestFault),
+    Invalid(RequestFault),
 }
 
 /// The next part of a body.
@@ -71,7 +71,7 @@ impl Search for Trailer {
 
     ghost awaited_still = { trailer_not_due };
 
-    fn look(&mut self, bytes: &[u8]) -> Look<usize> {
+    fn look(&mut self, bytes: &[u8]) -> ParseStatus<usize> {
         look_for_trailer(bytes)
     }
 }
@@ -91,17 +91,17 @@ fn may_begin_line_end(bytes: &[u8]) -> bool
 }
 
 /// Looks for CR LF at the start of the bytes.
-fn look_for_line_end(bytes: &[u8]) -> Look<usize>
+fn look_for_line_end(bytes: &[u8]) -> ParseStatus<usize>
     ensures { LooksFor
         (search_for (AwaitsRest IsLineEnd) (Begins IsLineEnd) (NeverHas IsLineEnd))
         bytes.now result }
 {
     if begins_line_end(bytes) {
-        Look::Whole(2)
+        ParseStatus::Complete(2)
     } else if may_begin_line_end(bytes) {
-        Look::More
+        ParseStatus::Partial
     } else {
-        Look::Never
+        ParseStatus::Invalid
     }
 }
 
@@ -137,7 +137,7 @@ impl BodyReader {
     }
 
     /// Takes a size line.
-    fn take_size_line(&mut self, received: &mut ReadBuffer) -> Option<BodyLook>
+    fn take_size_line(&mut self, received: &mut ReadBuffer) -> Option<BodyStatus>
         requires stage { self.old.stage ≡ stage.SizeLine }
         ensures took { ContinuesWithoutData (sinkless_moment self.old received.old)
             (sinkless_moment self.new received.new) result }
@@ -145,10 +145,10 @@ impl BodyReader {
         ensures fewer { IfNone result (length received.new.held < length received.old.held) }
     {
         match look_for_size(received.as_slice()) {
-            Look::Whole((length, size)) => {
+            ParseStatus::Complete((length, size)) => {
                 received.take(length);
                 if size > self.data_left {
-                    return Some(BodyLook::Fault(RequestFault::TooLarge));
+                    return Some(BodyStatus::Invalid(RequestFault::TooLarge));
                 }
                 if size == 0 {
                     self.stage = Stage::Trailer(0);
@@ -158,13 +158,13 @@ impl BodyReader {
                 }
                 None
             }
-            Look::More => Some(BodyLook::More),
-            Look::Never => Some(BodyLook::Fault(RequestFault::Body)),
+            ParseStatus::Partial => Some(BodyStatus::Partial),
+            ParseStatus::Invalid => Some(BodyStatus::Invalid(RequestFault::Body)),
         }
     }
 
     /// Takes the CR LF after the data of a chunk.
-    fn take_line_end(&mut self, received: &mut ReadBuffer) -> Option<BodyLook>
+    fn take_line_end(&mut self, received: &mut ReadBuffer) -> Option<BodyStatus>
         requires stage { self.old.stage ≡ stage.Data 0 }
         ensures took { ContinuesWithoutData (sinkless_moment self.old received.old)
             (sinkless_moment self.new received.new) result }
@@ -172,18 +172,18 @@ impl BodyReader {
         ensures fewer { IfNone result (length received.new.held < length received.old.held) }
     {
         match look_for_line_end(received.as_slice()) {
-            Look::Whole(length) => {
+            ParseStatus::Complete(length) => {
                 received.take(length);
                 self.stage = Stage::SizeLine;
                 None
             }
-            Look::More => Some(BodyLook::More),
-            Look::Never => Some(BodyLook::Fault(RequestFault::Body)),
+            ParseStatus::Partial => Some(BodyStatus::Partial),
+            ParseStatus::Invalid => Some(BodyStatus::Invalid(RequestFault::Body)),
         }
     }
 
     /// Takes the trailer. The first `seen` bytes received hold none.
-    fn take_trailer(&mut self, received: &mut ReadBuffer, seen: usize) -> BodyLook
+    fn take_trailer(&mut self, received: &mut ReadBuffer, seen: usize) -> BodyStatus
         requires stage { self.old.stage ≡ stage.Trailer seen }
         requires looked { HasLooked self.old received.old.held }
         ensures took { ContinuesWithoutData (sinkless_moment self.old received.old)
@@ -192,15 +192,15 @@ impl BodyReader {
     {
         let bytes = received.as_slice();
         match look_when_due(bytes, seen, &mut Trailer) {
-            Look::Whole(length) => {
+            ParseStatus::Complete(length) => {
                 received.take(length);
-                BodyLook::Whole
+                BodyStatus::Complete
             }
-            Look::More => {
+            ParseStatus::Partial => {
                 self.stage = Stage::Trailer(bytes.len());
-                BodyLook::More
+                BodyStatus::Partial
             }
-            Look::Never => BodyLook::Fault(RequestFault::Body),
+            ParseStatus::Invalid => BodyStatus::Invalid(RequestFault::Body),
         }
     }
 
@@ -210,7 +210,7 @@ impl BodyReader {
         received: &mut ReadBuffer,
         sink: &mut S,
         count: u64,
-    ) -> BodyLook
+    ) -> BodyStatus
         requires stage { self.old.stage ≡ stage.Length count }
         ensures took { ContinuesBody S.takes (reader_moment self.old received.old sink.old)
             (reader_moment self.new received.new sink.new) (Some result) }
@@ -218,10 +218,10 @@ impl BodyReader {
     {
         let put = push_some(received, sink, count);
         if put == count {
-            return BodyLook::Whole;
+            return BodyStatus::Complete;
         }
         self.stage = Stage::Length(count - put);
-        BodyLook::More
+        BodyStatus::Partial
     }
 
     /// Takes the next data of a chunk that has `count` bytes left.
@@ -230,7 +230,7 @@ impl BodyReader {
         received: &mut ReadBuffer,
         sink: &mut S,
         count: u64,
-    ) -> Option<BodyLook>
+    ) -> Option<BodyStatus>
         requires stage { self.old.stage ≡ stage.Data count }
         requires some { 0 < count }
         ensures took { ContinuesBody S.takes (reader_moment self.old received.old sink.old)
@@ -243,13 +243,13 @@ impl BodyReader {
         if put == count {
             None
         } else {
-            Some(BodyLook::More)
+            Some(BodyStatus::Partial)
         }
     }
 
     /// Takes the next part of the body, as far as the bytes received go. Returns `None` if another part may follow at
     /// once.
-    fn step<S: Sink>(&mut self, received: &mut ReadBuffer, sink: &mut S) -> Option<BodyLook>
+    fn step<S: Sink>(&mut self, received: &mut ReadBuffer, sink: &mut S) -> Option<BodyStatus>
         requires looked { HasLooked self.old received.old.held }
         ensures took { ContinuesBody S.takes (reader_moment self.old received.old sink.old)
             (reader_moment self.new received.new sink.new) result }
@@ -262,13 +262,13 @@ impl BodyReader {
             Stage::Data(0) => self.take_line_end(received),
             Stage::Data(count) => self.take_data(received, sink, count),
             Stage::Trailer(seen) => Some(self.take_trailer(received, seen)),
-            Stage::Unreadable(why) => Some(BodyLook::Fault(why)),
+            Stage::Unreadable(why) => Some(BodyStatus::Invalid(why)),
         }
     }
 
     /// Takes the received part of the body, and pushes its data into the sink. Nothing is read. If more is awaited, the
     /// bytes that were not taken are examined again together with the next ones.
-    pub fn take_from<S: Sink>(&mut self, received: &mut ReadBuffer, sink: &mut S) -> BodyLook
+    pub fn take_from<S: Sink>(&mut self, received: &mut ReadBuffer, sink: &mut S) -> BodyStatus
         requires looked { HasLooked self.old received.old.held }
         ensures took { ContinuesBody S.takes (reader_moment self.old received.old sink.old)
             (reader_moment self.new received.new sink.new) (Some result) }
@@ -276,8 +276,8 @@ impl BodyReader {
     {
         // For the prover: its proof names the loop by the label.
         'steps: loop {
-            if let Some(look) = self.step(received, sink) {
-                return look;
+            if let Some(status) = self.step(received, sink) {
+                return status;
             }
         }
     }

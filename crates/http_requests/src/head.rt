@@ -1,6 +1,6 @@
 ghost use Rattle.http_requests.specs.Heads.{AwaitsHead};
 
-use crate::chunked::{Look, look_by, prefix_of};
+use crate::chunked::{ParseStatus, limited_status, prefix_of};
 use crate::searching::Search;
 use httparse::spans::{EMPTY_HEADER_SPAN, HeaderSpan, RequestSpans, parse_request};
 
@@ -48,13 +48,13 @@ impl Search for HeadSearch {
 
     ghost awaited_still = { head_not_due };
 
-    fn look(&mut self, bytes: &[u8]) -> Look<RequestSpans> {
+    fn look(&mut self, bytes: &[u8]) -> ParseStatus<RequestSpans> {
         let parsed = parse_request(prefix_of(bytes, MAX_HEAD_BYTES), &mut self.headers);
-        match look_by(parsed, bytes.len(), MAX_HEAD_BYTES) {
-            Look::Whole(spans) if spans.headers > MAX_FIELDS => Look::Never,
-            Look::Whole(spans) => Look::Whole(spans),
-            Look::More => Look::More,
-            Look::Never => Look::Never,
+        match limited_status(parsed, bytes.len(), MAX_HEAD_BYTES) {
+            ParseStatus::Complete(spans) if spans.headers > MAX_FIELDS => ParseStatus::Invalid,
+            ParseStatus::Complete(spans) => ParseStatus::Complete(spans),
+            ParseStatus::Partial => ParseStatus::Partial,
+            ParseStatus::Invalid => ParseStatus::Invalid,
         }
     }
 }

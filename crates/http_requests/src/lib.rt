@@ -42,8 +42,8 @@ mod searching;
 mod sink;
 
 pub use bodies::read_body;
-pub use body_reader::{BodyLook, BodyReader};
-pub use chunked::Look;
+pub use body_reader::{BodyReader, BodyStatus};
+pub use chunked::ParseStatus;
 pub use read_buffer::{ReadBuffer, ReadError};
 pub use reading::{HeadWait, Next, next_head};
 pub use request::{BodyLength, FoundHead, Method, Request, RequestFault};

@@ -7,7 +7,7 @@ ghost use Rattle.http_requests.specs.AwaitedReads.{source_of};
 ghost use Rattle.http_requests.specs.ReceivedBytes.{KnowsItsEnd, StopsWhile, SameUnlessReading, read_moment, failed_call};
 ghost use Rattle.http_requests.specs.HeadSearches.{Finds};
 
-use crate::chunked::Look;
+use crate::chunked::ParseStatus;
 use crate::head::HeadSearch;
 use crate::read_buffer::{ReadBuffer, ReadError};
 use crate::request::{FoundHead, found_head};
@@ -41,19 +41,23 @@ impl HeadWait {
 
     /// Looks for the head of a request at the start of the bytes received. Bytes that were examined are not examined
     /// again before a line ends after them.
-    pub fn look(&mut self, bytes: &[u8]) -> Look<FoundHead>
+    pub fn look(&mut self, bytes: &[u8]) -> ParseStatus<FoundHead>
         requires seen { HasSeen self.old bytes.now }
         ensures found { LooksFor (search_for AwaitsHead Frames NeverHasHead) bytes.now result }
         ensures seen { SeesAll self.new bytes.now result }
     {
         let mut search = HeadSearch::new();
         match look_when_due(bytes, self.seen, &mut search) {
-            Look::Whole(spans) => Look::Whole(found_head(bytes, &search.headers, spans)),
-            Look::More => {
+            ParseStatus::Complete(spans) => ParseStatus::Complete(found_head(
+                bytes,
+                &search.headers,
+                spans,
+            )),
+            ParseStatus::Partial => {
                 self.seen = bytes.len();
-                Look::More
+                ParseStatus::Partial
             }
-            Look::Never => Look::Never,
+            ParseStatus::Invalid => ParseStatus::Invalid,
         }
     }
 }
@@ -81,10 +85,10 @@ pub fn next_head<R: Input>(input: &mut R, received: &mut ReadBuffer) -> Result<N
     // For the prover: its proof names the loop by the label.
     'reads: loop {
         match wait.look(received.as_slice()) {
-            Look::Whole(found) => return Ok(Next::One(found)),
-            Look::More if !received.has_ended() => received.read_more(input)?,
-            Look::More if received.as_slice().is_empty() => return Ok(Next::EndOfInput),
-            Look::More | Look::Never => return Ok(Next::NoHead),
+            ParseStatus::Complete(found) => return Ok(Next::One(found)),
+            ParseStatus::Partial if !received.has_ended() => received.read_more(input)?,
+            ParseStatus::Partial if received.as_slice().is_empty() => return Ok(Next::EndOfInput),
+            ParseStatus::Partial | ParseStatus::Invalid => return Ok(Next::NoHead),
         }
     }
 }

@@ -2,7 +2,7 @@ ghost use Rattle.std.specs.Prelude.{◌≡◌, ◌≤◌, ℕ, List, [], false, 
 ghost use Rattle.http_requests.specs.LineEnds.{is_due};
 ghost use Rattle.http_requests.specs.Searches.{LooksFor, search_for};
 
-use crate::chunked::Look;
+use crate::chunked::ParseStatus;
 use crate::line_ends::is_due;
 
 /// A search for a text at the start of the bytes received.
@@ -26,7 +26,7 @@ pub(crate) trait Search {
     ghost never_has: { List ℕ → Type 0 };
 
     /// Searches the bytes received so far.
-    fn look(&mut self, bytes: &[u8]) -> Look<Self::Found>
+    fn look(&mut self, bytes: &[u8]) -> ParseStatus<Self::Found>
         ensures { LooksFor (search_for awaits (finds self.new) never_has) bytes.now result };
 
     /// The text is awaited before the first byte.
@@ -39,7 +39,11 @@ pub(crate) trait Search {
 
 /// Searches if the text may have come with the bytes after the first `seen`, or can't come later. It was awaited in the
 /// first `seen` bytes.
-pub(crate) fn look_when_due<S: Search>(bytes: &[u8], seen: usize, sought: &mut S) -> Look<S::Found>
+pub(crate) fn look_when_due<S: Search>(
+    bytes: &[u8],
+    seen: usize,
+    sought: &mut S,
+) -> ParseStatus<S::Found>
     requires seen { seen ≤ length bytes.now }
     requires before { S.awaits (take seen bytes.now) }
     ensures { LooksFor (search_for S.awaits (S.finds sought.new) S.never_has)
@@ -48,6 +52,6 @@ pub(crate) fn look_when_due<S: Search>(bytes: &[u8], seen: usize, sought: &mut S
     if is_due(bytes, seen, S::MAX_LENGTH) {
         sought.look(bytes)
     } else {
-        Look::More
+        ParseStatus::Partial
     }
 }

@@ -19,8 +19,8 @@ use Rattle.http_requests.specs.declared.request.RequestFault.{RequestFault}
 use Rattle.http_requests.specs.declared.request.RequestFault.TheVariants as fault
 use Rattle.http_requests.specs.declared.request.FoundHead.{FoundHead}
 use Rattle.http_requests.specs.declared.body_reader.BodyReader.{BodyReader}
-use Rattle.http_requests.specs.declared.body_reader.BodyLook.{BodyLook}
-use Rattle.http_requests.specs.declared.body_reader.BodyLook.TheVariants as look
+use Rattle.http_requests.specs.declared.body_reader.BodyStatus.{BodyStatus}
+use Rattle.http_requests.specs.declared.body_reader.BodyStatus.TheVariants as status
 use Rattle.http_requests.proofs.OneRequest.{head_stays}
 use Rattle.http_requests.proofs.WholeRequests.{head_cut}
 use Rattle.http_requests.proofs.Parts.{awaits_body, has_looked, ended_breaks, breaks_anyway}
@@ -57,7 +57,7 @@ batch_carries b d content follows question.Batch before judged =
 
 -- the same was taken, and put into another sink
 pub put_as : {S T : Type 0} (takes : ByteTransfer S) (other : ByteTransfer T) (old new : ReadBuffer) (s t : S) (x y : T) (was is : BodyReader)
-    (result : BodyLook)
+    (result : BodyStatus)
     → ((content : List ℕ) → takes s content t → other x content y)
     → ContinuesBody takes (reader_moment was old s) (reader_moment is new t) (Some result)
     → ContinuesBody other (reader_moment was old x) (reader_moment is new y) (Some result)
@@ -70,11 +70,11 @@ put_as takes other old new s t x y was is result puts on = record {
       λ of front fed part. other_sink of (body_part (front ++ on.text) (fed ++ on.content)) result (on.outcome of front fed part);
 }
   where
-    other_sink : (of : BodyLength) (part : BodyPart) (look : BodyLook) → HasStepOutcome of part (reader_moment is new t) (Some look)
-        → HasStepOutcome of part (reader_moment is new y) (Some look)
-    other_sink of part look.Whole outcome = outcome
-    other_sink of part look.More outcome = outcome
-    other_sink of part (look.Fault why) outcome = outcome
+    other_sink : (of : BodyLength) (part : BodyPart) (body : BodyStatus) → HasStepOutcome of part (reader_moment is new t) (Some body)
+        → HasStepOutcome of part (reader_moment is new y) (Some body)
+    other_sink of part status.Complete outcome = outcome
+    other_sink of part status.Partial outcome = outcome
+    other_sink of part (status.Invalid why) outcome = outcome
 
 pub settled_decides : (v : Verdict) (q : Question) (body : List ℕ) → JudgesBy q (Settled v) body → Decides q body v
 settled_decides v (question.Settled w) body judged = judged
@@ -177,7 +177,7 @@ module _ (was is : PartialRequest) (text : List ℕ) (old new : ReadBuffer) (so 
   text_after more = ap (λ l. l ++ more) so.text_is ∙ append_assoc (print_request so.head) so.taken more
 
   pub part_more : is.closes ≡ was.closes
-      → (on : ContinuesBody Carries (reader_moment was.reader old was.sink) (reader_moment is.reader new is.sink) (Some look.More))
+      → (on : ContinuesBody Carries (reader_moment was.reader old was.sink) (reader_moment is.reader new is.sink) (Some status.Partial))
       → IsPartOf is (text ++ on.text)
   part_more closes on = record {
     head = so.head;
@@ -193,13 +193,13 @@ module _ (was is : PartialRequest) (text : List ℕ) (old new : ReadBuffer) (so 
   }
 
   pub receives_more : is.closes ≡ was.closes
-      → ContinuesBody Carries (reader_moment was.reader old was.sink) (reader_moment is.reader new is.sink) (Some look.More)
+      → ContinuesBody Carries (reader_moment was.reader old was.sink) (reader_moment is.reader new is.sink) (Some status.Partial)
       → ReceivesPart (put_back text old) new (Body is)
   receives_more closes on = record { text = text ++ on.text; cut = cut_after on.text on.cut; incoming = part_more closes on }
 
   -- the input ended after it
   pub receives_end_inside : is.closes ≡ was.closes
-      → ContinuesBody Carries (reader_moment was.reader old was.sink) (reader_moment is.reader new is.sink) (Some look.More)
+      → ContinuesBody Carries (reader_moment was.reader old was.sink) (reader_moment is.reader new is.sink) (Some status.Partial)
       → AwaitsMoreBody is.reader new.held → new.ended ≡ true → ReceivesFault (put_back text old) new fault.Body
   unfolding ends_inside part_more
   receives_end_inside closes on awaits ended =
@@ -207,7 +207,7 @@ module _ (was is : PartialRequest) (text : List ℕ) (old new : ReadBuffer) (so 
       record { text = text ++ on.text; cut = cut_after on.text on.cut; malformed = inside.malformed }
 
   pub receives_malformed : (why : RequestFault)
-      → ContinuesBody Carries (reader_moment was.reader old was.sink) (reader_moment is.reader new is.sink) (Some (look.Fault why))
+      → ContinuesBody Carries (reader_moment was.reader old was.sink) (reader_moment is.reader new is.sink) (Some (status.Invalid why))
       → ReceivesFault (put_back text old) new why
   receives_malformed why on =
       let breaks = on.outcome (body_length so.head) so.taken so.content so.part in
@@ -222,7 +222,7 @@ module _ (was is : PartialRequest) (text : List ℕ) (old new : ReadBuffer) (so 
       }
 
   pub receives_whole : is.closes ≡ was.closes
-      → ContinuesBody Carries (reader_moment was.reader old was.sink) (reader_moment is.reader new is.sink) (Some look.Whole)
+      → ContinuesBody Carries (reader_moment was.reader old was.sink) (reader_moment is.reader new is.sink) (Some status.Complete)
       → ReceivesWhole (put_back text old) new is
   receives_whole closes on = record {
     text = text ++ on.text;

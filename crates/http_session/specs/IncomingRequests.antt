@@ -24,8 +24,8 @@ use Rattle.http_session.specs.declared.receiving.BodySink.TheVariants.{Settled, 
 use Rattle.http_session.specs.declared.receiving.PartialRequest.{PartialRequest}
 use Rattle.http_session.specs.declared.receiving.SessionStage.{SessionStage}
 use Rattle.http_session.specs.declared.receiving.SessionStage.TheVariants.{Head, Body}
-use Rattle.http_requests.specs.declared.body_reader.BodyLook.{BodyLook}
-use Rattle.http_requests.specs.declared.body_reader.BodyLook.TheVariants as look
+use Rattle.http_requests.specs.declared.body_reader.BodyStatus.{BodyStatus}
+use Rattle.http_requests.specs.declared.body_reader.BodyStatus.TheVariants as status
 
 -- ---- a part of a request
 
@@ -115,10 +115,10 @@ pub record ReceivesWhole (old new : ReadBuffer) (request : PartialRequest) : Typ
   pub closes_is : request.closes ≡ (asked_by head).closes
 
 -- what became of a request of which a part was taken
-abbrev pub PartComes : ReadBuffer → ReadBuffer → PartialRequest → BodyLook → Type 0
-PartComes old new request look.Whole = ReceivesWhole old new request
-PartComes old new request look.More = ReceivesPart old new (Body request)
-PartComes old new request (look.Fault why) = ReceivesFault old new why
+abbrev pub PartComes : ReadBuffer → ReadBuffer → PartialRequest → BodyStatus → Type 0
+PartComes old new request status.Complete = ReceivesWhole old new request
+PartComes old new request status.Partial = ReceivesPart old new (Body request)
+PartComes old new request (status.Invalid why) = ReceivesFault old new why
 
 -- the verdict on a request whose body is complete
 abbrev pub FinishesAs : SessionStage → Incoming → Type 0
@@ -145,7 +145,7 @@ AwaitsIfNone new stage (Some incoming) = Unit {0}
 AwaitsIfNone new stage None = WaitsAfter stage new.held × (new.ended ≡ false)
 
 -- like AwaitsIfNone, for a body of which a part was taken
-abbrev pub AwaitsInputIfMore : ReadBuffer → PartialRequest → BodyLook → Type 0
-AwaitsInputIfMore new request look.Whole = Unit {0}
-AwaitsInputIfMore new request look.More = AwaitsMoreBody request.reader new.held × (new.ended ≡ false)
-AwaitsInputIfMore new request (look.Fault why) = Unit {0}
+abbrev pub AwaitsInputIfMore : ReadBuffer → PartialRequest → BodyStatus → Type 0
+AwaitsInputIfMore new request status.Complete = Unit {0}
+AwaitsInputIfMore new request status.Partial = AwaitsMoreBody request.reader new.held × (new.ended ≡ false)
+AwaitsInputIfMore new request (status.Invalid why) = Unit {0}

@@ -18,7 +18,7 @@ use crate::verdict::{ErrorReply, Verdict};
 use batch_codec::DecodeError;
 use batch_feeder::Feeder;
 use http_requests::{
-    BodyLength, BodyLook, BodyReader, HeadWait, Look, ReadBuffer, RequestFault, Sink,
+    BodyLength, BodyReader, BodyStatus, HeadWait, ParseStatus, ReadBuffer, RequestFault, Sink,
 };
 use matchit::Router;
 use query_http::Endpoint;
@@ -153,7 +153,7 @@ impl PartialRequest {
     }
 
     /// Takes the received part of the body. A batch is decoded piece by piece.
-    fn take_from(&mut self, received: &mut ReadBuffer) -> BodyLook
+    fn take_from(&mut self, received: &mut ReadBuffer) -> BodyStatus
         requires looked { HasLooked self.old.reader received.old.held }
         ensures took { ContinuesBody Carries
             (reader_moment self.old.reader received.old self.old.sink)
@@ -168,7 +168,7 @@ impl PartialRequest {
     }
 
     /// Takes the received part of the body. If the input has ended, an incomplete body is malformed.
-    fn take_part(&mut self, received: &mut ReadBuffer) -> BodyLook
+    fn take_part(&mut self, received: &mut ReadBuffer) -> BodyStatus
         requires looked { HasLooked self.old.reader received.old.held }
         ensures part { (text : List ℕ) → IsPartOf self.old text →
             PartComes (put_back text received.old) received.new self.new result }
@@ -176,10 +176,10 @@ impl PartialRequest {
     {
         // For the prover: the match takes the cases of the clauses of `take_from` apart, which give the clause `part`.
         match self.take_from(received) {
-            BodyLook::Whole => BodyLook::Whole,
-            BodyLook::Fault(fault) => BodyLook::Fault(fault),
-            BodyLook::More if received.has_ended() => BodyLook::Fault(RequestFault::Body),
-            BodyLook::More => BodyLook::More,
+            BodyStatus::Complete => BodyStatus::Complete,
+            BodyStatus::Invalid(fault) => BodyStatus::Invalid(fault),
+            BodyStatus::Partial if received.has_ended() => BodyStatus::Invalid(RequestFault::Body),
+            BodyStatus::Partial => BodyStatus::Partial,
         }
     }
 
@@ -242,9 +242,9 @@ fn receive_body(stage: &mut SessionStage, received: &mut ReadBuffer) -> Option<I
         unreachable!()
     };
     match request.take_part(received) {
-        BodyLook::Whole => Some(finish(stage)),
-        BodyLook::Fault(fault) => Some(Incoming::NoRequest(fault)),
-        BodyLook::More => None,
+        BodyStatus::Complete => Some(finish(stage)),
+        BodyStatus::Invalid(fault) => Some(Incoming::NoRequest(fault)),
+        BodyStatus::Partial => None,
     }
 }
 
@@ -268,7 +268,7 @@ fn receive_head(
     ensures err { OnErr result (BeginsWithQuery received.old.held) }
 {
     match wait.look(received.as_slice()) {
-        Look::Whole(found) => {
+        ParseStatus::Complete(found) => {
             let head = &received.as_slice()[..found.len];
             let question = question_of(alloc, router, head, &found.request)?;
             received.take(found.len);
@@ -277,12 +277,14 @@ fn receive_head(
             assign(stage, SessionStage::Body(partial));
             Ok(receive_body(stage, received))
         }
-        Look::More if !received.has_ended() => {
+        ParseStatus::Partial if !received.has_ended() => {
             assign(stage, SessionStage::Head(wait));
             Ok(None)
         }
-        Look::More if received.as_slice().is_empty() => Ok(Some(Incoming::EndOfInput)),
-        Look::More | Look::Never => Ok(Some(Incoming::NoRequest(RequestFault::Head))),
+        ParseStatus::Partial if received.as_slice().is_empty() => Ok(Some(Incoming::EndOfInput)),
+        ParseStatus::Partial | ParseStatus::Invalid => Ok(Some(Incoming::NoRequest(
+            RequestFault::Head,
+        ))),
     }
 }
 

@@ -1,6 +1,6 @@
-ghost use Rattle.http_requests.specs.ChunkLooks.{LooksAtLine};
+ghost use Rattle.http_requests.specs.ChunkSearches.{LooksAtLine};
 
-use crate::chunked::looks::{Look, look_by};
+use crate::chunked::parse_status::{ParseStatus, limited_status};
 use crate::chunked::prefix::prefix_of;
 use httparse::parse_chunk_size;
 
@@ -9,9 +9,9 @@ pub const MAX_LINE_BYTES: usize = 256;
 
 /// Looks for a size line of at most [`MAX_LINE_BYTES`] at the start of the bytes. Finds its length and the size in it.
 /// Chunk extensions are ignored (RFC 9112, section 7.1.1).
-pub fn look_for_size(bytes: &[u8]) -> Look<(usize, u64)>
+pub fn look_for_size(bytes: &[u8]) -> ParseStatus<(usize, u64)>
     ensures { LooksAtLine bytes.now result }
 {
     let parsed = parse_chunk_size(prefix_of(bytes, MAX_LINE_BYTES));
-    look_by(parsed, bytes.len(), MAX_LINE_BYTES)
+    limited_status(parsed, bytes.len(), MAX_LINE_BYTES)
 }

@@ -16,27 +16,27 @@ reads-init g c = (
   subst (λ (w : HeadWait). HasSeen w c.args.received.now.held) (sym c.new-wait.ensures) (omega arith, no_bytes_await),
 )
 
-pub returns-in-Whole-clause-found : goal.returns-in-Whole-clause-found
-returns-in-Whole-clause-found g c =
-    finds_head (source_of g.R.Input.remaining g.R.Input.gives) _ _ _ _ _ _ c.reads.invariant.0 c.in-Whole.ensures.found c.as_slice.ensures
+pub returns-in-Complete-clause-found : goal.returns-in-Complete-clause-found
+returns-in-Complete-clause-found g c =
+    finds_head (source_of g.R.Input.remaining g.R.Input.gives) _ _ _ _ _ _ c.reads.invariant.0 c.in-Complete.ensures.found c.as_slice.ensures
 
 pub reads-preserved : goal.reads-preserved
 reads-preserved g c =
     let so = c.reads.invariant in
-    let read = c.in_ok-read_more-in-More.ensures.read in
-    let awaits = c.in-More.ensures.found in
-    let seen = c.in-More.ensures.seen in (
+    let read = c.in_ok-read_more-in-Partial.ensures.read in
+    let awaits = c.in-Partial.ensures.found in
+    let seen = c.in-Partial.ensures.seen in (
       reads_more (source_of g.R.Input.remaining g.R.Input.gives)
-          AwaitsHead _ _ _ _ _ _ _ so.0 c.as_slice.ensures awaits c.in_ok-read_more-in-More.ensures.ok read,
-      c.in_ok-read_more-in-More.ensures.same ∙ so.1,
+          AwaitsHead _ _ _ _ _ _ _ so.0 c.as_slice.ensures awaits c.in_ok-read_more-in-Partial.ensures.ok read,
+      c.in_ok-read_more-in-Partial.ensures.same ∙ so.1,
       (
         subst (λ (n : ℕ). n ≤ length c.read_more.new.self.held) (sym seen) (fits_still _ _ _ read.0 c.as_slice.ensures read.2),
         subst (λ (n : ℕ). AwaitsHead (take n c.read_more.new.self.held)) (sym seen) (seen_stays AwaitsHead _ _ _ read.0 c.as_slice.ensures read.2 awaits),
       ),
     )
 
-pub returns-in_err-read_more-in-More-clause-err : goal.returns-in_err-read_more-in-More-clause-err
-returns-in_err-read_more-in-More-clause-err g c =
+pub returns-in_err-read_more-in-Partial-clause-err : goal.returns-in_err-read_more-in-Partial-clause-err
+returns-in_err-read_more-in-Partial-clause-err g c =
     let p = err_from_is_err_and c.from_residual.result c.from_residual.ensures.1 in
     rw (p.1, p.2) (stops_there (source_of g.R.Input.remaining g.R.Input.gives) AwaitsHead _ _ _ _ _ _ _ _
-    c.reads.invariant.0 c.as_slice.ensures c.in-More.ensures.found c.in_err-read_more-in-More.ensures.err)
+    c.reads.invariant.0 c.as_slice.ensures c.in-Partial.ensures.found c.in_err-read_more-in-Partial.ensures.err)

@@ -2,19 +2,19 @@ use Rattle.std.proofs.Common.{sym, ◌∙◌}
 use Rattle.http_session.proofs.IncomingParts.{receives_whole, receives_malformed, receives_end_inside, receives_more}
 use Rattle.http_session.proofs.receiving.PartialRequest.take_part.Goals as goal
 
-pub returns-in-Whole-clause-part : goal.returns-in-Whole-clause-part
-returns-in-Whole-clause-part c =
-    λ text part. receives_whole c.args.self.now c.take_from.new.self text _ _ part c.in-Whole.ensures.closes c.in-Whole.ensures.took
+pub returns-in-Complete-clause-part : goal.returns-in-Complete-clause-part
+returns-in-Complete-clause-part c =
+    λ text part. receives_whole c.args.self.now c.take_from.new.self text _ _ part c.in-Complete.ensures.closes c.in-Complete.ensures.took
 
-pub returns-in-Fault-clause-part : goal.returns-in-Fault-clause-part
-returns-in-Fault-clause-part c =
-    λ text part. receives_malformed c.args.self.now c.take_from.new.self text _ _ part c.in-Fault.fault c.in-Fault.ensures.took
+pub returns-in-Invalid-clause-part : goal.returns-in-Invalid-clause-part
+returns-in-Invalid-clause-part c =
+    λ text part. receives_malformed c.args.self.now c.take_from.new.self text _ _ part c.in-Invalid.fault c.in-Invalid.ensures.took
 
-pub returns-in-More-clause-part : goal.returns-in-More-clause-part
-returns-in-More-clause-part c = λ text part.
-    receives_end_inside c.args.self.now c.take_from.new.self text _ _ part c.in-More.ensures.closes c.in-More.ensures.took c.in-More.ensures.awaits
+pub returns-in-Partial-clause-part : goal.returns-in-Partial-clause-part
+returns-in-Partial-clause-part c = λ text part.
+    receives_end_inside c.args.self.now c.take_from.new.self text _ _ part c.in-Partial.ensures.closes c.in-Partial.ensures.took c.in-Partial.ensures.awaits
     (sym c.has_ended.ensures ∙ c.if-has_ended.true)
 
-pub returns-in-More-2-clause-part : goal.returns-in-More-2-clause-part
-returns-in-More-2-clause-part c =
-    λ text part. receives_more c.args.self.now c.take_from.new.self text _ _ part c.in-More-2.ensures.closes c.in-More-2.ensures.took
+pub returns-in-Partial-2-clause-part : goal.returns-in-Partial-2-clause-part
+returns-in-Partial-2-clause-part c =
+    λ text part. receives_more c.args.self.now c.take_from.new.self text _ _ part c.in-Partial-2.ensures.closes c.in-Partial-2.ensures.took
