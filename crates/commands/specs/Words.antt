@@ -11,6 +11,7 @@ use Rattle.trace_model.specs.declared.limits.Limits.{Limits}
 use Rattle.serve_options.specs.declared.host.Host.{Host}
 use Rattle.serve_options.specs.declared.options.ServeOptions.{ServeOptions}
 use Rattle.serve_options.specs.Hosts.{host_text}
+use Rattle.serve_options.specs.Ranges.{max_workers, max_queue, max_connections, max_seconds}
 use Rattle.text_lines.specs.declared.exit_status.ExitStatus.{ExitStatus}
 use Rattle.text_lines.specs.declared.exit_status.ExitStatus.TheVariants.{Usage, DeviceFailed, OutOfMemory}
 
@@ -45,26 +46,28 @@ host_rule = record (new_rule (codes "host")) {
   defaults = codes "127.0.0.1" ∷ [];
 }
 
+-- any value of its type
 abbrev pub port_rule : Rule
 port_rule = number_rule (codes "port") (parser.Signed (pos 0) (pos 65535)) (codes "0")
 
 abbrev pub workers_rule : Rule
-workers_rule = number_rule (codes "workers") (parser.Signed (pos 1) (pos 64)) (codes "4")
+workers_rule = number_rule (codes "workers") (parser.Signed (pos 1) (pos max_workers)) (codes "4")
 
 abbrev pub queue_rule : Rule
-queue_rule = number_rule (codes "queue") (parser.Signed (pos 1) (pos 4096)) (codes "256")
+queue_rule = number_rule (codes "queue") (parser.Signed (pos 1) (pos max_queue)) (codes "256")
 
+-- any value of its type
 abbrev pub sessions_rule : Rule
 sessions_rule = number_rule (codes "sessions") (parser.Signed (pos 0) (pos 4294967295)) (codes "0")
 
 abbrev pub connections_rule : Rule
-connections_rule = number_rule (codes "connections") (parser.Signed (pos 1) (pos 65536)) (codes "1024")
+connections_rule = number_rule (codes "connections") (parser.Signed (pos 1) (pos max_connections)) (codes "1024")
 
 abbrev pub idle_rule : Rule
-idle_rule = number_rule (codes "idle") (parser.Signed (pos 0) (pos 86400)) (codes "300")
+idle_rule = number_rule (codes "idle") (parser.Signed (pos 0) (pos max_seconds)) (codes "300")
 
 abbrev pub report_rule : Rule
-report_rule = number_rule (codes "report") (parser.Signed (pos 0) (pos 86400)) (codes "0")
+report_rule = number_rule (codes "report") (parser.Signed (pos 0) (pos max_seconds)) (codes "0")
 
 -- the options that every subcommand has
 abbrev pub with_limits : App → App
