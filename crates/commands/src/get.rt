@@ -36,7 +36,8 @@ fn status_of(faulty: bool, found: bool) -> ExitStatus
     }
 }
 
-/// Runs to the end of the input, over an empty store, and returns the exit status.
+/// Runs to the end of the input, over an empty store, and returns the exit status. For the prover: only clauses name
+/// `limits`, those of the store.
 fn take_all<R: Input, W: Output>(
     alloc: Global,
     batches: &mut Batches,

@@ -22,7 +22,7 @@ pub fn a_session_has_these_limits()
     ensures piece { READ_BYTES ≡ 16384 }
 {}
 
-/// Bytes start with at most one head, which has one rest.
+/// Bytes start with at most one head, and what follows it is determined.
 pub fn a_head_is_read_in_one_way()
     ensures { (bytes : List ℕ) (h k : RequestHeadValue) (rest more : List ℕ) →
         TakesHead bytes h rest → TakesHead bytes k more → (h ≡ k) × (rest ≡ more) }
@@ -62,8 +62,8 @@ pub fn a_malformed_request_has_one_reason()
         IsMalformed (behind ≡ []) part c → b ≡ c }
 {}
 
-/// No bytes are not malformed.
-pub fn no_bytes_are_not_malformed()
+/// The empty input is not malformed.
+pub fn the_empty_input_is_not_malformed()
     ensures { (b : RequestFaultValue) → IsMalformed (Unit {0}) [] b → ⊥ }
 {}
 
