@@ -1,7 +1,7 @@
 pub mod Options
-pub mod SubcommandWords
-pub mod FirstWords
-pub mod WordReplies
+pub mod SubcommandArguments
+pub mod FirstArguments
+pub mod ArgumentReplies
 pub mod LineSteps
 pub mod FoundLines
 pub mod WrittenLines

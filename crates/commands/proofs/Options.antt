@@ -5,7 +5,7 @@ use Rattle.clap.specs.Words.{Row, Text, rows_of, one_text, first_value}
 use Rattle.clap.specs.declared.parser.matches.Found.{Found}
 use Rattle.clap.proofs.WalkLemmas.{one_text-rows, first_value-rows}
 use Rattle.jaeger_model.specs.declared.ids.TraceId.{TraceId}
-use Rattle.commands.specs.Words.{HasHost, HasLimits, HasNumber, HasServeOptions, HasTrace, trace_in}
+use Rattle.commands.specs.Arguments.{HasHost, HasLimits, HasNumber, HasServeOptions, HasTrace, trace_in}
 use Rattle.serve_options.specs.declared.host.Host.{Host}
 use Rattle.serve_options.specs.declared.options.ServeOptions.{ServeOptions}
 use Rattle.serve_options.specs.Hosts.{host_text}

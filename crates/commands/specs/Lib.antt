@@ -1,5 +1,5 @@
-pub mod Words
-pub mod CommandWords
+pub mod Arguments
+pub mod CommandArguments
 pub mod LineFaults
 pub mod JudgedLines
 pub mod GetRuns

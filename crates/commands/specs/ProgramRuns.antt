@@ -9,10 +9,10 @@ use Rattle.session_devices.specs.Traffic.{Traffic}
 use Rattle.text_lines.specs.RunErrors.{RunsAs, expected_of}
 use Rattle.commands.specs.GetRuns.{output_of as get_output, status_for as get_status}
 use Rattle.commands.specs.PlayRuns.{output_of as play_output, status_for as play_status}
-use Rattle.commands.specs.Words.{IsFaultOf, TakesGet}
-use Rattle.commands.specs.CommandWords.{Accepts, AsksCommand}
-use Rattle.commands.specs.declared.words.Command.{Command}
-use Rattle.commands.specs.declared.words.Command.TheVariants.{Get, Pipe, Play, Serve}
+use Rattle.commands.specs.Arguments.{IsFaultOf, TakesGet}
+use Rattle.commands.specs.CommandArguments.{Accepts, AsksCommand}
+use Rattle.commands.specs.declared.arguments.Command.{Command}
+use Rattle.commands.specs.declared.arguments.Command.TheVariants.{Get, Pipe, Play, Serve}
 use Rattle.commands.specs.PipeRuns.{Pipes}
 use Rattle.commands.specs.ServeRuns.{ServesOrNot}
 
@@ -24,15 +24,15 @@ Does (Play limits) input output status = RunsAs input output (expected_of (play_
 Does (Serve options) input output status =
     (input.after ≡ input.before) × (input.failed ≡ false) × ServesOrNot options output status
 
--- no command was run: nothing was read, and the words were answered
-pub record AnswersWords (words : List Text) (input output : Traffic) (status : ExitStatus) : Type 0 where
+-- no command was run: nothing was read, and the arguments were answered
+pub record AnswersArguments (arguments : List Text) (input output : Traffic) (status : ExitStatus) : Type 0 where
   pub unread : input.after ≡ input.before
   pub input_works : input.failed ≡ false
   pub fault : IsFaultOf status output.failed
-  pub accepted : (command : Command) → Accepts words command → status ≡ OutOfMemory
-  pub bad_trace : (limits : Limits) → TakesGet words limits → status ≡ Usage → Appends output.before output.after (codes "bad trace id\n")
+  pub accepted : (command : Command) → Accepts arguments command → status ≡ OutOfMemory
+  pub bad_trace : (limits : Limits) → TakesGet arguments limits → status ≡ Usage → Appends output.before output.after (codes "bad trace id\n")
 
--- the command of the words was run, or the words were answered with a fault
+-- the command of the arguments was run, or the arguments were answered with a fault
 abbrev pub Runs : List Text → Traffic → Traffic → ExitStatus → Type 0
-Runs words input output status =
-    ((command : Command) × AsksCommand words command × Does command input output status) ⊎ AnswersWords words input output status
+Runs arguments input output status =
+    ((command : Command) × AsksCommand arguments command × Does command input output status) ⊎ AnswersArguments arguments input output status

@@ -1,8 +1,8 @@
 //! The tests, by their subject, and what they share.
 
+mod arguments;
 mod devices;
 mod machine;
 mod runs;
 mod serving;
 mod turns;
-mod words;

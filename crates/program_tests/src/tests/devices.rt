@@ -39,12 +39,12 @@ impl Write for Full {
     }
 }
 
-/// Runs the words over the input with a reader that fails at each of its calls, and with a writer of each room below
-/// the output's size. Each run ends with 4 after a prefix of the output.
+/// Runs the arguments over the input with a reader that fails at each of its calls, and with a writer of each room
+/// below the output's size. Each run ends with 4 after a prefix of the output.
 fn check_failures<H: Machine + Net<Stream = TcpStream, Listener = TcpListener>>(
     rt: &H,
     alloc: Global,
-    words: &[&str],
+    arguments: &[&str],
     input: &[u8],
     status: u8,
     output: &[u8],
@@ -56,7 +56,7 @@ fn check_failures<H: Machine + Net<Stream = TcpStream, Listener = TcpListener>>(
         let got = run(
             rt,
             alloc,
-            words,
+            arguments,
             &mut Watched::new(&mut reader),
             &mut Watched::new(&mut written),
         );
@@ -68,7 +68,7 @@ fn check_failures<H: Machine + Net<Stream = TcpStream, Listener = TcpListener>>(
         let got = run(
             rt,
             alloc,
-            words,
+            arguments,
             &mut Watched::new(input),
             &mut Watched::new(&mut writer),
         );
@@ -83,8 +83,15 @@ fn of_get(rt: HostRuntime) -> Result<(), Fail> {
     let alloc = rt.alloc();
     let input = ["zz\n", HEAD, TAIL].concat(alloc)?;
     let wanted = ["line 1: bad hex\n", SPAN].concat(alloc)?;
-    let words = ["jaeger_one", "get", "1"];
-    check_failures(&rt, alloc, &words, input.as_bytes(), 3, wanted.as_bytes())
+    let arguments = ["jaeger_one", "get", "1"];
+    check_failures(
+        &rt,
+        alloc,
+        &arguments,
+        input.as_bytes(),
+        3,
+        wanted.as_bytes(),
+    )
 }
 
 #[test]
@@ -92,11 +99,11 @@ fn of_play(rt: HostRuntime) -> Result<(), Fail> {
     let input = "take\nbad\n\nenter 1\nread 1 /api/services\nleave 1";
     let wanted =
         "idle\nline 2: bad step\nentered 0\nread 0 {\"data\":[],\"errors\":null,\"limit\":0,\"offset\":0,\"total\":0}\nleft\n";
-    let words = ["jaeger_one", "play"];
+    let arguments = ["jaeger_one", "play"];
     check_failures(
         &rt,
         rt.alloc(),
-        &words,
+        &arguments,
         input.as_bytes(),
         3,
         wanted.as_bytes(),

@@ -14,11 +14,11 @@ pub(crate) const TAIL: &str = "080007000000010a000800000000000003e80a00090000000
 
 pub(crate) const SPAN: &str = "0000000000000001 0000000000000002 1000 50 a op\n";
 
-/// Runs the words over the input, and checks the status and the output.
+/// Runs the arguments over the input, and checks the status and the output.
 pub(crate) fn check<H: Machine + Net<Stream = TcpStream, Listener = TcpListener>>(
     rt: &H,
     alloc: Global,
-    words: &[&str],
+    arguments: &[&str],
     input: &[&str],
     status: u8,
     output: &[&str],
@@ -29,7 +29,7 @@ pub(crate) fn check<H: Machine + Net<Stream = TcpStream, Listener = TcpListener>
     let got = run(
         rt,
         alloc,
-        words,
+        arguments,
         &mut Watched::new(input.as_bytes()),
         &mut Watched::new(&mut written),
     );

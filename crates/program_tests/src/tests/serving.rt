@@ -12,7 +12,7 @@ fn a_port_in_use(rt: HostRuntime) -> Result<(), Fail> {
     let port = taken.local_addr().expect(&rt, "address").port();
     let mut word = String::new(alloc);
     assert!(&rt; write!(word, "--port={port}").is_ok());
-    let words = ["jaeger_one", "serve", word.as_str()];
+    let arguments = ["jaeger_one", "serve", word.as_str()];
     let mut said = String::new(alloc);
     assert!(&rt;
         writeln!(
@@ -21,5 +21,5 @@ fn a_port_in_use(rt: HostRuntime) -> Result<(), Fail> {
         )
         .is_ok()
     );
-    check(&rt, alloc, &words, &[], 4, &[said.as_str()])
+    check(&rt, alloc, &arguments, &[], 4, &[said.as_str()])
 }

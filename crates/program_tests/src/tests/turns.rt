@@ -79,11 +79,11 @@ impl<'a> Output for Counter<'a> {
     }
 }
 
-/// Runs the words over the parts. Checks the status, that all parts were read, and how much follows at the end.
+/// Runs the arguments over the parts. Checks the status, that all parts were read, and how much follows at the end.
 fn check_turns<H: Machine + Net<Stream = TcpStream, Listener = TcpListener>>(
     rt: &H,
     alloc: Global,
-    words: &[&str],
+    arguments: &[&str],
     parts: &[(&str, &str)],
     status: u8,
     last: &str,
@@ -97,7 +97,7 @@ fn check_turns<H: Machine + Net<Stream = TcpStream, Listener = TcpListener>>(
         failed: false,
     };
     let mut output = Counter { written: &written };
-    let got = run(rt, alloc, words, &mut input, &mut output);
+    let got = run(rt, alloc, arguments, &mut input, &mut output);
     assert_eq!(rt; got.code(), status);
     assert_eq!(rt; input.read, parts.len());
     assert_eq!(rt; written.get(), input.due.saturating_add(last.len()));
@@ -116,8 +116,8 @@ fn get_replies_before_it_reads_on(rt: HostRuntime) -> Result<(), Fail> {
         ("line 3: bad hex\n", "\n"),
         ("line 4: bad hex\n", ""),
     ];
-    let words = ["jaeger_one", "get", "1"];
-    check_turns(&rt, rt.alloc(), &words, &parts, 3, SPAN)
+    let arguments = ["jaeger_one", "get", "1"];
+    check_turns(&rt, rt.alloc(), &arguments, &parts, 3, SPAN)
 }
 
 /// The outcome of a step is written before `play` reads on.
@@ -131,6 +131,6 @@ fn play_replies_before_it_reads_on(rt: HostRuntime) -> Result<(), Fail> {
         ("", "take"),
         ("", ""),
     ];
-    let words = ["jaeger_one", "play"];
-    check_turns(&rt, rt.alloc(), &words, &parts, 3, "idle\n")
+    let arguments = ["jaeger_one", "play"];
+    check_turns(&rt, rt.alloc(), &arguments, &parts, 3, "idle\n")
 }

@@ -3,8 +3,8 @@ use Rattle.commands.specs.GetRuns.{output_of as get_output, status_for as get_st
 use Rattle.commands.specs.PlayRuns.{output_of as play_output, status_for as play_status}
 use Rattle.session_devices.specs.Traffic.{traffic_of}
 use Rattle.text_lines.specs.RunErrors.{RunsAs, expected_of}
-use Rattle.commands.specs.CommandWords.{AsksCommand}
-use Rattle.commands.specs.declared.words.Command.TheVariants.{Get, Pipe, Play, Serve}
+use Rattle.commands.specs.CommandArguments.{AsksCommand}
+use Rattle.commands.specs.declared.arguments.Command.TheVariants.{Get, Pipe, Play, Serve}
 use Rattle.commands.specs.PipeRuns.{Pipes}
 use Rattle.commands.specs.ServeRuns.{ServesOrNot}
 use Rattle.commands.proofs.command.run.Goals as goal
@@ -28,7 +28,7 @@ returns-in-Ok-Get g c =
     (expected_of (get_output limits id) (get_status limits id)) c.run_get.result in
     inl (
       Get limits id,
-      subst (AsksCommand (map g.S.AsStr.text c.args.words.now)) c.in-Ok-Get.field-0-is c.in-Ok-Get.ensures.asked,
+      subst (AsksCommand (map g.S.AsStr.text c.args.arguments.now)) c.in-Ok-Get.field-0-is c.in-Ok-Get.ensures.asked,
       subst does c.in-Ok-Get.ensures.silent c.run_get.ensures.runs,
     )
 
@@ -40,7 +40,7 @@ returns-in-Ok-Pipe g c =
     (record { before = w; after = g.W.Output.contents c.run_pipe.new.output; failed = g.W.Output.has_failed c.run_pipe.new.output }) limits c.run_pipe.result in
     inl (
       Pipe limits,
-      subst (AsksCommand (map g.S.AsStr.text c.args.words.now)) c.in-Ok-Pipe.field-0-is c.in-Ok-Pipe.ensures.asked,
+      subst (AsksCommand (map g.S.AsStr.text c.args.arguments.now)) c.in-Ok-Pipe.field-0-is c.in-Ok-Pipe.ensures.asked,
       subst does c.in-Ok-Pipe.ensures.silent c.run_pipe.ensures.pipes,
     )
 
@@ -53,7 +53,7 @@ returns-in-Ok-Play g c =
     (expected_of (play_output limits) (play_status limits)) c.run_play.result in
     inl (
       Play limits,
-      subst (AsksCommand (map g.S.AsStr.text c.args.words.now)) c.in-Ok-Play.field-0-is c.in-Ok-Play.ensures.asked,
+      subst (AsksCommand (map g.S.AsStr.text c.args.arguments.now)) c.in-Ok-Play.field-0-is c.in-Ok-Play.ensures.asked,
       subst does c.in-Ok-Play.ensures.silent c.run_play.ensures.runs,
     )
 
@@ -65,7 +65,7 @@ returns-in-Ok-Serve g c =
     (record { before = w; after = g.W.Output.contents c.run_serve.new.output; failed = g.W.Output.has_failed c.run_serve.new.output }) c.run_serve.result in
     inl (
       Serve options,
-      subst (AsksCommand (map g.S.AsStr.text c.args.words.now)) c.in-Ok-Serve.field-0-is c.in-Ok-Serve.ensures.asked,
+      subst (AsksCommand (map g.S.AsStr.text c.args.arguments.now)) c.in-Ok-Serve.field-0-is c.in-Ok-Serve.ensures.asked,
       (refl, c.requires.input_works, subst does c.in-Ok-Serve.ensures.silent c.run_serve.ensures),
     )
 
