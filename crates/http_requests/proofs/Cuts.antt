@@ -10,7 +10,8 @@ use Rattle.std.proofs.lemmas.List.{take_all, length-drop}
 use Rattle.std.specs.List.{position_or_len, slice_split}
 use Rattle.std.proofs.Math.Bool.{or-false}
 use Rattle.httparse.specs.Grammar.{trim_ows}
-use Rattle.http_requests.specs.Fields.{split_once, has_token, same_name}
+use Rattle.jaeger_model.specs.Texts.{split_once}
+use Rattle.http_requests.specs.Fields.{has_token, same_name}
 
 pub cut_none : (c : ℕ) (xs : List ℕ) → ((k : ℕ) → k < length xs → (get_or xs k 0 == c) ≡ false) → split_once c xs ≡ None
 cut_none c xs none =

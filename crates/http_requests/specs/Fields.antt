@@ -1,17 +1,12 @@
 -- The fields of a head, by name (RFC 9110, sections 5 and 5.6.1).
-use Rattle.std.specs.Prelude.{◌≡◌, ℕ, ◌==◌, ◌&&◌, ◌||◌, Bool, not, List, [], ◌∷◌, map, filter, length}
-use Rattle.std.specs.Prelude.{nat_lt, if◌then◌else◌, Option, Some, None}
-use Rattle.std.specs.List.{list_any, list_all, slice_split, position_or_len, before_first, after_first}
+use Rattle.std.specs.Prelude.{◌≡◌, ℕ, ◌==◌, ◌&&◌, ◌||◌, Bool, not, List, [], ◌∷◌, map, filter}
+use Rattle.std.specs.List.{list_any, list_all, slice_split}
 use Rattle.std.specs.Char.{to_ascii_lowercase}
-use Rattle.jaeger_model.specs.Texts.{same_text}
+use Rattle.jaeger_model.specs.Texts.{Pairs, same_text}
 use Rattle.httparse.specs.Grammar.{trim_ows}
 use Rattle.http_requests.specs.declared.fields.Values.{Values}
 use Rattle.http_requests.specs.declared.fields.Values.TheVariants.{One, Many}
 use Rattle.http_requests.specs.declared.fields.Values.TheVariants as values
-
--- names and values, in the order of the fields
-abbrev pub Pairs : Type 0
-Pairs = List (List ℕ × List ℕ)
 
 -- equal texts, in any ASCII case
 abbrev pub same_name : List ℕ → List ℕ → Bool
@@ -44,7 +39,3 @@ abbrev pub values_in : Values → List (List ℕ)
 values_in values.None = []
 values_in (One v) = v.now ∷ []
 values_in Many = []
-
--- the bytes before and after the first such byte; None if there is none
-abbrev pub split_once : ℕ → List ℕ → Option (List ℕ × List ℕ)
-split_once c s = if nat_lt (position_or_len (λ b. b == c) s) (length s) then Some (before_first (λ b. b == c) s, after_first (λ b. b == c) s) else None

@@ -2,11 +2,11 @@
 use Rattle.std.specs.Prelude.{ℕ, ◌==◌, ◌&&◌, ◌||◌, ◌≤◌, Bool, false, List, [], ◌∷◌, map, if◌then◌else◌, nat_le, codes}
 use Rattle.std.specs.List.{before_first}
 use Rattle.jaeger_model.specs.Decimal.{is_digits, number_of}
-use Rattle.jaeger_model.specs.Texts.{same_text}
+use Rattle.jaeger_model.specs.Texts.{Pairs, same_text}
 use Rattle.httparse.specs.Grammar.{RequestHead, trim_ows}
 use Rattle.httparse.specs.Spans.{name_and_value}
 use Rattle.http_requests.specs.declared.request.TheConstants.{MAX_BODY_BYTES}
-use Rattle.http_requests.specs.Fields.{Pairs, same_name, values_of, have_token, all_are}
+use Rattle.http_requests.specs.Fields.{same_name, values_of, have_token, all_are}
 use Rattle.http_requests.specs.declared.request.Method.{Method}
 use Rattle.http_requests.specs.declared.request.Method.TheVariants.{Get, Post, Other}
 use Rattle.http_requests.specs.declared.request.BodyLength.{BodyLength}

@@ -1,7 +1,8 @@
 ghost use Rattle.std.specs.Prelude.{◌≡◌, ◌∷◌, [], List, ℕ, All, length, map, MatchOption, option_map};
 ghost use Rattle.httparse.specs.Grammar.{trim_ows};
 ghost use Rattle.httparse.specs.Spans.{header_bytes, IsHeaderWithin};
-ghost use Rattle.http_requests.specs.Fields.{same_name, values_of, has_token, have_token, all_are, AreValues, split_once};
+ghost use Rattle.jaeger_model.specs.Texts.{split_once};
+ghost use Rattle.http_requests.specs.Fields.{same_name, values_of, has_token, have_token, all_are, AreValues};
 
 use httparse::spans::HeaderSpan;
 use std::marker::Model;

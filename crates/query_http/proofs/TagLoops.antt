@@ -7,7 +7,8 @@ use Rattle.serde_json.specs.View.{view, members_view}
 use Rattle.serde_json.specs.Find.{as_str}
 use Rattle.serde_json.specs.declared.value.Value.{Value}
 use Rattle.query_http.specs.declared.fault.Parameter.{Parameter}
-use Rattle.query_http.specs.Queries.{◌>>=◌, Pairs, texts_in}
+use Rattle.jaeger_model.specs.Texts.{Pairs}
+use Rattle.query_http.specs.Queries.{◌>>=◌, texts_in}
 
 -- the pairs read so far, before those still to be read
 abbrev pub with_front : Pairs → Result Pairs Parameter → Result Pairs Parameter

@@ -6,7 +6,7 @@ use Rattle.percent_encoding.specs.Percent.{percent_decode}
 use Rattle.serde_json.specs.Data.{Data, null, boolean, number, string, array, object, Members, no_members, member}
 use Rattle.serde_json.specs.Read.{read}
 use Rattle.jaeger_model.specs.Ids.{read_trace}
-use Rattle.jaeger_model.specs.Texts.{same_text}
+use Rattle.jaeger_model.specs.Texts.{Pairs, same_text, split_once}
 use Rattle.trace_model.specs.declared.query.Find.{Find}
 use Rattle.trace_model.specs.declared.query.Query.{Query}
 use Rattle.trace_model.specs.declared.query.Query.TheVariants as ask
@@ -15,16 +15,13 @@ use Rattle.query_http.specs.declared.fault.Parameter.TheVariants as bad
 use Rattle.query_http.specs.declared.paths.Endpoint.{Endpoint}
 use Rattle.query_http.specs.declared.paths.Endpoint.TheVariants as at
 use Rattle.query_http.specs.Faults.{parameter_name}
-use Rattle.query_http.specs.QueryStrings.{parameter, given_values, split_once, question_mark, colon}
+use Rattle.query_http.specs.QueryStrings.{parameter, given_values, question_mark, colon}
 use Rattle.query_http.specs.Numbers.{read_number, read_duration}
 
 infixl 10 ◌>>=◌
 abbrev pub ◌>>=◌ : {A B E : Type 0} → Result A E → (A → Result B E) → Result B E
 (Ok x) >>= f = f x
 (Err e) >>= f = Err e
-
-abbrev pub Pairs : Type 0
-Pairs = List (List ℕ × List ℕ)
 
 abbrev pub or_bad : {A : Type 0} → Parameter → Option A → Result A Parameter
 or_bad p None = Err p

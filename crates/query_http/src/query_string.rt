@@ -1,5 +1,6 @@
 ghost use Rattle.std.specs.Prelude.{◌≡◌, ◌++◌, ℕ, List, IfOk, map, option_copied, option_map, string_bytes};
-ghost use Rattle.query_http.specs.QueryStrings.{pairs_of, is_given, parameter, given_values, split_once, question_mark, colon};
+ghost use Rattle.jaeger_model.specs.Texts.{split_once};
+ghost use Rattle.query_http.specs.QueryStrings.{pairs_of, is_given, parameter, given_values, question_mark, colon};
 
 use std::alloc::{AllocError, Global};
 use std::marker::Model;

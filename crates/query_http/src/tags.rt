@@ -4,7 +4,8 @@ ghost use Rattle.query_http.specs.Queries.{tags_from, or_bad, texts_in, object_t
 ghost use Rattle.serde_json.specs.View.{view, members_view};
 ghost use Rattle.serde_json.specs.Read.{read};
 ghost use Rattle.query_http.specs.declared.fault.Parameter.TheVariants as bad;
-ghost use Rattle.query_http.specs.QueryStrings.{given_values, split_once, colon};
+ghost use Rattle.jaeger_model.specs.Texts.{split_once};
+ghost use Rattle.query_http.specs.QueryStrings.{given_values, colon};
 
 use crate::fault::{Parameter, QueryFault};
 use crate::query_string::{Pair, find_parameter, split_tag};

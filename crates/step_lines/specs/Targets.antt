@@ -3,13 +3,13 @@ use Rattle.std.specs.Prelude.{ℕ, ◌-◌, ◌==◌, ◌&&◌, Bool, not, List,
 use Rattle.std.specs.Prelude.{nat_lt, codes}
 use Rattle.std.specs.List.{list_all}
 use Rattle.std.specs.Option.{option_map_or}
-use Rattle.jaeger_model.specs.Texts.{same_text}
+use Rattle.jaeger_model.specs.Texts.{Pairs, same_text}
 use Rattle.trace_model.specs.declared.query.Query.{Query}
 use Rattle.query_http.specs.declared.fault.Parameter.{Parameter}
 use Rattle.query_http.specs.declared.paths.Endpoint.{Endpoint}
 use Rattle.query_http.specs.declared.paths.Endpoint.TheVariants.{Traces, Trace, Services, OperationNames, Operations, Dependencies}
 use Rattle.query_http.specs.QueryStrings.{pairs_of}
-use Rattle.query_http.specs.Queries.{Pairs, query_at, path_of, query_string_of}
+use Rattle.query_http.specs.Queries.{query_at, path_of, query_string_of}
 use Rattle.step_lines.specs.declared.fault.StepFault.{StepFault}
 use Rattle.step_lines.specs.declared.fault.StepFault.TheVariants.{NoSuchPath, BadParameter}
 
