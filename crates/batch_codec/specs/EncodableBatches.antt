@@ -1,5 +1,5 @@
--- Batches that a program can hold and that can be encoded: texts are UTF-8, numbers are in the ranges of
--- their types, and no length is above 2,147,483,647.
+-- Batches that a program can hold and that can be encoded: texts are UTF-8, numbers are in the ranges of their types, and
+-- no length is above 2,147,483,647. These are definitions alone; std has that of SFits in its proofs/.
 use Rattle.std.specs.Prelude.{◌≡◌, ℕ, ℤ, ◌<◌, ◌^◌, List, length, Option, Some, None}
 use Rattle.std.specs.Str.{IsUtf8}
 use Rattle.std.specs.List.{AllByRecursion}

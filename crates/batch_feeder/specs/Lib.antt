@@ -4,8 +4,8 @@ pub mod Fields
 pub mod NewLists
 pub mod LeastBytes
 pub mod Lists
-pub mod ShortValues
-pub mod ShortFields
+pub mod ShortValueLaws
+pub mod ShortFieldLaws
 pub mod FieldLaws
 pub mod Tags
 pub mod Logs

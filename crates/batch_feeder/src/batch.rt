@@ -50,7 +50,7 @@ impl PieceSlots for BatchSlots {
     ghost use Rattle.batch_codec.specs.BatchReading.{take_batch, batch_from};
     ghost use Rattle.batch_feeder.specs.Batches.{batch_continues};
     ghost use Rattle.batch_feeder.specs.FieldLaws.{take_batch_safe, batch_not_short};
-    ghost use Rattle.batch_feeder.specs.ShortFields.{take_batch_short};
+    ghost use Rattle.batch_feeder.specs.ShortFieldLaws.{take_batch_short};
 
     type PartialField = PartialBatchField;
 

@@ -12,7 +12,7 @@ pub(crate) type PartialRefKind = PartialFixed<RefKind, 4>;
 /// A tag's type, which is encoded as its number.
 impl Fixed<4> for TagType {
     ghost use Rattle.batch_codec.specs.TagReading.{type_at};
-    ghost use Rattle.batch_feeder.specs.ShortValues.{type_few};
+    ghost use Rattle.batch_feeder.specs.ShortValueLaws.{type_few};
 
     ghost at = { type_at };
 
@@ -27,7 +27,7 @@ impl Fixed<4> for TagType {
 /// A reference's kind, which is encoded as its number.
 impl Fixed<4> for RefKind {
     ghost use Rattle.batch_codec.specs.ReferenceReading.{kind_at};
-    ghost use Rattle.batch_feeder.specs.ShortValues.{kind_few};
+    ghost use Rattle.batch_feeder.specs.ShortValueLaws.{kind_few};
 
     ghost at = { kind_at };
 

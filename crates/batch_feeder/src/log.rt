@@ -25,7 +25,7 @@ impl PieceSlots for LogSlots {
     ghost use Rattle.batch_codec.specs.LogReading.{take_log, log_from};
     ghost use Rattle.batch_feeder.specs.Logs.{log_continues};
     ghost use Rattle.batch_feeder.specs.FieldLaws.{take_log_safe, log_not_short};
-    ghost use Rattle.batch_feeder.specs.ShortFields.{take_log_short};
+    ghost use Rattle.batch_feeder.specs.ShortFieldLaws.{take_log_short};
 
     type PartialField = PartialLogField;
 

@@ -44,7 +44,7 @@ impl PieceSlots for PartialProcess {
     ghost use Rattle.batch_codec.specs.ProcessReading.{take_process, process_from};
     ghost use Rattle.batch_feeder.specs.Processes.{process_continues};
     ghost use Rattle.batch_feeder.specs.FieldLaws.{take_process_safe, process_not_short};
-    ghost use Rattle.batch_feeder.specs.ShortFields.{take_process_short};
+    ghost use Rattle.batch_feeder.specs.ShortFieldLaws.{take_process_short};
 
     type PartialField = PartialProcessField;
 

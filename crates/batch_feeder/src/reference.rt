@@ -25,7 +25,7 @@ impl PieceSlots for ReferenceSlots {
     ghost use Rattle.batch_codec.specs.ReferenceReading.{take_reference, reference_from};
     ghost use Rattle.batch_feeder.specs.References.{reference_continues};
     ghost use Rattle.batch_feeder.specs.FieldLaws.{take_reference_safe, reference_not_short};
-    ghost use Rattle.batch_feeder.specs.ShortFields.{take_reference_short};
+    ghost use Rattle.batch_feeder.specs.ShortFieldLaws.{take_reference_short};
 
     type PartialField = PartialReferenceField;
 

@@ -38,7 +38,7 @@ impl PieceSlots for SpanSlots {
     ghost use Rattle.batch_codec.specs.SpanReading.{take_span, span_from};
     ghost use Rattle.batch_feeder.specs.Spans.{span_continues};
     ghost use Rattle.batch_feeder.specs.FieldLaws.{take_span_safe, span_not_short};
-    ghost use Rattle.batch_feeder.specs.ShortFields.{take_span_short};
+    ghost use Rattle.batch_feeder.specs.ShortFieldLaws.{take_span_short};
 
     type PartialField = PartialSpanField;
 

@@ -63,7 +63,7 @@ impl PieceSlots for PartialTag {
     ghost use Rattle.batch_codec.specs.TagReading.{take_tag, tag_from};
     ghost use Rattle.batch_feeder.specs.Tags.{tag_continues};
     ghost use Rattle.batch_feeder.specs.FieldLaws.{take_tag_safe, tag_not_short};
-    ghost use Rattle.batch_feeder.specs.ShortFields.{take_tag_short};
+    ghost use Rattle.batch_feeder.specs.ShortFieldLaws.{take_tag_short};
 
     type PartialField = PartialTagField;
 

@@ -105,7 +105,7 @@ pub(crate) type PartialId = PartialFixed<u64, 8>;
 
 impl Fixed<8> for [u8; 8] {
     ghost use Rattle.batch_codec.specs.Decoding.{double_at};
-    ghost use Rattle.batch_feeder.specs.ShortValues.{double_few};
+    ghost use Rattle.batch_feeder.specs.ShortValueLaws.{double_few};
 
     ghost at = { double_at };
 
@@ -119,7 +119,7 @@ impl Fixed<8> for [u8; 8] {
 
 impl Fixed<4> for i32 {
     ghost use Rattle.batch_codec.specs.Decoding.{i32_at};
-    ghost use Rattle.batch_feeder.specs.ShortValues.{i32_few};
+    ghost use Rattle.batch_feeder.specs.ShortValueLaws.{i32_few};
 
     ghost at = { i32_at };
 
@@ -133,7 +133,7 @@ impl Fixed<4> for i32 {
 
 impl Fixed<8> for i64 {
     ghost use Rattle.batch_codec.specs.Decoding.{i64_at};
-    ghost use Rattle.batch_feeder.specs.ShortValues.{i64_few};
+    ghost use Rattle.batch_feeder.specs.ShortValueLaws.{i64_few};
 
     ghost at = { i64_at };
 
@@ -148,7 +148,7 @@ impl Fixed<8> for i64 {
 /// An id, which is a signed number on the wire.
 impl Fixed<8> for u64 {
     ghost use Rattle.batch_codec.specs.Decoding.{id_at};
-    ghost use Rattle.batch_feeder.specs.ShortValues.{id_few};
+    ghost use Rattle.batch_feeder.specs.ShortValueLaws.{id_few};
 
     ghost at = { id_at };
 

@@ -1,5 +1,5 @@
--- Lemmas with their proofs, which the impls of this crate name as laws. A clause can't name its own crate's proofs/, so
--- they are in specs/. A sink doesn't change by no bytes, and takes two pieces like the bytes of both.
+-- Laws that the impls of this crate name, and their lemmas. A clause can't name its own crate's proofs/, so they are in
+-- specs/. A sink doesn't change by no bytes, and takes two pieces like the bytes of both.
 use Rattle.std.specs.Prelude.{ℕ, List, [], ◌++◌, Result, refl}
 use Rattle.std.proofs.Common.{append_assoc, sym, ◌∙◌, ap, inl, inr}
 use Rattle.jaeger_model.specs.declared.batch.Batch.{Batch}

@@ -3,6 +3,6 @@ pub mod Seats
 pub mod Denials
 pub mod Turns
 pub mod Books
-pub mod Places
+pub mod EntryPlaceLaws
 pub mod LiveStores
 pub mod LiveLaws

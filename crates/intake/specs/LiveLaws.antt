@@ -17,7 +17,7 @@ use Rattle.trace_model.specs.ResentBatches.{AnswersFor}
 use Rattle.trace_model.proofs.Prefixes.{prefix_self, prefix_trans}
 use Rattle.intake.specs.Seats.{next_job}
 use Rattle.intake.specs.Denials.{IsLeftOut}
-use Rattle.intake.specs.Places.{stands-split}
+use Rattle.intake.specs.EntryPlaceLaws.{stands-split}
 use Rattle.trace_model.specs.StoreKnowledge.{History, IsPrefixOf, HasAt, KnownList, reached, refused, ForgetsNothing, AnswersAt, KnowsRefusal}
 use Rattle.trace_model.specs.StoreKnowledge.{SubmitKnows, ReadKnows}
 use Rattle.intake.specs.LiveStores.{LiveValue, LiveKnows, LiveSubmits, LiveReads}

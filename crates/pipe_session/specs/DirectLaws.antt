@@ -16,7 +16,7 @@ use Rattle.trace_model.specs.Refusals.{with_admitted}
 use Rattle.trace_model.specs.StoreKnowledge.{KnownList, reached, refused, HasAt, ForgetsNothing, RefusesBatch, KnowsRefusal, SubmitKnows, ReadKnows}
 use Rattle.arrival_journal.specs.Journals.{refusal_by}
 use Rattle.span_store.specs.NextEntry.{next_entry}
-use Rattle.pipe_session.specs.DirectLemmas.{grows, limits_stay, has_batch}
+use Rattle.pipe_session.specs.SubmittedBatchLaws.{grows, limits_stay, has_batch}
 use Rattle.pipe_session.specs.DirectCalls.{DirectKnows, DirectSubmits, DirectReads}
 
 keeps : (s t : LimitedHistory) → t ≡ s → ForgetsNothing (λ (x : LimitedHistory). x.limits) DirectKnows s t

@@ -1,5 +1,5 @@
 pub mod ExactAnswers
 pub mod OneFunction
-pub mod DirectLemmas
+pub mod SubmittedBatchLaws
 pub mod DirectCalls
 pub mod DirectLaws

@@ -4,7 +4,7 @@ pub mod LogSteps
 pub mod CopyRules
 pub mod Keepers
 pub mod Receipts
-pub mod StoreNames
+pub mod StoreNameLaws
 pub mod Passes
 pub mod HeldPasses
 pub mod OneHistory

@@ -31,7 +31,7 @@ use Rattle.trace_model.proofs.LastEntries.{last_of}
 use Rattle.service_index.proofs.ServiceNumbers.{as_many_reporters, service_number_known}
 use Rattle.service_index.specs.ArrivalNumbers.{AreOf}
 use Rattle.service_index.specs.KeptNames.{reports, reported_at, names_of_arrivals, reports_service}
-use Rattle.service_index.specs.ArrivalServices.{arrival_number, numbers_keyed}
+use Rattle.service_index.specs.ArrivalServiceLaws.{arrival_number, numbers_keyed}
 use Rattle.service_index.proofs.NumbersOfEntry.{arrivals_push}
 
 -- what a span of a batch reports

@@ -8,4 +8,4 @@ pub mod PlaceChains
 pub mod ArrivalNumbers
 pub mod OperationRows
 pub mod KeptNames
-pub mod ArrivalServices
+pub mod ArrivalServiceLaws

@@ -1,1 +1,1 @@
-pub mod RefusingStores
+pub mod RefusingStoreLaws

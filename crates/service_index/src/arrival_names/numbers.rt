@@ -74,7 +74,7 @@ impl<'a> Model for Arrivals<'a> {
 
 impl<'a> Texts for Arrivals<'a> {
     ghost use Rattle.service_index.specs.KeptNames.{names_of_arrivals};
-    ghost use Rattle.service_index.specs.ArrivalServices.{names_numbered};
+    ghost use Rattle.service_index.specs.ArrivalServiceLaws.{names_numbered};
 
     ghost names = { names_of_arrivals };
 

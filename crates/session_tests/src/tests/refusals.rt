@@ -16,7 +16,7 @@ struct Refusing {
 }
 
 impl<T> Backend<T> for Refusing {
-    ghost use Rattle.session_tests.specs.RefusingStores.{KnowsNothing, Refuses, refused_submit, refused_read};
+    ghost use Rattle.session_tests.specs.RefusingStoreLaws.{KnowsNothing, Refuses, refused_submit, refused_read};
 
     ghost limits = { λ s. s.limits };
 

@@ -1,4 +1,5 @@
--- A store that knows no list of entries and refuses everything.
+-- Laws that an impl of this crate names, and their definitions. A clause can't name its own crate's proofs/, so they are
+-- in specs/. A store that knows no list of entries and refuses everything meets the laws of every backend.
 use Rattle.std.specs.Prelude.{◌≡◌, ℕ, [], Result, Err}
 use Rattle.std.proofs.Common.{refl}
 use Rattle.jaeger_model.specs.declared.batch.Batch.{Batch}

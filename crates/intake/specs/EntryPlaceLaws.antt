@@ -1,5 +1,5 @@
--- A law that an impl names uses this. It can't name its own crate's proofs/, so this is in specs/.
--- An entry at a place of a list.
+-- A lemma of the laws in LiveLaws, which an impl of this crate names. A clause can't name its own crate's proofs/, so it
+-- is in specs/. An entry at a place of a list has a list before it and one after it.
 use Rattle.std.proofs.Common.{◌≡◌, ℕ, ◌+◌, ◌-◌, List, ◌∷◌, ◌++◌, length, arith}
 use Rattle.trace_model.specs.declared.entry.Entry.{Entry}
 use Rattle.trace_model.proofs.Lists.{split_at}

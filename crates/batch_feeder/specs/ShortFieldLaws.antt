@@ -19,8 +19,8 @@ use Rattle.batch_codec.specs.ProcessReading.{take_process, process_from, process
 use Rattle.batch_codec.specs.SpanReading.{take_span, span_at}
 use Rattle.batch_codec.specs.BatchReading.{take_batch}
 use Rattle.batch_feeder.specs.LeastBytes.{least_bytes}
-use Rattle.batch_feeder.specs.ShortValues.{Short, bool_short, double_short, i32_short, i64_short, id_short, text_short, binary_short, kind_short, type_short}
-use Rattle.batch_feeder.specs.ShortValues.{list_short, struct_short, known_short, skipped_short}
+use Rattle.batch_feeder.specs.ShortValueLaws.{Short, bool_short, double_short, i32_short, i64_short, id_short, text_short, binary_short, kind_short, type_short}
+use Rattle.batch_feeder.specs.ShortValueLaws.{list_short, struct_short, known_short, skipped_short}
 
 pub take_tag_short : (s : TagSlots) (c : ℕ) (i : ℤ) (w : List ℕ) → least_bytes c w ≡ Err Truncated → take_tag s c i w ≡ Err (Wire Truncated)
 unfolding take_tag

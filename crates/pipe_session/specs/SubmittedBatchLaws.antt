@@ -1,4 +1,5 @@
--- Lemmas of the laws in DirectLaws, in specs/ for the same reason.
+-- Lemmas of the laws in DirectLaws, which an impl of this crate names. A clause can't name its own crate's proofs/, so
+-- they are in specs/.
 -- What the store holds after a batch was submitted.
 use Rattle.std.proofs.Common.{◌≡◌, ℕ, zero, suc, [], ◌∷◌, ◌++◌, take, drop, Some, Ok, refl, sym, ap, ◌∙◌, subst, append-nil, arith}
 use Rattle.std.proofs.Math.Seq.{split_at}
