@@ -79,7 +79,8 @@ impl<N: StoreName> AnswerSlot<N> {
     {
         let (found, claim) = self.slot.turn(FREE, TAKEN);
         if found != FREE {
-            // Impossible: a job is answered once.
+            // Impossible: the clerk answers a job once, and nobody else stores an answer. No clause says so. The second
+            // answer would be dropped, and the ticket would take the first one, which is an answer to its entry too.
             claim.done();
             return;
         }
