@@ -2,4 +2,4 @@ pub mod DistinctProcesses
 pub mod NoFloat
 pub mod PlacesByKeys
 pub mod ProcessNames
-mod Rows
+mod WorkedTrees

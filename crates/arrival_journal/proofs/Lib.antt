@@ -1,5 +1,5 @@
 pub mod AppendedEntries
 pub mod MoreTagBits
-pub mod Numbers
-pub mod Places
+pub mod NonStringTexts
+pub mod ItemsAtPlaces
 pub mod MoreSpans

@@ -1,5 +1,5 @@
 pub mod CountedKeys
-pub mod Numbers
+pub mod NumberTexts
 pub mod RequestedPairs
 pub mod AscendingLists
 pub mod Order

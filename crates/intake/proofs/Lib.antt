@@ -6,6 +6,6 @@ pub mod EndedSeats
 pub mod JudgedRuns
 pub mod NewSeats
 pub mod TakenJobs
-pub mod Numbers
+pub mod TakenJobNumbers
 pub mod LiveSeats
 pub mod LeftOutEntries

@@ -1,6 +1,6 @@
 pub mod TagBits
 pub mod TraceMarks
-pub mod Numbers
+pub mod ServiceNumbersOfSpots
 pub mod LateTraces
 pub mod SpansAtSpots
 pub mod Numbering

@@ -15,7 +15,7 @@ use Rattle.service_index.proofs.ServiceNumbers.{service_number_within, as_many_r
 use Rattle.journal_traces.specs.Told.{AreTold}
 use Rattle.journal_traces.specs.ReportedSpots.{is_number}
 use Rattle.collected_traces.specs.EntriesAtPlaces.{process_at}
-use Rattle.journal_traces.proofs.Numbers.{at_place}
+use Rattle.journal_traces.proofs.ServiceNumbersOfSpots.{at_place}
 
 -- of an entry, by the number of its own service
 by_number : (h : List Entry) (s : List ℕ) (service : Option ℕ) (n : ℕ) → n < length h → service ≡ service_number_of h s

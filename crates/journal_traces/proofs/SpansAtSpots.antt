@@ -11,7 +11,7 @@ use Rattle.jaeger_model.specs.declared.ids.TraceId.{TraceId}
 use Rattle.jaeger_model.specs.declared.placed.Placed.{Placed}
 use Rattle.trace_model.specs.declared.entry.Entry.{Entry}
 use Rattle.trace_model.specs.ServiceLinks.{in_window, calls_of, calls_within, counted, links}
-use Rattle.arrival_journal.proofs.Places.{lent_item}
+use Rattle.arrival_journal.proofs.ItemsAtPlaces.{lent_item}
 use Rattle.trace_assembly.specs.declared.spot.Spot.{Spot}
 use Rattle.trace_assembly.specs.LocatedSpans.{span_at}
 use Rattle.trace_assembly.proofs.Lists.{map_filter}

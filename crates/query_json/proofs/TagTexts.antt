@@ -16,7 +16,7 @@ use Rattle.json_page.specs.Page.{Puts}
 use Rattle.query_json.specs.Tags.{after_tag, behind_key, from_key}
 use Rattle.answer_trees.specs.Trees.{list, tag_tree, type_name, value_tree}
 use Rattle.json_page.proofs.Escapes.{escape_hex_text}
-use Rattle.query_json.proofs.Numbers.{integer_text}
+use Rattle.query_json.proofs.IntegerTexts.{integer_text}
 use Rattle.json_page.proofs.Pages.{◌▸◌, Puts-is}
 use Rattle.query_json.proofs.Pages.{items_rest, rest_text}
 

@@ -21,7 +21,7 @@ fn other_place(references: &[SpanRef], trace: TraceId) -> Option<usize>
 }
 
 /// Returns the place of the first child-of reference to the trace, else of the first other reference to it.
-#[tactic(auto, using(crate::proofs::Places::place_within))]
+#[tactic(auto, using(crate::proofs::FirstPlacesAreWithin::place_within))]
 pub fn parent_place(references: &[SpanRef], trace: TraceId) -> Option<usize>
     ensures place { result ≡ parent_place trace references.now }
     ensures within { IfSome result (λ i. i < length references.now) }

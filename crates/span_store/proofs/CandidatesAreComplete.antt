@@ -41,7 +41,7 @@ use Rattle.journal_traces.specs.ReportedSpots.{is_reported, are_reported}
 use Rattle.collected_traces.specs.EntriesAtPlaces.{spans_named}
 use Rattle.collected_traces.proofs.ParentReferences.{matches-adopted}
 use Rattle.journal_traces.proofs.NearMatches.{near_covers}
-use Rattle.journal_traces.proofs.Numbers.{number_there}
+use Rattle.journal_traces.proofs.ServiceNumbersOfSpots.{number_there}
 use Rattle.trace_model.proofs.ShownOfTrace.{or_cases}
 
 first_true : (a b c : Bool) → (a && b && c) ≡ true → a ≡ true

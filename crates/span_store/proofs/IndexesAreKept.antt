@@ -17,7 +17,7 @@ use Rattle.trace_model.specs.ShownSpans.{ring, spans_of_trace}
 use Rattle.trace_assembly.specs.declared.spot.Spot.{Spot}
 use Rattle.trace_assembly.specs.AssembledRows.{Assembled, spots_of}
 use Rattle.trace_assembly.specs.LocatedSpans.{located_events, shown_spots}
-use Rattle.trace_assembly.proofs.Places.{events-located}
+use Rattle.trace_assembly.proofs.LocatedEvents.{events-located}
 use Rattle.service_index.specs.KeptNames.{KeptNames}
 use Rattle.service_index.proofs.NumbersOfEntry.{length-arrivals}
 use Rattle.service_index.specs.ServicePlaces.{ServicePlacesValue}

@@ -17,7 +17,7 @@ use Rattle.trace_model.proofs.FallingStarts.{NoneLater, ranked-falls}
 use Rattle.trace_model.proofs.RankedLists.{ranked-filter}
 use Rattle.trace_assembly.specs.declared.spot.Spot.{Spot}
 use Rattle.trace_assembly.specs.AssembledRows.{Assembled, spots_of}
-use Rattle.trace_assembly.proofs.Places.{events-located}
+use Rattle.trace_assembly.proofs.LocatedEvents.{events-located}
 use Rattle.trace_ring.specs.FirstStarts.{Starts}
 use Rattle.service_index.specs.KeptNames.{KeptNames}
 use Rattle.service_index.specs.ServicePlaces.{ServicePlacesValue}

@@ -23,7 +23,7 @@ use Rattle.trace_assembly.specs.declared.spot.Spot.{Spot}
 use Rattle.trace_assembly.specs.AssembledRows.{Assembled}
 use Rattle.trace_assembly.specs.LocatedSpans.{located_by, located_events, located_upto, events_in, shown_spots}
 use Rattle.trace_assembly.proofs.SpotEvents.{events-push}
-use Rattle.trace_assembly.proofs.Places.{events-located, located_push_law, upto_none, upto_all}
+use Rattle.trace_assembly.proofs.LocatedEvents.{events-located, located_push_law, upto_none, upto_all}
 use Rattle.trace_ring.specs.declared.first_starts.ranges.Range.{Range}
 use Rattle.trace_ring.specs.FirstStarts.{Starts}
 use Rattle.trace_ring.specs.StartRanges.{IsIn, IsWider, range_at}

@@ -21,7 +21,7 @@ use Rattle.trace_assembly.specs.AssembledRows.{with_spot}
 use Rattle.trace_assembly.specs.LocatedSpans.{span_at, located_events, located_in, located_by, located_upto, events_in}
 use Rattle.trace_assembly.specs.LocatedSpans.{shown_spots, after_eviction, without_evicted}
 use Rattle.trace_assembly.proofs.SpotEvents.{events-push, comes_in_law, lowers_law, spans_at_shown_law}
-use Rattle.trace_assembly.proofs.Places.{located_push_law, upto_none, upto_all}
+use Rattle.trace_assembly.proofs.LocatedEvents.{located_push_law, upto_none, upto_all}
 use Rattle.collected_traces.specs.EntriesAtPlaces.{spans_named}
 use Rattle.journal_traces.specs.SpansAtSpots.{trace_named}
 use Rattle.journal_traces.proofs.SpansAtSpots.{named_is}

@@ -27,7 +27,7 @@ use Rattle.trace_ring.specs.RingValues.{opened_by, evicted_trace}
 use Rattle.trace_assembly.specs.declared.spot.Spot.{Spot}
 use Rattle.trace_assembly.specs.LocatedSpans.{located_events, located_by, events_in}
 use Rattle.trace_assembly.proofs.SpotEvents.{events-push}
-use Rattle.trace_assembly.proofs.Places.{located_push_law, upto_none, upto_all}
+use Rattle.trace_assembly.proofs.LocatedEvents.{located_push_law, upto_none, upto_all}
 use Rattle.trace_assembly.specs.LocatedSpans.{located_upto}
 use Rattle.span_store.specs.ShownStarts.{AreFirst, first_with}
 

@@ -22,7 +22,7 @@ use Rattle.trace_adjust.specs.Hosts.{hosts_of, number_in, IsHostKept, AreKept, A
 use Rattle.trace_adjust.specs.KeyedPlaces.{stored_under}
 use Rattle.trace_adjust.specs.declared.clock.HostedSpan.{HostedSpan}
 use Rattle.trace_adjust.specs.declared.known_deltas.KnownDelta.{KnownDelta}
-use Rattle.trace_adjust.proofs.Places.{place_push, place_found}
+use Rattle.trace_adjust.proofs.FirstPlaceTables.{place_push, place_found}
 use Rattle.trace_adjust.proofs.KnownClocks.{with_at}
 use Rattle.trace_adjust.proofs.KnownParts.{known_read}
 use Rattle.trace_adjust.proofs.Marks.{start_is, count_known}

@@ -15,7 +15,7 @@ use Rattle.trace_model.specs.AdjustingTerms.{clock_by}
 use Rattle.trace_model.proofs.ParentChains.{clocks, within_step, within_none}
 use Rattle.trace_adjust.specs.KnownClocks.{place_in, clock_near, clock_with, clocks_with, is_unset, AreRight, IsClosed, AreClosed, AreClocks, unset_count}
 use Rattle.trace_adjust.specs.KnownClocks.{AreSet}
-use Rattle.trace_adjust.proofs.Places.{place_there, place_below}
+use Rattle.trace_adjust.proofs.FirstPlaceTables.{place_there, place_below}
 use Rattle.trace_model.proofs.Lists.{none_is}
 
 pub map_none : {X Y : Type 0} (f : X → Y) (o : Option X) → option_map f o ≡ None → o ≡ None

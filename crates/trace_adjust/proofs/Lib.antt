@@ -1,7 +1,7 @@
 pub mod Deltas
 pub mod HostNumbers
 pub mod LentReferences
-pub mod Places
+pub mod FirstPlaceTables
 pub mod KnownClocks
 pub mod KnownParts
 pub mod Marks

@@ -8,7 +8,7 @@ use Rattle.trace_model.specs.Adjusting.{unadjusted, shifted, shown_after, skew_a
 use Rattle.trace_model.specs.Adjusting.{shown_adjusted_after, shown_adjusted}
 use Rattle.trace_adjust.specs.SpanDeltas.{AreDeltas}
 use Rattle.trace_model.proofs.SharingShown.{same_spans}
-use Rattle.trace_adjust.proofs.Places.{as_many, placed_at}
+use Rattle.trace_adjust.proofs.FirstPlaceTables.{as_many, placed_at}
 
 pub as_many_shown : (m : ℕ) (all before : List Placed) (ss : List Shown) → length (shown_adjusted_after m all before ss) ≡ length ss
 as_many_shown m all before [] = refl

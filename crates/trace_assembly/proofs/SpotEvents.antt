@@ -22,7 +22,7 @@ use Rattle.trace_assembly.specs.LocatedSpans.{spans_in, spots_in, located_trace,
 use Rattle.trace_assembly.specs.LocatedSpans.{shown_spots, with_event, without_evicted, located_events}
 use Rattle.trace_assembly.specs.LocatedSpans.{span_at, after_eviction, after_arrival, AreShown, ComesIn, Lowers}
 use Rattle.trace_assembly.proofs.Lists.{map_filter, map_nil}
-use Rattle.trace_assembly.proofs.Places.{at_spots, shown-lies, events-located}
+use Rattle.trace_assembly.proofs.LocatedEvents.{at_spots, shown-lies, events-located}
 
 abbrev span_of : Spot × Placed → Placed
 span_of l = l.1

@@ -15,14 +15,14 @@ ghost use Rattle.trace_assembly.specs.LocatedSpans.{shown_spots, with_event, wit
 ghost use Rattle.trace_assembly.specs.LocatedSpans.{AreShown, ComesIn, Lowers};
 
 /// The spans at the spots of a history, in order, are its arrivals.
-#[tactic(auto, using(crate::proofs::Places::spans_at_located_law))]
+#[tactic(auto, using(crate::proofs::LocatedEvents::spans_at_located_law))]
 pub fn spots_name_the_arrivals()
     ensures { (h : List Entry) → map (span_at h) (spots_in (without_limits (located_events h))) ≡
         map (λ p. Some p) (arrivals h) }
 {}
 
 /// One more entry adds its events: the spans of a batch, each at the entry's place and its own index, or a limit.
-#[tactic(auto, using(crate::proofs::Places::located_push_law))]
+#[tactic(auto, using(crate::proofs::LocatedEvents::located_push_law))]
 pub fn an_entry_adds_its_spans()
     ensures { (h : List Entry) (e : Entry) →
         located_events (h ++ e ∷ []) ≡ located_events h ++ located_by (length h + 1) e.work }

@@ -1,5 +1,5 @@
 use Rattle.std.proofs.Common.{◌<◌, get_or, rules, Fits, w8}
-use Rattle.arrival_journal.proofs.Numbers.{hex_shared}
+use Rattle.arrival_journal.proofs.NonStringTexts.{hex_shared}
 use Rattle.arrival_journal.proofs.tagging.hex_part.Goals as goal
 
 pub returns-in-Some-clause-exact : goal.returns-in-Some-clause-exact

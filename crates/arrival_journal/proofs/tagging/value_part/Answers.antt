@@ -5,7 +5,7 @@ use Rattle.jaeger_model.specs.StoredValues.{borrowed_value}
 use Rattle.jaeger_model.specs.Tags.{tag_text}
 use Rattle.std.specs.Fmt.{signed_decimal}
 use Rattle.arrival_journal.specs.TagBits.{text_part}
-use Rattle.arrival_journal.proofs.Numbers.{shared, signed_begins}
+use Rattle.arrival_journal.proofs.NonStringTexts.{shared, signed_begins}
 use Rattle.arrival_journal.proofs.tagging.value_part.Goals as goal
 
 pub returns-in-Long-clause-exact : goal.returns-in-Long-clause-exact

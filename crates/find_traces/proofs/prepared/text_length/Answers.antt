@@ -4,7 +4,7 @@ use Rattle.jaeger_model.specs.declared.tag_value.ValueRef.{ValueRef}
 use Rattle.jaeger_model.specs.StoredValues.{borrowed_value}
 use Rattle.jaeger_model.specs.Tags.{tag_text}
 use Rattle.find_traces.specs.RequestedPairs.{may_be_number}
-use Rattle.find_traces.proofs.Numbers.{signed_begins}
+use Rattle.find_traces.proofs.NumberTexts.{signed_begins}
 use Rattle.find_traces.proofs.prepared.text_length.Goals as goal
 
 pub returns-in-Long : goal.returns-in-Long

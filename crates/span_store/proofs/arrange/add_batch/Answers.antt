@@ -5,7 +5,7 @@ use Rattle.trace_model.specs.Events.{came}
 use Rattle.jaeger_model.proofs.ParentReferences.{trace_stays}
 use Rattle.trace_assembly.specs.AssembledRows.{spots_of}
 use Rattle.trace_assembly.specs.LocatedSpans.{located_upto}
-use Rattle.trace_assembly.proofs.Places.{upto_more}
+use Rattle.trace_assembly.proofs.LocatedEvents.{upto_more}
 use Rattle.trace_assembly.specs.declared.spot.Spot.{Spot as SpotValue}
 use Rattle.span_store.specs.StoreIndexes.{FollowsEvents}
 use Rattle.span_store.specs.ShownStarts.{AreFirst, IsRanged}

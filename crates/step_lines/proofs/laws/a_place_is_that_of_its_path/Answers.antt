@@ -1,4 +1,4 @@
-use Rattle.step_lines.proofs.Places.{place_is, place_found, place_none, no_place}
+use Rattle.step_lines.proofs.EndpointsOfPaths.{place_is, place_found, place_none, no_place}
 use Rattle.step_lines.proofs.laws.a_place_is_that_of_its_path.Goals as goal
 
 pub returns-clause-place : goal.returns-clause-place

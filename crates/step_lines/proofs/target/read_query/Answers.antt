@@ -1,5 +1,5 @@
 use Rattle.std.proofs.Common.{Ok, Err}
-use Rattle.step_lines.proofs.Places.{query_asked, no_path_asked}
+use Rattle.step_lines.proofs.EndpointsOfPaths.{query_asked, no_path_asked}
 use Rattle.step_lines.proofs.target.read_query.Goals as goal
 
 pub returns-in-Ok : goal.returns-in-Ok

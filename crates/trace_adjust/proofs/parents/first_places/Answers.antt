@@ -7,7 +7,7 @@ use Rattle.std.proofs.lemmas.List.{get_or_default}
 use Rattle.jaeger_model.specs.declared.ids.SpanId.{SpanId}
 use Rattle.jaeger_model.specs.declared.placed.Placed.{Placed}
 use Rattle.trace_model.specs.ServiceLinks.{has_id}
-use Rattle.trace_adjust.proofs.Places.{place_entered, place_kept, has_place, below_push}
+use Rattle.trace_adjust.proofs.FirstPlaceTables.{place_entered, place_kept, has_place, below_push}
 use Rattle.trace_adjust.proofs.parents.first_places.Goals as goal
 use Rattle.trace_adjust.proofs.parents.first_places.Goals.{then-not-is_repeated+in_ok-place_u32+in_ok-insert, else-not-is_repeated}
 

@@ -5,7 +5,7 @@ use Rattle.std.specs.Option.{option_copied}
 use Rattle.std.proofs.lemmas.Option.{slice_get-map}
 use Rattle.trace_model.specs.Places.{entry_at}
 use Rattle.arrival_journal.specs.Journals.{Journaled}
-use Rattle.arrival_journal.proofs.Places.{lent_item}
+use Rattle.arrival_journal.proofs.ItemsAtPlaces.{lent_item}
 use Rattle.arrival_journal.proofs.journal.Journal.entry.Goals as goal
 
 pub returns : goal.returns

@@ -8,7 +8,7 @@ use Rattle.trace_model.specs.Places.{entry_at}
 use Rattle.arrival_journal.specs.Journals.{Journaled}
 use Rattle.arrival_journal.specs.Outlines.{outline_in, outline_of}
 use Rattle.arrival_journal.proofs.AppendedEntries.{kept_at}
-use Rattle.arrival_journal.proofs.Places.{lent_item}
+use Rattle.arrival_journal.proofs.ItemsAtPlaces.{lent_item}
 use Rattle.arrival_journal.proofs.journal.Journal.outline.Goals as goal
 
 pub returns-in-Some : goal.returns-in-Some

@@ -3,7 +3,7 @@ use Rattle.crossbeam_queue.specs.Passes.{view}
 use Rattle.trace_model.specs.declared.entry.Entry.{Entry}
 use Rattle.intake.specs.Queues.{AreLast}
 use Rattle.intake.specs.Turns.{InboxValue}
-use Rattle.intake.proofs.Numbers.{has_so_many}
+use Rattle.intake.proofs.TakenJobNumbers.{has_so_many}
 use Rattle.intake.proofs.inbox.Inbox.has_taken.Goals as goal
 
 pub returns : goal.returns

@@ -2,7 +2,7 @@ use Rattle.std.proofs.Common.{rules, sym, subst, slice_set}
 use Rattle.crossbeam_queue.specs.Passes.{view}
 use Rattle.intake.specs.declared.queue.QueueView.{QueueView}
 use Rattle.intake.specs.Queues.{AreLast}
-use Rattle.intake.proofs.Numbers.{one_taken}
+use Rattle.intake.proofs.TakenJobNumbers.{one_taken}
 use Rattle.intake.proofs.Steps.{takes, waits}
 use Rattle.intake.proofs.inbox.Inbox.pop.Goals as goal
 

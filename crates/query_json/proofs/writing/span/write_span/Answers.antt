@@ -4,7 +4,7 @@ use Rattle.json.specs.Print.{escape, escape_byte, quoted}
 use Rattle.serde_json.specs.Written.{compact_text}
 use Rattle.jaeger_model.specs.Ids.{span_text, trace_text}
 use Rattle.answer_trees.specs.Trees.{flags_number, list, log_tree, span_tree, tag_tree, warnings_tree}
-use Rattle.query_json.proofs.Numbers.{integer_text}
+use Rattle.query_json.proofs.IntegerTexts.{integer_text}
 use Rattle.answer_trees.specs.TraceProcesses.{process_place}
 use Rattle.json_page.proofs.Pages.{◌▸◌, Puts-is}
 use Rattle.query_json.proofs.Pages.{put_tree-text}

@@ -2,7 +2,7 @@ use Rattle.std.proofs.Common.{sym}
 use Rattle.json.specs.Print.{escape_byte}
 use Rattle.trace_adjust.specs.LentSpans.{lent_log}
 use Rattle.answer_trees.specs.Trees.{log_tree}
-use Rattle.query_json.proofs.Numbers.{integer_text}
+use Rattle.query_json.proofs.IntegerTexts.{integer_text}
 use Rattle.json_page.proofs.Pages.{◌▸◌, Puts-is}
 use Rattle.query_json.proofs.Pages.{put_tree-text}
 use Rattle.query_json.proofs.writing.span.LentLogWriteJson.write.Goals as goal
