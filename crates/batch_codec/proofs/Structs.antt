@@ -104,7 +104,7 @@ module _ {S X : Type 0} (take : Take S DecodeError) (rule : StructRule S X) (fro
           rw (fields, whole) refl
 
 -- a required slot that is filled
-pub required_found : {A B : Type 0} (o : Option A) (name : StructName) (i : ℕ) (f : A → Result B DecodeError) (y : B) → (required o name i >>= f) ≡ Ok y → (x : A)
-    × (o ≡ Some x) × (f x ≡ Ok y)
+pub required_found : {A B : Type 0} (o : Option A) (name : StructName) (i : ℕ) (f : A → Result B DecodeError) (y : B) → (required o name i >>= f) ≡ Ok y
+    → (x : A) × (o ≡ Some x) × (f x ≡ Ok y)
 required_found None name i f y e = absurd cc
 required_found (Some x) name i f y e = (x, refl, e)

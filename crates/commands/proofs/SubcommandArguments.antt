@@ -53,8 +53,8 @@ pipe_is_not_play : codes "pipe" ≡ codes "play" → ⊥
 pipe_is_not_play same = let second : get_or (codes "pipe") 1 0 ≡ get_or (codes "play") 1 0 = ap (λ t. get_or t 1 0) same in omega arith
 
 module _ (arguments : List Text) (X : Type 0) where
-  pub of_get : ((limits : Limits) (id : TraceId) → TakesArguments (Get limits id) arguments → X) → (command : Command) → (subcommand_of command).top.name ≡ codes "get"
-      → TakesArguments command arguments → X
+  pub of_get : ((limits : Limits) (id : TraceId) → TakesArguments (Get limits id) arguments → X) → (command : Command)
+      → (subcommand_of command).top.name ≡ codes "get" → TakesArguments command arguments → X
   of_get by (Get limits id) name takes = by limits id takes
   of_get by (Pipe limits) name takes = absurd cc
   of_get by (Play limits) name takes = absurd cc
@@ -74,8 +74,8 @@ module _ (arguments : List Text) (X : Type 0) where
   of_play by (Play limits) name takes = by limits takes
   of_play by (Serve options) name takes = absurd cc
 
-  pub of_serve : ((options : ServeOptions) → TakesArguments (Serve options) arguments → X) → (command : Command) → (subcommand_of command).top.name ≡ codes "serve"
-      → TakesArguments command arguments → X
+  pub of_serve : ((options : ServeOptions) → TakesArguments (Serve options) arguments → X) → (command : Command)
+      → (subcommand_of command).top.name ≡ codes "serve" → TakesArguments command arguments → X
   of_serve by (Get limits id) name takes = absurd cc
   of_serve by (Pipe limits) name takes = absurd cc
   of_serve by (Play limits) name takes = absurd cc

@@ -4,8 +4,8 @@ ghost use Rattle.clap.specs.Words.{app_of, found_of, rows_of, rule_of};
 ghost use Rattle.serve_options.specs.declared.host.Host.{Host as HostValue};
 ghost use Rattle.serve_options.specs.declared.options.ServeOptions.{ServeOptions as ServeOptionsValue};
 ghost use Rattle.commands.specs.declared.arguments.Command.TheVariants.{Serve};
-ghost use Rattle.commands.specs.Arguments.{HasHost, HasServeOptions, Makes, connections_rule, host_rule, idle_rule, port_rule, queue_rule, report_rule, serve_app};
-ghost use Rattle.commands.specs.Arguments.{sessions_rule, with_serving as serving_on, workers_rule};
+ghost use Rattle.commands.specs.Arguments.{HasHost, HasServeOptions, Makes, connections_rule, host_rule, idle_rule, port_rule, queue_rule};
+ghost use Rattle.commands.specs.Arguments.{report_rule, serve_app, sessions_rule, with_serving as serving_on, workers_rule};
 ghost use Rattle.text_lines.specs.declared.exit_status.ExitStatus.TheVariants.{OutOfMemory};
 ghost use Rattle.commands.specs.CommandArguments.{ReadsArguments, TakesArguments};
 

@@ -60,7 +60,8 @@ pub(crate) struct ClockedTrace<'t, 's> {
 
 impl<'t, 's> ClockedTrace<'t, 's> {
     ghost use Rattle.std.specs.Prelude.{IfSome};
-    ghost use Rattle.trace_adjust.specs.KnownClocks.{unset_count, clock_near, clock_with, clocks_with, IsClosed, AreClosed, AreSet, AreAllSet, IsMarked, AreMarked};
+    ghost use Rattle.trace_adjust.specs.KnownClocks.{unset_count, clock_near, clock_with, clocks_with};
+    ghost use Rattle.trace_adjust.specs.KnownClocks.{IsClosed, AreClosed, AreSet, AreAllSet, IsMarked, AreMarked};
     ghost use Rattle.trace_adjust.specs.KnownDeltas.{delta_of, deltas_in};
 
     /// Returns the span at the place, with the number of its host.
