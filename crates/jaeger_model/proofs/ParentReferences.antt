@@ -88,8 +88,8 @@ otherwise s = by (needs_no_reference s)
     by true = refl
     by false = refl
 
-pub same_otherwise : (b : Batch) → map (λ (p : Placed). without_references p.span) (domain b) ≡ map without_references b.spans
-same_otherwise b = map_as (λ (p : Placed). without_references p.span) without_references b otherwise
+pub same_spans : (b : Batch) → map (λ (p : Placed). without_references p.span) (domain b) ≡ map without_references b.spans
+same_spans b = map_as (λ (p : Placed). without_references p.span) without_references b otherwise
 
 -- adding the reference a second time changes nothing
 pub referred_once : (s : Span) → with_parent (with_parent s) ≡ with_parent s
