@@ -1,7 +1,8 @@
 //! The items of the queue.
 
-ghost use Rattle.std.specs.Prelude.{◌≡◌, IfOk};
+ghost use Rattle.std.specs.Prelude.{◌≡◌, ◌<◌, IfOk};
 ghost use Rattle.std.specs.Arc.{arc_value};
+ghost use Rattle.intake.specs.declared.opening.TheConstants.{MAX_SEATS};
 
 use crate::answer_slot::AnswerSlot;
 use arrival_journal::Record;
@@ -19,15 +20,16 @@ pub(crate) struct Job<N: StoreName> {
 }
 
 impl<N: StoreName> Model for Job<N> {
-    ghost use Rattle.std.specs.Prelude.{◌≡◌};
+    ghost use Rattle.std.specs.Prelude.{◌≡◌, ◌<◌};
     ghost use Rattle.std.specs.Arc.{arc_value};
     ghost use Rattle.trace_model.specs.declared.entry.Entry.{Entry};
+    ghost use Rattle.intake.specs.declared.opening.TheConstants.{MAX_SEATS};
 
     ghost Value = { Entry };
 
     ghost view = { λ j. j.recorded };
 
-    ghost invariant = { λ j. arc_value j.slot ≡ j.recorded };
+    ghost invariant = { λ j. (arc_value j.slot ≡ j.recorded) × (j.recorded.seat < MAX_SEATS) };
 }
 
 impl<N: StoreName> Job<N> {
@@ -38,7 +40,8 @@ impl<N: StoreName> Job<N> {
         entry: &Arc<Entry>,
         slot: &Arc<AnswerSlot<N>>,
     ) -> Result<Job<N>, Refusal>
-        requires { arc_value slot.now ≡ arc_value entry.now }
+        requires slot { arc_value slot.now ≡ arc_value entry.now }
+        requires seat { (arc_value entry.now).seat < MAX_SEATS }
         ensures { IfOk result (λ j. j ≡ arc_value entry.now) }
     {
         let slot = Arc::try_clone(slot)?;
@@ -48,7 +51,7 @@ impl<N: StoreName> Job<N> {
 
     /// Returns the seat that submitted it, and its number there.
     pub(crate) fn id(&self) -> (u16, u64)
-        ensures { (result.0 ≡ self.now.seat) × (result.1 ≡ self.now.number) }
+        ensures { (result.0 ≡ self.now.seat) × (result.1 ≡ self.now.number) × (result.0 < MAX_SEATS) }
     {
         let entry = self.recorded.entry();
         (entry.seat, entry.number)

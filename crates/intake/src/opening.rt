@@ -28,10 +28,12 @@ pub const MAX_SEATS: u16 = 64;
 /// The greatest number of jobs that a queue has room for.
 pub const MAX_QUEUE: usize = 4096;
 
-/// Makes `count` bells.
-fn bells(alloc: Global, count: u16) -> Result<Vec<CachePadded<Bell>>, AllocError> {
-    let mut bells = Vec::with_capacity(alloc, count as usize)?;
-    for _made in 0..count {
+/// Makes a bell for each number that a seat may have.
+fn bells(alloc: Global) -> Result<Vec<CachePadded<Bell>>, AllocError>
+    ensures { IfOk result (λ bells. length bells.items ≡ MAX_SEATS) }
+{
+    let mut bells = Vec::with_capacity(alloc, MAX_SEATS as usize)?;
+    for _made in 0..MAX_SEATS {
         bells.push(CachePadded::new(Bell::new()))?;
     }
     Ok(bells)
@@ -59,7 +61,7 @@ pub fn open_desk<N: StoreName>(
     ensures reason { IfErr result (λ why. why ≡ NoMemory) }
 {
     let last = Mutex::new(Arc::new(alloc, first)?);
-    let answer_bells = bells(alloc, seats)?;
+    let answer_bells = bells(alloc)?;
     let mut made = Vec::with_capacity(alloc, seats as usize)?;
     let none_taken = vec![in alloc; 0; seats as usize]?;
     let (queue, mut end): (Queue<N>, QueueEnd<N>) = Queue::ruled(alloc, capacity)?;

@@ -1,10 +1,11 @@
 //! Where batches and limits are submitted.
 
-ghost use Rattle.std.specs.Prelude.{◌≡◌, ◌+◌, true, false, length, [], MatchOption, OnOk, OnErr, IfOk, IfErr};
+ghost use Rattle.std.specs.Prelude.{◌≡◌, ◌<◌, ◌+◌, true, false, length, [], MatchOption, OnOk, OnErr, IfOk, IfErr};
 ghost use Rattle.std.specs.Arc.{arc_value};
 ghost use Rattle.crossbeam_queue.specs.Passes.{view, IsPassOf, ruled_capacity};
 ghost use Rattle.trace_model.specs.declared.entry.Work.TheVariants as brings;
 ghost use Rattle.intake.specs.Seats.{next_job, with_job, HasNextNumber, IsNotQueued, IsEndOf, IsNewSeat};
+ghost use Rattle.intake.specs.declared.opening.TheConstants.{MAX_SEATS};
 
 use crate::answer_slot::AnswerSlot;
 use crate::job::Job;
@@ -31,10 +32,11 @@ pub struct Seat<N: StoreName> {
 }
 
 impl<N: StoreName> Model for Seat<N> {
-    ghost use Rattle.std.specs.Prelude.{◌≡◌, true, false, length};
+    ghost use Rattle.std.specs.Prelude.{◌≡◌, ◌<◌, true, false, length};
     ghost use Rattle.std.specs.Arc.{arc_value};
     ghost use Rattle.crossbeam_queue.specs.Passes.{view as view_at, IsPassOf, ruled_capacity};
     ghost use Rattle.intake.specs.Seats.{SeatValue, seat_value};
+    ghost use Rattle.intake.specs.declared.opening.TheConstants.{MAX_SEATS};
 
     ghost Value = { SeatValue };
 
@@ -45,7 +47,8 @@ impl<N: StoreName> Model for Seat<N> {
     ghost invariant = { λ s. IsPassOf (arc_value s.shared).queue s.queue_end
         × ((view_at s.queue_end).takes ≡ false) × ((view_at s.queue_end).submits ≡ s.may_submit)
         × ((view_at s.queue_end).seat ≡ s.number)
-        × (length (view_at s.queue_end).submitted ≡ s.submitted) };
+        × (length (view_at s.queue_end).submitted ≡ s.submitted)
+        × (s.number < MAX_SEATS) };
 }
 
 /// Returns the entry when it has no other owner.
@@ -70,6 +73,7 @@ impl<N: StoreName> Seat<N> {
         requires rights { ((view queue_end).takes ≡ false) × ((view queue_end).submits ≡ true) }
         requires seat { (view queue_end).seat ≡ number }
         requires submitted { (view queue_end).submitted ≡ [] }
+        requires number { number < MAX_SEATS }
         ensures seat { result.seat ≡ number }
         ensures unused { IsNewSeat queue_end.table_id
             (ruled_capacity (arc_value shared).queue) result }
@@ -227,6 +231,7 @@ impl<N: StoreName> Seat<N> {
 
     /// Makes a ticket and its job.
     fn pair(&self, alloc: Global, entry: &Arc<Entry>) -> Result<(Ticket<N>, Job<N>), Refusal>
+        requires { (arc_value entry.now).seat < MAX_SEATS }
         ensures ticket { IfOk result (λ r. r.0 ≡ arc_value entry.now) }
         ensures job { IfOk result (λ r. r.1 ≡ arc_value entry.now) }
     {

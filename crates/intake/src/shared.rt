@@ -1,10 +1,11 @@
 //! The state that the seats, their tickets, the clerk and the desk share.
 
-ghost use Rattle.std.specs.Prelude.{◌≡◌, ◌⊎◌, IfOk, IfErr};
+ghost use Rattle.std.specs.Prelude.{◌≡◌, ◌<◌, ◌⊎◌, IfOk, IfErr, length};
 ghost use Rattle.std.specs.Arc.{arc_value};
 ghost use Rattle.trace_model.specs.declared.refusal.Refusal.TheVariants.{Closed, NoReply};
 ghost use Rattle.read_side.specs.Receipts.{AnsweredAt};
 ghost use Rattle.intake.specs.Denials.{IsDenied};
+ghost use Rattle.intake.specs.declared.opening.TheConstants.{MAX_SEATS};
 
 use crate::answer_slot::{AnswerSlot, JobAnswer};
 use crate::bell::Bell;
@@ -27,10 +28,12 @@ pub(crate) struct Shared<N: StoreName> {
     pub(crate) ended: AtomicBool,
     /// Rings when a job was submitted, and when the desk is closed.
     pub(crate) jobs: CachePadded<Bell>,
-    /// One for each seat: rings when an answer to one of its jobs is stored, and when the clerk ends.
+    /// One for each number that a seat may have: rings when an answer to one of its jobs is stored, and when the clerk
+    /// ends.
     pub(crate) answer_bells: Vec<CachePadded<Bell>>,
     /// The last receipt that was stored, or the one of the opening.
     pub(crate) last: Mutex<Arc<Receipt<N>>>,
+    ghost bell_for_each: { length answer_bells.items ≡ MAX_SEATS },
 }
 
 impl<N: StoreName> Shared<N> {
@@ -43,12 +46,11 @@ impl<N: StoreName> Shared<N> {
     }
 
     /// Returns the bell of a seat.
-    pub(crate) fn bell(&self, seat: u16) -> &Bell {
-        match self.answer_bells.get(seat as usize) {
-            Some(bell) => &**bell,
-            // Impossible: each seat has a bell.
-            None => &*self.jobs,
-        }
+    pub(crate) fn bell(&self, seat: u16) -> &Bell
+        requires { seat < MAX_SEATS }
+    {
+        let bell = &self.answer_bells[seat as usize];
+        &**bell
     }
 
     /// Returns why a job has no answer, after the clerk has ended.
@@ -76,6 +78,7 @@ impl<N: StoreName> Shared<N> {
         slot: &AnswerSlot<N>,
         job_answer: JobAnswer<N>,
     )
+        requires seat { seat < MAX_SEATS }
         requires answered { IfOk job_answer.answer (λ a.
             AnsweredAt (arc_value a.receipt).entries a.place slot.now) }
         requires denied { IfErr job_answer.answer (λ d.

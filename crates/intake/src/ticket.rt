@@ -1,10 +1,11 @@
 //! What a seat waits for.
 
-ghost use Rattle.std.specs.Prelude.{◌≡◌, IfOk, IfErr};
+ghost use Rattle.std.specs.Prelude.{◌≡◌, ◌<◌, IfOk, IfErr};
 ghost use Rattle.std.specs.Arc.{arc_value};
 ghost use Rattle.read_side.specs.Receipts.{AnsweredAt};
 ghost use Rattle.intake.specs.Seats.{IsUnacknowledged};
 ghost use Rattle.intake.specs.Denials.{IsDenied, IsDeniedSomehow};
+ghost use Rattle.intake.specs.declared.opening.TheConstants.{MAX_SEATS};
 
 use crate::answer_slot::AnswerSlot;
 use crate::denial::Denial;
@@ -38,15 +39,17 @@ pub struct Ticket<N: StoreName> {
 }
 
 impl<N: StoreName> Model for Ticket<N> {
-    ghost use Rattle.std.specs.Prelude.{◌≡◌};
+    ghost use Rattle.std.specs.Prelude.{◌≡◌, ◌<◌};
     ghost use Rattle.std.specs.Arc.{arc_value};
     ghost use Rattle.trace_model.specs.declared.entry.Entry.{Entry};
+    ghost use Rattle.intake.specs.declared.opening.TheConstants.{MAX_SEATS};
 
     ghost Value = { Entry };
 
     ghost view = { λ t. arc_value t.entry };
 
-    ghost invariant = { λ t. arc_value t.slot ≡ arc_value t.entry };
+    ghost invariant = { λ t. (arc_value t.slot ≡ arc_value t.entry)
+        × ((arc_value t.entry).seat < MAX_SEATS) };
 }
 
 impl<N: StoreName> Ticket<N> {
@@ -56,7 +59,8 @@ impl<N: StoreName> Ticket<N> {
         slot: Arc<AnswerSlot<N>>,
         shared: Arc<Shared<N>>,
     ) -> Ticket<N>
-        requires { arc_value slot ≡ arc_value entry }
+        requires slot { arc_value slot ≡ arc_value entry }
+        requires seat { (arc_value entry).seat < MAX_SEATS }
         ensures { result ≡ arc_value entry }
     {
         Ticket {
