@@ -63,7 +63,7 @@ def fault(case, wanted):
 def tried(room):
     """What `rt try` says of the cases of a folder: of each its run, status and output.
 
-    Its interpreter can't run a program that reads its words, so it gets a single step.
+    Its interpreter can't run a program that reads its arguments, so it gets a single step.
     """
     words = ["rt", "try", "--steps", "1", "--cases", room]
     ran = subprocess.run(words, cwd=TOP / "crates/jaeger_one", stdin=subprocess.DEVNULL,
