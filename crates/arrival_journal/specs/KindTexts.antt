@@ -1,19 +1,9 @@
--- The kinds of spans as texts.
-use Rattle.std.specs.Prelude.{ℕ, List, [], map, take, codes}
+-- The kinds of the first spans of an entry, as texts.
+use Rattle.std.specs.Prelude.{ℕ, List, map, take}
 use Rattle.jaeger_model.specs.declared.span.Span.{Span}
 use Rattle.jaeger_model.specs.Tags.{kind_of}
 use Rattle.trace_model.specs.declared.entry.Entry.{Entry}
 use Rattle.trace_model.specs.EntryWork.{spans_brought}
-use Rattle.arrival_journal.specs.declared.kind.Kind.{Kind}
-use Rattle.arrival_journal.specs.declared.kind.Kind.TheVariants.{Unset, Client, Server, Producer, Consumer, Internal}
-
-abbrev pub kind_text : Kind → List ℕ
-kind_text Unset = []
-kind_text Client = codes "client"
-kind_text Server = codes "server"
-kind_text Producer = codes "producer"
-kind_text Consumer = codes "consumer"
-kind_text Internal = codes "internal"
 
 -- the kinds of the first of these spans
 abbrev pub first_kinds : List Span → List (List ℕ)

@@ -7,15 +7,14 @@
 //! entries with its number, its seat's last number and the counts. No contract speaks of that cost.
 //!
 //! * `journal`: the [`Journal`].
-//! * `outline`: what is known of an entry without reading its spans, its [`Outline`]. `kind`, `span_kinds`: the
-//!   kinds of its first spans. `record`: an entry with both and with the hash of its batch, a [`Record`].
+//! * `outline`: what is known of an entry without reading its spans, its [`Outline`]. `span_kinds`: the kinds of
+//!   its first spans. `record`: an entry with both and with the hash of its batch, a [`Record`].
 //! * `times`: bounds of the starts and durations of an entry's spans.
 //! * `tagging`: a bitmap of the tags that an entry may have.
 //! * `seats`: the last numbers of seats.
 #![tactic(auto)]
 
 mod journal;
-mod kind;
 mod outline;
 mod record;
 mod seats;
@@ -24,7 +23,6 @@ mod tagging;
 mod times;
 
 pub use journal::Journal;
-pub use kind::Kind;
 pub use outline::Outline;
 pub use record::Record;
 pub use span_kinds::SpanKinds;

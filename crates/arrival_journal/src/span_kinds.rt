@@ -1,10 +1,10 @@
 //! The kinds of the first spans of an entry.
 
 ghost use Rattle.std.specs.Prelude.{◌≡◌, ◌<◌, [], ◌∷◌, ◌++◌, length, map};
-ghost use Rattle.arrival_journal.specs.KindTexts.{kind_text, first_kinds};
+ghost use Rattle.jaeger_model.specs.Kinds.{kind_text};
+ghost use Rattle.arrival_journal.specs.KindTexts.{first_kinds};
 
-use crate::kind::Kind;
-use jaeger_model::Span;
+use jaeger_model::{Kind, Span};
 use std::marker::Model;
 
 /// The kinds of the first spans of an entry. They are computed once and stored in its record, so that applying the
@@ -17,7 +17,7 @@ pub struct SpanKinds {
 
 impl Model for SpanKinds {
     ghost use Rattle.std.specs.Prelude.{List, ℕ, ◌≤◌, map, take};
-    ghost use Rattle.arrival_journal.specs.KindTexts.{kind_text};
+    ghost use Rattle.jaeger_model.specs.Kinds.{kind_text};
 
     ghost Value = { List (List ℕ) };
 

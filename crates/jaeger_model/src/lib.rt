@@ -8,7 +8,7 @@
 //! * `ids`: the ids of traces and spans, and their hexadecimal text.
 //! * `tag`, `span`, `batch`: the structs of `jaeger.thrift`, with unsigned ids, and a tag's text.
 //! * `tag_value`: a tag's value in the form in which a tag stores it.
-//! * `kind`: a span's kind, by its tag `span.kind`.
+//! * `kind`: a span's kind, by its tag `span.kind`, as a text and as a [`Kind`].
 //! * `parent`: the rule for a span's parent.
 //! * `shared_process`: a process that all spans of a batch share.
 //! * `placed`: a span together with the process that reported it.
@@ -37,7 +37,7 @@ mod text;
 
 pub use batch::{Batch, Process};
 pub use ids::{SpanId, TraceId, parse_trace, span_text, trace_text};
-pub use kind::kind_of;
+pub use kind::{Kind, kind_of};
 pub use parent::{is_own_child, is_own_other, needs_no_reference, parent_of};
 pub use placed::{Placed, Seen, domain, parent_reference, place_span, refer_to_parent};
 pub use process_order::ByContent;

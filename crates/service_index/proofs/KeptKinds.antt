@@ -12,8 +12,8 @@ use Rattle.trace_model.specs.EntryWork.{spans_brought, placed_brought}
 use Rattle.trace_model.specs.Histories.{arrivals}
 use Rattle.service_index.specs.ListedNames.{Listed, listed}
 use Rattle.service_index.specs.Labels.{service_alone}
-use Rattle.arrival_journal.specs.declared.kind.Kind.{Kind}
-use Rattle.arrival_journal.specs.KindTexts.{kind_text}
+use Rattle.jaeger_model.specs.declared.kind.Kind.{Kind}
+use Rattle.jaeger_model.specs.Kinds.{kind_text}
 use Rattle.service_index.specs.KeptNames.{reports, AreKinds}
 use Rattle.service_index.proofs.ArrivalReports.{listed-placed, reports_push}
 

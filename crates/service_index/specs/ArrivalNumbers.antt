@@ -2,7 +2,7 @@
 use Rattle.std.specs.Prelude.{◌≡◌, ℕ, ◌-◌, ◌<◌, ◌≤◌, List, length, get_or, take}
 use Rattle.jaeger_model.specs.declared.placed.Placed.{Placed}
 use Rattle.trace_model.specs.declared.entry.Entry.{Entry}
-use Rattle.arrival_journal.specs.declared.kind.Kind.{Kind}
+use Rattle.jaeger_model.specs.declared.kind.Kind.{Kind}
 use Rattle.trace_model.specs.EntryWork.{spans_brought, placed_brought}
 use Rattle.trace_model.specs.Histories.{arrivals}
 

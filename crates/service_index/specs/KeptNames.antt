@@ -12,8 +12,8 @@ use Rattle.service_index.specs.ListedNames.{names_of as sorted_names}
 use Rattle.service_index.specs.Labels.{Names, service_alone}
 use Rattle.service_index.specs.Indexes.{Index, IsIndexed, listing_by}
 use Rattle.service_index.specs.ServicePlaces.{service_number_in}
-use Rattle.arrival_journal.specs.declared.kind.Kind.{Kind}
-use Rattle.arrival_journal.specs.KindTexts.{kind_text}
+use Rattle.jaeger_model.specs.declared.kind.Kind.{Kind}
+use Rattle.jaeger_model.specs.Kinds.{kind_text}
 use Rattle.service_index.specs.ArrivalNumbers.{Numbered, AreOf}
 use Rattle.service_index.specs.OperationRows.{AreOperationRows, is_among}
 

@@ -7,13 +7,14 @@ ghost use Rattle.trace_model.specs.BorrowedSpans.{seen};
 ghost use Rattle.jaeger_model.specs.Tags.{kind_of};
 ghost use Rattle.service_index.specs.ServicePlaces.{ArePlacesKept};
 ghost use Rattle.service_index.specs.ArrivalNumbers.{AreOf, IsAt};
-ghost use Rattle.arrival_journal.specs.KindTexts.{kind_text, first_kinds, kinds_in};
+ghost use Rattle.jaeger_model.specs.Kinds.{kind_text};
+ghost use Rattle.arrival_journal.specs.KindTexts.{first_kinds, kinds_in};
 ghost use Rattle.service_index.specs.KeptNames.{AreKinds, reported_at};
 
 use crate::service_places::ServicePlaces;
 use crate::texts::Texts;
-use arrival_journal::{Kind, SpanKinds};
-use jaeger_model::{Span, Text};
+use arrival_journal::SpanKinds;
+use jaeger_model::{Kind, Span, Text};
 use std::alloc::{AllocError, Global};
 use std::marker::Model;
 use std::sync::Arc;

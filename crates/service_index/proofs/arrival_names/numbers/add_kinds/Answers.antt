@@ -1,7 +1,7 @@
 use Rattle.std.proofs.Common.{◌≡◌, ◌∙◌, ◌++◌, ◌-◌, length, map, take, drop, ap, arith}
 use Rattle.std.proofs.lemmas.List.{length-drop, map-append, take_all}
 use Rattle.jaeger_model.specs.Tags.{kind_of}
-use Rattle.arrival_journal.specs.KindTexts.{kind_text}
+use Rattle.jaeger_model.specs.Kinds.{kind_text}
 use Rattle.service_index.proofs.KeptKinds.{first_and_rest, fewer_kinds}
 use Rattle.service_index.proofs.arrival_names.numbers.add_kinds.Goals as goal
 

@@ -1,6 +1,6 @@
 use Rattle.std.proofs.Common.{◌≡◌, ◌+◌, ◌++◌, map, take, length, vec_capacity}
 use Rattle.jaeger_model.specs.Tags.{kind_of}
-use Rattle.arrival_journal.specs.KindTexts.{kind_text}
+use Rattle.jaeger_model.specs.Kinds.{kind_text}
 use Rattle.service_index.proofs.arrival_names.numbers.find_kinds.Given as goal
 
 abbrev pub invariant-loop-span : goal.invariant-loop-span

@@ -1,5 +1,5 @@
 use Rattle.std.proofs.Common.{◌≡◌, ℕ, List, [], map, length, ap}
-use Rattle.arrival_journal.specs.KindTexts.{kind_text}
+use Rattle.jaeger_model.specs.Kinds.{kind_text}
 use Rattle.service_index.specs.KeptNames.{names_of_arrivals}
 use Rattle.service_index.proofs.RowsOfOperations.{no_rows}
 use Rattle.service_index.proofs.arrival_names.names.ArrivalNames.with_room.Goals as goal

@@ -7,8 +7,9 @@ use Rattle.jaeger_model.specs.declared.span.Span.{Span}
 use Rattle.trace_model.specs.declared.entry.Entry.{Entry}
 use Rattle.jaeger_model.specs.Tags.{kind_of}
 use Rattle.trace_model.specs.EntryWork.{spans_brought}
-use Rattle.arrival_journal.specs.declared.kind.Kind.{Kind}
-use Rattle.arrival_journal.specs.KindTexts.{kind_text, first_kinds}
+use Rattle.jaeger_model.specs.declared.kind.Kind.{Kind}
+use Rattle.jaeger_model.specs.Kinds.{kind_text}
+use Rattle.arrival_journal.specs.KindTexts.{first_kinds}
 use Rattle.service_index.specs.KeptNames.{AreKinds}
 use Rattle.trace_model.specs.Histories.{before_last}
 use Rattle.trace_model.proofs.LastEntries.{last_entry}
