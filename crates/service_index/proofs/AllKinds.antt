@@ -2,7 +2,7 @@
 use Rattle.std.proofs.Common.{◌≡◌, ℕ, Bool, true, false, ◌||◌, ◌&&◌, List, [], ◌∷◌, map, refl, sym, ap, ◌∙◌}
 use Rattle.std.specs.Prelude.{codes, if◌then◌else◌}
 use Rattle.std.specs.List.{list_any}
-use Rattle.std.proofs.Math.Bool.{or-true}
+use Rattle.std.proofs.Math.Bool.{or-true, or-false}
 use Rattle.jaeger_model.specs.declared.placed.Placed.{Placed}
 use Rattle.jaeger_model.specs.Tags.{is_kind, kind_in, kind_of, first_text}
 use Rattle.jaeger_model.specs.Texts.{same_text}
@@ -10,6 +10,7 @@ use Rattle.trace_model.proofs.SortedSets.{any_set, or_swap}
 use Rattle.trace_model.proofs.NameLaws.{any_map, text_turned}
 use Rattle.service_index.specs.ListedNames.{Listed, same_listed, listed, listed_in}
 use Rattle.service_index.specs.Indexes.{has_operation}
+use Rattle.service_index.specs.OperationRows.{all_kinds as kinds}
 use Rattle.service_index.proofs.KnownNames.{any_agree}
 use Rattle.service_index.proofs.ListedSets.{listed_exact}
 use Rattle.service_index.specs.KeptNames.{reports_operation}
@@ -24,20 +25,18 @@ any_or f g (x ∷ xs) = elim (f x) as (λ b. ((b || list_any f xs) || (g x || li
 abbrev pub six : (List ℕ → Bool) → Bool
 six is = is [] || (is (codes "client") || (is (codes "server") || (is (codes "producer") || (is (codes "consumer") || is (codes "internal")))))
 
+-- the same as a test of a list
+pub any_six : (is : List ℕ → Bool) → list_any is kinds ≡ six is
+any_six is =
+    ap (λ b. is [] || (is (codes "client") || (is (codes "server") || (is (codes "producer") || (is (codes "consumer") || b)))))
+    (or-false (is (codes "internal")))
+
 five : (a b c d e : Bool) → (a || b || c || d || e) ≡ (a || (b || (c || (d || e))))
 five true b c d e = refl
 five false true c d e = refl
 five false false true d e = refl
 five false false false true e = refl
 five false false false false e = refl
-
-pub six_along : (a b c d e f : Bool) → (((((a || b) || c) || d) || e) || f) ≡ (a || (b || (c || (d || (e || f)))))
-six_along true b c d e f = refl
-six_along false true c d e f = refl
-six_along false false true d e f = refl
-six_along false false false true e f = refl
-six_along false false false false true f = refl
-six_along false false false false false f = refl
 
 pub some_kind : (t : List ℕ) → six (λ k. same_text k (kind_in t)) ≡ true
 some_kind t = elim (is_kind t) as (λ b. is_kind t ≡ b → six (λ k. same_text k (if b then t else [])) ≡ true) [

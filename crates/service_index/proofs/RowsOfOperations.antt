@@ -1,12 +1,13 @@
 -- The rows of the operations of arrivals.
 use Rattle.std.proofs.Common.{◌≡◌, ℕ, ◌<◌, ◌≤◌, Bool, true, false, ◌||◌, ◌&&◌, List, [], ◌∷◌, ◌++◌, map, length, get_or, refl, sym, ap, ◌∙◌}
-use Rattle.std.proofs.Common.{inl, inr, arith, eq-eqb, length-append, Some, None}
+use Rattle.std.proofs.Common.{◌+◌, take, set, subst, inl, inr, arith, eq-eqb, length-append, length-set, Some, None}
 use Rattle.std.specs.Prelude.{◌==◌, codes, Option, unwrap_or}
 use Rattle.std.specs.List.{list_any, position_or_len}
-use Rattle.std.proofs.Math.Bool.{and-true, or-false}
+use Rattle.std.proofs.Math.Bool.{and-true}
 use Rattle.std.proofs.lemmas.Bool.{false≢true, false_from_ne_true, eqb-true, cases_eq, cases_lt}
-use Rattle.std.proofs.lemmas.List.{length-map, map_push, get_or-map, get_or_append_left, get_or_push}
+use Rattle.std.proofs.lemmas.List.{length-map, map_push, take_more, take_more_set, get_or-map, get_or_append_left, get_or_push}
 use Rattle.std.proofs.lemmas.List.Sums.{passes_at_first, fails_before_first, position_or_len_is}
+use Rattle.jaeger_model.specs.declared.kind.Kind.{Kind}
 use Rattle.jaeger_model.specs.declared.placed.Placed.{Placed}
 use Rattle.jaeger_model.specs.Tags.{kind_of, first_text}
 use Rattle.jaeger_model.specs.Texts.{same_text}
@@ -18,7 +19,7 @@ use Rattle.service_index.specs.Labels.{operation_label, operation_labels}
 use Rattle.service_index.specs.Probes.{AreNumbersBelow, no_label, label_at, row_of, with_number}
 use Rattle.service_index.specs.OperationRows.{AreOperationRows, all_kinds, rows_of_kinds}
 use Rattle.service_index.specs.KeptNames.{TellOperation, names_of_arrivals, reported_at}
-use Rattle.service_index.proofs.AllKinds.{some_kind}
+use Rattle.service_index.proofs.AllKinds.{any_six, some_kind}
 use Rattle.service_index.proofs.ArrivalReports.{some_of}
 use Rattle.service_index.proofs.LabelProbes.{label_self, same_is}
 use Rattle.service_index.proofs.LinkedOperations.{number_known, number_new, row_within}
@@ -157,16 +158,27 @@ any_agree : {X : Type 0} (p q : X → Bool) → ((x : X) → p x ≡ q x) → (x
 any_agree p q same [] = refl
 any_agree p q same (x ∷ xs) = λ i. same x i || any_agree p q same xs i
 
-any_mapped : {X Y : Type 0} (p : Y → Bool) (f : X → Y) (xs : List X) → list_any p (map f xs) ≡ list_any (λ x. p (f x)) xs
+pub any_mapped : {X Y : Type 0} (p : Y → Bool) (f : X → Y) (xs : List X) → list_any p (map f xs) ≡ list_any (λ x. p (f x)) xs
 any_mapped p f [] = refl
 any_mapped p f (x ∷ xs) = ap (λ b. p (f x) || b) (any_mapped p f xs)
 
 -- the kind of a span is one of them
 kind_among : (p : Placed) → list_any (λ k. same_text k (kind_of p.span)) all_kinds ≡ true
 kind_among p =
-    let is : List ℕ → Bool = λ k. same_text k (kind_of p.span) in
-    ap (λ b. is [] || (is (codes "client") || (is (codes "server") || (is (codes "producer") || (is (codes "consumer") || b)))))
-    (or-false (is (codes "internal"))) ∙ some_kind (first_text (codes "span.kind") p.span.tags)
+    any_six (λ k. same_text k (kind_of p.span)) ∙ some_kind (first_text (codes "span.kind") p.span.tags)
+
+-- ---- one more kind
+-- its row is stored behind those of the kinds before it
+pub row_stored : (f : Kind → ℕ) (kinds : List Kind) (rows : List ℕ) (i row : ℕ) (none : Kind) → i < length kinds → row ≡ f (get_or kinds i none)
+    → (length rows ≡ length kinds) × (take i rows ≡ map f (take i kinds))
+    → (length (set rows i row) ≡ length kinds) × (take (i + 1) (set rows i row) ≡ map f (take (i + 1) kinds))
+row_stored f kinds rows i row none below own so_far =
+    let within : i < length rows = subst (λ (n : ℕ). i < n) (sym so_far.0) below in
+    let more : map f (take (i + 1) kinds) ≡ map f (take i kinds) ++ f (get_or kinds i none) ∷ [] =
+    ap (map f) (take_more kinds i none below) ∙ map_push f (take i kinds) (get_or kinds i none) in (
+      length-set rows i row ∙ so_far.0,
+      take_more_set rows i row within ∙ (λ j. so_far.1 j ++ own j ∷ []) ∙ sym more,
+    )
 
 pub rows_tell : (h : List Entry) (numbers rows : List ℕ) (service_number : ℕ) (service operation : List ℕ)
     → AreOperationRows (names_of_arrivals h) numbers rows → length rows ≡ length (arrivals h)

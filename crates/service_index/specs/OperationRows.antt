@@ -17,7 +17,7 @@ is_among rows row = list_any (λ r. r == row) rows
 
 -- the rows of an operation, one for each kind
 abbrev pub rows_in : OperationRows → List ℕ
-rows_in o = o.plain ∷ o.client ∷ o.server ∷ o.producer ∷ o.consumer ∷ o.internal ∷ []
+rows_in o = o.rows
 
 -- the kinds that an operation may have
 abbrev pub all_kinds : List (List ℕ)

@@ -1,11 +1,12 @@
 ghost use Rattle.std.specs.Prelude.{◌≡◌, ℕ, ◌+◌, ◌<◌, ◌≤◌, List, [], length, Some, IfOk};
+ghost use Rattle.std.specs.List.{list_any};
 ghost use Rattle.jaeger_model.specs.Texts.{text_cmp, sorted_set};
 ghost use Rattle.trace_model.specs.Names.{operation_cmp};
 ghost use Rattle.service_index.specs.ListedNames.{services_in};
 ghost use Rattle.service_index.specs.Labels.{Names, IsServiceNumberOf, label_value, service_number_alone};
 ghost use Rattle.service_index.specs.Labels.{operation_label, operation_labels};
 ghost use Rattle.service_index.specs.Probes.{AreNumbersBelow, row_of, with_number};
-ghost use Rattle.service_index.specs.OperationRows.{rows_in, rows_of_kinds};
+ghost use Rattle.service_index.specs.OperationRows.{all_kinds, rows_in, rows_of_kinds};
 ghost use Rattle.service_index.specs.Indexes.{listing_by, listing_with, service_row, has_service, has_operation, own_operations, operations_at};
 ghost use Rattle.service_index.specs.Indexes.{owners, AreFrom, IsChain, IsIndexed, LeadsBack};
 
@@ -14,6 +15,7 @@ use crate::labels::Label;
 use crate::links::RowLinks;
 use crate::operation_rows::OperationRows;
 use crate::texts::{OperationLabels, ServiceNumberLabels, Texts};
+use jaeger_model::Kind;
 use std::alloc::{AllocError, Global};
 use std::hash::RandomState;
 use std::marker::Model;
@@ -124,22 +126,16 @@ impl ServiceIndex {
         (self.service_row(texts, service) as usize) < self.links.services()
     }
 
-    /// Returns whether a span of the service of this number with this operation and kind was added.
-    pub fn knows_operation<T: Texts>(
-        &self,
-        texts: &T,
-        service_number: u32,
-        operation: &str,
-        kind: &str,
-    ) -> bool
+    /// Returns whether a span of the service of this number with this operation was added, of any kind.
+    pub fn knows_operation<T: Texts>(&self, texts: &T, service_number: u32, operation: &str) -> bool
         requires { IsIndexed (T.names texts.now) self.now }
         ensures { (service : List ℕ) →
             IsServiceNumberOf (T.names texts.now) service (Some service_number) →
-            result ≡ has_operation service operation.now kind.now
-            (listing_by (T.names texts.now) self.now) }
+            result ≡ list_any (λ kind. has_operation service operation.now kind
+            (listing_by (T.names texts.now) self.now)) all_kinds }
     {
-        let row = self.row_of_operation(texts, service_number, operation, kind);
-        (row as usize) < self.links.rows()
+        let of_kinds = self.rows_of_operation(texts, service_number, operation);
+        of_kinds.has_row_below(self.links.rows())
     }
 
     /// Returns the row of an operation with this kind of the service of this number, or the number of operations if
@@ -175,14 +171,11 @@ impl ServiceIndex {
         ensures { rows_in result ≡ rows_of_kinds (operation_labels (T.names texts.now))
             self.now.operations.numbers service_number operation.now }
     {
-        OperationRows {
-            plain: self.row_of_operation(texts, service_number, operation, ""),
-            client: self.row_of_operation(texts, service_number, operation, "client"),
-            server: self.row_of_operation(texts, service_number, operation, "server"),
-            producer: self.row_of_operation(texts, service_number, operation, "producer"),
-            consumer: self.row_of_operation(texts, service_number, operation, "consumer"),
-            internal: self.row_of_operation(texts, service_number, operation, "internal"),
+        let mut rows = [0; Kind::COUNT];
+        for (index, kind) in Kind::ALL.iter().enumerate() {
+            rows[index] = self.row_of_operation(texts, service_number, operation, kind.text());
         }
+        OperationRows { rows }
     }
 
     /// Returns the number of one span of each service, in no particular order.

@@ -1,18 +1,16 @@
 //! The rows of an operation of a service, one for each kind.
 
-ghost use Rattle.std.specs.Prelude.{◌≡◌};
+ghost use Rattle.std.specs.Prelude.{◌≡◌, nat_lt};
+ghost use Rattle.std.specs.List.{list_any};
 ghost use Rattle.service_index.specs.OperationRows.{is_among, rows_in};
+
+use jaeger_model::Kind;
 
 /// The rows of an operation of a service, one for each kind.
 #[derive(Clone, Copy)]
 pub struct OperationRows {
-    /// The row of the operation without a kind.
-    pub(crate) plain: u32,
-    pub(crate) client: u32,
-    pub(crate) server: u32,
-    pub(crate) producer: u32,
-    pub(crate) consumer: u32,
-    pub(crate) internal: u32,
+    /// The row of the operation with each kind, in the order of [`Kind::ALL`].
+    pub(crate) rows: [u32; Kind::COUNT],
 }
 
 impl OperationRows {
@@ -20,11 +18,13 @@ impl OperationRows {
     pub fn contains(self, row: u32) -> bool
         ensures { result ≡ is_among (rows_in self) row }
     {
-        self.plain == row
-            || self.client == row
-            || self.server == row
-            || self.producer == row
-            || self.consumer == row
-            || self.internal == row
+        self.rows.iter().any(|r| *r == row)
+    }
+
+    /// Returns whether one of the rows is below this number.
+    pub(crate) fn has_row_below(self, end: usize) -> bool
+        ensures { result ≡ list_any (λ r. nat_lt r end) (rows_in self) }
+    {
+        self.rows.iter().any(|r| (*r as usize) < end)
     }
 }

@@ -216,26 +216,8 @@ impl ArrivalNames {
         let Some(service_number) = arrivals.service_number_of(service) else {
             return false;
         };
-        let plain = self
-            .index
-            .knows_operation(&arrivals, service_number, operation, "");
-        let client = self
-            .index
-            .knows_operation(&arrivals, service_number, operation, "client");
-        let server = self
-            .index
-            .knows_operation(&arrivals, service_number, operation, "server");
-        let producer = self
-            .index
-            .knows_operation(&arrivals, service_number, operation, "producer");
-        let consumer = self
-            .index
-            .knows_operation(&arrivals, service_number, operation, "consumer");
-        let internal = self
-            .index
-            .knows_operation(&arrivals, service_number, operation, "internal");
-        // For the prover: `|` has no branches, and `||` would have one for each kind.
-        plain | client | server | producer | consumer | internal
+        self.index
+            .knows_operation(&arrivals, service_number, operation)
     }
 }
 

@@ -7,9 +7,11 @@ use Rattle.trace_model.specs.Histories.{arrivals}
 use Rattle.service_index.specs.ListedNames.{listed_in}
 use Rattle.service_index.specs.Labels.{IsServiceNumberOf}
 use Rattle.service_index.specs.Indexes.{listing_by, has_operation}
+use Rattle.service_index.specs.OperationRows.{all_kinds as kinds}
 use Rattle.service_index.proofs.LinkedOperations.{name_unknown}
 use Rattle.service_index.specs.KeptNames.{KeptNames, names_of_arrivals}
-use Rattle.service_index.proofs.AllKinds.{six_along, all_kinds}
+use Rattle.service_index.proofs.AllKinds.{any_six, all_kinds}
+use Rattle.service_index.proofs.KnownNames.{any_agree}
 use Rattle.service_index.proofs.arrival_names.names.ArrivalNames.knows_operation.Goals as goal
 
 pub returns-in_default : goal.returns-in_default
@@ -38,12 +40,7 @@ returns c =
     ap (λ (x : List Entry). has_operation s o k (listing_by (names_of_arrivals x) c.self.inside.index)) c.arrivals-arrivals.ensures
     ∙ ap (λ (v : KeptNames). has_operation s o k (listing_by (names_of_arrivals h) v.index)) c.self.view_is
     ∙ ap (has_operation s o k) c.requires.kept.listed in
-    let plain = c.knows_operation-plain.ensures s is ∙ reported [] in
-    let client = c.knows_operation-client.ensures s is ∙ reported (codes "client") in
-    let server = c.knows_operation-server.ensures s is ∙ reported (codes "server") in
-    let producer = c.knows_operation-producer.ensures s is ∙ reported (codes "producer") in
-    let consumer = c.knows_operation-consumer.ensures s is ∙ reported (codes "consumer") in
-    let internal = c.knows_operation-internal.ensures s is ∙ reported (codes "internal") in
-    six_along c.knows_operation-plain.result c.knows_operation-client.result c.knows_operation-server.result c.knows_operation-producer.result
-    c.knows_operation-consumer.result c.knows_operation-internal.result
-    ∙ (λ i. plain i || (client i || (server i || (producer i || (consumer i || internal i))))) ∙ all_kinds s o (arrivals h)
+    c.knows_operation.ensures s is
+    ∙ any_agree (λ (k : List ℕ). has_operation s o k (listing_by (names_of_arrivals c.arrivals-arrivals.result) c.self.inside.index))
+    (λ (k : List ℕ). has_operation s o k (listed_in (arrivals h))) reported kinds
+    ∙ any_six (λ (k : List ℕ). has_operation s o k (listed_in (arrivals h))) ∙ all_kinds s o (arrivals h)
