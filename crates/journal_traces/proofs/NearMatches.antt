@@ -14,7 +14,7 @@ use Rattle.jaeger_model.specs.Texts.{same_text}
 use Rattle.trace_model.specs.declared.entry.Entry.{Entry}
 use Rattle.trace_model.specs.declared.query.Find.{Find}
 use Rattle.trace_model.specs.Places.{entry_at}
-use Rattle.trace_model.specs.Searching.{is_named, is_timed, has_tag}
+use Rattle.trace_model.specs.Searching.{has_service_and_operation, is_timed, has_tag}
 use Rattle.trace_model.specs.EntryWork.{batch_brought}
 use Rattle.trace_model.proofs.ShownOfTrace.{or_cases}
 use Rattle.span_steps.specs.SpanConditions.{meets_span_conditions}
@@ -68,7 +68,7 @@ of_another q o (s ∷ ss) e =
 meets_near : (q : Find) (o : Process) (s : Span) → meets q o s ≡ true → meets (without_tags q) o s ≡ true
 meets_near q o s e =
     let p : Placed = record { process = o; span = s } in
-    let parts = and_parts (is_named q p && is_timed q p) (list_all (has_tag p) q.tags) e in
+    let parts = and_parts (has_service_and_operation q p && is_timed q p) (list_all (has_tag p) q.tags) e in
     ap (λ b. b && true) parts.0
 
 met_near : (q : Find) (o : Process) (t : TraceId) (ss : List Span) → any_of (met q o ss) t ≡ true → any_of (met (without_tags q) o ss) t ≡ true

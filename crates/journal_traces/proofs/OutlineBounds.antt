@@ -9,7 +9,7 @@ use Rattle.jaeger_model.specs.declared.placed.Placed.{Placed}
 use Rattle.jaeger_model.specs.declared.batch.Process.{Process}
 use Rattle.jaeger_model.specs.declared.span.Span.{Span}
 use Rattle.trace_model.specs.declared.query.Find.{Find}
-use Rattle.trace_model.specs.Searching.{is_named, is_timed, has_tag, at_least, at_most, bound}
+use Rattle.trace_model.specs.Searching.{has_service_and_operation, is_timed, has_tag, at_least, at_most, bound}
 use Rattle.arrival_journal.specs.declared.times.Times.{Times}
 use Rattle.arrival_journal.specs.Times.{times_of, starts, durations, latest, earliest}
 use Rattle.arrival_journal.specs.declared.outline.Outline.{Outline}
@@ -71,8 +71,8 @@ meeting q o ol s known m =
     let p : Placed = record { process = o; span = s } in
     let t = ol.times in
     let w = known.within in
-    let parts = and_parts (is_named q p && is_timed q p) (list_all (has_tag p) q.tags) m in
-    let timed = (and_parts (is_named q p) (is_timed q p) parts.0).1 in
+    let parts = and_parts (has_service_and_operation q p && is_timed q p) (list_all (has_tag p) q.tags) m in
+    let timed = (and_parts (has_service_and_operation q p) (is_timed q p) parts.0).1 in
     let long : Bool = at_least (bound q.duration_min) s.duration in
     let short : Bool = at_most (bound q.duration_max) s.duration in
     let late : Bool = at_least q.start_min s.start in

@@ -9,7 +9,7 @@ ghost use Rattle.trace_model.specs.Searching.{matches, tag_matches, has_tag, fou
 
 use crate::ranks::rank;
 use jaeger_model::{Log, Placed, Seen, Seq, Tag, TagValue, Text, TraceId, tag_text};
-use span_steps::{is_named, is_timed};
+use span_steps::{has_service_and_operation, is_timed};
 use std::alloc::{AllocError, Global};
 use trace_model::Find;
 
@@ -78,7 +78,7 @@ fn is_match(alloc: Global, query: &Find, placed: &Placed) -> Result<bool, AllocE
         span: &placed.span,
     };
     Ok(
-        is_named(at, query)
+        has_service_and_operation(at, query)
             && is_timed(at, query)
             && has_all_tags(alloc, placed, query.tags.as_slice())?,
     )

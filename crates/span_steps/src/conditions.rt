@@ -1,7 +1,7 @@
 //! The conditions of a search on a span's service, operation, duration and start.
 
 ghost use Rattle.std.specs.Prelude.{◌≡◌};
-ghost use Rattle.trace_model.specs.Searching.{at_least, at_most, bound, is_named, is_timed};
+ghost use Rattle.trace_model.specs.Searching.{at_least, at_most, bound, has_service_and_operation, is_timed};
 ghost use Rattle.trace_model.specs.BorrowedSpans.{seen};
 ghost use Rattle.span_steps.specs.SpanConditions.{has_operation, meets_span_conditions};
 
@@ -43,8 +43,8 @@ pub fn duration_bound(duration: i64) -> Option<i64>
 }
 
 /// Returns whether service and operation are those of the search; an empty operation matches every one.
-pub fn is_named(at: Seen, query: &Find) -> bool
-    ensures { result ≡ is_named query.now (seen at.entry) }
+pub fn has_service_and_operation(at: Seen, query: &Find) -> bool
+    ensures { result ≡ has_service_and_operation query.now (seen at.entry) }
 {
     query.service == at.process.service && has_operation(at, query)
 }

@@ -17,7 +17,8 @@ mod window;
 
 pub use clock::{all_unadjusted, host_named, shift, start_at, unadjusted};
 pub use conditions::{
-    duration_bound, is_at_least, is_at_most, is_named, is_timed, meets_span_conditions,
+    duration_bound, has_service_and_operation, is_at_least, is_at_most, is_timed,
+    meets_span_conditions,
 };
 pub use references::{parent_first, parent_place, with_parent_first};
 pub use skew::{delta_between, moved_by};

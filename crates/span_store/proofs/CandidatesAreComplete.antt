@@ -24,7 +24,7 @@ use Rattle.trace_model.specs.EntryWork.{batch_brought, placed_brought, service_b
 use Rattle.trace_model.specs.Events.{Event, came, limited, without_limits}
 use Rattle.trace_model.specs.Histories.{arrivals, events}
 use Rattle.trace_model.proofs.ArrivedItems.{came_of}
-use Rattle.trace_model.specs.Searching.{matches, matching, found_in, ranked_by_start, first_start, cut, is_named, is_timed, has_tag, traces}
+use Rattle.trace_model.specs.Searching.{matches, matching, found_in, ranked_by_start, first_start, cut, has_service_and_operation, is_timed, has_tag, traces}
 use Rattle.trace_model.specs.ShownSpans.{ring, shown, spans_of_trace, lasting_after, longer_prefixes, is_in_ring, trace_of}
 use Rattle.trace_model.proofs.NameLaws.{any_filter, text_turned}
 use Rattle.jaeger_model.proofs.ParentReferences.{trace_stays}
@@ -85,7 +85,7 @@ is_hit q t p = same_trace t (trace_of p) && matches q p
 -- a span meets no search by another service
 match_reported : (q : Find) (p : Placed) → matches q p ≡ true → same_text p.process.service q.service ≡ true
 match_reported q p e =
-    let named = first_true (is_named q p) (is_timed q p) (list_all (has_tag p) q.tags) e in
+    let named = first_true (has_service_and_operation q p) (is_timed q p) (list_all (has_tag p) q.tags) e in
     text_turned p.process.service q.service
     ∙ (and_parts (same_text q.service p.process.service) (same_text q.operation [] || same_text q.operation p.span.operation) named).0
 
@@ -255,28 +255,28 @@ none_matches q f h [] = refl
 none_matches q f h (x ∷ xs) = ap (λ b. cond b (f x ∷ matching q (map f xs)) (matching q (map f xs))) (h x) ∙ none_matches q f h xs
 
 -- no arrival has the names of the search
-unnamed : (q : Find) (n : ℕ) (es : List (Event Placed)) → list_any (is_named q) (without_limits es) ≡ false → found_in q (traces n es) ≡ []
+unnamed : (q : Find) (n : ℕ) (es : List (Event Placed)) → list_any (has_service_and_operation q) (without_limits es) ≡ false → found_in q (traces n es) ≡ []
 unnamed q n es e =
     ap (λ l. cut q.limit (ranked_by_start first_start l))
     (none_matches q (spans_of_trace n es)
-    (λ t. denied (list_any (matches q) (spans_of_trace n es t)) (list_any (is_named q) (without_limits es))
-    (λ m. any_weaker (λ p. same_trace t (trace_of p) && matches q p) (is_named q)
+    (λ t. denied (list_any (matches q) (spans_of_trace n es t)) (list_any (has_service_and_operation q) (without_limits es))
+    (λ m. any_weaker (λ p. same_trace t (trace_of p) && matches q p) (has_service_and_operation q)
     (λ p own. name_of p (and_parts (same_trace t (trace_of p)) (matches q p) own).1) (without_limits es) (matched_arrival q n es t m)) e) (ring n es))
     ∙ nothing_found q
   where
-    name_of : (p : Placed) → matches q p ≡ true → is_named q p ≡ true
-    name_of p m = first_true (is_named q p) (is_timed q p) (list_all (has_tag p) q.tags) m
+    name_of : (p : Placed) → matches q p ≡ true → has_service_and_operation q p ≡ true
+    name_of p m = first_true (has_service_and_operation q p) (is_timed q p) (list_all (has_tag p) q.tags) m
 
 pub unknown_service : (q : Find) (n : ℕ) (es : List (Event Placed)) → reports_service q.service (without_limits es) ≡ false → found_in q (traces n es) ≡ []
 unknown_service q n es e =
-    unnamed q n es (denied (list_any (is_named q) (without_limits es)) (reports_service q.service (without_limits es))
-    (any_weaker (is_named q) (λ p. same_text q.service p.process.service)
+    unnamed q n es (denied (list_any (has_service_and_operation q) (without_limits es)) (reports_service q.service (without_limits es))
+    (any_weaker (has_service_and_operation q) (λ p. same_text q.service p.process.service)
     (λ p m. (and_parts (same_text q.service p.process.service) (same_text q.operation [] || same_text q.operation p.span.operation) m).0) (without_limits es))
     e)
 
 pub unknown_operation : (q : Find) (n : ℕ) (es : List (Event Placed)) → same_text q.operation [] ≡ false
     → reports_operation q.service q.operation (without_limits es) ≡ false → found_in q (traces n es) ≡ []
 unknown_operation q n es asked e =
-    unnamed q n es (denied (list_any (is_named q) (without_limits es)) (reports_operation q.service q.operation (without_limits es))
-    (any_weaker (is_named q) (λ p. same_text q.service p.process.service && same_text q.operation p.span.operation)
+    unnamed q n es (denied (list_any (has_service_and_operation q) (without_limits es)) (reports_operation q.service q.operation (without_limits es))
+    (any_weaker (has_service_and_operation q) (λ p. same_text q.service p.process.service && same_text q.operation p.span.operation)
     (λ p m. ap (λ b. same_text q.service p.process.service && (b || same_text q.operation p.span.operation)) (sym asked) ∙ m) (without_limits es)) e)

@@ -8,7 +8,8 @@ use Rattle.jaeger_model.specs.declared.placed.Placed.{Placed}
 use Rattle.trace_model.specs.declared.query.Find.{Find}
 use Rattle.trace_model.specs.LimitedHistories.{LimitedHistory}
 use Rattle.trace_model.specs.Histories.{events}
-use Rattle.trace_model.specs.Searching.{at_least, at_most, bound, cut, first_start, found_in, has_tag, is_named, is_timed, matches, matching, ranked_by_start}
+use Rattle.trace_model.specs.Searching.{at_least, at_most, bound, cut, first_start, found_in, has_tag, has_service_and_operation}
+use Rattle.trace_model.specs.Searching.{is_timed, matches, matching, ranked_by_start}
 use Rattle.trace_model.specs.Searching.{traces}
 use Rattle.trace_assembly.specs.declared.spot.Spot.{Spot}
 use Rattle.trace_assembly.specs.AssembledRows.{Assembled, spots_of}
@@ -38,8 +39,8 @@ begins_early (Some high) r time i e = let begun = i.begun in true_from_ne_false 
 match_overlaps : (q : Find) (r : Range) (p : Placed) → StartsIn r p → matches q p ≡ true → overlaps (search_window q) r ≡ true
 match_overlaps q r p i e =
     let durations : Bool = at_least (bound q.duration_min) p.span.duration && at_most (bound q.duration_max) p.span.duration in
-    let met = and_parts (is_named q p && is_timed q p) (list_all (has_tag p) q.tags) e in
-    let timed = and_parts (is_named q p) (is_timed q p) met.0 in
+    let met = and_parts (has_service_and_operation q p && is_timed q p) (list_all (has_tag p) q.tags) e in
+    let timed = and_parts (has_service_and_operation q p) (is_timed q p) met.0 in
     let high = and_parts (durations && at_least q.start_min p.span.start) (at_most q.start_max p.span.start) timed.1 in
     let low = and_parts durations (at_least q.start_min p.span.start) high.0 in
     let a = ends_late q.start_min r p.span.start i low.1 in
