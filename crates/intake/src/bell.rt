@@ -4,8 +4,9 @@ use std::sync::Wait;
 use std::sync::atomic::{AtomicU64, Ordering};
 use std::thread::yield_now;
 
-/// Counts its rings, some of them twice. A thread that has read the count before it looks for work sleeps only until
-/// the next ring, so that no ring is missed (`checks/bell.py` searches a model of it for a schedule that misses one).
+/// A bell: a wake-up event (an event count). It counts its rings, some of them twice. A thread that has read the count
+/// before it looks for work sleeps only until the next ring, so that no ring is missed (`checks/bell.py` searches a
+/// model of it for a schedule that misses one).
 #[derive(Drop)]
 pub(crate) struct Bell {
     rings: AtomicU64,

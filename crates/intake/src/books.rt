@@ -12,7 +12,8 @@ use read_side::{Keeper, StoreName};
 use std::sync::{Arc, Wait};
 use trace_model::{Entry, Refusal};
 
-/// What the clerk returns when it ends: the keeper, the result of each judged job, and the jobs that were not judged.
+/// The books: the final ledger of the jobs, which the clerk returns when it ends. They have the keeper, the result of
+/// each judged job, and the jobs that were not judged.
 ///
 /// It is not `Drop`, since the keeper isn't: [`Books::close`] it, or take it apart and close the keeper.
 pub struct Books<N: StoreName> {

@@ -42,7 +42,8 @@ pub enum Turn {
     Ended,
 }
 
-/// The clerk of a desk. Contracts see all jobs that it took, and an account of each one.
+/// The clerk of a desk: what the writer thread runs. It takes jobs from the queue and has the keeper admit them.
+/// Contracts see all jobs that it took, and an account of each one.
 ///
 /// If it is dropped without [`run`](Self::run) or [`leave`](Self::leave), each ticket that still waits is told that
 /// no answer comes.

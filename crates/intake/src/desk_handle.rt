@@ -8,7 +8,7 @@ use read_side::{Receipt, StoreName};
 use std::sync::{Arc, Wait};
 use trace_model::Refusal;
 
-/// Closes the queue, and vouches for what was published.
+/// The handle of a desk, which is a submission queue. It closes the queue, and vouches for what was published.
 #[derive(Drop)]
 pub struct DeskHandle<N: StoreName> {
     shared: Arc<Shared<N>>,

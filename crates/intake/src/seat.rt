@@ -19,7 +19,8 @@ use std::marker::Model;
 use std::sync::{Arc, Wait};
 use trace_model::{Entry, Refusal, TraceLimit, Work};
 
-/// A seat. Contracts see its desk and number, the jobs that it submitted, and whether it may submit more.
+/// A seat: one thread's producer handle of the queue. Contracts see its desk and number, the jobs that it submitted,
+/// and whether it may submit more.
 #[derive(Drop)]
 pub struct Seat<N: StoreName> {
     shared: Arc<Shared<N>>,

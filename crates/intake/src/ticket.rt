@@ -26,7 +26,7 @@ pub struct Ack<N: StoreName> {
     pub place: u64,
 }
 
-/// Waits for the answer to one job. Contracts see the job's entry.
+/// A ticket: the receiver of a one-shot channel, which waits for the answer to one job. Contracts see the job's entry.
 #[derive(Drop)]
 pub struct Ticket<N: StoreName> {
     /// The job's entry. The clerk gives up its own share before it answers, so the waiting thread frees an entry

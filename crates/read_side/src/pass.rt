@@ -49,7 +49,7 @@ impl<'q> Collection<'q> {
     }
 }
 
-/// One reader of the store. None of its calls takes a lock or waits.
+/// A pass: one read handle of the store. None of its calls takes a lock or waits.
 ///
 /// Contracts see the list that it entered last, the longest that it knows (that one, or one of a receipt that it
 /// has learnt), and whether it is inside. No call shortens the longest. After each call it is outside, except for
