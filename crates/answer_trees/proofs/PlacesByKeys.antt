@@ -9,7 +9,7 @@ use Rattle.trace_model.specs.declared.answer.Shown.{Shown}
 use Rattle.trace_model.specs.Adjusting.{spans_of}
 use Rattle.trace_model.specs.SharedProcesses.{ShareProcesses}
 use Rattle.answer_trees.specs.ProcessNames.{among, place}
-use Rattle.trace_adjust.specs.KeyedPlaces.{stored_under}
+use Rattle.trace_model.specs.KeyedPlaces.{stored_under}
 use Rattle.answer_trees.specs.ProcessPlaces.{AreKnown, ComesNext, IsKnown}
 use Rattle.answer_trees.specs.Trees.{processes_of}
 use Rattle.answer_trees.specs.TraceProcesses.{process_place}

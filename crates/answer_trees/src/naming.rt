@@ -12,8 +12,8 @@ ghost use Rattle.answer_trees.specs.TraceProcesses.{process_names, process_place
 use jaeger_model::{ByContent, Process};
 use std::alloc::{AllocError, Global};
 use std::collections::BTreeMap;
-use trace_adjust::{LentSpans, place_by_key, place_u32, store_by_key};
-use trace_model::ShownTrace;
+use trace_adjust::LentSpans;
+use trace_model::{ShownTrace, place_by_key, place_u32, store_by_key};
 
 /// A process, and the index of the first span that has it.
 #[derive(Clone, Copy)]

@@ -18,13 +18,13 @@ use crate::judged_entries::JudgedEntries;
 use crate::process_conditions::{has_tags, judge};
 use crate::taken_spot::TakenSpot;
 use crate::trace_parts::trace_part;
-use find_traces::{JudgedProcess, PreparedSearch, push_tightly};
+use find_traces::{JudgedProcess, PreparedSearch};
 use jaeger_model::{Batch, Seen};
 use span_steps::meets_span_conditions;
 use std::alloc::{AllocError, Global};
 use std::marker::Model;
 use std::sync::Arc;
-use trace_model::{Entry, Find};
+use trace_model::{Entry, Find, push_tightly};
 
 /// From this number of entries with a span that meets the search, no more entries are judged beforehand.
 const ENOUGH_ENTRIES: usize = 16;

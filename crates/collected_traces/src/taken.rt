@@ -4,10 +4,9 @@ ghost use Rattle.std.specs.Prelude.{◌≡◌, List, [], ◌∷◌, ◌++◌, If
 ghost use Rattle.trace_model.specs.TakenSpans.{Taken};
 
 use crate::trace_parts::trace_part;
-use find_traces::push_tightly;
 use std::alloc::{AllocError, Global};
 use std::marker::Model;
-use trace_model::TakenSpan;
+use trace_model::{TakenSpan, push_tightly};
 
 /// The spans of some traces, collected from a store, so that they can be read after the store is left: their
 /// entries are shared. Contracts see the traces, each with its taken spans.

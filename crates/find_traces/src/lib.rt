@@ -9,13 +9,11 @@
 //! * `best_keys`: the best keys of those that are offered, up to a number of them.
 //! * `best`: the best traces that match, up to a limit.
 //! * `finding`: the traces that a search finds, in the order of its answer.
-//! * `growth`: lists that take little more memory than their items.
 #![tactic(auto)]
 
 mod best;
 mod best_keys;
 mod finding;
-mod growth;
 mod judged_process;
 mod key;
 mod matched;
@@ -23,7 +21,6 @@ mod prepared;
 mod searched;
 
 pub use finding::{find, find_ids};
-pub use growth::push_tightly;
 pub use judged_process::JudgedProcess;
 pub use prepared::PreparedSearch;
 pub use searched::Searched;

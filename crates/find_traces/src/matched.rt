@@ -4,11 +4,11 @@ ghost use Rattle.std.specs.Prelude.{◌≡◌, IfOk, map};
 ghost use Rattle.find_traces.specs.FoundIndices.{hits, indices_found};
 ghost use Rattle.find_traces.specs.Keys.{reverse_key_of, reverse_key_index};
 
-use crate::growth::push_tightly;
 use crate::key::{Key, key_at};
 use crate::searched::Searched;
 use std::alloc::{AllocError, Global};
 use std::cmp::Reverse;
+use trace_model::push_tightly;
 
 /// Makes a key for each trace that matches, the one opened first at the front. The key of the best trace is the
 /// least.

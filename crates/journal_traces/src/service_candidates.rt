@@ -8,10 +8,10 @@ ghost use Rattle.journal_traces.specs.ReportedSpots.{is_reported, are_reported};
 
 use crate::entry_services::is_of_service;
 use arrival_journal::Journal;
-use find_traces::push_tightly;
 use service_index::ServicePlaces;
 use std::alloc::{AllocError, Global};
 use trace_assembly::{Assembly, Spot, Spots};
+use trace_model::push_tightly;
 
 /// Returns whether there is an entry at a spot's place, and its service has this number.
 fn is_reported(

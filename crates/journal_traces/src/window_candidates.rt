@@ -5,9 +5,9 @@ ghost use Rattle.trace_assembly.specs.declared.spot.Spot.{Spot as SpotValue};
 ghost use Rattle.trace_assembly.specs.AssembledRows.{spots_of};
 ghost use Rattle.journal_traces.specs.TraceRanges.{FailsOutside};
 
-use find_traces::push_tightly;
 use std::alloc::{AllocError, Global};
 use trace_assembly::{Assembly, Spots};
+use trace_model::push_tightly;
 use trace_ring::{FirstStarts, Window};
 
 /// Returns the spots of each trace of the ring whose range overlaps the window, those of the one opened first

@@ -20,11 +20,10 @@ use crate::store_view::StoreView;
 use crate::window::window_of;
 use crate::window_traces::{WindowSpots, WindowTraces};
 use collected_traces::TakenSpot;
-use find_traces::push_tightly;
 use std::alloc::{AllocError, Global};
 use std::sync::Arc;
 use trace_assembly::{Spot, Spots};
-use trace_model::Entry;
+use trace_model::{Entry, push_tightly};
 
 /// Returns the number of the entry at a place, which is collected unless it was before, with the number of its
 /// service.

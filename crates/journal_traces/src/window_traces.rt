@@ -7,11 +7,10 @@ ghost use Rattle.journal_traces.specs.WindowTraces.{entries_seen, taken_reported
 
 use call_links::NumberedSpan;
 use collected_traces::{TakenSpot, trace_part};
-use find_traces::push_tightly;
 use std::alloc::{AllocError, Global};
 use std::marker::Model;
 use std::sync::Arc;
-use trace_model::Entry;
+use trace_model::{Entry, push_tightly};
 
 /// An entry that is shared with the store, and the number of its service.
 #[derive(Drop)]

@@ -19,7 +19,7 @@ use Rattle.trace_adjust.specs.KnownClocks.{clock_near, clock_with, clocks_with, 
 use Rattle.trace_adjust.specs.KnownDeltas.{delta_of, deltas_in}
 use Rattle.trace_model.specs.SharedProcesses.{ShareProcesses}
 use Rattle.trace_adjust.specs.Hosts.{hosts_of, number_in, IsHostKept, AreKept, AreHostNumbers, delta_by}
-use Rattle.trace_adjust.specs.KeyedPlaces.{stored_under}
+use Rattle.trace_model.specs.KeyedPlaces.{stored_under}
 use Rattle.trace_adjust.specs.declared.clock.HostedSpan.{HostedSpan}
 use Rattle.trace_adjust.specs.declared.known_deltas.KnownDelta.{KnownDelta}
 use Rattle.trace_adjust.proofs.FirstPlaceTables.{place_push, place_found}

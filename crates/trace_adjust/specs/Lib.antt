@@ -1,5 +1,4 @@
 pub mod Hosts
-pub mod KeyedPlaces
 pub mod LentSpans
 pub mod LentReferences
 pub mod KnownClocks

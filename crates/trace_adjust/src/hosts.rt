@@ -8,11 +8,11 @@ ghost use Rattle.trace_model.specs.SharedProcesses.{ShareProcesses};
 ghost use Rattle.trace_adjust.specs.Hosts.{AreHostNumbers, hosts_of};
 
 use crate::clock::NO_HOST;
-use crate::keyed_places::{place_by_key, place_u32, store_by_key};
 use crate::lent_placed::LentPlaced;
 use jaeger_model::Text;
 use std::alloc::{AllocError, Global};
 use std::collections::BTreeMap;
+use trace_model::{place_by_key, place_u32, store_by_key};
 
 /// Returns the number of a host, which gets the fresh one if it has none.
 fn number_of(numbers: &mut BTreeMap<Text, u32>, host: Text, fresh: u32) -> Result<u32, AllocError>

@@ -6,7 +6,6 @@
 //! * `lent_placed`: a span with its process, borrowed from what keeps both.
 //! * `parents`: the places of parents in a trace.
 //! * `process_keys`: the keys of the processes of spans.
-//! * `keyed_places`: places that are stored by such keys.
 //! * `hosts`: numbers for the hosts of a trace.
 //! * `clock`: the delta of the clock of one span.
 //! * `known_deltas`: the deltas of spans, as far as they are known.
@@ -22,7 +21,6 @@
 mod clock;
 mod clocks;
 mod hosts;
-mod keyed_places;
 mod known_deltas;
 mod lending;
 mod lent_logs;
@@ -35,7 +33,6 @@ mod showing;
 mod skew;
 mod span_deltas;
 
-pub use keyed_places::{place_by_key, place_u32, store_by_key};
 pub use lending::lend;
 pub use lent_logs::{LentLog, LentLogs};
 pub use lent_span::LentSpan;

@@ -6,10 +6,10 @@ ghost use Rattle.std.specs.BTreeMap.{get};
 ghost use Rattle.trace_adjust.specs.KnownClocks.{first_at, parent_at, place_in};
 ghost use Rattle.trace_adjust.specs.SpanDeltas.{AreRepeated};
 
-use crate::keyed_places::place_u32;
 use crate::lent_placed::LentPlaced;
 use std::alloc::{AllocError, Global};
 use std::collections::BTreeMap;
+use trace_model::place_u32;
 
 /// For each span of a trace the place of its parent, and whether a span before it has its id.
 #[derive(Drop)]

@@ -23,3 +23,4 @@ pub mod TakenSpans
 pub mod KeptTraces
 pub mod LentNames
 pub mod StoreKnowledge
+pub mod KeyedPlaces

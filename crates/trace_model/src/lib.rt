@@ -6,6 +6,8 @@
 //!   operation in an answer; `taken_span`: a span of a trace that was collected from a store.
 //! * `clock`: what a span passes to the spans below it, for the adjustment of clocks.
 //! * `backend`: the interface between a session and its store: the [`Backend`].
+//! * `growth`: lists that take little more memory than their items. `keyed_places`: places that are stored by the keys
+//!   of processes. Crates that search, adjust or write traces share both.
 //!
 //! `specs/` defines what is shown and answered. The program of crate `plain_store` computes it, and crate
 //! `store_laws` states what follows from it, in the terms of tracing.
@@ -17,6 +19,8 @@ mod answered_trace;
 mod backend;
 mod clock;
 mod entry;
+mod growth;
+mod keyed_places;
 mod limits;
 mod name;
 mod query;
@@ -31,6 +35,8 @@ pub use answered_trace::{AnsweredTrace, KeptTrace, TraceForm};
 pub use backend::Backend;
 pub use clock::Clock;
 pub use entry::{Entry, Work};
+pub use growth::push_tightly;
+pub use keyed_places::{place_by_key, place_u32, store_by_key};
 pub use limits::Limits;
 pub use name::Name;
 pub use query::{Find, Query};

@@ -17,7 +17,8 @@ use jaeger_model::Process;
 use json_page::Page;
 use std::alloc::{AllocError, Global};
 use std::collections::BTreeMap;
-use trace_adjust::{LentSpans, place_u32};
+use trace_adjust::LentSpans;
+use trace_model::place_u32;
 
 impl WriteJson for Process {
     ghost tree = { process_tree };

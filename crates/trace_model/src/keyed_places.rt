@@ -3,7 +3,7 @@
 ghost use Rattle.std.specs.Prelude.{◌≡◌, ℕ, IfOk, OnOk, option_and_then};
 ghost use Rattle.std.specs.BTreeMap.{get};
 ghost use Rattle.std.specs.Ordering.{nat_cmp};
-ghost use Rattle.trace_adjust.specs.KeyedPlaces.{stored_under};
+ghost use Rattle.trace_model.specs.KeyedPlaces.{stored_under};
 
 use std::alloc::AllocError;
 use std::collections::BTreeMap;
