@@ -10,6 +10,9 @@
 //!   (`candidates_within`).
 //! * Without tags and with a limit, it tries the traces that start last first (`latest`).
 //!
+//! A single trace may have most of the spans of a store. So in the last two ways the spans of the traces are counted
+//! before these are judged (`have_few_spans`).
+//!
 //! What it considers it judges there, or after the store is left (`is_judged_outside`).
 
 ghost use Rattle.std.specs.Prelude.{◌≡◌, ◌<◌, Some, IfOk, IfSome};
@@ -65,16 +68,48 @@ fn has_window(query: &Find) -> bool {
     start_min.is_some() || start_max.is_some()
 }
 
+/// The traces of a try, or of a window, may have this number of spans in any store.
+const FEW_SPANS: u32 = 65_536;
+
+/// Counts the spots, up to a number.
+fn count_up_to(spots: Spots<'_>, most: usize) -> usize {
+    let mut count = 0usize;
+    for _spot in spots {
+        if count == most {
+            return count;
+        }
+        count = count.saturating_add(1);
+    }
+    count
+}
+
+/// Returns whether traces have fewer spans together than a share of all spans, or than [`FEW_SPANS`]. No more than twice
+/// as many spots are visited, and no span is read.
+fn have_few_spans(traces: &[Spots<'_>], share: u32) -> bool {
+    let most = share.max(FEW_SPANS) as usize;
+    let mut count = 0usize;
+    for spots in traces {
+        count = count.saturating_add(count_up_to(spots.duplicate(), most));
+        if count >= most {
+            return false;
+        }
+    }
+    true
+}
+
 /// The factor by which each try has more traces than the one before.
 const TRY_GROWTH: usize = 8;
 
 /// The greatest number of tries.
 const MAX_TRIES: u32 = 16;
 
-/// A try has at most one in sixteen of all traces. Each try has eight times as many as the one before, so all tries
-/// together judge at most 8/7 of one in sixteen. That is little compared with a search of all traces, even if they
-/// find none, as when the latest traces are of a sender whose clock is ahead.
+/// A try has at most one in sixteen of all traces, and of all spans. Each try has eight times as many traces as the one
+/// before, so all tries together judge at most 8/7 of one in sixteen traces. That is little compared with a search of all
+/// traces, even if they find none, as when the latest traces are of a sender whose clock is ahead.
 const TRIED_ONE_IN: usize = 16;
+
+/// The traces of a window are read if they have at most one in four of all spans.
+const WINDOW_ONE_IN: u32 = 4;
 
 /// A try pays if the service has more than one entry for each eight of its traces.
 const TRACES_PER_ENTRY: usize = 8;
@@ -200,12 +235,16 @@ impl<'s, 'q> StoreSearch<'s, 'q> {
     }
 
     /// Returns the spots of the shown traces that a search without tags considers, if it doesn't pay to try those
-    /// that start last: those of its window if they are few.
+    /// that start last: those of its window if they are few and have few spans.
     fn candidates_timed(&self) -> Result<Vec<Spots<'s>>, AllocError>
         ensures { IfOk result (λ v. FindsTheSame self.now.held self.now.query v.items) }
     {
         if self.should_try_window() {
-            return self.candidates_within();
+            let spots = self.candidates_within()?;
+            let few = self.store.assembly.used() / WINDOW_ONE_IN;
+            if have_few_spans(&spots, few) {
+                return Ok(spots);
+            }
         }
         self.candidates()
     }
@@ -220,7 +259,7 @@ impl<'s, 'q> StoreSearch<'s, 'q> {
     }
 
     /// Returns the spots of at most `count` shown traces that start last, those of the one opened first at the front,
-    /// if the search reaches its limit among these: it finds the same among all then.
+    /// if they have few spans and the search reaches its limit among them: it finds the same among all then.
     fn latest(&self, count: usize) -> Result<Option<Vec<Spots<'s>>>, AllocError>
         ensures { IfOk result (λ r. IfSome r (λ v.
             FindsTheSame self.now.held self.now.query v.items)) }
@@ -229,8 +268,12 @@ impl<'s, 'q> StoreSearch<'s, 'q> {
         let Some(time) = store.starts.threshold(self.alloc, count)? else {
             return Ok(None);
         };
-        let prepared = PreparedSearch::new(self.alloc, self.query)?;
         let spots = spots_after(self.alloc, store.assembly, store.starts, time)?;
+        let few = store.assembly.used() / TRIED_ONE_IN as u32;
+        if !have_few_spans(&spots, few) {
+            return Ok(None);
+        }
+        let prepared = PreparedSearch::new(self.alloc, self.query)?;
         let mut latest = self.among(&prepared, &spots);
         let found = finding::count_found(self.alloc, &mut latest)?;
         if is_full(self.query.limit, found) {

@@ -33,8 +33,8 @@ returns-then-is_full c =
     let count : length (found_in q (traces_named h.entries spots)) ≡ c.in_ok-found.found =
     sym (c.in_ok-found.ensures
     ∙ (λ i. length (found_in (among.query i) (traces_named (among.entries i) (among.spots i))))
-    ∙ ap (λ (v : StoreSearchValue). length (found_in c.in_ok-prepared.prepared (traces_named v.held.entries c.deref.result.now))) (sym c.self.view_is)
-    ∙ ap (λ (f : Find). length (found_in f (traces_named h.entries c.deref.result.now))) c.in_ok-prepared.ensures
-    ∙ ap (λ (ss : List (List Spot)). length (found_in q (traces_named h.entries ss))) c.deref.ensures.value) in
+    ∙ ap (λ (v : StoreSearchValue). length (found_in c.in_ok-prepared.prepared (traces_named v.held.entries c.deref-2.result.now))) (sym c.self.view_is)
+    ∙ ap (λ (f : Find). length (found_in f (traces_named h.entries c.deref-2.result.now))) c.in_ok-prepared.ensures
+    ∙ ap (λ (ss : List (List Spot)). length (found_in q (traces_named h.entries ss))) c.deref-2.ensures.value) in
     let all : FindsTheSame h q spots = found_latest q h shown starts names by_service kept _ spots are full.0 (count ∙ full.1) in
     subst (λ (v : StoreSearchValue). FindsTheSame v.held v.query spots) c.self.view_is all
