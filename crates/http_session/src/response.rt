@@ -1,6 +1,6 @@
 //! A response that is written in parts.
 
-ghost use Rattle.std.specs.Prelude.{◌≡◌, ◌++◌, ◌<◌, ◌^◌, [], IfOk, length};
+ghost use Rattle.std.specs.Prelude.{◌≡◌, ◌≤◌, ◌++◌, ◌<◌, ◌^◌, [], IfOk, length};
 ghost use Rattle.query_json.specs.Parts.{to_come};
 
 use query_json::AnswerParts;
@@ -80,6 +80,17 @@ impl Response {
             Some(parts) => parts.part(),
             None => &[],
         }
+    }
+
+    /// Returns the number of bytes that the response takes in memory as text, with the room of its pages.
+    pub fn room(&self) -> usize
+        ensures { length self.now.part ≤ result }
+    {
+        let of_answer = match &self.answer {
+            Some(parts) => parts.room(),
+            None => 0,
+        };
+        self.head.len().saturating_add(of_answer)
     }
 
     /// Moves past the current part. Allocates nothing.

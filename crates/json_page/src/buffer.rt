@@ -56,6 +56,13 @@ impl Buffer {
         self.len
     }
 
+    /// Returns the number of bytes that fit without growing.
+    pub(crate) fn room(&self) -> usize
+        ensures { result ≡ self.now.room }
+    {
+        self.block.len()
+    }
+
     /// Returns the bytes.
     pub(crate) fn as_slice(&self) -> &[u8]
         ensures { result.now ≡ self.now.items }

@@ -110,6 +110,13 @@ impl Page {
         self.bytes.len()
     }
 
+    /// Returns the number of bytes that fit on the page without growing, which it takes in memory.
+    pub fn room(&self) -> usize
+        ensures { result ≡ self.now.bytes.room }
+    {
+        self.bytes.room()
+    }
+
     /// Returns the bytes on the page.
     pub fn as_slice(&self) -> &[u8]
         ensures { result.now ≡ self.now.bytes.items }

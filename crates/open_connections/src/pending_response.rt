@@ -49,14 +49,14 @@ impl PendingResponse {
         self.response.remaining() - self.sent
     }
 
-    /// Counts the bytes still to be written. Of these the current part is in memory; until the head was written, all
-    /// count so.
+    /// Counts the bytes still to be written. Of these the pages of the answer are in memory; until the head was written,
+    /// all bytes count so.
     pub(crate) fn waiting_bytes(&self) -> WaitingBytes
         ensures { result.all ≡ length (to_come self.now) }
     {
         let all = self.len();
         let made = if self.has_advanced {
-            self.response.part().len()
+            self.response.room()
         } else {
             all
         };

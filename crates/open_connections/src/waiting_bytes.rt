@@ -7,7 +7,8 @@ ghost use Rattle.std.specs.Prelude.{◌≡◌, ◌+◌, ◌-◌, ◌^◌, min};
 pub struct WaitingBytes {
     /// All of them.
     pub all: usize,
-    /// Those that are in memory as text. What isn't made yet mostly takes about a tenth of its bytes.
+    /// Those that are in memory as text, with the room of their pages. What isn't made yet mostly takes about a tenth of
+    /// its bytes.
     pub made: usize,
 }
 

@@ -261,6 +261,16 @@ impl PagedAnswer {
         self.page.as_slice()
     }
 
+    /// Returns the number of bytes that its pages take in memory: that of the current part, and that of the later
+    /// parts if they have another one.
+    pub(crate) fn room(&self) -> usize {
+        let later = match &self.later {
+            Some(page) => page.room(),
+            None => 0,
+        };
+        self.page.room().saturating_add(later)
+    }
+
     /// Returns the number of bytes after the current part.
     pub(crate) fn rest_len(&self) -> u64
         requires { IsReady self.now }

@@ -1,5 +1,5 @@
 //! The text of an answer, in parts.
-ghost use Rattle.std.specs.Prelude.{◌≡◌, ◌+◌, ◌<◌, ◌^◌, [], ◌++◌, IfOk, length};
+ghost use Rattle.std.specs.Prelude.{◌≡◌, ◌+◌, ◌≤◌, ◌<◌, ◌^◌, [], ◌++◌, IfOk, length};
 ghost use Rattle.serde_json.specs.Written.{compact_text};
 ghost use Rattle.query_json.specs.AnswerPages.{part_of, rest_of, IsReady};
 ghost use Rattle.query_json.specs.Parts.{to_come, IsEmptyOnlyAtEnd};
@@ -76,6 +76,14 @@ impl AnswerParts {
         ensures some { self.now.part ≡ [] → self.now.rest ≡ [] }
     {
         self.paged.part()
+    }
+
+    /// Returns the number of bytes that its pages take in memory. A page has room for the largest piece, so that may be
+    /// far more than the part.
+    pub fn room(&self) -> usize
+        ensures { length self.now.part ≤ result }
+    {
+        self.paged.room().max(self.paged.part().len())
     }
 
     /// Continues after that part. It doesn't allocate.
