@@ -1,7 +1,7 @@
 //! The connections of a thread, with their sessions.
 
-ghost use Rattle.std.specs.Prelude.{◌≡◌, false, IfOk, option_copied};
-ghost use Rattle.slab.specs.Slab.{get};
+ghost use Rattle.std.specs.Prelude.{◌≡◌, ◌==◌, false, IfOk, option_copied};
+ghost use Rattle.slab.specs.Slab.{get, slab_len};
 ghost use Rattle.http_session.specs.Sessions.{store_of};
 ghost use Rattle.http_session.specs.ResumableSessions.{AsksOnce};
 ghost use Rattle.open_connections.specs.BufferedConnections.{buffered_model};
@@ -78,12 +78,16 @@ impl<C: TryConnection + Drop> ConnectionSet<C> {
     }
 
     /// Returns whether no connection is open.
-    pub fn is_empty(&self) -> bool {
+    pub fn is_empty(&self) -> bool
+        ensures { result ≡ (slab_len self.now == 0) }
+    {
         self.connections.is_empty()
     }
 
     /// Returns the number of open connections.
-    pub fn len(&self) -> usize {
+    pub fn len(&self) -> usize
+        ensures { result ≡ slab_len self.now }
+    {
         self.connections.len()
     }
 
