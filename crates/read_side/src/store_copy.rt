@@ -142,19 +142,16 @@ impl Absorb<Change> for StoreCopy {
     /// always added. `Absorb` has no premise that could say so; therefore the copy judges once more before it
     /// appends.
     fn absorb_second(&mut self, operation: Change, _other: &StoreCopy) -> Result<(), Change> {
-        let Some(recorded) = &operation.recorded else {
+        let Change { recorded, seen } = operation;
+        let Some(recorded) = recorded else {
             return Ok(());
         };
-        if self.store.judge(recorded) != Ok(Admission::Added) {
+        if self.store.judge(&recorded) != Ok(Admission::Added) {
             // Impossible: the keeper admitted it.
-            return Err(operation);
+            return Err(Change::add(recorded, seen));
         }
-        let Change { recorded, seen } = operation;
-        // Impossible: `None`, which has returned above.
-        if let Some(recorded) = recorded {
-            self.store.append(recorded);
-            self.seen = seen;
-        }
+        self.store.append(recorded);
+        self.seen = seen;
         Ok(())
     }
 }
