@@ -107,7 +107,7 @@ impl RefusalCounts {
 /// The counts of one worker.
 #[derive(Drop)]
 struct WorkerCounts {
-    /// The number of 202 responses, so a repeated batch counts again.
+    /// The number of acknowledged batches, also of those whose clients left before the 202. A repeated one counts again.
     acknowledged: AtomicU64,
     queries: AtomicU64,
     refused: RefusalCounts,

@@ -143,9 +143,8 @@ impl EventLoop {
     }
 
     /// Registers a connection for when its client takes more of the response. Returns whether that succeeded.
-    fn await_writes(&mut self, key: usize) -> bool
-        requires there { ContainsKey self.old.connections key }
-        ensures open { self.new.connections ≡ self.old.connections }
+    fn await_writes(&self, key: usize) -> bool
+        requires there { ContainsKey self.now.connections key }
     {
         let Some(connection) = self.connections.get(key) else {
             unreachable!();
@@ -157,9 +156,8 @@ impl EventLoop {
     }
 
     /// Registers a connection again if bytes may have come that aren't reported. Returns whether that succeeded.
-    fn await_reads(&mut self, key: usize, peer_closed: bool) -> bool
-        requires there { ContainsKey self.old.connections key }
-        ensures open { self.new.connections ≡ self.old.connections }
+    fn await_reads(&self, key: usize, peer_closed: bool) -> bool
+        requires there { ContainsKey self.now.connections key }
     {
         let Some(connection) = self.connections.get(key) else {
             unreachable!();
