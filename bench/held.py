@@ -119,6 +119,12 @@ def behind_a_wrong_clock(n):
     return [], spread_traces(n) + late, search("&limit=20")
 
 
+def behind_a_large_trace(n):
+    """Traces of a service that all start before one trace of another service, which has three in four of the spans."""
+    late = [wire.batch("z", [wire.span(10_000_000, at + k, start=1 << 59) for k in range(1, 6 * n + 1)]) for at in range(0, 120 * n, 6 * n)]
+    return [], spread_traces(n) + late, search("&limit=20")
+
+
 def of_one_start(n):
     bodies = [wire.batch("a", [wire.span(k + at, 1, start=1_600_000_000_000_000) for at in range(10)]) for k in range(1, 40 * n, 10)]
     return [], bodies, search("&limit=20")
@@ -153,6 +159,7 @@ SHAPES = {
     "equal processes x traces": equal_processes,
     "pairs of long services, dependencies": pairs_of_services,
     "the 20 latest of a service, behind traces of a wrong clock": behind_a_wrong_clock,
+    "the 20 latest of a service, behind one trace of most spans": behind_a_large_trace,
     "the 20 latest of traces of one start": of_one_start,
     "the 20 latest of a service that came in ten batches": in_few_batches,
     "nearly a sixteenth of the traces, by their duration": lambda n: by_duration(n, 16),
