@@ -7,7 +7,7 @@ An edit applies if each of its `old:` lines is in the file that it names exactly
 apply whose new text calls a function or method that neither its crate nor one below it nor the toolchain defines (a method has to take
 `self`), or returns a record that the type of its function doesn't name. Only names are looked up, so an edit that passes may still not
 compile. Without the toolchain's sources (`--kit`) no call is looked up, and it says so. A line is printed for each edit that doesn't
-apply, then the count; the exit status is 0 only if all apply. docs/MAINTAINING.md says how an edit is written.
+apply, then the count; the exit status is 0 only if all apply. docs/adding.md says how an edit is written.
 """
 
 import functools

@@ -26,7 +26,7 @@ Judged, as docs/serve.md and docs/http-session.md promise it:
                     the same connection, a batch acknowledged on it, or a batch whose 202 had come, to whichever client,
                     before the connection was opened.
 
-Counted and not judged, since no contract says it (docs/serve.md names the test that shows it): queries that begin after a 202,
+Counted and not judged, since no contract says it (docs/ASSURANCE.md names the test that shows it): queries that begin after a 202,
 or after an answer that showed more, had come on another connection while their own was open already, and whose answer is from
 before that. `--strict` judges these too.
 
