@@ -420,6 +420,7 @@ def looks(found):
 def glance_beside(found):
     rust, apache = decoders(found)
     search = {name: two(scan / store) for name, _, store, scan in found.rows("searches")}
+    mine_full, plain_full, rounds = longest_while_filling(found)
     rows = [
         ["decoding a POST's body (a `Feeder`, in one piece), by instructions",
          f"{rust} to plain Rust; {apache} to Apache Thrift's C++, which checks no UTF-8", "`compare.py --count`"],
@@ -434,8 +435,10 @@ def glance_beside(found):
         ["a search among 100,000 spans", f"20 traces with their JSON {search['20 of a common service, with JSON']}; a tag that no span has "
          f"{search['no such tag']}, a duration {search['no such duration']}, a start {search['no such start']}", "`searches.py`"],
         ["dependencies", f"a window over a hundredth of the traces {search['links of a hundredth']}; over all {search['links of all time']}", "`searches.py`"],
+        [f"the longest POST while a store fills to 10,000,000 spans, lowest of {rounds} rounds", f"{two(plain_full / mine_full)}", "`growth.py`"],
     ]
-    return table(["What", "Ratio to the plain one (above 1: Kiwibismuth is better)", "By `bench/`"], rows) + found.captions("compare --count", "serve", "searches")
+    names = ["compare --count", "serve", "searches", "growth"]
+    return table(["What", "Ratio to the plain one (above 1: Kiwibismuth is better)", "By `bench/`"], rows) + found.captions(*names)
 
 
 def glance_alone(found):
@@ -488,25 +491,25 @@ def glance_rest(found):
 
 def speed(found):
     """The README's table."""
-    def of_both(what, writers):
-        sides = (span([found.of("serve", what, writers, size)[at] for size in SIZES], cell) for at in (0, 1))
+    def of_both(what, writers, form=cell):
+        sides = (span([found.of("serve", what, writers, size)[at] for size in SIZES], form) for at in (0, 1))
         return [*sides, found.gains_alone(writers) if what == ALONE else found.gains(what, writers)]
 
-    _, store_ms, scan_ms = found.of("searches", "20 of a common service, with JSON")
     mine, plain = (cell(found.of("compare --count", name)) for name in ("pieces", "rust"))
-    mine_full, plain_full = found.of("growth", "the longest POST, ms", 10_000_000)
-    rounds = re.search(r"--rounds (\d+)", found.series["growth"]["command"])[1]
-    beside = max(it[5] for it in found.rows("held") if it[1:3] == [1_000_000, "spans"])
     rows = [
         ["decoding a POST's body (in one piece), instructions a byte", mine, plain, decoders(found)[0]],
         ["spans taken a second, four writers", *of_both(ALONE, 4)],
         ["a POST of four writers beside two readers at full speed, p99, ms", *of_both(POST, 4)],
-        ["20 traces with their JSON among 100,000 spans, ms", f"{store_ms:.2f}", f"{scan_ms:.0f}", two(scan_ms / store_ms)],
-        ["the longest POST while large queries run, 1,000,000 spans held, ms", f"{beside:.0f}", "not compared", ""],
-        [f"the longest POST while a store fills to 10,000,000 spans, lowest of {rounds} rounds, ms", cell(mine_full), cell(plain_full), two(plain_full / mine_full)],
+        ["20 traces with their JSON, processor time of the server, ms", *of_both(TWENTY, 0, lambda microseconds: two(microseconds / 1000))],
     ]
     heads = ["What", "Kiwibismuth", "Plain Rust", "Ratio (above 1: Kiwibismuth is better)"]
-    return table(heads, rows) + found.days("compare --count", "serve", "searches", "held", "growth")
+    return table(heads, rows) + found.days("compare --count", "serve")
+
+
+def longest_while_filling(found):
+    """The longest POST while a store fills to 10,000,000 spans, of `jaeger_one` and of the plain server, and the rounds of which it is the lowest."""
+    rounds = re.search(r"--rounds (\d+)", found.series["growth"]["command"])[1]
+    return *found.of("growth", "the longest POST, ms", 10_000_000), rounds
 
 
 memory_processes = printed("memory --process-tags", [
@@ -593,7 +596,7 @@ TABLES = {name: it for name, it in globals().items() if name in (
 def quotes(found):
     """The sentences that quote figures, with their pages."""
     noise = ("bench/README.md", f"the ratios of the rounds of `serve.py` differ by up to {found.series['serve']['noise']} of themselves")
-    return [noise, *runs_quote(found), *unplaced(found), held_quote(found), *longest_quotes(found), itself_quote(found), *core_quotes(found), *memory_quotes(found), *connection_quotes(found),
+    return [noise, *runs_quote(found), *unplaced(found), *held_quotes(found), *longest_quotes(found), itself_quote(found), *core_quotes(found), *memory_quotes(found), *connection_quotes(found),
             *gate_quotes(found)]
 
 
@@ -615,13 +618,16 @@ def unplaced(found):
         yield "bench/README.md", f"The commit wasn't written down for {len(names)} series: {listed(names)}."
 
 
-def held_quote(found):
-    """The longest POST beside a query, by what is held."""
+def held_quotes(found):
+    """The longest POST beside a query, by what is held, and while a store fills."""
     plain = {size: max(row[5] for row in found.rows("held") if row[1:3] == [size, "spans"]) for size in (100_000, 1_000_000, 10_000_000)}
     small = max(row[5] for row in found.rows("held") if row[2] != "spans" or row[1] == 100_000)
     alone = max(row[3] for row in found.rows("held"))
-    return ("docs/serve.md", f"the longest POST took {small} ms over 100,000 spans or bodies made to be costly, {plain[1_000_000]} ms over "
-            f"1,000,000 spans and {plain[10_000_000]:.0f} ms over 10,000,000. While nobody asked, a POST took up to {alone} ms")
+    yield ("docs/serve.md", f"the longest POST took {small} ms over 100,000 spans or bodies made to be costly, {plain[1_000_000]} ms over "
+           f"1,000,000 spans and {plain[10_000_000]:.0f} ms over 10,000,000. While nobody asked, a POST took up to {alone} ms")
+    mine_full, plain_full, _ = longest_while_filling(found)
+    yield ("README.md", f"The longest POST took {plain[1_000_000]:.0f} ms beside large queries over 1,000,000 spans, and {plain[10_000_000]:.0f} ms over "
+           f"10,000,000; while a store filled to as many it took {mine_full:.0f} ms, {mine_full / plain_full:.0f} times plain Rust's")
 
 
 def longest_quotes(found):
@@ -671,7 +677,8 @@ def memory_quotes(found):
     chunked, coming_chunked = (megabytes(bodies * 4_194_304 * IN_CHUNKS / 1e6) for bodies in (1000, 1024))
     yield page, f"cut at the head of each list may take up to {IN_CHUNKS} (calculated, not tried)"
     yield page, f"is {large} stored and {megabytes(1024 * 4_194_304 * worst / 1e6)} of bodies, or {chunked} and {coming_chunked} if bodies come in chunks"
-    yield "README.md", f"take [{found.of('memory', 100_000, 1)[1]} MB (one tag) to {found.of('memory', 100_000, 10)[1]} MB (ten tags)]"
+    by_rule = [megabytes(reckoned(100_000, tags, 10_000, 4) / 1e6) for tags in (1, 10)]
+    yield "README.md", f"100,000 spans in batches of ten take {by_rule[0]} (one tag) to {by_rule[1]} (ten tags)"
     start = at_start()
     told = [f"{-(-100_000 * each // 1_000_000)} MB" for each in start]
     small = max(found.of("memory --process-tags", PROCESS_TAGS[-1], tags, 1, 20)[2] / each for tags, each in zip(TAGS, start))
@@ -749,9 +756,9 @@ def gate_quotes(found):
     yield "docs/MAINTAINING.md", f"`rt ci` [{clock} minutes](#what-it-costs)"
     _, built, _, waited = found.of("gate", "rt try of the program in a fresh clone, beside three other jobs")
     yield "docs/MAINTAINING.md", f"`rt try` took {built} CPU minutes and {waited} of wall-clock time, beside three other jobs"
-    yield "README.md", f"compiles the program unproved and runs it (`--steps 1` leaves out `rt try`'s interpreter) | {waited} minutes, beside other jobs |"
+    yield "README.md", f"compiles the program unproved and runs it, which took {waited} minutes beside other jobs"
     yield "README.md", f"tries {len(glob.glob('crates/*/must-fail/*.edit', root_dir=results.ROOT))} wrong bodies"
-    yield "README.md", f"`rt ci` {clock} minutes, of commit {commit}, alone on four cores of 2.5 GHz"
+    yield "README.md", f"`rt ci` took {clock} minutes, of commit {commit}, alone on four cores of 2.5 GHz"
     least, most = found.of("proofs", "a test crate before its first test")
     once, often = found.of("proofs", "a public function whose contract names much, once a crate")
     yield "docs/MAINTAINING.md", f"{least} to {most} seconds of a processor to read what it stands on, and {once} to {often} once for each public function"
