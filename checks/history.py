@@ -6,11 +6,10 @@
     checks/history.py --self-test        finds each fault of checks/broken_server.rs, and none where there is none
 
 Writers and readers, each a process of its own, work over real sockets at once. A query is one GET and its answer, which shows
-exactly which batches were in the store at one point; the output calls it a *look*. Each batch puts a span into one trace for
-the whole run, the *record*, and two into a trace that 50 batches share, its *page*; a service has the batches of one writer in
-20 pages, and an operation is one batch. So a query for a page, for the services, for the operations of a service, or a search
-for one batch shows how far the history had come, and at the end the record is the history itself, in order. Of each answer a
-length and a hash are kept.
+exactly which batches were in the store at one point. Each batch puts a span into one trace for the whole run, the *record*,
+and two into a trace that 50 batches share, its *page*; a service has the batches of one writer in 20 pages, and an operation
+is one batch. So a query for a page, for the services, for the operations of a service, or a search for one batch shows how far
+the history had come, and at the end the record is the history itself, in order. Of each answer a length and a hash are kept.
 
 Connections are cut in a head, in a body, before an answer and inside it; bodies are damaged (and must be refused) and sent
 again; bodies come in chunks and in pieces; requests are pipelined; some clients read slowly, or ask for the end.
@@ -26,11 +25,11 @@ Judged, as docs/serve.md and docs/http-session.md promise it:
                     the same connection, a batch acknowledged on it, or a batch whose 202 had come, to whichever client,
                     before the connection was opened.
 
-Counted and not judged, since no contract says it (docs/ASSURANCE.md names the test that shows it): queries that begin after a 202,
-or after an answer that showed more, had come on another connection while their own was open already, and whose answer is from
-before that. `--strict` judges these too.
+Counted and not judged, since no contract says it (docs/ASSURANCE.md names the test that shows it): queries that begin after a
+202, or after an answer that showed more, had come on another connection while their own was open already, and whose answer is
+from before that. `--strict` judges these too.
 
-It prints how many looks and acknowledgements it judged. Status 0: all holds. 1: it doesn't; the first violations are told. 2:
+It prints how many queries and acknowledgements it judged. Status 0: all holds. 1: it doesn't; the first violations are told. 2:
 it could not run, or a connection ended in a way that no client asked for. Standard library alone; `--self-test` needs rustc.
 """
 import collections
@@ -71,7 +70,7 @@ def run_clients(options, port, start):
     tickets = context.Value("Q")
     end = start + options.seconds
     kinds = [(Writer, n, options.pace) for n in range(1, options.writers + 1)]
-    kinds += [(Reader, n, options.looks) for n in range(1, options.readers + 1)]
+    kinds += [(Reader, n, options.queries) for n in range(1, options.readers + 1)]
     runs = []
     for kind, number, pace in kinds:
         ours, theirs = context.Pipe(duplex=False)
@@ -91,9 +90,9 @@ def run_clients(options, port, start):
 
 
 def wants_empty(port):
-    """The first look: a server that holds something already can't be judged."""
+    """The first query: a server that holds something already can't be judged."""
     try:
-        with Connection(port, random.Random(0), Log("the first look")) as connection:
+        with Connection(port, random.Random(0), Log("the first query")) as connection:
             first = connection.answer(Look(ServicesLook()).bytes)
     except (Parted, OSError) as fault:
         raise CannotRun(f"port {port} is not answered: {type(fault).__name__} {fault}") from None
@@ -103,7 +102,7 @@ def wants_empty(port):
 
 def look_at_all(port, logs):
     """The last connection: the record, all services, each page and each service, and the record again, which is the history."""
-    log = Log("the last look")
+    log = Log("the last query")
     pages = sorted({page for each in logs for page in each.pages.values()})
     services = sorted({service_of(batch, page) for each in logs for batch, page in each.pages.items()})
     looks = [PageLook(RECORD, raw=True), ServicesLook(), *map(PageLook, pages), *map(OperationsLook, services)]
@@ -123,12 +122,12 @@ def report(judge, logs, options, seconds):
     kinds = ["at pages", "at operations", "at services", "searches that find nothing", "at the record"]
     looks = sum(counts[kind] for kind in kinds)
     connections = sum(len(log.opened) for log in logs)
-    print(f"{looks} looks and {counts['acknowledged']} acknowledgements judged, on {connections} connections of "
+    print(f"{looks} queries and {counts['acknowledged']} acknowledgements judged, on {connections} connections of "
           f"{options.writers} writers and {options.readers} readers in {seconds:.0f} s")
-    print("looks: " + ", ".join(f"{counts[kind]} {kind}" for kind in kinds))
+    print("queries: " + ", ".join(f"{counts[kind]} {kind}" for kind in kinds))
     print(f"batches: {counts['sent']} sent, {counts['again']} of them again; {counts['refused']} times refused, damaged or cut, "
           f"{counts['open']} times without answer, of which {counts['open that stand']} stand in the history")
-    print(f"counted{' and judged' if options.strict else ' only'}: {counts['acknowledged elsewhere']} looks in front of a "
+    print(f"counted{' and judged' if options.strict else ' only'}: {counts['acknowledged elsewhere']} queries from before a "
           f"batch acknowledged, and {counts['shown elsewhere']} of a batch shown, on another connection before")
     for what, count in troubles(logs).items():
         print(f"{count} {what}")
@@ -156,10 +155,10 @@ def drive(options, binary, *words, port=None):
         try:
             last, history = look_at_all(server.port, logs)
         except Violation as seen:
-            print(f"VIOLATION the last look: {seen}")
+            print(f"VIOLATION the last query: {seen}")
             return [str(seen)], False
         except (Parted, OSError) as fault:
-            raise CannotRun(f"the last look failed: {type(fault).__name__} {fault}") from None
+            raise CannotRun(f"the last query failed: {type(fault).__name__} {fault}") from None
     logs.append(last)
     judge = Judge(logs, history, start, options.strict)
     judge.judge()
@@ -213,7 +212,7 @@ def parsed():
     asked.add_argument("--queue", type=int, default=256, help="of the server; with 1 some batches are answered `busy`")
     asked.add_argument("--batches", type=int, default=300_000, help="how many the server keeps; then it answers `journal full`")
     asked.add_argument("--pace", type=float, help="steps a second of each writer; 25, or 120 with --self-test; 0: no limit")
-    asked.add_argument("--looks", type=float, default=300, help="looks a second of each reader; 0: no limit")
+    asked.add_argument("--queries", type=float, default=300, help="queries a second of each reader; 0: no limit")
     asked.add_argument("--seed", default=str(random.randrange(10**6)), help="of what the clients choose")
     asked.add_argument("--strict", action="store_true", help="judge queries on connections that were open already too")
     asked.add_argument("--self-test", action="store_true")

@@ -1,4 +1,4 @@
-"""The clients of checks/history.py: batches, looks, connections, and what each client keeps of them."""
+"""The clients of checks/history.py: batches, queries, connections, and what each client keeps of them."""
 import collections
 import hashlib
 import itertools
@@ -103,7 +103,7 @@ def post(rng, body, chunked=False, kind=THRIFT):
     return post_body(body, kind)
 
 
-# What a look is at. A subject is one number: its kind, and which page, service or batch.
+# What a query is for. A subject is one number: its kind, and which page, service or batch.
 
 PAGE, OPERATIONS, SERVICES, ABSENT, ACKNOWLEDGED = range(5)
 PLACE = 40
@@ -131,7 +131,7 @@ def digest(items):
 
 def listed(status, body):
     if status != 200:
-        raise Violation(f"a look was answered {status} {body[:120]!r}")
+        raise Violation(f"a query was answered {status} {body[:120]!r}")
     return json.loads(body)["data"]
 
 
@@ -211,7 +211,7 @@ WHOLE, KEPT, OPEN, REFUSED = range(4)
 
 
 class Log:
-    """What one client sent and was answered, in order. An event is a look or an acknowledgement: a few numbers each."""
+    """What one client sent and was answered, in order. An event is a query or an acknowledgement: a few numbers each."""
 
     def __init__(self, name):
         self.name = name
@@ -247,7 +247,7 @@ class Log:
         self.compare(subject_seen, items)
 
     def compare(self, subject_seen, items):
-        """Two looks of this client of which neither is a prefix of the other are told while both are at hand."""
+        """Two queries of this client of which neither is a prefix of the other are told while both are at hand."""
         before = self.seen_last.get(subject_seen, [])
         shorter, longer = sorted((before, items), key=len)
         agree = longer[:len(shorter)] == shorter if subject_seen >> PLACE == PAGE else set(shorter) <= set(longer)
@@ -268,7 +268,7 @@ class Log:
 def told_difference(before, items):
     place = next((place for place, pair in enumerate(zip(before, items)) if pair[0] != pair[1]), 0)
     names = [" ".join(batch_name(item) for item in shown[place:place + 3]) or "nothing" for shown in (before, items)]
-    return f"{names[1]} from place {place + 1} on, where an earlier look of this client showed {names[0]}"
+    return f"{names[1]} from place {place + 1} on, where an earlier query of this client showed {names[0]}"
 
 
 # Connections.
@@ -334,7 +334,7 @@ class Look:
 
     def answered(self, log, status, body, begin):
         if status >= 500:
-            log.troubles[f"looks answered {status}"] += 1
+            log.troubles[f"queries answered {status}"] += 1
             return
         try:
             log.looked(*self.look.read(status, body), begin)

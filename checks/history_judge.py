@@ -152,10 +152,10 @@ class Judge:
                 self.violates(moment, f"{log.name}, connection {connection}: {names}, which was submitted first")
             before = connection, batch
 
-    # No look of a connection is before what the connection has to count in.
+    # No query of a connection is before what the connection has to count in.
 
     def judge_connection(self, log, connection):
-        """`floor` is the position that each look has to show, and `cause` the event by which it has to; none at first."""
+        """`floor` is the position that each query has to show, and `cause` the event by which it has to; none at first."""
         ends = log.first_event[connection + 1] if connection + 1 < len(log.opened) else len(log.subjects)
         floor, cause = self.acknowledged.before(log.opened[connection]), None
         for event in range(log.first_event[connection], ends):
