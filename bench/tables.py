@@ -24,7 +24,7 @@ import results
 from plots import plot
 
 FIGURES = "bench/figures.md"
-PAGES = ["README.md", "bench/README.md", FIGURES, "docs/operating.md", "docs/serve.md", "docs/store.md", "docs/MAINTAINING.md"]
+PAGES = ["README.md", "bench/README.md", FIGURES, "docs/operating.md", "docs/memory.md", "docs/serve.md", "docs/store.md", "docs/MAINTAINING.md"]
 BLOCK = re.compile(r"(<!-- results: (\w+) -->\n).*?(<!-- end of results -->)", re.S)
 SIZES = [1000, 10_000]
 WRITERS = [1, 2, 4, 8]
@@ -658,25 +658,25 @@ def core_quotes(found):
 
 def memory_quotes(found):
     """What pages say of memory."""
-    page = "docs/operating.md"
+    page, beside = "docs/operating.md", "docs/memory.md"
     one, five = (found.of("memory", 100_000, tags) for tags in TAGS)
     of_processes = found.rows("memory --process-tags")
-    yield page, f"An empty server takes {max(it[3] for it in found.rows('memory') if not it[0]):.0f} MB"
+    yield beside, f"An empty server takes {max(it[3] for it in found.rows('memory') if not it[0]):.0f} MB"
     of_bytes = [it[-2] for it in of_processes] + [it[3] / it[2] for it in found.rows("memory") if it[0] == 100_000]
     yield page, f"take {min(of_bytes):.1f} to {max(of_bytes):.1f} times the bytes that come"
     yield page, f"spans * ({OF_SPAN} + {OF_TAG} * tags of a span) + batches * ({OF_BATCH} + {OF_PROCESS_TAG} * tags of a process)"
     yield page, (f"take 2,880,000 * {OF_SPAN + 5 * OF_TAG} + 576,000 * {OF_BATCH + 4 * OF_PROCESS_TAG:,} = "
                  f"{megabytes(reckoned(2_880_000, 5, 576_000, 4) / 1e6)}")
-    yield page, f"plus {SINCE} bytes a span that the program has taken since"
+    yield beside, f"plus {SINCE} bytes a span that the program has taken since"
     yield page, f"so with {reckoned(10, 5, 1, 4) / 10:.0f} bytes a span"
     yield page, f"Each unused place takes {OF_PLACE} bytes of a span"
     worst = worst_tags(found)
-    yield page, f"times {worst:.1f}, the most bytes of memory that were measured for each byte of a body of tags"
-    yield page, f"times {worst:.1f}: {megabytes(1024 * 4_194_304 * worst / 1e6)} with the defaults"
+    yield beside, f"times {worst:.1f}, the most bytes of memory that were measured for each byte of a body of tags"
+    yield beside, f"times {worst:.1f}: {megabytes(1024 * 4_194_304 * worst / 1e6)} with the defaults"
     large = megabytes(1000 * 4_194_304 * worst / 1e6)
     chunked, coming_chunked = (megabytes(bodies * 4_194_304 * IN_CHUNKS / 1e6) for bodies in (1000, 1024))
-    yield page, f"cut at the head of each list may take up to {IN_CHUNKS} (calculated, not tried)"
-    yield page, f"is {large} stored and {megabytes(1024 * 4_194_304 * worst / 1e6)} of bodies, or {chunked} and {coming_chunked} if bodies come in chunks"
+    yield beside, f"cut at the head of each list may take up to {IN_CHUNKS} (calculated\\*)"
+    yield beside, f"is {large} stored and {megabytes(1024 * 4_194_304 * worst / 1e6)} of bodies, or {chunked} and {coming_chunked} if bodies come in chunks"
     by_rule = [megabytes(reckoned(100_000, tags, 10_000, 4) / 1e6) for tags in (1, 10)]
     yield "README.md", f"100,000 spans in batches of ten take {by_rule[0]} (one tag) to {by_rule[1]} (ten tags)"
     start = at_start()
@@ -698,7 +698,7 @@ def most_of_an_answer(found):
 
 def answer_quotes(found):
     """What a page says of the memory that answers take."""
-    page = "docs/operating.md"
+    page, beside = "docs/operating.md", "docs/memory.md"
     ordinary, most = most_of_an_answer(found)
 
     def gigabytes(spans):
@@ -708,9 +708,9 @@ def answer_quotes(found):
     yield page, f"all of 2,000,000 spans that is {gigabytes(2_000_000)} GB"
     whole = megabytes(reckoned(5_000_000, 10, 500_000, 4) / 1e6)
     yield page, f"{whole} by [the rule](#memory-how-much-it-needs); {gigabytes(5_000_000)} GB more while four workers show all of them"
-    yield page, f"| of more | {ordinary} bytes for each span, or up to {most} if each trace has one or two spans; and 272 KB |"
+    yield beside, f"| of more | {ordinary} bytes for each span, or up to {most} if each trace has one or two spans; and 272 KB |"
     made, slow = (found.of("held --at-once", name, count) for name, count in (("one large trace", 8), ("one large trace to slow readers", 100)))
-    yield page, (f"an answer of one trace of 40,000 spans took [{made[2] * 1e6 / 8 / 40_000:.0f} bytes for each span](../bench/figures.md#heldpy) while it was made, and "
+    yield beside, (f"an answer of one trace of 40,000 spans took [{made[2] * 1e6 / 8 / 40_000:.0f} bytes for each span](../bench/figures.md#heldpy) while it was made, and "
                  f"{slow[4] * 1e6 / 40_000:.0f} until its client had read it")
 
 
@@ -737,13 +737,13 @@ def connection_quotes(found):
     yield "docs/serve.md", f"| connected, and silent so far | {at('silent', 10_000, 'bytes a connection')} bytes |"
     yield "docs/serve.md", f"| silent after a request | {at('parked', 5000, 'bytes a connection')} bytes |"
     yield "docs/serve.md", f"| the same, with 1,000 clients instead of 5,000 | {at('parked', 1000, 'bytes a connection')} bytes |"
-    yield "docs/operating.md", f"which takes {waits[0]} (spans with five tags) to {waits[1]} (spans without tags)"
+    yield "docs/memory.md", f"which takes {waits[0]} (spans with five tags) to {waits[1]} (spans without tags)"
     whole, made = most_waiting() / 1e9, most_waiting("MADE") / 1e6
-    yield "docs/operating.md", f"At one worker at most {whole:.1f} GB of text waits"
-    yield "docs/operating.md", f"At most {made:.0f} MB of it is in memory as text"
-    yield "docs/operating.md", f"(spans without tags) for {whole:.1f} GB of text"
-    yield "docs/operating.md", f"{made:.0f} MB of text and {waits[1]} of what isn't text yet"
-    yield "docs/operating.md", f"and 272 KB | {read} bytes for each span, and 272 KB |"
+    yield "docs/memory.md", f"At one worker at most {whole:.1f} GB of text waits"
+    yield "docs/memory.md", f"At most {made:.0f} MB of it is in memory as text"
+    yield "docs/memory.md", f"(spans without tags) for {whole:.1f} GB of text"
+    yield "docs/memory.md", f"{made:.0f} MB of text and {waits[1]} of what isn't text yet"
+    yield "docs/memory.md", f"and 272 KB | {read} bytes for each span, and 272 KB |"
 
 
 def gate_quotes(found):
@@ -781,7 +781,7 @@ def too_small(found):
     most = most_of_an_answer(found)[1]
     for name, _, *of_span in found.rows("held --answers"):
         if max(of_span) > most:
-            yield f"an answer of {name} takes {max(of_span)} bytes a span; docs/operating.md reckons with {most}"
+            yield f"an answer of {name} takes {max(of_span)} bytes a span; docs/memory.md reckons with {most}"
 
 
 def below(found, name):
