@@ -10,13 +10,13 @@ instructions, in millions, which callgrind counts and which are the same on a bu
 
     bench/heavy.py [--bin PATH] [--runs 3] [--parts 1000] [--count] [--save KIND] [SHAPE..]
 
-A row is over its bound if the memory or, with `--count`, the instructions grow by more than 2.2 times for twice the
+A row is over its limit if the memory or, with `--count`, the instructions grow by more than 2.2 times for twice the
 parts on the average of both steps (4.84 times from a quarter to the whole), or by more than 2.64 times in one of them,
 or if the whole takes more than 10 bytes of memory for each byte sent. One step may have more, since a table that doubles
 its room does so in one of them. Seconds aren't judged: they vary too much. If the bytes in and out together more than
-double in a step, the bar is 1.1 times their growth instead of 2.2, and the line says so. The last line is
-`0 over their bounds`, or the number of such rows after a line for each; the exit status is 1 then. Fixed costs count
-too, so with a few parts the memory for each byte is above its bar.
+double in a step, the limit is 1.1 times their growth instead of 2.2, and the line says so. The last line is
+`0 over their limits`, or the number of such rows after a line for each; the exit status is 1 then. Fixed costs count
+too, so with a few parts the memory for each byte is above its limit.
 """
 import contextlib
 import json
@@ -38,7 +38,7 @@ WORDS = ["pipe", "--max-skew", "1000", "--batches", "100000", "--spans", "100000
 TRACE = 7
 START = 1_600_000_000_000_000
 
-# The bars: of twice the parts, of twice the parts for each time that the bytes grow, of one step for each time that the bar of the average allows, and of
+# The limits: of twice the parts, of twice the parts for each time that the bytes grow, of one step for each time that the limit of the average allows, and of
 # the memory for each byte sent.
 GROWTH_BAR, BAR_OF_BYTES, ONE_STEP, SENT_BAR = 2.2, 1.1, 1.2, 10
 COLUMNS = ["body, then what is asked", "MB in", "MB out", "million instructions, quarter", "half", "whole", "ratio, half", "ratio, whole",
@@ -240,7 +240,7 @@ class Row:
         whole, steps = self.seen[-1], self.steps
         took, memory = numbers([it.took for it in self.seen], ".2f"), numbers([it.memory for it in self.seen], ".1f")
         bars = numbers([it.bar for it in steps], ".1f")
-        told = "" if bars == numbers([GROWTH_BAR] * len(steps), ".1f") else f"  by the growth of its bytes: bars {bars}"
+        told = "" if bars == numbers([GROWTH_BAR] * len(steps), ".1f") else f"  by the growth of its bytes: limits {bars}"
         return (f"{self.name:55} {whole.sent:6.2f} {whole.answered:7.2f} {took:>24} {numbers([it.took for it in steps], '.1f'):>9} {memory:>16}"
                 f" {numbers([it.memory for it in steps], '.1f'):>9} {self.of_bytes:6.1f}{told}")
 
@@ -252,18 +252,18 @@ class Row:
         return [self.name, round(whole.sent, 2), round(whole.answered, 2), *took, *memory, round(self.of_bytes, 1), *bars]
 
     def faults(self, counted):
-        """What is above its bar; seconds never are."""
+        """What is above its limit; seconds never are."""
         bars = [step.bar for step in self.steps]
         judged = [("instructions", [step.took for step in self.steps]), ("memory", [step.memory for step in self.steps])][0 if counted else 1:]
         for what, ratios in judged:
             grown, most = math.prod(ratios), math.prod(bars)
             if grown > most:
-                yield f"{grown:.2f} times the {what} from a quarter to the whole, and {most:.2f} is the bar"
+                yield f"{grown:.2f} times the {what} from a quarter to the whole, and {most:.2f} is the limit"
             for parts, ratio, bar in zip(("half", "the whole"), ratios, bars):
                 if ratio > ONE_STEP * bar:
-                    yield f"{ratio:.2f} times the {what} for {parts}, and {ONE_STEP * bar:.2f} is the bar"
+                    yield f"{ratio:.2f} times the {what} for {parts}, and {ONE_STEP * bar:.2f} is the limit"
         if self.of_bytes > SENT_BAR:
-            yield f"{self.of_bytes:.1f} bytes of memory for each byte sent, and {SENT_BAR} is the bar"
+            yield f"{self.of_bytes:.1f} bytes of memory for each byte sent, and {SENT_BAR} is the limit"
 
 
 class Runner:
@@ -383,7 +383,7 @@ def main():
             over.append(f"{row.name}: {'; '.join(faults)}")
     if options.count and not options.shapes:
         record.save()
-    print("\n".join([*over, f"{len(over)} over their bounds" + (f", {len(left_out)} left out" if left_out else "")]))
+    print("\n".join([*over, f"{len(over)} over their limits" + (f", {len(left_out)} left out" if left_out else "")]))
     return 1 if over else 0
 
 
