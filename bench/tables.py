@@ -432,9 +432,9 @@ def glance_beside(found):
         ["20 traces with their JSON, nobody writing, processor time", found.gains(TWENTY, 0), "`serve.py`"],
         ["a trace by its id beside four writers at full speed",
          f"p50 {found.gains(LOOK + ': p50, ms', 4)}; p99 {found.gains(LOOK + ': p99, ms', 4)}", "`serve.py`"],
-        ["a search among 100,000 spans", f"20 traces with their JSON {search['20 of a common service, with JSON']}; a tag that no span has "
+        ["a search among 100,000 spans, of the store alone", f"20 traces with their JSON {search['20 of a common service, with JSON']}; a tag that no span has "
          f"{search['no such tag']}, a duration {search['no such duration']}, a start {search['no such start']}", "`searches.py`"],
-        ["dependencies", f"a window over a hundredth of the traces {search['links of a hundredth']}; over all {search['links of all time']}", "`searches.py`"],
+        ["dependencies, of the store alone", f"a window over a hundredth of the traces {search['links of a hundredth']}; over all {search['links of all time']}", "`searches.py`"],
         [f"the longest POST while a store fills to 10,000,000 spans, lowest of {rounds} rounds", f"{two(plain_full / mine_full)}", "`growth.py`"],
     ]
     names = ["compare --count", "serve", "searches", "growth"]
