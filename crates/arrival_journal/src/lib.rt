@@ -3,8 +3,8 @@
 //! The list of entries is always legal: each entry's number is above every earlier number of its seat, no batch
 //! with a `seqNo` is in it twice, and the counts of entries and of spans are within the limits. An entry that
 //! would break this is refused, and changes nothing. All memory is allocated when a journal is made, so adding an
-//! entry never fails because memory ran out. To judge and add an entry, no more of the list is read than the
-//! entries with its number, its seat's last number and the counts. No contract speaks of that cost.
+//! entry never fails because memory ran out. To judge and add an entry, no more is read than its seat's last number, the
+//! counts, and the entries whose batches are near that of its hash in a table. No contract speaks of that cost.
 //!
 //! * `journal`: the [`Journal`].
 //! * `outline`: what is known of an entry without reading its spans, its [`Outline`]. `span_kinds`: the kinds of

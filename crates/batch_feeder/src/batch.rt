@@ -14,7 +14,8 @@ use std::alloc::Global;
 use thrift_binary::Cursor;
 use thrift_binary::types::{I64, LIST, STRUCT};
 
-/// The least number of bytes of a batch: 11 of the process, 8 of the spans and the stop byte.
+/// The least number of bytes of a batch: 11 of the process, 8 of the spans and the stop byte. Only items of lists are
+/// asked for it, and a batch is none.
 const MIN_BATCH_BYTES: usize = 20;
 
 /// The partially received value of a field of a batch.

@@ -13,7 +13,8 @@ use std::marker::Model;
 use thrift_binary::Cursor;
 use thrift_binary::types::{LIST, STRING};
 
-/// The least number of bytes of a process: 7 of the service and the stop byte.
+/// The least number of bytes of a process: 7 of the service and the stop byte. Only items of lists are asked for it, and a
+/// process is none.
 const MIN_PROCESS_BYTES: usize = 8;
 
 /// The fields of a process that were read so far.

@@ -197,6 +197,7 @@ fn may_spot_meet(flags: &[bool], spot: TakenSpot) -> bool
 {
     match flags.get(spot.number as usize) {
         Some(may_meet) => *may_meet,
+        // Impossible: the number is that of a collected entry. No clause says so.
         None => false,
     }
 }

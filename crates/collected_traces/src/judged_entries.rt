@@ -45,6 +45,7 @@ impl<'a> JudgedEntries<'a> {
     {
         match self.flags.get(number) {
             Some(may_meet) => *may_meet,
+            // Impossible: the number is that of a collected entry. No clause says so.
             None => false,
         }
     }

@@ -111,7 +111,7 @@ impl IdTable {
         if self.has_row(row, id) {
             return Entered::Known(row);
         }
-        let behind = self.used();
+        let new_row = self.used();
         let hash = id_hash(self.keys, id);
         let rows = SoughtId {
             keys: self.keys,
@@ -123,6 +123,6 @@ impl IdTable {
             None => self.places.mark(hash, &rows),
         }
         self.ids.push_reserved(id);
-        Entered::Added(behind)
+        Entered::Added(new_row)
     }
 }

@@ -44,6 +44,7 @@ impl<'a> Searched for CandidateSearch<'a> {
     fn start_at(&self, index: usize) -> i64 {
         match self.spots.get(index) {
             Some(spots) => first_start(self.store.journal, spots.duplicate()),
+            // Impossible: a search asks for indices below `count`. No clause says so.
             None => 0,
         }
     }
@@ -51,6 +52,7 @@ impl<'a> Searched for CandidateSearch<'a> {
     fn id_at(&self, index: usize) -> Option<TraceId> {
         match self.spots.get(index) {
             Some(spots) => first_id(self.store.journal, spots.duplicate()),
+            // Impossible: as above.
             None => None,
         }
     }
@@ -61,6 +63,7 @@ impl<'a> Searched for CandidateSearch<'a> {
                 let judging = Judging::new(self.store, self.prepared, self.requested);
                 is_found(alloc, &judging, spots.duplicate())
             }
+            // Impossible: as above.
             None => Ok(false),
         }
     }

@@ -70,6 +70,8 @@ impl<'a> Judging<'a> {
         if !self.conditions.is_met(spot.place, spot.index as usize, at) {
             return Ok(false);
         }
+        // For the prover: a search with tags is judged after the store is left, so these calls judge no tag here. A search
+        // with tags would have each process judged once for each span.
         let process = JudgedProcess::new(alloc, self.prepared, at.process)?;
         process.has_all_tags(alloc, at.span)
     }

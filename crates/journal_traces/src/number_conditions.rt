@@ -50,6 +50,7 @@ fn is_requested_row(requested: Option<OperationRows>, row: Option<u32>) -> bool
 {
     match (requested, row) {
         (None, _) => true,
+        // Impossible in a store: each span of an entry has a row. No clause says so.
         (Some(_), None) => false,
         (Some(rows), Some(row)) => rows.contains(row),
     }

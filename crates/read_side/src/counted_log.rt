@@ -50,7 +50,8 @@ impl<T> SeenLog<T> {
     }
 }
 
-/// A list, and the right by which its one owner adds to it.
+/// A list, and the right by which its one owner adds to it. At run time it is its length and a few words of fixed size:
+/// no item is stored, and only contracts know them.
 #[derive(Drop)]
 pub struct CountedLog<T> {
     /// The word that each step goes through. Its number means nothing.

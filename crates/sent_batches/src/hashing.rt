@@ -74,7 +74,8 @@ fn number_hash(keys: BatchKeys, number: i64, process: &Process) -> u64
     state.finish()
 }
 
-/// Returns the hash of a batch by its process and its number, or 0 if it has none.
+/// Returns the hash of a batch by its process and its number. A batch without a number, which nobody looks up, has the
+/// hash of one with number 0.
 pub(crate) fn batch_hash(keys: BatchKeys, batch: &Batch) -> u64
     ensures { result ≡ batch_hash keys batch.now }
 {

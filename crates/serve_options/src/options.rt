@@ -4,10 +4,12 @@ ghost use Rattle.serve_options.specs.Ranges.{AreOptionsWithin};
 use crate::host::Host;
 use trace_model::Limits;
 
-/// The greatest number of threads that serve connections.
+/// The greatest number of threads that serve connections. A desk has as many seats (`intake`), and a store as many
+/// readers (`read_side`): a proof of `trace_server` fails where one of them has fewer.
 pub const MAX_WORKERS: u16 = 64;
 
-/// The greatest number of batches that may wait to be accepted.
+/// The greatest number of batches that may wait to be accepted. A queue of `intake` has room for as many: a proof of
+/// `trace_server` fails where it hasn't.
 pub const MAX_QUEUE: u16 = 4_096;
 
 /// The greatest number of connections that may be open at a time.

@@ -6,7 +6,8 @@ ghost use Rattle.service_index.specs.OperationRows.{is_among, rows_in};
 
 use jaeger_model::Kind;
 
-/// The rows of an operation of a service, one for each kind.
+/// The rows of an operation of a service, one for each kind. Where no such operation is known, a row is the number of
+/// known operations, so it is right only until one is added, and only among arrivals of the service.
 #[derive(Clone, Copy)]
 pub struct OperationRows {
     /// The row of the operation with each kind, in the order of [`Kind::ALL`].

@@ -38,9 +38,9 @@ use trace_ring::{FirstStarts, Ring};
 
 /// The accepted entries of one store, and fast answers from them.
 ///
-/// A trace by its id costs its own spans, and names cost what is listed. A search reads the entries of its service,
-/// or, if it requests only a service that many entries are of, the numbers of the services of each trace; and the
-/// first span of each trace that is left. With a limit and without tags it tries the traces that start last first,
+/// A trace by its id costs its own spans, and names cost what is listed. A search reads the entries of its service and a
+/// flag for each trace of the ring, or, if it requests only a service that many entries are of, the numbers of the
+/// services of each trace; and the first span of each trace that is left. With a limit and without tags it tries the traces that start last first,
 /// and stops if enough of them match. Of the traces that are left it judges those that start last, as many as its
 /// limit, and others only if some of these don't match. It copies no span: the answer shares the entries.
 #[derive(Drop)]

@@ -133,7 +133,7 @@ impl ArrivalNames {
             service.now operation.now (rows_in result) }
     {
         let arrivals = self.numbers.arrivals(entries, reported);
-        // If no arrival is of the service, any rows will do.
+        // If no arrival is of the service, any rows will do: the clause speaks of arrivals of the service.
         let service_number = arrivals.service_number_of(service).unwrap_or(0);
         self.index
             .rows_of_operation(&arrivals, service_number, operation)

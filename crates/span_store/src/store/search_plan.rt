@@ -83,10 +83,10 @@ fn count_up_to(spots: Spots<'_>, most: usize) -> usize {
     count
 }
 
-/// Returns whether traces have fewer spans together than a share of all spans, or than [`FEW_SPANS`]. No more than twice
-/// as many spots are visited, and no span is read.
-fn have_few_spans(traces: &[Spots<'_>], share: u32) -> bool {
-    let most = share.max(FEW_SPANS) as usize;
+/// Returns whether traces have fewer spans together than `most` or than [`FEW_SPANS`], whichever is greater. No more than
+/// twice as many spots are visited, and no span is read.
+fn have_few_spans(traces: &[Spots<'_>], most: u32) -> bool {
+    let most = most.max(FEW_SPANS) as usize;
     let mut count = 0usize;
     for spots in traces {
         count = count.saturating_add(count_up_to(spots.duplicate(), most));
@@ -103,12 +103,13 @@ const TRY_GROWTH: usize = 8;
 /// The greatest number of tries.
 const MAX_TRIES: u32 = 16;
 
-/// A try has at most one in sixteen of all traces, and of all spans. Each try has eight times as many traces as the one
+/// A try has at most one in sixteen of all traces, and of all spans, those of traces that left included, or
+/// [`FEW_SPANS`] spans. Each try has eight times as many traces as the one
 /// before, so all tries together judge at most 8/7 of one in sixteen traces. That is little compared with a search of all
 /// traces, even if they find none, as when the latest traces are of a sender whose clock is ahead.
 const TRIED_ONE_IN: usize = 16;
 
-/// The traces of a window are read if they have at most one in four of all spans.
+/// The traces of a window are read if they have at most one in four of all spans, or [`FEW_SPANS`].
 const WINDOW_ONE_IN: u32 = 4;
 
 /// A try pays if the service has more than one entry for each eight of its traces.
@@ -127,11 +128,11 @@ fn are_few(count: usize, all: usize) -> bool {
     count <= all / TRIED_ONE_IN
 }
 
-/// The number of candidates that a search without tags may judge inside the store.
-const MAX_JUDGED_INSIDE: usize = 4_096;
+/// Up to this number of candidates a search without tags judges them inside the store, whatever its limit is.
+const ALWAYS_JUDGED_INSIDE: usize = 4_096;
 
-/// A search without tags judges its candidates inside the store if its limit is less than one in 128 of them. What it
-/// finds is collected there, which costs more than judging a candidate.
+/// More candidates, however many, are judged inside the store if the limit is less than one in 128 of them. What the
+/// search finds is collected there, which costs more than judging a candidate.
 const FOUND_ONE_IN: usize = 128;
 
 /// Returns whether a search judges its candidates after the store is left, so that it doesn't hold up the writer
@@ -143,7 +144,7 @@ pub(super) fn is_judged_outside(query: &Find, candidates: usize) -> bool {
         return true;
     }
     let many = (candidates / FOUND_ONE_IN) as u64;
-    candidates > MAX_JUDGED_INSIDE && (query.limit == 0 || query.limit >= many)
+    candidates > ALWAYS_JUDGED_INSIDE && (query.limit == 0 || query.limit >= many)
 }
 
 /// Returns whether a search has reached its limit.

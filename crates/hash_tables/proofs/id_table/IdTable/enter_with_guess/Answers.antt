@@ -58,4 +58,4 @@ returns-clause-entered c =
     c.find.ensures) in
     let is : c.find.result ≡ position (same_trace id) c.args.self.now.ids =
     found_at t.ids.items id c.self.invariant.once c.find.result found ∙ ap (λ (w : Rows). position (same_trace id) w.ids) c.self.view_is in
-    (sym is ∙ c.in-None.is, c.used-behind.ensures.used, c.push_reserved.ensures.items ∙ ap (λ (w : Rows). w.ids ++ id ∷ []) c.self.view_is)
+    (sym is ∙ c.in-None.is, c.used-new_row.ensures.used, c.push_reserved.ensures.items ∙ ap (λ (w : Rows). w.ids ++ id ∷ []) c.self.view_is)
