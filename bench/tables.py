@@ -627,7 +627,7 @@ def held_quotes(found):
            f"1,000,000 spans and {plain[10_000_000]:.0f} ms over 10,000,000. While nobody asked, a POST took up to {alone} ms")
     mine_full, plain_full, _ = longest_while_filling(found)
     yield ("README.md", f"The longest POST took {plain[1_000_000]:.0f} ms beside large queries over 1,000,000 spans, and {plain[10_000_000]:.0f} ms over "
-           f"10,000,000; while a store filled to as many it took {mine_full:.0f} ms, {mine_full / plain_full:.0f} times plain Rust's")
+           f"10,000,000; while a store filled to as many, each of three rounds had one of at least {mine_full:.0f} ms, of plain Rust {plain_full:.0f}")
 
 
 def longest_quotes(found):
