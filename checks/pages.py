@@ -13,7 +13,8 @@ pages that are named. What it checks:
 * `path/file.rt`: `function`, which has to be in that file;
 * `--option`, which the program or a script of checks/ or bench/ has to have;
 * that docs/ASSURANCE.md, of what is trusted, names each crate of the toolchain that crates.txt has;
-* that each decision of docs/DECISIONS.md says which form was rejected, except for the limits of the toolchain.
+* that each decision of docs/DECISIONS.md says which form was rejected, except for the limits of the toolchain;
+* that no line but one of a table or a block of code has more than 160 characters, as .editorconfig says.
 
 It prints what it doesn't find and exits with status 1. WORDS below are names of other programs and of ordinary text.
 """
@@ -39,6 +40,7 @@ proxy_request_buffering SPAN_STORAGE_TYPE OOMKilled busybox chroot docker health
 --anew --exclude-dir --fail-alloc --fail-early --help --retry --test --version
 PORT Type::function minLogs sha256sum path/file.rt probe RT_JOBS
 """.split())
+MAX_COLUMNS = 160
 PLACEHOLDER = re.compile(r"\b[A-Z]{3,}\b")
 
 LINK = re.compile(r"\]\(([^)\s]+)\)")
@@ -229,6 +231,13 @@ def decision_faults(text):
             yield heading, "it doesn't say which form was rejected"
 
 
+def long_lines(bare):
+    """Yields the lines of a page that are too long, each by its first words."""
+    for line in bare.splitlines():
+        if len(line) > MAX_COLUMNS and not line.startswith("|"):
+            yield " ".join(line.split()[:4]), f"a line of {len(line)} characters"
+
+
 def main():
     """Prints each fault with its page, and the count."""
     asked = asked_of(__doc__, None)
@@ -241,7 +250,7 @@ def main():
         text = page.read_text(encoding="utf-8")
         bare = without_blocks(text)
         flat = re.sub(r"\n(?![*|#\n-])\s*", " ", bare)
-        found = [*link_faults(page, text), *word_faults(names, bare), *pair_faults(names, flat)]
+        found = [*link_faults(page, text), *word_faults(names, bare), *pair_faults(names, flat), *long_lines(bare)]
         if path == "docs/ASSURANCE.md":
             found += trust_faults(bare)
         if path == "docs/DECISIONS.md":
@@ -249,7 +258,7 @@ def main():
         for word, why in found:
             faults += 1
             print(f"{path}: {word}: {why}")
-    print(f"{len(pages)} pages, {faults} names not found")
+    print(f"{len(pages)} pages, {faults} faults")
     return 1 if faults else 0
 
 
