@@ -3,7 +3,7 @@ ghost use Rattle.batch_feeder.specs.Batches.{partial_shared_process};
 use crate::fields::{Fields, InPlace, PieceSlots};
 use crate::items::PartialList;
 use crate::partial::{Arrival, Partial, place};
-use crate::process::PartialProcess;
+use crate::process::OwnedProcessSlots;
 use crate::skipped::PartialSkipped;
 use crate::structs::Struct;
 use crate::values::PartialI64;
@@ -30,7 +30,7 @@ pub(crate) enum PartialBatchField {
 /// A partially received process, which the batch's spans will share.
 #[derive(Drop)]
 pub(crate) struct PartialSharedProcess {
-    process: Struct<PartialProcess>,
+    process: Struct<OwnedProcessSlots>,
 }
 
 impl Partial for PartialSharedProcess {

@@ -288,7 +288,7 @@ pub(crate) fn hold_next<V: Drop>(next: &mut Option<V>, step: V)
     *next = Some(step);
 }
 
-/// Stores the next step, if there is one.
+/// Stores the next step. If all fields are complete there is none; if one is pending there always is, which no clause says.
 fn set_step<V: Drop>(step: &mut Step<V>, next: Option<Step<V>>)
     ensures { (s : Step V) → next ≡ Some s → step.new ≡ s }
 {

@@ -3,7 +3,7 @@ use crate::items::{PartialList, enter_list};
 use crate::partial::{Arrival, place};
 use crate::skipped::PartialSkipped;
 use crate::structs::Struct;
-use crate::tag::PartialTag;
+use crate::tag::OwnedTagSlots;
 use crate::values::PartialI64;
 use batch_codec::field_ids::log::{FIELDS, TIMESTAMP};
 use batch_codec::{Decoded, LogSlots, MIN_LOG_BYTES, read_i64};
@@ -16,7 +16,7 @@ use thrift_binary::types::{I64, LIST};
 #[derive(Drop)]
 pub(crate) enum PartialLogField {
     At(PartialI64),
-    Fields(PartialList<Struct<PartialTag>>),
+    Fields(PartialList<Struct<OwnedTagSlots>>),
     Skip(PartialSkipped),
 }
 

@@ -3,7 +3,7 @@ use crate::items::{PartialList, enter_list};
 use crate::partial::{Arrival, place};
 use crate::skipped::PartialSkipped;
 use crate::structs::Struct;
-use crate::tag::PartialTag;
+use crate::tag::OwnedTagSlots;
 use crate::texts::PartialText;
 use batch_codec::field_ids::process::{SERVICE_NAME, TAGS};
 use batch_codec::{Decoded, StructName, read_owned_text, required};
@@ -17,14 +17,15 @@ use thrift_binary::types::{LIST, STRING};
 /// process is none.
 const MIN_PROCESS_BYTES: usize = 8;
 
-/// The fields of a process that were read so far.
+/// The fields of a process that were read so far: those of `ProcessSlots`, but owned, since the bytes are gone when the
+/// next piece comes.
 #[derive(Drop)]
-pub(crate) struct PartialProcess {
+pub(crate) struct OwnedProcessSlots {
     service: Option<Text>,
     tags: Seq<Tag>,
 }
 
-impl Model for PartialProcess {
+impl Model for OwnedProcessSlots {
     ghost use Rattle.batch_codec.specs.declared.process.ProcessSlots.{ProcessSlots};
 
     ghost Value = { ProcessSlots };
@@ -36,11 +37,11 @@ impl Model for PartialProcess {
 #[derive(Drop)]
 pub(crate) enum PartialProcessField {
     Service(PartialText),
-    Tags(PartialList<Struct<PartialTag>>),
+    Tags(PartialList<Struct<OwnedTagSlots>>),
     Skip(PartialSkipped),
 }
 
-impl PieceSlots for PartialProcess {
+impl PieceSlots for OwnedProcessSlots {
     ghost use Rattle.batch_codec.specs.EmptySlots.{no_process};
     ghost use Rattle.batch_codec.specs.ProcessReading.{take_process, process_from};
     ghost use Rattle.batch_feeder.specs.Processes.{process_continues};
@@ -64,7 +65,7 @@ impl PieceSlots for PartialProcess {
     }
 
     fn start(alloc: Global) -> Self {
-        PartialProcess {
+        OwnedProcessSlots {
             service: None,
             tags: Seq::new(alloc),
         }
@@ -133,7 +134,7 @@ impl PieceSlots for PartialProcess {
     ghost short = { take_process_short };
 }
 
-impl Fields for PartialProcess {
+impl Fields for OwnedProcessSlots {
     fn enter(
         &mut self,
         next: &mut Option<Step<PartialProcessField>>,

@@ -3,7 +3,7 @@ use crate::items::{PartialList, enter_list};
 use crate::partial::{Arrival, place};
 use crate::skipped::PartialSkipped;
 use crate::structs::Struct;
-use crate::tag::PartialTag;
+use crate::tag::OwnedTagSlots;
 use crate::texts::PartialText;
 use crate::values::{PartialI32, PartialI64, PartialId};
 use batch_codec::field_ids::span::{
@@ -28,7 +28,7 @@ pub(crate) enum PartialSpanField {
     Flags(PartialI32),
     Start(PartialI64),
     Duration(PartialI64),
-    Tags(PartialList<Struct<PartialTag>>),
+    Tags(PartialList<Struct<OwnedTagSlots>>),
     Logs(PartialList<Struct<LogSlots>>),
     Skip(PartialSkipped),
 }

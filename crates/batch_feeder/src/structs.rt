@@ -108,13 +108,13 @@ fn begin_fields<S: Fields>(
     }
 }
 
-/// Stores the fields so far and the next step, if there is one. It isn't inlined, so that a complete struct costs no
-/// such part.
+/// Stores the fields so far and the next step. It isn't inlined, so that a complete struct costs no such part.
 #[inline(never)]
 fn hold<S: PieceSlots>(part: &mut Option<Struct<S>>, slots: S, next: Option<Step<S::PartialField>>)
     ensures { (s : Step S.PartialField) → next ≡ Some s →
         part.new ≡ Some (record { slots = slots; step = s }) }
 {
+    // Impossible: `None`, since the value is pending. No clause says so.
     if let Some(step) = next {
         *part = Some(Struct { slots, step });
     }

@@ -17,9 +17,10 @@ use std::marker::Model;
 use thrift_binary::Cursor;
 use thrift_binary::types::{BOOL, DOUBLE, I32, I64, STRING};
 
-/// The fields of a tag that were read so far.
+/// The fields of a tag that were read so far: those of `TagSlots`, but owned, since the bytes are gone when the next piece
+/// comes.
 #[derive(Drop)]
-pub(crate) struct PartialTag {
+pub(crate) struct OwnedTagSlots {
     key: Option<Text>,
     kind: Option<TagType>,
     text: Text,
@@ -29,7 +30,7 @@ pub(crate) struct PartialTag {
     binary: Seq<u8>,
 }
 
-impl Model for PartialTag {
+impl Model for OwnedTagSlots {
     ghost use Rattle.batch_codec.specs.declared.tag.TagSlots.{TagSlots};
 
     ghost Value = { TagSlots };
@@ -58,7 +59,7 @@ pub(crate) enum PartialTagField {
     Skip(PartialSkipped),
 }
 
-impl PieceSlots for PartialTag {
+impl PieceSlots for OwnedTagSlots {
     ghost use Rattle.batch_codec.specs.EmptySlots.{no_tag};
     ghost use Rattle.batch_codec.specs.TagReading.{take_tag, tag_from};
     ghost use Rattle.batch_feeder.specs.Tags.{tag_continues};
@@ -82,7 +83,7 @@ impl PieceSlots for PartialTag {
     }
 
     fn start(alloc: Global) -> Self {
-        PartialTag {
+        OwnedTagSlots {
             key: None,
             kind: None,
             text: Text::new(alloc),
@@ -154,7 +155,7 @@ impl PieceSlots for PartialTag {
     #[tactic(auto, unfolding(batch_codec::specs::TagReading::tag_from))]
     #[inline(always)]
     fn whole(self) -> Decoded<Tag> {
-        let PartialTag {
+        let OwnedTagSlots {
             key,
             kind,
             text,
@@ -185,4 +186,4 @@ impl PieceSlots for PartialTag {
     ghost short = { take_tag_short };
 }
 
-impl Fields for PartialTag {}
+impl Fields for OwnedTagSlots {}

@@ -42,6 +42,7 @@ pub fn find_ids<T: Searched>(alloc: Global, traces: &mut T) -> Result<Vec<TraceI
     let indices = find(alloc, traces)?;
     let mut ids = Vec::with_capacity(alloc, indices.len())?;
     for index in &indices {
+        // Impossible: `None`, since a trace that is found has a span. No clause says so.
         if let Some(id) = traces.id_at(*index) {
             ids.push(id)?;
         }

@@ -43,6 +43,7 @@ pub(crate) fn walk<S: Sought>(slots: &[u32], start: usize, sought: &S) -> Option
         }
         at = next_place(slots.len(), at);
     }
+    // Impossible in a table, which has a free place. The contract doesn't ask for one.
     None
 }
 

@@ -11,10 +11,10 @@ use Rattle.trace_model.specs.Refusals.{admission}
 use Rattle.trace_model.proofs.Admissions.{IsSaid, admission_says}
 use Rattle.read_side.specs.Keepers.{Lists, accepted, admit_call, RefusesEntry}
 use Rattle.intake.specs.Seats.{IsUnacknowledged}
-use Rattle.intake.specs.Denials.{IsLeftOut, IsDenied}
+use Rattle.intake.specs.Denials.{IsReasonBy, IsDenied}
 
 left-out : (limits : Limits) (list : List Entry) (e : Entry) (r : Result Admission Refusal) → admission limits list e ≡ r → IsSaid limits list e r
-    → IsLeftOut limits list e (unwrap_or (result_err r) NoMemory)
+    → IsReasonBy limits list e (unwrap_or (result_err r) NoMemory)
 left-out limits list e (Ok a) is s = (a, is)
 left-out limits list e (Err (Stale last)) is s = ap result_err is
 left-out limits list e (Err (JournalFull batches spans)) is s = ap result_err is
@@ -22,14 +22,14 @@ left-out limits list e (Err (Conflict place)) is s = ap result_err is
 left-out limits list e (Err why) is s = absurd s
 
 pub refused-left-out : (limits : Limits) (k : Lists) (e : Entry) (why : Refusal) (m : Lists) → RefusesEntry (admit_call limits k e m) why
-    → IsLeftOut limits (accepted k) e why
+    → IsReasonBy limits (accepted k) e why
 refused-left-out limits k e why m t = ⊎_elim
-    (λ p. subst (IsLeftOut limits (accepted k) e) (sym p.0) (p.1.0, p.1.1))
-    (λ q. subst (IsLeftOut limits (accepted k) e) (sym q.1)
+    (λ p. subst (IsReasonBy limits (accepted k) e) (sym p.0) (p.1.0, p.1.1))
+    (λ q. subst (IsReasonBy limits (accepted k) e) (sym q.1)
     (left-out limits (accepted k) e (admission limits (accepted k) e) refl (admission_says limits (accepted k) e)))
     t
 
-left-unacknowledged : (limits : Limits) (list : List Entry) (e : Entry) (why : Refusal) → IsLeftOut limits list e why → IsUnacknowledged why
+left-unacknowledged : (limits : Limits) (list : List Entry) (e : Entry) (why : Refusal) → IsReasonBy limits list e why → IsUnacknowledged why
 left-unacknowledged limits list e (JournalFull batches spans) d = tt
 left-unacknowledged limits list e (Stale last) d = tt
 left-unacknowledged limits list e (Conflict place) d = tt

@@ -16,7 +16,7 @@ use Rattle.trace_model.specs.Histories.{IsLegal}
 use Rattle.trace_model.specs.ResentBatches.{AnswersFor}
 use Rattle.trace_model.proofs.Prefixes.{prefix_self, prefix_trans}
 use Rattle.intake.specs.Seats.{next_job}
-use Rattle.intake.specs.Denials.{IsLeftOut}
+use Rattle.intake.specs.Denials.{IsReasonBy}
 use Rattle.intake.specs.EntryPlaceLaws.{stands-split}
 use Rattle.trace_model.specs.StoreKnowledge.{History, IsPrefixOf, HasAt, KnownList, reached, refused, ForgetsNothing, AnswersAt, KnowsRefusal}
 use Rattle.trace_model.specs.StoreKnowledge.{SubmitKnows, ReadKnows}
@@ -42,7 +42,7 @@ IsUnjudged why = (why ≡ Closed) ⊎ (why ≡ NoMemory) ⊎ (why ≡ Busy) ⊎ 
 -- the refusal of a batch by the keeper: a legal prefix of this list leaves it out
 abbrev IsJudgedBy : Limits → List Entry → Batch → Refusal → Type 0
 IsJudgedBy limits longest b why =
-    (list : List Entry) × IsPrefix list longest × IsLegal limits list × (e : Entry) × (e.work ≡ brings.Batch b) × IsLeftOut limits list e why
+    (list : List Entry) × IsPrefix list longest × IsLegal limits list × (e : Entry) × (e.work ≡ brings.Batch b) × IsReasonBy limits list e why
 
 judged : (limits : Limits) (s : LiveValue) (b : Batch) (why : Refusal) (t : LiveValue) → LiveSubmits limits s b (Err why) t
     → IsUnjudged why ⊎ IsJudgedBy limits t.refused_by b why

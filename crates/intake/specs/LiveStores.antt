@@ -13,7 +13,7 @@ use Rattle.trace_model.specs.Histories.{IsLegal}
 use Rattle.trace_model.specs.Answers.{answer}
 use Rattle.read_side.specs.Receipts.{AnsweredAt}
 use Rattle.intake.specs.Seats.{SeatValue, IsNotQueued, next_job, with_job}
-use Rattle.intake.specs.Denials.{IsLeftOut}
+use Rattle.intake.specs.Denials.{IsReasonBy}
 use Rattle.trace_model.specs.StoreKnowledge.{KnownList, reached, refused, RefusesBatch}
 
 -- the seat, the longest list that the pass knows, and the longest list by which one of its batches was refused, or what
@@ -51,15 +51,14 @@ abbrev pub OneListBegins : List Entry → List Entry → Type 0
 OneListBegins xs ys = IsPrefix xs ys ⊎ IsPrefix ys xs
 
 -- the refusal of a queued job, after which the store is in this state: a legal prefix of the longest list that refused,
--- comparable with the known one, leaves the entry out for this reason; or the clerk ended
+-- comparable with the known one, has this reason for its entry; or the clerk ended
 abbrev pub IsRefusedJob : Limits → Entry → Refusal → LiveValue → Type 0
 IsRefusedJob limits e why t =
-    ((list : List Entry) × IsLegal limits list × OneListBegins list t.known × IsPrefix list t.refused_by × IsLeftOut limits list e why)
+    ((list : List Entry) × IsLegal limits list × OneListBegins list t.known × IsPrefix list t.refused_by × IsReasonBy limits list e why)
     ⊎ ((why ≡ Closed) ⊎ (why ≡ NoReply))
 
 -- The seat submitted the batch, and a list that is known then answers for its entry at the place. Or it was refused:
--- the seat didn't submit it for the seat's own reason, or it did, and a list of the history leaves its entry out for this
--- reason.
+-- the seat didn't submit it for the seat's own reason, or it did, and a list of the history has this reason for its entry.
 abbrev pub LiveSubmits : Limits → LiveValue → Batch → Result ℕ Refusal → LiveValue → Type 0
 LiveSubmits limits s b (Ok place) t =
     IsPrefix s.known t.known × SubmitsAs s.seat b t.seat

@@ -1,7 +1,7 @@
 //! A bell, which wakes threads that sleep.
 
 use std::sync::Wait;
-use std::sync::atomic::{AtomicU64, Ordering};
+use std::sync::atomic::{AtomicBool, AtomicU64, Ordering};
 use std::thread::yield_now;
 
 /// A bell: a wake-up event (an event count). It counts its rings, some of them twice. A thread that has read the count
@@ -10,15 +10,15 @@ use std::thread::yield_now;
 #[derive(Drop)]
 pub(crate) struct Bell {
     rings: AtomicU64,
-    /// 1 if a thread may sleep that the next ring has to wake, else 0.
-    awaited: AtomicU64,
+    /// A flag: whether a thread may sleep that the next ring has to wake.
+    awaited: AtomicBool,
 }
 
 impl Bell {
     pub(crate) fn new() -> Bell {
         Bell {
             rings: AtomicU64::new(0),
-            awaited: AtomicU64::new(0),
+            awaited: AtomicBool::new(false),
         }
     }
 
@@ -32,8 +32,8 @@ impl Bell {
     pub(crate) fn ring(&self) -> bool {
         self.rings.fetch_add(1, Ordering::SeqCst);
         // A thread that hasn't announced its sleep yet finds the new count when it is about to.
-        let wakes = self.awaited.load(Ordering::SeqCst) != 0
-            && self.awaited.swap(0, Ordering::SeqCst) != 0;
+        let wakes = self.awaited.load(Ordering::SeqCst)
+            && self.awaited.swap(false, Ordering::SeqCst);
         if wakes {
             // The flag may be that of a thread which has read the count since the first addition and isn't asleep
             // yet. The second one keeps it awake: without its flag nobody would wake it.
@@ -60,7 +60,7 @@ impl Bell {
         if self.rings_soon(rings, spins) {
             return false;
         }
-        self.awaited.store(1, Ordering::SeqCst);
+        self.awaited.store(true, Ordering::SeqCst);
         // The system compares the low 32 bits of the count.
         self.rings.park(rt, (rings % 4_294_967_296) as u32);
         true

@@ -78,7 +78,7 @@ impl Eq for Process {
 }
 
 impl Batch {
-    /// Returns whether the batches are equal: the process, the spans in order, and the number.
+    /// Returns whether the batches are equal: the process, the spans in order, and the number. Only tests call it.
     pub fn is_same(&self, other: &Batch) -> bool
         ensures { IsTrue result ↔ (self.now ≡ other.now) }
     {

@@ -5,7 +5,7 @@ use Rattle.trace_model.specs.declared.entry.Entry.{Entry}
 use Rattle.trace_model.specs.Places.{entry_at}
 use Rattle.trace_assembly.specs.declared.spot.Spot.{Spot}
 
--- the group is the number of the service, which has none if no entry is of it
+-- whether this is the number of the service, which has none if no entry is of it
 abbrev pub is_number : Option ℕ → ℕ → Bool
 is_number None service_number = false
 is_number (Some service) service_number = service_number == service

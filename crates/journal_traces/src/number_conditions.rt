@@ -27,7 +27,7 @@ fn number_at(numbers: &[u32], index: usize) -> Option<u32>
 }
 
 /// Returns the number of arrivals before the first span of the entry at a place, which counts from 1, if there is
-/// such an entry.
+/// such an entry. Nobody asks for place 0, which has the answer of place 1.
 pub(crate) fn first_of(store: StoreView<'_>, place: u64) -> Option<u32>
     ensures { result ≡ slice_get store.entry.names.now.numbers.firsts (place - 1) }
 {

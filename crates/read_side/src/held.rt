@@ -27,14 +27,14 @@ impl<'a, N: StoreName> Held<'a, N> {
         Held { pass }
     }
 
-    /// Returns the number of entries of the held list.
+    /// Returns the number of entries of the held list. Only tests call it.
     pub fn front(&self) -> u64
         ensures { result ≡ length (held_list self.now) }
     {
         self.pass.front()
     }
 
-    /// Answers a query from the held list.
+    /// Answers a query from the held list. Only tests call it; the others call `collect`.
     ///
     /// # Errors
     ///

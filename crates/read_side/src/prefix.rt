@@ -100,7 +100,7 @@ impl<N: StoreName> HistoryPrefix<N> {
 }
 
 /// Returns the longest one. Every list that a call under one store name named, on any thread, is a prefix of this
-/// one list, which is legal.
+/// one list, which is legal. Only tests call it.
 pub fn longest<N: StoreName>(
     first: &HistoryPrefix<N>,
     others: &[HistoryPrefix<N>],

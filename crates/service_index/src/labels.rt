@@ -4,8 +4,9 @@ ghost use Rattle.std.specs.Prelude.{◌≡◌, ◌<◌};
 ghost use Rattle.jaeger_model.specs.Texts.{same_text};
 ghost use Rattle.service_index.specs.Labels.{label_value, same_label};
 
-/// A name and a kind, with the number of a service: that of an operation is its service's. A table of services has
-/// all names under number 0.
+/// A name and a kind, with the number of a service. A table has labels of one form: those of operations have the number of
+/// their service; those of services have either their name and number 0 (`ServicePlaces`), or their number and no name
+/// (`ServiceIndex`).
 #[derive(Clone, Copy)]
 pub struct Label<'a> {
     pub service_number: u32,

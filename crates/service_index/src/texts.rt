@@ -14,7 +14,7 @@ pub trait Texts {
     ghost names: { Self → Names };
 
     /// Returns the service, the operation and the kind of the span with this number; the kind is empty if it has
-    /// none.
+    /// none. For the prover: only clauses read the service.
     fn name_at(&self, n: u32) -> (&str, &str, &str)
         requires { n < (names self.now).count }
         ensures service { result.0.now ≡ ((names self.now).at n).service }

@@ -58,6 +58,7 @@ pub(crate) fn take_found(
         found_in (query_of traces.entry) (traces_of traces.entry)) }
     ensures numbers { IfOk result (AreNumberedByPlace traces.entry.store.journal.now.held.entries) }
 {
+    // For the prover: a copy is searched, so that what is known of `traces` is known afterwards too.
     let mut search = traces;
     let indices = find_traces::find(alloc, &mut search)?;
     // For the prover: the binding lets the clauses of `take_places` be used for the result.

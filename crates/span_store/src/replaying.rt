@@ -30,7 +30,7 @@ fn take(store: &mut SpanStore, entry: &Arc<Entry>) -> Result<(), Refusal>
 }
 
 /// Returns the store after all of these entries in order, accepted or refused: it has those that are accepted, each
-/// judged after the accepted ones before it.
+/// judged after the accepted ones before it. Only tests call it.
 ///
 /// # Errors
 ///

@@ -54,6 +54,6 @@ if_any (x ∷ xs) = Some (x ∷ xs)
 abbrev pub spans_of_trace : ℕ → List (Event Placed) → TraceId → List Placed
 spans_of_trace n es t = of_trace t (shown n es)
 
--- GetTrace
+-- the shown spans of a trace; none if it has no such span
 abbrev pub trace_found : ℕ → List (Event Placed) → TraceId → Option (List Placed)
 trace_found n es t = if_any (spans_of_trace n es t)

@@ -7,7 +7,6 @@ ghost use Rattle.trace_model.specs.EntryWork.{placed_brought};
 ghost use Rattle.trace_model.specs.BorrowedSpans.{placed_by_its_entry};
 
 use crate::entry::Entry;
-use crate::name::Name;
 use jaeger_model::{Batch, Placed, Seen, place_span};
 use std::alloc::{AllocError, Global};
 use std::marker::Model;
@@ -136,17 +135,5 @@ impl TakenSpan {
             unreachable!();
         };
         Ok(placed)
-    }
-
-    /// Returns the name of the service that reported it.
-    ///
-    /// # Errors
-    ///
-    /// Out of memory, and nothing else.
-    #[tactic(auto, using(crate::proofs::TakenSpans::name_there))]
-    pub fn service(&self) -> Result<Name, AllocError>
-        ensures { IfOk result (λ n. Some n ≡ option_map (λ p. p.process.service) self.now.span) }
-    {
-        Name::of_service(&self.entry)
     }
 }

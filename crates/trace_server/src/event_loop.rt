@@ -66,7 +66,9 @@ pub(crate) struct EventLoop {
     readiness: Readiness,
     connections: ConnectionSet<Socket>,
     lingering: Lingering,
-    /// The keys of connections that hold unanswered bytes, and whether their clients have closed their side.
+    /// The keys of connections that hold unanswered bytes, and whether their clients have closed their side. A key may be
+    /// of a connection that was removed since, and never of a newcomer: only `accept` hands out keys, at the end of a
+    /// round, when all keys that were here at its start have been taken out.
     holding: VecDeque<(usize, bool)>,
     clock: PatientClock,
     /// The round, and its time by the clock.
@@ -273,6 +275,7 @@ impl EventLoop {
         match self.connections.take_turn(rt, alloc, key, self.at, store) {
             ConnectionTurn::Open(progress) => self.keep(key, progress, peer_closed),
             ConnectionTurn::Removed(end, buffered) => self.close_connection(end, buffered),
+            // Of a key in `holding` that was removed since. An event is never of such a key: a closed socket has none.
             ConnectionTurn::Absent => {}
         }
     }

@@ -124,6 +124,7 @@ impl Lingering {
         idle_limit: Option<Duration>,
     ) -> Awaits {
         let Some(lingering) = self.connections.get_mut(key) else {
+            // Impossible: an event is of an open socket, and one that was removed is closed. No clause says so.
             return Awaits::Nothing;
         };
         let before = lingering.buffered.waiting_bytes();

@@ -7,7 +7,8 @@ use std::alloc::AllocError;
 use std::sync::Wait;
 use std::thread::{Promise, Threads, map_vec, scope, scope_env};
 
-/// What a thread does with its argument. It may block if the handle `R` may.
+/// What a thread does with its argument. It may block if the handle `R` may. For the prover it isn't a closure: `gives` says
+/// what each task gives.
 pub(crate) trait Task<R, P, X> {
     /// Relates an argument and its result.
     ghost gives: { P → X → Type 0 };
@@ -28,7 +29,8 @@ pub(crate) fn run_each<P: Send + Drop, X: Send + Drop, R: Threads + Sync, T: Tas
     map_vec(rt, arguments, &|argument| task.run(rt, argument))
 }
 
-/// Work beside another thread. It may block if the handle `R` may.
+/// Work beside another thread. It may block if the handle `R` may. For the prover it isn't a closure: `ready` and `gives` say
+/// what each work needs and gives.
 pub(crate) trait OwnWork<R, Y> {
     /// The work may be done.
     ghost ready: { Self → Type 0 };

@@ -5,14 +5,14 @@
 //! * `prefixes`: the lists that calls name, compared.
 //! * `machine`: the same steps on the stepped machine and on the two copies.
 //! * `holding`: a list that is held while another thread writes; a receipt that is learnt late.
-//! * `along`: three threads that read while another one writes, with every kind of query, each answer compared with the
-//!   plain store's.
+//! * `concurrent_reads`: three threads that read while another one writes, with every kind of query, each answer compared
+//!   with the plain store's.
 //! * `fixture`: a store that is opened for a row.
 //! * `entries`: the entries that they submit.
 //! * `answers`: the text of an answer.
 
-mod along;
 mod answers;
+mod concurrent_reads;
 mod entries;
 mod fixture;
 mod holding;

@@ -2,7 +2,7 @@
 
 ghost use Rattle.std.specs.Prelude.{◌≡◌, ◌≤◌};
 
-use crate::tests::reading::along::asked_along;
+use crate::tests::reading::concurrent_reads::asked_along;
 use crate::tests::reading::holding::{held_beside, learnt_late};
 use crate::tests::reading::machine::followed;
 use crate::tests::reading::prefixes::prefixes_compared;

@@ -1,7 +1,7 @@
 use Rattle.std.proofs.Common.{rules, w16}
 use Rattle.std.proofs.lemmas.Int.{to_z-of_z}
 use mir.Val.{SFits}
-use Rattle.batch_feeder.proofs.tag.PartialTagFields.enter.Goals as goal
+use Rattle.batch_feeder.proofs.tag.OwnedTagSlotsFields.enter.Goals as goal
 
 pub returns-clause-continues : goal.returns-clause-continues
 returns-clause-continues c =

@@ -4,7 +4,7 @@ use mir.Val.{SFits}
 use Rattle.batch_codec.specs.ProcessReading.{take_process}
 use Rattle.batch_codec.specs.TagReading.{tag_at}
 use Rattle.batch_feeder.proofs.NewLists.{enlisted}
-use Rattle.batch_feeder.proofs.process.PartialProcessFields.enter.Goals as goal
+use Rattle.batch_feeder.proofs.process.OwnedProcessSlotsFields.enter.Goals as goal
 
 pub returns-in_default-clause-continues : goal.returns-in_default-clause-continues
 returns-in_default-clause-continues c =

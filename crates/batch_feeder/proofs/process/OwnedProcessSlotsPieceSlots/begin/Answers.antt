@@ -3,7 +3,7 @@ use Rattle.std.proofs.lemmas.Int.{to_z-of_z}
 use Rattle.thrift_binary.specs.Reading.{◌>>=◌}
 use Rattle.batch_codec.specs.ProcessReading.{take_process}
 use Rattle.batch_codec.specs.TagReading.{tag_at}
-use Rattle.batch_feeder.proofs.process.PartialProcessPieceSlots.begin.Goals as goal
+use Rattle.batch_feeder.proofs.process.OwnedProcessSlotsPieceSlots.begin.Goals as goal
 
 pub returns-in-15-eq2 : goal.returns-in-15-eq2
 unfolding take_process tag_at
