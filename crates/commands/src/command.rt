@@ -42,7 +42,8 @@ where
         + Sync,
     requires input_works { R.has_failed input.old ≡ false }
     requires output_works { W.has_failed output.old ≡ false }
-    ensures { Runs (map S.text arguments.now) (traffic_of R.remaining R.has_failed input.old input.new)
+    ensures { Runs (map S.text arguments.now)
+        (traffic_of R.remaining R.has_failed input.old input.new)
         (traffic_of W.contents W.has_failed output.old output.new) result }
 {
     let Ok(keys) = RandomState::new(rt) else {

@@ -209,7 +209,8 @@ pub(crate) fn read_serve<S: AsStr, W: Write>(
     arguments: &[S],
     writer: &mut W,
 ) -> Result<ServeOptions, ExitStatus>
-    ensures asked { IfOk result (λ options. ReadsArguments (Serve options) (map S.text arguments.now)) }
+    ensures asked { IfOk result (λ options.
+        ReadsArguments (Serve options) (map S.text arguments.now)) }
     ensures silent { OnOk result (W.contents writer.new ≡ W.contents writer.old) }
     ensures accepted { (options : ServeOptionsValue) →
         TakesArguments (Serve options) (map S.text arguments.now) → IfErr result (λ e. e ≡ OutOfMemory) }

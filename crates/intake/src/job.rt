@@ -51,7 +51,8 @@ impl<N: StoreName> Job<N> {
 
     /// Returns the seat that submitted it, and its number there.
     pub(crate) fn id(&self) -> (u16, u64)
-        ensures { (result.0 ≡ self.now.seat) × (result.1 ≡ self.now.number) × (result.0 < MAX_SEATS) }
+        ensures { (result.0 ≡ self.now.seat) × (result.1 ≡ self.now.number)
+            × (result.0 < MAX_SEATS) }
     {
         let entry = self.recorded.entry();
         (entry.seat, entry.number)

@@ -71,6 +71,19 @@ fn has_window(query: &Find) -> bool {
 /// The traces of a try, or of a window, may have this number of spans in any store.
 const FEW_SPANS: u32 = 65_536;
 
+/// Returns the number of spots that were added, of all traces, since the first one of these traces was: they have no
+/// more together. `used` is the number that were added in all.
+fn count_since(traces: &[Spots<'_>], used: u32) -> u32 {
+    let mut since = 0u32;
+    for spots in traces {
+        if !spots.is_empty() {
+            let after_first = used.saturating_sub(spots.added_estimate());
+            since = since.max(after_first.saturating_add(1));
+        }
+    }
+    since
+}
+
 /// Counts the spots, up to a number.
 fn count_up_to(spots: Spots<'_>, most: usize) -> usize {
     let mut count = 0usize;
@@ -83,14 +96,18 @@ fn count_up_to(spots: Spots<'_>, most: usize) -> usize {
     count
 }
 
-/// Returns whether traces have fewer spans together than `most` or than [`FEW_SPANS`], whichever is greater. No more than
-/// twice as many spots are visited, and no span is read.
-fn have_few_spans(traces: &[Spots<'_>], most: u32) -> bool {
-    let most = most.max(FEW_SPANS) as usize;
+/// Returns whether traces have fewer spans together than `most` or than [`FEW_SPANS`], whichever is greater, of the `used`
+/// that were added in all. No more than twice as many spots are visited, and none if the traces are so new that all
+/// spans since the first of theirs are as few. No span is read.
+fn have_few_spans(traces: &[Spots<'_>], used: u32, most: u32) -> bool {
+    let most = most.max(FEW_SPANS);
+    if count_since(traces, used) < most {
+        return true;
+    }
     let mut count = 0usize;
     for spots in traces {
-        count = count.saturating_add(count_up_to(spots.duplicate(), most));
-        if count >= most {
+        count = count.saturating_add(count_up_to(spots.duplicate(), most as usize));
+        if count >= most as usize {
             return false;
         }
     }
@@ -242,8 +259,8 @@ impl<'s, 'q> StoreSearch<'s, 'q> {
     {
         if self.should_try_window() {
             let spots = self.candidates_within()?;
-            let few = self.store.assembly.used() / WINDOW_ONE_IN;
-            if have_few_spans(&spots, few) {
+            let used = self.store.assembly.used();
+            if have_few_spans(&spots, used, used / WINDOW_ONE_IN) {
                 return Ok(spots);
             }
         }
@@ -270,8 +287,8 @@ impl<'s, 'q> StoreSearch<'s, 'q> {
             return Ok(None);
         };
         let spots = spots_after(self.alloc, store.assembly, store.starts, time)?;
-        let few = store.assembly.used() / TRIED_ONE_IN as u32;
-        if !have_few_spans(&spots, few) {
+        let used = store.assembly.used();
+        if !have_few_spans(&spots, used, used / TRIED_ONE_IN as u32) {
             return Ok(None);
         }
         let prepared = PreparedSearch::new(self.alloc, self.query)?;

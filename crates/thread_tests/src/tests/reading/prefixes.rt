@@ -14,7 +14,7 @@ fn lists_are_prefixes_of_each_other(rt: HostRuntime) -> Result<(), Fail> {
     Ok(())
 }
 
-/// Admits an entry, of which the pass learns. Returns the list of the receipt.
+/// Admits an entry, and lets the pass learn its receipt. Returns the list of the receipt.
 fn learnt_history<N: StoreName, R: Wait>(
     rt: &R,
     keeper: &mut Keeper<N>,
@@ -68,7 +68,7 @@ fn are_ordered<N: StoreName, R: Wait>(
     )
 }
 
-/// The row of `lists_are_prefixes_of_each_other`: two entries, of which the pass learns the first one.
+/// The row of `lists_are_prefixes_of_each_other`: two entries; the pass learns the receipt of the first one.
 pub fn prefixes_compared<N: StoreName, R: Wait>(
     rt: &R,
     alloc: Global,

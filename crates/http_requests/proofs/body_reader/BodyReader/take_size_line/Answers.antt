@@ -8,8 +8,8 @@ pub returns-then-size-self-clause-took : goal.returns-then-size-self-clause-took
 returns-then-size-self-clause-took c =
     let line = rw c.as_slice.ensures at c.in-Complete.ensures in
     text_taken _ _ _ _ _ c.in-Complete.length c.take.ensures
-    (λ of front fed part. line_passes of front fed _ _ c.args.self.now.data_left c.in-Complete.size (at_stage of front fed c.args.self.now _ c.requires.stage part)
-    line.0 c.if-size-self.true)
+    (λ of front fed part. line_passes of front fed _ _ c.args.self.now.data_left c.in-Complete.size
+    (at_stage of front fed c.args.self.now _ c.requires.stage part) line.0 c.if-size-self.true)
 
 pub returns-then-size-eq0-clause-took : goal.returns-then-size-eq0-clause-took
 returns-then-size-eq0-clause-took c =
