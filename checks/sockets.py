@@ -5,8 +5,8 @@ responses, the ends of the program.
     checks/sockets.py [--bin PATH] [--only WORD]
 
 Each case starts the program anew on a free port, of 127.0.0.1 unless it is a case of `--host`, and looks only at what the sockets, its
-standard output and its status say; a case of `--host` looks at its standard error too. Standard library alone. One line for each failing
-case; the last line is `N passed, M failed`.
+standard output and its status say; a case of `--host`, and one whose name begins with `told`, looks at its standard error too. Standard
+library alone. One line for each failing case; the last line is `N passed, M failed`.
 """
 import contextlib
 import json
