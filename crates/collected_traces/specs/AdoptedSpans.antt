@@ -1,4 +1,4 @@
--- Spans as a store keeps them.
+-- Spans as a store answers them.
 use Rattle.jaeger_model.specs.declared.placed.Placed.{Placed}
 use Rattle.jaeger_model.specs.Parents.{with_parent}
 

@@ -12,13 +12,13 @@ use read_side::{Keeper, StoreName};
 use std::sync::{Arc, Wait};
 use trace_model::{Entry, Refusal};
 
-/// The books: the final ledger of the jobs, which the clerk returns when it ends. They have the keeper, the result of
-/// each judged job, and the jobs that were not judged.
+/// The books: the final ledger of the jobs, which the clerk returns when it ends. They have the keeper, the counts of
+/// acknowledged and refused jobs, and the jobs that were not judged. Contracts also see the result of each judged job.
 ///
 /// It is not `Drop`, since the keeper isn't: [`Books::close`] it, or take it apart and close the keeper.
 pub struct Books<N: StoreName> {
     pub keeper: Keeper<N>,
-    /// One for each judged job, in the order taken.
+    /// The counts of the judged jobs. Contracts see an account of each, in the order taken.
     pub accounts: Accounts,
     /// The number of acknowledged jobs.
     pub acknowledged: u64,
@@ -86,6 +86,7 @@ impl<N: StoreName> Books<N> {
             if self.unjudged.reserve(1).is_err() {
                 return Err(Refusal::NoMemory);
             }
+            // Impossible: an empty queue. The seat's last job is still in it.
             let Some(job) = self.inbox.pop(rt) else {
                 return Ok(());
             };

@@ -174,7 +174,7 @@ impl<N: StoreName> Clerk<N> {
         ensures reason { IfErr result (λ why. why ≡ NoMemory) }
         ensures full { OnErr result (2 ^ 62 ≤ length self.old.accounts) }
     {
-        // Impossible: no memory holds 2^62 accounts. But no clause says so.
+        // Impossible: 2^62 jobs would take centuries. But no clause says so.
         if self.accounts.is_full() {
             return Err(Refusal::NoMemory);
         }

@@ -11,8 +11,8 @@ use crate::shared_process::SharedProcess;
 use crate::span::{RefKind, Span, SpanRef};
 use std::alloc::{AllocError, Global};
 
-/// A span with the process that reported it. In a store, and as [`place_span`] returns it, its
-/// references include its parent.
+/// A span with the process that reported it. As [`place_span`] returns it, its references include
+/// its parent.
 #[derive(Debug, Drop)]
 pub struct Placed {
     pub process: SharedProcess,

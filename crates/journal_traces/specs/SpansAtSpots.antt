@@ -22,7 +22,7 @@ trace_named h spots t = spans_named h (spots t)
 abbrev pub traces_named : List Entry → List (List Spot) → List (List Placed)
 traces_named h ss = map (spans_named h) ss
 
--- a span of this process as a store keeps it
+-- a span of this process as a store answers it
 abbrev pub placed_in : Process → Span → Placed
 placed_in process s = record { process = process; span = with_parent s }
 

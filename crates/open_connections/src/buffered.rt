@@ -215,6 +215,7 @@ impl<C: TryConnection> Connection for BufferedConnection<C> {
 }
 
 impl<C: TryConnection> Respond for BufferedConnection<C> {
+    /// Fails while a response waits: call [`BufferedConnection::flush`] first, as a turn does.
     fn send_response(&mut self, response: Response) -> Result<(), usize> {
         let mut waiting = PendingResponse::new(response);
         let all = waiting.len();

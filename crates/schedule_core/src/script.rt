@@ -12,7 +12,8 @@ use trace_model::Limits;
 /// Returns the outcomes of the steps, in order, from a machine in which nothing has happened. They don't depend on
 /// the keys. What holds of every run holds of the steps up to the first that ran out of memory: the history only
 /// grows, each answer is the plain store's for a prefix of it, and accepted are the jobs taken, in order, each
-/// once, except for those that were refused or sent before.
+/// once, except for those that were refused or sent before. Only a test calls it: the subcommand `play` makes each
+/// step by [`World::step`] as its line is read.
 ///
 /// # Errors
 ///

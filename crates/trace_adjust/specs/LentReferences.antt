@@ -6,10 +6,10 @@ use Rattle.jaeger_model.specs.declared.span.Span.{Span}
 use Rattle.jaeger_model.specs.declared.span.SpanRef.{SpanRef}
 use Rattle.jaeger_model.specs.Parents.{parent, parent_reference}
 use Rattle.trace_adjust.specs.declared.lent_placed.ParentReference.{ParentReference}
-use Rattle.trace_adjust.specs.declared.lent_placed.ParentReference.TheVariants.{AsKept, Made, MovedFirst}
+use Rattle.trace_adjust.specs.declared.lent_placed.ParentReference.TheVariants.{AsReported, Made, MovedFirst}
 
 abbrev pub references_by : ParentReference → Span → List SpanRef
-references_by AsKept s = s.references
+references_by AsReported s = s.references
 references_by Made s = parent_reference s ∷ s.references
 references_by (MovedFirst i) s = swap s.references 0 i
 
@@ -31,7 +31,7 @@ pub record IsLent (kept shown : Span) : Type 0 where
 
 -- the reference that moves to the front exists
 abbrev pub IsPlace : ParentReference → Span → Type 0
-IsPlace AsKept s = Unit {0}
+IsPlace AsReported s = Unit {0}
 IsPlace Made s = Unit {0}
 IsPlace (MovedFirst i) s = i < length s.references
 

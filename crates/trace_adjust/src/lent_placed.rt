@@ -19,11 +19,11 @@ use std::marker::Model;
 /// Where the reference to a span's parent is among those that are shown.
 #[derive(Clone, Copy)]
 pub(crate) enum ParentReference {
-    /// The stored references, unchanged.
-    AsKept,
-    /// A reference that is made of the parent's id, before the stored ones.
+    /// The reported references, unchanged.
+    AsReported,
+    /// A reference that is made of the parent's id, before the reported ones.
     Made,
-    /// The stored reference at this place is swapped with the first.
+    /// The reported reference at this place is swapped with the first.
     MovedFirst(usize),
 }
 
@@ -47,13 +47,13 @@ impl<'a> Model for LentPlaced<'a> {
     ghost invariant = { λ l. IsReferred l.parent l.span.now };
 }
 
-/// Leaves the reference to the parent where it is among the references, as a store keeps it.
+/// Leaves the references as they were reported, or adds one to the parent before them if there is none.
 fn parent_among(span: &Span) -> ParentReference
     ensures span { referred result span.now ≡ with_parent span.now }
     ensures kept { IsReferred result span.now }
 {
     if needs_no_reference(span) {
-        ParentReference::AsKept
+        ParentReference::AsReported
     } else {
         ParentReference::Made
     }
@@ -69,7 +69,7 @@ fn parent_moved_first(span: &Span) -> ParentReference
     }
     match parent_place(span.references.as_slice(), span.trace) {
         Some(place) => ParentReference::MovedFirst(place),
-        None => ParentReference::AsKept,
+        None => ParentReference::AsReported,
     }
 }
 
@@ -107,7 +107,7 @@ impl<'a> LentPlaced<'a> {
         LentPlaced {
             process: placed.process.get(),
             span: &placed.span,
-            parent: ParentReference::AsKept,
+            parent: ParentReference::AsReported,
         }
     }
 
@@ -167,10 +167,10 @@ impl<'a> LentPlaced<'a> {
     pub(crate) fn reference_count(&self) -> usize
         ensures { result ≡ length self.now.span.references }
     {
-        let kept = self.span.references.as_slice().len();
+        let reported = self.span.references.as_slice().len();
         match self.parent {
-            ParentReference::Made => kept + 1,
-            ParentReference::AsKept | ParentReference::MovedFirst(_) => kept,
+            ParentReference::Made => reported + 1,
+            ParentReference::AsReported | ParentReference::MovedFirst(_) => reported,
         }
     }
 
@@ -178,11 +178,11 @@ impl<'a> LentPlaced<'a> {
         requires { index < length self.now.span.references }
         ensures { slice_get self.now.span.references index ≡ Some result }
     {
-        let kept = self.span.references.as_slice();
+        let reported = self.span.references.as_slice();
         match self.parent {
-            ParentReference::AsKept => kept[index],
+            ParentReference::AsReported => reported[index],
             ParentReference::Made => with_made(self.span, index),
-            ParentReference::MovedFirst(place) => swapped(kept, place, index),
+            ParentReference::MovedFirst(place) => swapped(reported, place, index),
         }
     }
 

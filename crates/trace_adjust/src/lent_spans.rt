@@ -58,7 +58,8 @@ impl Model for LentSpans {
     ghost invariant = { λ l. IsLentForm l.form };
 }
 
-/// Borrows a reported span: as a store keeps it if `raw` is set, else with the reference to its parent first.
+/// Borrows a reported span, with its parent among its references: as they were reported if `raw` is set and they have
+/// it, else with the parent first.
 fn lent_as<'a>(raw: bool, reported: Seen<'a>) -> LentPlaced<'a>
     ensures { result ≡ placed_as raw (placed_by_its_entry reported.entry) }
 {

@@ -21,7 +21,7 @@ pub struct KeptTrace {
     pub raw: bool,
 }
 
-/// The forms of a trace of an answer. Two are boxed, since many answers consist of traces of the third.
+/// The forms of a trace of an answer. `Copied` and `Kept` are boxed, since many answers consist of `Lone` traces.
 #[derive(Debug, Drop)]
 pub enum TraceForm {
     /// Its spans are copied and adjusted.

@@ -233,7 +233,7 @@ impl EventLoop {
     {
         match end {
             ConnectionEnd::ClosedByResponse => self.linger(buffered),
-            ConnectionEnd::ClosedByClient if buffered.has_waiting() => self.linger(buffered),
+            // No response waits: a session goes on only once the last one was sent.
             ConnectionEnd::ClosedByClient | ConnectionEnd::Failed | ConnectionEnd::Undelivered =>
                 drop(buffered),
         }
