@@ -13,7 +13,7 @@ Each row is a process of its own, one after the other:
 Each call is timed in the program, by the machine's monotonic clock; a read's time does not have the letting go of its answer.
 `admits/s` is the number of timed batches by the sum of their times, and `of one` its ratio to that of one thread in the same
 round. `reads/s` is of all reading threads together, and has the letting go of the answers. Each figure is the median of the
-rounds' own figures; with `--spread` the least and the most of the rounds follow.
+rounds' own figures; with `--spread` the minimum and the maximum of the rounds follow.
 """
 import os
 import random
@@ -552,7 +552,7 @@ def rounded(value):
 
 
 def cell(values, spread):
-    """The median of the rounds, and where it is asked for the least and the most."""
+    """The median of the rounds, and if it is asked for the minimum and the maximum."""
     if not values:
         return "-"
     shown = [f"{rounded(value):,}" for value in (statistics.median(values), min(values), max(values))]
@@ -566,7 +566,7 @@ def main():
     asked.add_argument("--sizes", default="1000,10000,100000", help="spans held")
     asked.add_argument("--timed", type=int, default=100, help="batches that are timed")
     asked.add_argument("--rounds", type=int, default=9, help="of which the medians are printed")
-    asked.add_argument("--spread", action="store_true", help="the least and the most of the rounds too")
+    asked.add_argument("--spread", action="store_true", help="the minimum and the maximum of the rounds too")
     options = asked.parse_args()
     columns = ["admits/s", "of one", "admit p50", "admit p99", "reads/s", "read p50", "read p99"]
     record = Record(options, "copies", ["spans held", "who", *columns])

@@ -4,10 +4,10 @@
     bench/growth.py [--bin PATH] [--sizes 1000000,10000000] [--rounds 3] [--save KIND]
 
 Four clients store spans in batches of 10 until a server holds as many as a size, each waiting for its 202 before it sends the
-next batch. What is printed is the longest POST of the four, and the seconds that it took: the least of the rounds of the longest, since
+next batch. What is printed is the longest POST of the four, and the seconds that it took: the minimum of the rounds of the longest, since
 other work of the machine makes a POST longer too, and the median of the seconds.
 
-Then one client stores as many in another server, and the most processor time that the server takes during a POST is printed, the least of the
+Then one client stores as many in another server, and the most processor time that the server takes during a POST is printed, the minimum of the
 rounds: it has what a list that is copied would take, and doesn't grow while a thread waits for a processor.
 """
 import os

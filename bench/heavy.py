@@ -3,9 +3,9 @@
 it, tags and requested tags, and more.
 
 Each shape is a session of the built program, `jaeger_one pipe`, with a quarter of each part, with half and with the
-whole; each size is compared with the one before. Where a shape costs what its bytes cost, twice the parts take twice
-the seconds and twice the memory; where two parts multiply it takes four times. Seconds are processor time of the
-program, the lowest of the runs, less those of a session in which nothing is sent; `--count` replaces them by its
+whole; each size is compared with the one before. If a shape costs what its bytes cost, twice the parts take twice
+the seconds and twice the memory; if two parts multiply it takes four times. Seconds are processor time of the
+program, the minimum of the runs, less those of a session in which nothing is sent; `--count` replaces them by its
 instructions, in millions, which callgrind counts and which are the same on a busy machine (Debian: `valgrind`). Memory is the program's greatest resident size, less that of the same.
 
     bench/heavy.py [--bin PATH] [--runs 3] [--parts 1000] [--count] [--save KIND] [SHAPE..]
@@ -368,10 +368,10 @@ def rows(options, left_out):
 
 def main():
     words = asked_of(__doc__)
-    words.add_argument("--runs", type=int, default=3, help="of which the least is printed")
+    words.add_argument("--runs", type=int, default=3, help="of which the minimum is printed")
     words.add_argument("--parts", type=int, default=1000, help="how many parts the whole has")
     words.add_argument("--count", action="store_true", help="count instructions in place of seconds, in millions")
-    words.add_argument("shapes", nargs="*", help="words of the shapes to run; all where none is given")
+    words.add_argument("shapes", nargs="*", help="words of the shapes to run; all if none is given")
     options = words.parse_args()
     record, over, left_out = Record(options, "heavy", COLUMNS), [], []
     unit = "instructions" if options.count else "seconds"

@@ -568,7 +568,7 @@ def main():
     words.add_argument("--asks", type=int, default=5, help="how often each query is asked at least")
     words.add_argument("--at-once", action="store_true", help="what connections take that ask at once, and nothing else")
     words.add_argument("--answers", action="store_true", help="what an answer takes for each of its spans, and nothing else")
-    words.add_argument("shapes", nargs="*", help="words of the shapes to run; all where none is given")
+    words.add_argument("shapes", nargs="*", help="words of the shapes to run; all if none is given")
     options = words.parse_args()
     chosen = lambda name: not options.shapes or any(word in name for word in options.shapes)
     ways = {"at_once": all_at_once, "answers": all_answers}

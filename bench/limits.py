@@ -3,7 +3,7 @@
 
 Each size is a run of the built program, `jaeger_one play`, on a script that submits that many traces, ten spans of
 ten traces to a batch; then the same followed by limits of 10 and of none in turn. The first limit hides all traces
-but ten, and the others have nothing to do. Times are processor time of the program, the lowest of the runs.
+but ten, and the others have nothing to do. Times are processor time of the program, the minimum of the runs.
 
     bench/limits.py [--bin PATH] [--sizes 1000,10000,100000] [--limits 100000] [--runs 5] [--save KIND]
 """
@@ -39,7 +39,7 @@ def main():
     asked = asked_of(__doc__)
     asked.add_argument("--sizes", default="1000,10000,100000", help="traces held")
     asked.add_argument("--limits", type=int, default=100_000, help="how many limits the script has")
-    asked.add_argument("--runs", type=int, default=5, help="of which the least is taken")
+    asked.add_argument("--runs", type=int, default=5, help="of which the minimum is taken")
     options = asked.parse_args()
     record = Record(options, "limits", ["traces held", "microseconds a limit"])
     print(f"{'traces':>8} {'seconds':>8} {'with the first limit':>21} {'with all':>9} {'us a limit':>11}")

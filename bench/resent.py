@@ -8,7 +8,7 @@ Each row is a run of the built program, `jaeger_one play`, on a script that subm
     again           one batch, sent again and again
 
 once with the numbers and once without them. With numbers, 'again' stores one batch. Times are processor time of the
-program, the lowest of the runs, less those of a script in which nothing is submitted.
+program, the minimum of the runs, less those of a script in which nothing is submitted.
 
     bench/resent.py [--bin PATH] [--sizes 1000,10000,100000] [--runs 5] [--save KIND]
 """
@@ -29,7 +29,7 @@ def tag(key, is_number):
 
 
 def batch(choice, number):
-    """One span of a process with these kinds of tags, under the number where there is one."""
+    """One span of a process with these kinds of tags, under the number if there is one."""
     tags = [tag(f"k{n}", choice >> n & 1) for n in range(CHOICES)]
     return wire.batch("orders", [span(1)], tags, number).hex()
 
@@ -56,7 +56,7 @@ def run(program, way, size, is_numbered, runs):
 def main():
     asked = asked_of(__doc__)
     asked.add_argument("--sizes", default="1000,10000,100000", help="batches submitted, 131,072 at most")
-    asked.add_argument("--runs", type=int, default=5, help="of which the least is taken")
+    asked.add_argument("--runs", type=int, default=5, help="of which the minimum is taken")
     options = asked.parse_args()
     record = Record(options, "resent", ["what", "batches", "microseconds a batch more"])
     empty = run(options.bin, "again", 0, False, options.runs)

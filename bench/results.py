@@ -94,7 +94,7 @@ def compiler(name):
 
 
 def commit():
-    """The last commit that changed a crate; with `, changed` where crates/ has other text."""
+    """The last commit that changed a crate; with `, changed` if crates/ has other text."""
     changed = ", changed" if printed("git", "status", "--porcelain", "--", "crates") else ""
     return f"{printed('git', 'log', '-1', '--abbrev=8', '--format=%h', '--', 'crates')}{changed}"
 

@@ -11,7 +11,7 @@ question is asked in turn by two programs, each a process of its own:
   scan   bench/compare/scan.rs, plain Rust without proofs: a list of batches that each question walks over from its start
 
 The bodies are the same, and so are the answers: the script compares how many traces or links each program found. A time is that of the
-machine's monotonic clock around one question, the least of the rounds, in milliseconds; `times as fast` is how often the store's goes into the
+machine's monotonic clock around one question, the minimum of the rounds, in milliseconds; `times as fast` is how often the store's goes into the
 scan's. `with JSON` has the JSON of the answer. With `--load` it
 prints what applying costs by number of spans held instead: microseconds a batch of 10 spans, the median of the last 200. With `--count` it prints
 how many instructions the JSON of 20 traces takes a byte, of a tenth of the spans, as callgrind counts them (Debian: valgrind): those of the
@@ -285,7 +285,7 @@ def main():
     asked.add_argument("--bin", help="a program that was built by this script")
     asked.add_argument("--folder", help="where the program is built, and stays")
     asked.add_argument("--spans", type=int, default=100_000, help="how many spans are held")
-    asked.add_argument("--rounds", type=int, default=15, help="of which the least is printed")
+    asked.add_argument("--rounds", type=int, default=15, help="of which the minimum is printed")
     asked.add_argument("--load", action="store_true", help="what applying costs")
     asked.add_argument("--count", action="store_true", help="the instructions that JSON takes")
     options = asked.parse_args()
@@ -314,7 +314,7 @@ def main():
         end_ms = write_bodies(random.Random(1), path, options.spans)
         store, in_store = ask(program, path, options.rounds, end_ms)
         scan, in_scan = ask(rust_program(folder, "bench/compare/scan.rs", FASTEST), path, options.rounds, end_ms)
-        print(f"{options.spans:,} spans; milliseconds, the least of {options.rounds}")
+        print(f"{options.spans:,} spans; milliseconds, the minimum of {options.rounds}")
         print("| Question | found | store | scan | times as fast |")
         print("|---|---|---|---|---|")
         record = Record(options, "searches", ["question", "found", "store, ms", "scan, ms"], peers=f"{compiler('rustc')} {FASTEST}")

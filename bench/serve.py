@@ -77,7 +77,7 @@ class Bench:
         return {key: float(value) for key, value in zip(reported[::2], reported[1::2])}
 
     def measure(self, name, size, writers, readers=0, pace=0, seconds=None, target=None):
-        """The numbers of one measurement, and none where there is no such server, no time is left or it failed."""
+        """The numbers of one measurement, and none if there is no such server, no time is left or it failed."""
         if name not in self.programs or time.monotonic() > self.end:
             return {}
         try:

@@ -15,7 +15,7 @@ are held, then questions are asked whose answers grow with them. The shapes:
 
     bench/shapes.py [--bin PATH] [--size 10000] [--rounds 3] [--shapes chain,..] [--save KIND]
 
-What is counted is the processor time of the program (/proc/PID/schedstat), the least of the rounds, at the size and
+What is counted is the processor time of the program (/proc/PID/schedstat), the minimum of the rounds, at the size and
 at twice it; `ratio` is their quotient.
 """
 
@@ -114,7 +114,7 @@ def least(rounds):
 def main():
     asked = asked_of(__doc__)
     asked.add_argument("--size", type=int, default=10_000, help="spans, and then twice as many")
-    asked.add_argument("--rounds", type=int, default=3, help="of which the least is printed")
+    asked.add_argument("--rounds", type=int, default=3, help="of which the minimum is printed")
     shapes = "traces,services,operations,one trace,processes,chain,one span id,colliding"
     asked.add_argument("--shapes", default=shapes, help="which shapes")
     words = asked.parse_args()

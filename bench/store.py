@@ -3,7 +3,7 @@
 
 Each size is a run of the built program, `jaeger_one get`, on that many spans in batches of 10, and asks for a
 trace that is in none of them: what is timed is reading, decoding and keeping. Times are processor time of the
-program, the least of some runs. What a trace by its id costs is shown by session.py.
+program, the minimum of some runs. What a trace by its id costs is shown by session.py.
 
     bench/store.py [--bin PATH] [--sizes 1000,10000,100000] [--runs 5] [--save KIND]
 """
@@ -29,7 +29,7 @@ def lines_of(rng, size):
 
 
 def seconds(words, name, runs, status):
-    """Processor time of the program, the least of some runs."""
+    """Processor time of the program, the minimum of some runs."""
     best = None
     for _ in range(runs):
         with open(name, "rb") as stdin:
@@ -53,7 +53,7 @@ def seconds_over(words, lines, runs, status=0):
 def main():
     asked = asked_of(__doc__)
     asked.add_argument("--sizes", default="1000,10000,100000", help="spans held")
-    asked.add_argument("--runs", type=int, default=5, help="of which the least is printed")
+    asked.add_argument("--runs", type=int, default=5, help="of which the minimum is printed")
     options = asked.parse_args()
     record = Record(options, "store", ["spans held", "microseconds a span"])
     rng = random.Random(1)

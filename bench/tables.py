@@ -7,7 +7,7 @@
 A table is the text between `<!-- results: NAME -->` and `<!-- end of results -->`, NAME being a function of this file. The
 sentences that quote a figure are in `quotes` below: the pages must have them word for word. Plots are in bench/plots/.
 
-A comparison is printed as a ratio, above 1 where `jaeger_one` is better: 2 is twice the rate, or half of the time or
+A comparison is printed as a ratio, above 1 if `jaeger_one` is better: 2 is twice the rate, or half of the time or
 memory. A difference that is no larger than the series' `noise` is printed as such. If the series `serve` has `runs`, its
 ratios of spans a second over several runs by spans held, writers and run, their range is printed instead. Both are written
 by hand.
@@ -74,7 +74,7 @@ def two(value):
 
 
 def span(values, form=two):
-    """The least and the most of these as text, or the one that they all are."""
+    """The minimum and the maximum of these as text, or the one that they all are."""
     texts = [form(value) for value in sorted(values)]
     return texts[0] if texts[0] == texts[-1] else f"{texts[0]} to {texts[-1]}"
 
@@ -84,7 +84,7 @@ def two_places(value):
 
 
 def cell(value):
-    """A value as it was printed; `-` where there is none."""
+    """A value as it was printed; `-` if there is none."""
     if value is None:
         return "-"
     return f"{value:,}" if isinstance(value, int) else str(value)
@@ -548,7 +548,7 @@ def unused(in_batch):
 
 
 def megabytes(value):
-    """Megabytes as text, with two significant digits; as gigabytes and terabytes where they are many."""
+    """Megabytes as text, with two significant digits; as gigabytes and terabytes if they are many."""
     for unit in ("MB", "GB", "TB"):
         if value < 1000:
             return f"{two(value) if value < 100 else two(value)} {unit}"
@@ -627,7 +627,8 @@ def held_quotes(found):
            f"1,000,000 spans and {plain[10_000_000]:.0f} ms over 10,000,000. While nobody asked, a POST took up to {alone} ms")
     mine_full, plain_full, _ = longest_while_filling(found)
     yield ("README.md", f"The longest POST took {plain[1_000_000]:.0f} ms beside large queries over 1,000,000 spans, and {plain[10_000_000]:.0f} ms over "
-           f"10,000,000; while a store filled to as many, each of three rounds had one of at least {mine_full:.0f} ms, of plain Rust {plain_full:.0f}")
+           f"10,000,000. While 10,000,000 spans were stored, the longest POST took at least {mine_full:.0f} ms in each of three rounds, with plain Rust "
+           f"{plain_full:.0f}")
 
 
 def longest_quotes(found):
@@ -751,7 +752,7 @@ def gate_quotes(found):
     tried, processor, of_system, clock = found.of("gate", "the whole from nothing")
     commit, parts = found.series["gate"]["commit"], found.rows("gate, by crate")
     yield "docs/MAINTAINING.md", f"took {processor} CPU minutes, {of_system} of them in the system, and {clock} minutes of wall-clock time"
-    yield "docs/MAINTAINING.md", f"{sum(it[2] or 0 for it in parts):.0f} of them went into the {tried} wrong bodies"
+    yield "docs/MAINTAINING.md", f"{sum(it[2] or 0 for it in parts):.0f} of the CPU minutes went into the {tried} wrong bodies"
     yield "docs/MAINTAINING.md", f"which see {sum(it[1] for it in parts):.0f} of the {processor} minutes"
     yield "docs/MAINTAINING.md", f"`rt ci` [{clock} minutes](#what-it-costs)"
     _, built, _, waited = found.of("gate", "rt try of the program in a fresh clone, beside three other jobs")

@@ -91,7 +91,7 @@ def sample(name):
 
 
 def responses(output):
-    """The output as whole responses, each by its Content-Length; None where one is cut."""
+    """The output as whole responses, each by its Content-Length; None if one is cut."""
     parts = []
     while output:
         head, found, rest = output.partition(b"\r\n\r\n")

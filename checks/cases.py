@@ -1,11 +1,11 @@
 #!/usr/bin/env python3
 """Runs the cases of cases/ by `rt try`, with one build and no proof.
 
-    checks/cases.py [FOLDER..]    these folders of cases/, all of them where none is named
+    checks/cases.py [FOLDER..]    these folders of cases/, all of them if none is named
 
-Each case's output is compared by `rt try --cases`, and its exit status with cases/statuses.txt (0 where a
+Each case's output is compared by `rt try --cases`, and its exit status with cases/statuses.txt (0 if the
 case isn't there). A line is printed for each case that fails, then `N passed, M failed`; the exit
-status is 0 only where none failed. cases/README.md says how a case is added.
+status is 0 only if none failed. cases/README.md says how a case is added.
 """
 
 import re
@@ -75,7 +75,7 @@ def tried(room):
 def main():
     asked = asked_of(__doc__, None)
     folders = sorted(it.name for it in CASES.iterdir() if it.is_dir())
-    asked.add_argument("folders", nargs="*", metavar="FOLDER", help="folders of cases/; all where none is named")
+    asked.add_argument("folders", nargs="*", metavar="FOLDER", help="folders of cases/; all if none is named")
     subjects = asked.parse_args().folders or folders
     for name in subjects:
         if name not in folders:

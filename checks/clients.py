@@ -9,7 +9,7 @@ back through the query interface and compared field by field. Then each client h
 refuses them as `serve` does, or closes the connection: how often each batch comes, and what the client says. One line for each check;
 the last line is `N passed, M failed`.
 
-Needs Debian's packages python3-thrift, thrift-compiler (for samples/jaeger.thrift) and curl, and says so with status 2 where one
+Needs Debian's packages python3-thrift, thrift-compiler (for samples/jaeger.thrift) and curl, and says so with status 2 if one
 is missing; nothing is installed. With ruby-jaeger-client, and with golang-go and golang-opentelemetry-otel-dev of Debian 12, there are
 more checks; without them they are left out, and a line says so. Go builds exporter.go in a few seconds of a processor.
 """

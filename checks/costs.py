@@ -52,7 +52,7 @@ def main():
     """Prints the functions of each crate on which most time was spent."""
     asked = asked_of(__doc__, program=None)
     asked.add_argument("crates", nargs="+", metavar="CRATE", help="the crates")
-    asked.add_argument("--most", type=int, default=15, metavar="N", help="how many functions of each; 15 where no number is given")
+    asked.add_argument("--most", type=int, default=15, metavar="N", help="how many functions of each; 15 if no number is given")
     words = asked.parse_args()
     unknown = [crate for crate in words.crates if crate not in lists()]
     if unknown:

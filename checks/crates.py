@@ -9,7 +9,7 @@ def asked_of(doc, program="crates/jaeger_one/out/jaeger_one"):
     """What a script is asked: which program it runs, unless it runs none, and what it adds itself."""
     asked = argparse.ArgumentParser(description=doc, formatter_class=argparse.RawDescriptionHelpFormatter)
     if program:
-        asked.add_argument("--bin", default=os.path.join(ROOT, program), help=f"the program; {program} where none is named")
+        asked.add_argument("--bin", default=os.path.join(ROOT, program), help=f"the program; {program} if none is named")
     return asked
 
 

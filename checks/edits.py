@@ -3,11 +3,11 @@
 
     checks/edits.py [--kit FOLDER]
 
-An edit applies if each of its `old:` lines is in the file that it names exactly once, after the edits of the lines before it. Nor does one
-apply whose new text calls a function or method that neither its crate nor one below it nor the toolchain defines (a method has to take
-`self`), or returns a record that the type of its function doesn't name. Only names are looked up, so an edit that passes may still not
-compile. Without the toolchain's sources (`--kit`) no call is looked up, and it says so. A line is printed for each edit that doesn't
-apply, then the count; the exit status is 0 only if all apply. docs/adding.md says how an edit is written.
+An edit applies if each of its `old:` lines is in the file that it names exactly once, after the edits of the lines before it. It doesn't
+apply if its new text calls a function or method that is defined neither in its crate, nor below it, nor in the toolchain (a method has to
+take `self`), or if it returns a record that the type of its function doesn't name. Only names are looked up, so an edit that passes may
+still not compile. Without the toolchain's sources (`--kit`) no call is looked up, and it says so. A line is printed for each edit that
+doesn't apply, then the count; the exit status is 0 only if all apply. docs/adding.md says how an edit is written.
 """
 
 import functools
@@ -71,7 +71,7 @@ def read(crate, path):
 
 
 def apply(edit, crate):
-    """Returns the texts that an edit's pairs make of its files, each pair applied to what those before it left; raises Fault where one does not apply."""
+    """Returns the texts that an edit's pairs make of its files, each pair applied to what those before it left; raises Fault if one does not apply."""
     texts, changed = {}, False
     for path, old, new in pairs_of(edit):
         if path not in texts:
@@ -154,7 +154,7 @@ def folders():
 def main():
     """Prints each edit that does not apply, and the count."""
     asked = asked_of(__doc__, None)
-    asked.add_argument("--kit", type=pathlib.Path, default=KIT, help=f"the sources of the toolchain's crates; {KIT} where none is named")
+    asked.add_argument("--kit", type=pathlib.Path, default=KIT, help=f"the sources of the toolchain's crates; {KIT} if none is named")
     kit = asked.parse_args().kit
     if not kit.is_dir():
         print(f"there are no sources of the toolchain in {kit}, so no call was looked up")

@@ -39,7 +39,7 @@ def row(crates, name):
 
 
 def told(what, at):
-    """Returns what came of a proof, and the minute at which it ended where the log has one."""
+    """Returns what came of a proof, and the minute at which it ended if the log has one."""
     return what if at is None else f"{what} {at:.1f}"
 
 

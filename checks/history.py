@@ -3,7 +3,7 @@
 
     checks/history.py [--bin PATH] [--seconds 60] [--workers 20] [--strict]
     checks/history.py --port N           drives a server that listens on 127.0.0.1 already and holds nothing
-    checks/history.py --self-test        finds each fault of checks/broken_server.rs, and none where there is none
+    checks/history.py --self-test        finds each fault of checks/broken_server.rs, and none if there is none
 
 Writers and readers, each a process of its own, work over real sockets at once. A query is one GET and its answer, which shows
 exactly which batches were in the store at one point. Each batch puts a span into one trace for the whole run, the *record*,
@@ -126,7 +126,7 @@ def report(judge, logs, options, seconds):
           f"{options.writers} writers and {options.readers} readers in {seconds:.0f} s")
     print("queries: " + ", ".join(f"{counts[kind]} {kind}" for kind in kinds))
     print(f"batches: {counts['sent']} sent, {counts['again']} of them again; {counts['refused']} times refused, damaged or cut, "
-          f"{counts['open']} times without answer, of which {counts['open that stand']} stand in the history")
+          f"{counts['open']} times without answer, of which {counts['open that stand']} are in the history")
     print(f"counted{' and judged' if options.strict else ' only'}: {counts['acknowledged elsewhere']} queries from before a "
           f"batch acknowledged, and {counts['shown elsewhere']} of a batch shown, on another connection before")
     for what, count in troubles(logs).items():
@@ -168,13 +168,13 @@ def drive(options, binary, *words, port=None):
 
 # What is told of each fault of the plain server.
 FAULTS = {
-    "lost": "stands nowhere in the history; it was acknowledged once",
-    "twice": "stands twice in the history; it was acknowledged once",
+    "lost": "isn't in the history; it was acknowledged once",
+    "twice": "is in the history twice; it was acknowledged once",
     "half": "does not show the whole of",
-    "refused": "stands once in the history; it was refused or cut once",
+    "refused": "is in the history once; it was refused or cut once",
     "reordered": "which was submitted first",
     "stale": "which was acknowledged on this connection",
-    "swapped": "which is no beginning of the history",
+    "swapped": "which is no prefix of the history",
     "late": "was acknowledged before the connection was opened",
 }
 

@@ -128,7 +128,7 @@ class Judge:
                 moments[batch] = moment
         times = collections.Counter(self.history)
         for batch in times.keys() - outcomes.keys():
-            self.violates(self.start, f"{batch_name(batch)} stands in the history and was never sent")
+            self.violates(self.start, f"{batch_name(batch)} is in the history and was never sent")
         for batch, outcome in outcomes.items():
             self.judge_times(batch, times[batch], outcome, moments[batch])
             self.counts.update({"sent": 1, "again": outcome.total() > 1, "open": outcome[OPEN]})
@@ -140,7 +140,7 @@ class Judge:
         least = outcome[WHOLE] + outcome[KEPT]
         if not least <= times <= least + outcome[OPEN]:
             told = ", ".join(f"{TOLD_OUTCOME[name]} {told_times(count)}" for name, count in outcome.items())
-            self.violates(moment, f"{batch_name(batch)} stands {told_times(times)} in the history; it was {told}")
+            self.violates(moment, f"{batch_name(batch)} {told_presence(times)}; it was {told}")
 
     def judge_order(self, log):
         before = None
@@ -148,7 +148,7 @@ class Judge:
             if outcome == REFUSED or batch not in self.first:
                 continue
             if before and before[0] == connection and self.first[before[1]] > self.last[batch]:
-                names = f"{batch_name(batch)} stands in front of {batch_name(before[1])}"
+                names = f"{batch_name(batch)} is before {batch_name(before[1])}"
                 self.violates(moment, f"{log.name}, connection {connection}: {names}, which was submitted first")
             before = connection, batch
 
@@ -162,7 +162,7 @@ class Judge:
             bounds = self.bounds(log, event)
             if bounds is None:
                 look = self.told_look(log, connection, event)
-                self.violates(log.ends[event], f"{look}, which is no beginning of the history")
+                self.violates(log.ends[event], f"{look}, which is no prefix of the history")
                 continue
             least, most = bounds
             if most <= floor:
@@ -173,7 +173,7 @@ class Judge:
                 floor, cause = least, event
 
     def bounds(self, log, event):
-        """The last position that the event shows to be there, and the first that it shows not to be; None where it shows no
+        """The last position that the event shows to be there, and the first that it shows not to be; None if it shows no
         prefix of the history."""
         number = log.subjects[event]
         kind, which = parts_of(number)
@@ -210,7 +210,7 @@ class Judge:
 
     def told_behind(self, log, connection, event, most, floor, cause):
         missing, known = batch_name(self.history[most]), batch_name(self.history[floor])
-        which = "which" if most == floor else f"which stands in front of {known}, which"
+        which = "which" if most == floor else f"which is before {known}, which"
         if cause is None:
             why = f"was acknowledged before the connection was opened at {self.at(log.opened[connection])}"
         elif parts_of(log.subjects[cause])[0] == ACKNOWLEDGED:
@@ -224,7 +224,11 @@ TOLD_OUTCOME = {WHOLE: "acknowledged", KEPT: "answered `deferred`", OPEN: "sent 
 
 
 def told_times(count):
-    return {0: "nowhere", 1: "once", 2: "twice"}.get(count, f"{count} times")
+    return {1: "once", 2: "twice"}.get(count, f"{count} times")
+
+
+def told_presence(count):
+    return f"is in the history {told_times(count)}" if count else "isn't in the history"
 
 
 def told_kind(kind, which):

@@ -3,8 +3,8 @@
 
     checks/pages.py [PAGE..]
 
-It reads README.md, CONTRIBUTING.md, CHANGELOG.md, docs/, bench/figures.md and the READMEs of bench/, checks/, cases/, deploy/, samples/ and wrong-bodies/, or the
-pages that are named. What it checks:
+It reads README.md, CONTRIBUTING.md, CHANGELOG.md, docs/, bench/figures.md and the READMEs of bench/, checks/, cases/, deploy/, samples/
+and wrong-bodies/, or the pages that are named. What it checks:
 
 * each link to a file of the repository, and its #anchor;
 * each path in backticks, from the top, from crates/ or by its last parts;

@@ -1,5 +1,5 @@
 #!/usr/bin/env python3
-"""`jaeger_one serve` where memory or room is short, as a black box.
+"""`jaeger_one serve` when memory or room is short, as a black box.
 
     checks/pressure.py [--bin PATH] [--posts N]
 

@@ -22,7 +22,7 @@ comments, and of the edit's.
 
     refused       a changed function, or of an edit that is tried alone one that it calls, is not proved: a clause, a call's premise or an
                   invariant fails
-    by a name     refused only where a proof names what the edit took away, which says little of a contract: keep the names, change a value
+    by a name     refused only because a proof names what the edit took away, which says little of a contract: keep the names, change a value
     at a limit    the prover gave no verdict within its limits
     not refused   the whole crate is still proved with the edit
     bad edit      it doesn't apply, or the compiler, the borrow checker or the prover can't read it

@@ -126,7 +126,7 @@ class Client:
         self.socket.sendall(data)
 
     def more(self):
-        """Some bytes are read; False where the server has ended its side."""
+        """Some bytes are read; False if the server has ended its side."""
         try:
             data = self.socket.recv(65536)
         except TimeoutError:

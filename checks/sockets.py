@@ -285,7 +285,7 @@ def is_reached(server, address):
 
 
 def listens_on(host, is_exposed):
-    """It is reached by the addresses of its host alone, and says so where they are more than this machine's own."""
+    """It is reached by the addresses of its host alone, and says so if they are more than this machine's own."""
     if ":" in host and not has_ipv6():
         return "not tried: this machine has no IPv6"
     reached, unreached = reached_by(host)

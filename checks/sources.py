@@ -99,7 +99,7 @@ ENDS = {"fn": function_end, "const": value_end, "type": value_end, "mod": value_
 
 
 def named(kind, rest):
-    """Returns the name, and the trait where it is an impl of one."""
+    """Returns the name, and the trait if it is an impl of one."""
     if kind != "impl":
         return re.match(r"\s*(\w+)", rest)[1], ""
     rest = re.sub(r"^<[^{]*?>\s(?=\w)", "", rest.strip()) if rest.startswith("<") else rest.strip()

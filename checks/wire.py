@@ -47,7 +47,7 @@ def process(service, tags=()):
 
 
 def batch(service, spans, tags=(), number=None):
-    """The spans of a service that has these tags, under a `seqNo` where there is one."""
+    """The spans of a service that has these tags, under a `seqNo` if there is one."""
     sent = b"" if number is None else long(3, number)
     return field(STRUCT, 1) + process(service, tags) + structs(2, spans) + sent + b"\0"
 

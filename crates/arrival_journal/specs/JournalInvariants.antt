@@ -9,14 +9,15 @@ use Rattle.arrival_journal.specs.Outlines.{outlines_kept}
 
 -- the entries are legal, what is kept beside them is computed of them, and there is room for all entries, for their
 -- outlines if these are kept, and for every seat
-pub record IsJournalKept (limits : Limits) (entries : List Entry) (most : ℕ) (keeps : Bool) (outlines : List Outline)
-    (most_outlines spans : ℕ) (last_numbers : List ℕ) (seats : ℕ) (sent : Sent) : Type 0 where
+pub record IsJournalKept (limits : Limits) (entries : List Entry) (entry_capacity : ℕ) (keeps : Bool) (outlines : List Outline)
+    (outline_capacity spans : ℕ) (last_numbers : List ℕ) (seat_capacity : ℕ) (sent : Sent) : Type 0 where
   pub legal : IsLegal limits entries
-  pub room : limits.batches ≤ most
+  pub room : limits.batches ≤ entry_capacity
   pub outlined : outlines ≡ outlines_kept keeps entries
-  pub room_for_outlines : keeps ≡ true → limits.batches ≤ most_outlines
+  pub room_for_outlines : keeps ≡ true → limits.batches ≤ outline_capacity
   pub counted : spans ≡ span_count entries
   pub last : (seat : ℕ) → get_or last_numbers seat 0 ≡ last_number seat entries
-  pub seats_fit : 65536 ≤ seats
+  -- the number of seats is written out on purpose: a constant that changes by itself is refused
+  pub seats_fit : 65536 ≤ seat_capacity
   pub known : IsSentKept entries sent
   pub room_for_sent : limits.batches ≤ sent.room

@@ -42,11 +42,11 @@ no_bits = 0 ∷ 0 ∷ 0 ∷ 0 ∷ 0 ∷ 0 ∷ 0 ∷ 0 ∷ []
 abbrev pub with_bit : List ℕ → ℕ → List ℕ
 with_bit words place = slice_set words (place / 64) (bit_or (get_or words (place / 64) 0) (2 ^ (place % 64)))
 
-abbrev pub place_of : Tag → ℕ
-place_of t = tag_place t.key (tag_text t.value)
+abbrev pub bit_of_tag : Tag → ℕ
+bit_of_tag t = tag_place t.key (tag_text t.value)
 
 abbrev pub with_tag : List ℕ → Tag → List ℕ
-with_tag words t = with_bit words (place_of t)
+with_tag words t = with_bit words (bit_of_tag t)
 
 abbrev pub fields_of : List Log → List Tag
 fields_of logs = flat_map (λ (l : Log). l.fields) logs

@@ -27,7 +27,7 @@ impl Model for SpanKinds {
 }
 
 impl SpanKinds {
-    /// The greatest number of spans whose kinds are stored.
+    /// The greatest number of spans whose kinds are stored. Clauses write it out on purpose.
     const MAX_KINDS: usize = 32;
 
     /// Returns the kinds of no span.

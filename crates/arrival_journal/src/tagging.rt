@@ -4,7 +4,7 @@ ghost use Rattle.std.specs.Prelude.{◌≡◌, ◌<◌, get_or, flat_map};
 ghost use Rattle.std.specs.List.{fold};
 ghost use Rattle.jaeger_model.specs.Tags.{tag_text, hex_text};
 ghost use Rattle.arrival_journal.specs.TagBits.{text_hash, may_begin_non_string, may_be_non_string, text_part, tag_place};
-ghost use Rattle.arrival_journal.specs.TagBits.{no_bits, with_bit, place_of, with_tag};
+ghost use Rattle.arrival_journal.specs.TagBits.{no_bits, with_bit, bit_of_tag, with_tag};
 ghost use Rattle.arrival_journal.specs.TagBits.{fields_of, own_tags, bits_of, bits_brought};
 
 use jaeger_model::{Batch, Log, Span, Tag, TagValue, ValueRef};
@@ -113,8 +113,8 @@ pub fn tag_place(key: &str, text: &str) -> u32
 }
 
 /// Returns which of 512 bits represents a tag.
-fn place_of(tag: &Tag) -> u32
-    ensures exact { result ≡ place_of tag.now }
+fn bit_of_tag(tag: &Tag) -> u32
+    ensures exact { result ≡ bit_of_tag tag.now }
     ensures within { result < 512 }
 {
     (text_hash(tag.key.as_str()) + value_part(&tag.value)) % 512
@@ -125,7 +125,7 @@ fn add_tags(bits: &mut TagBits, tags: &[Tag])
     ensures { bits.new ≡ fold with_tag bits.old tags.now }
 {
     for tag in tags {
-        set_bit(bits, place_of(tag));
+        set_bit(bits, bit_of_tag(tag));
     }
 }
 

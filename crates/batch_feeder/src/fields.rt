@@ -220,7 +220,7 @@ pub(crate) fn enter_in_pieces<S: PieceSlots>(
     }
 }
 
-/// Stores the first bytes of a head, for which the piece is too short. The slots are there only for the contract.
+/// Stores the first bytes of a head, for which the piece is too short. For the prover: only clauses name `_slots`.
 #[inline(never)]
 fn enter_head<S: PieceSlots>(
     _slots: &S,

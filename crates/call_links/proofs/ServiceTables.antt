@@ -1,6 +1,6 @@
 -- Calls by a table of services, and the table as it grows.
 use Rattle.std.proofs.Common.{◌≡◌, ℕ, ◌+◌, ◌<◌, Bool, true, false, cond, List, [], ◌∷◌, ◌++◌, take, length, get_or, refl, sym, ap, ◌∙◌, eqb-true}
-use Rattle.std.specs.Prelude.{Option, Some, None, option_map, is_some, find, slice_get, ◌==◌, if◌then◌else◌}
+use Rattle.std.specs.Prelude.{Option, Some, None, IsSome, option_map, is_some, find, slice_get, ◌==◌, if◌then◌else◌}
 use Rattle.std.specs.Option.{option_or}
 use Rattle.std.specs.List.{filter_map, cons_option}
 use Rattle.std.specs.Ordering.{nat_cmp, is_eq}
@@ -17,11 +17,12 @@ use Rattle.jaeger_model.specs.Parents.{domain, parent, with_parent, needs_no_ref
 use Rattle.jaeger_model.proofs.ParentReferences.{same_parent}
 use Rattle.trace_model.specs.declared.entry.Work.{Work}
 use Rattle.trace_model.specs.declared.entry.Work.TheVariants as brings
-use Rattle.trace_model.specs.EntryWork.{batch_brought, placed_brought}
+use Rattle.trace_model.specs.EntryWork.{batch_brought, placed_brought, service_brought}
 use Rattle.trace_model.specs.BorrowedSpans.{placed_by_its_entry}
 use Rattle.trace_model.specs.TakenSpans.{Taken}
 use Rattle.trace_model.proofs.ParentChains.{is_some-map}
 use Rattle.trace_model.proofs.Tables.{entered, kept, entry_map}
+use Rattle.trace_model.proofs.TakenSpans as taken_spans
 use Rattle.call_links.specs.NumberedCalls.{NumberedService, service_in, service_seen, service_of, has_span_id, text_in, call_by, calls_in_trace}
 
 -- ---- a span as its entry keeps it
@@ -117,3 +118,8 @@ same_filter_map f g h (x ∷ xs) = λ i. cons_option (h x i) (same_filter_map f 
 -- a table of the services of the first spans yields the calls of the trace
 pub gathered_calls : (t : ℕ → Option NumberedService) (xs : List Taken) → ((id : ℕ) → t id ≡ service_of id xs) → filter_map (call_by t) xs ≡ calls_in_trace xs
 gathered_calls t xs h = same_filter_map (call_by t) (call_by (λ id. service_of id xs)) (λ x. λ i. call_by (λ id. h id i) x) xs
+
+-- ---- the service of a span that its entry has
+pub name_there : (w : Work) (i : ℕ) → IsSome (slice_get (placed_brought w) i)
+    → Some (service_brought w) ≡ option_map (λ (p : Placed). p.process.service) (slice_get (placed_brought w) i)
+name_there = taken_spans.name_there

@@ -139,7 +139,7 @@ impl<'a> NumberedSpan<'a> {
     /// # Errors
     ///
     /// Out of memory, and nothing else.
-    #[tactic(auto, using(trace_model::proofs::TakenSpans::name_there))]
+    #[tactic(auto, using(crate::proofs::ServiceTables::name_there))]
     pub(crate) fn service(&self) -> Result<Name, AllocError>
         ensures { IfOk result (λ n. Some n ≡ option_map (λ p. p.process.service) self.now.span) }
     {

@@ -7,7 +7,7 @@ ghost use Rattle.http_requests.specs.Heads.{IsWholeHead};
 use crate::chunked::prefix_of;
 use crate::fields::{Fields, Values, is_named, split_once, trimmed};
 use crate::head::MAX_HEAD_BYTES;
-use httparse::spans::{HeaderSpan, RequestSpans, Span};
+use httparse::spans::{HeaderSpan, RequestSpans, Span as ByteSpan};
 use jaeger_model::decimal::{is_number, value_of};
 
 /// The limit of a body's data, in bytes: a limit of the session.
@@ -50,7 +50,7 @@ pub enum RequestFault {
 pub struct Request {
     pub method: Method,
     /// The position of the target in the head.
-    pub target: Span,
+    pub target: ByteSpan,
     /// The body may be a batch: it has no content coding, and its type is one of the binary Thrift protocol.
     pub has_batch_type: bool,
     /// The session closes after the response.

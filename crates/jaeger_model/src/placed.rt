@@ -111,7 +111,7 @@ pub fn place_span(alloc: Global, process: &SharedProcess, span: &Span) -> Result
     })
 }
 
-/// Returns the spans of a batch in order, each with the batch's process.
+/// Returns the spans of a batch in order, each with the batch's process. Only the plain store calls it.
 ///
 /// A parent's id other than 0 becomes a child-of reference to the span's own trace, before the other
 /// references, unless the span already has a reference to that span of that trace.

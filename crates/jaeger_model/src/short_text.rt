@@ -6,7 +6,7 @@ use std::str;
 /// A text of at most 30 bytes, stored inline.
 #[derive(Debug, Drop)]
 pub(crate) struct ShortText {
-    bytes: [u8; 30],
+    bytes: [u8; ShortText::MAX_LEN],
     len: u8,
 }
 
@@ -21,7 +21,7 @@ impl Model for ShortText {
 }
 
 impl ShortText {
-    /// The greatest number of bytes.
+    /// The greatest number of bytes. Clauses write it out on purpose.
     pub(crate) const MAX_LEN: usize = 30;
 
     /// Returns the empty text.
@@ -29,7 +29,7 @@ impl ShortText {
         ensures { result ≡ [] }
     {
         ShortText {
-            bytes: [0; 30],
+            bytes: [0; ShortText::MAX_LEN],
             len: 0,
         }
     }
@@ -40,7 +40,7 @@ impl ShortText {
         ensures { result ≡ text.now }
     {
         let len = text.len();
-        let mut bytes = [0; 30];
+        let mut bytes = [0; ShortText::MAX_LEN];
         bytes[..len].copy_from_slice(text.as_bytes());
         ShortText {
             bytes,

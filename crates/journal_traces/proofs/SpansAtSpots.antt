@@ -8,7 +8,9 @@ use Rattle.std.proofs.lemmas.List.{append-nil}
 use Rattle.std.specs.Option.{option_copied}
 use Rattle.std.specs.Slice.{IsItemAt}
 use Rattle.jaeger_model.specs.declared.ids.TraceId.{TraceId}
+use Rattle.jaeger_model.specs.declared.batch.Batch.{Batch}
 use Rattle.jaeger_model.specs.declared.placed.Placed.{Placed}
+use Rattle.jaeger_model.specs.Parents.{domain}
 use Rattle.trace_model.specs.declared.entry.Entry.{Entry}
 use Rattle.trace_model.specs.ServiceLinks.{in_window, calls_of, calls_within, counted, links}
 use Rattle.arrival_journal.proofs.ItemsAtPlaces.{lent_item}
@@ -16,7 +18,8 @@ use Rattle.trace_assembly.specs.declared.spot.Spot.{Spot}
 use Rattle.trace_assembly.specs.LocatedSpans.{span_at}
 use Rattle.trace_assembly.proofs.Lists.{map_filter}
 use Rattle.call_links.specs.NumberedCalls.{links_in}
-use Rattle.collected_traces.specs.EntriesAtPlaces.{spans_named}
+use Rattle.collected_traces.specs.EntriesAtPlaces.{batch_at, spans_named}
+use Rattle.collected_traces.proofs.EntriesAtPlaces as entries_at_places
 use Rattle.journal_traces.specs.SpansAtSpots.{traces_named}
 use Rattle.journal_traces.proofs.TraceMarks.{picked, passed}
 
@@ -82,3 +85,10 @@ module _ {X : Type 0} (w : X → Bool) (f : TraceId → X) (ids : List TraceId) 
 
   pub left_out : w (f (get_or ids i d)) ≡ false → filter w (map f (take (i + 1) ids)) ≡ filter w (map f (take i ids))
   left_out e = sym (map_filter f w (take (i + 1) ids)) ∙ passed f (λ t. w (f t)) ids i d le e ∙ map_filter f w (take i ids)
+
+-- ---- the span at a spot, by the batch of its entry
+pub span_there : (h : List Entry) (s : Spot) (b : Batch) → Some b ≡ batch_at h s.place → slice_get (domain b) s.index ≡ span_at h s
+span_there = entries_at_places.span_there
+
+pub no_span_there : (h : List Entry) (s : Spot) → None ≡ batch_at h s.place → None ≡ span_at h s
+no_span_there = entries_at_places.no_span_there

@@ -16,13 +16,13 @@ use Rattle.jaeger_model.specs.Tags.{tag_text}
 use Rattle.jaeger_model.specs.Texts.{same_text}
 use Rattle.trace_model.specs.Searching.{tag_matches, has_tag, tags_of}
 use Rattle.trace_model.proofs.Lists.{each_append, each_front, each_behind}
-use Rattle.arrival_journal.specs.TagBits.{tag_place, place_of, no_bits, with_bit, with_tag, fields_of, own_tags, bits_of}
+use Rattle.arrival_journal.specs.TagBits.{tag_place, bit_of_tag, no_bits, with_bit, with_tag, fields_of, own_tags, bits_of}
 use Rattle.journal_traces.specs.SkippedEntries.{bit_of_words, is_marked}
 use Rattle.find_traces.proofs.RequestedPairs.{bit_own}
 
 -- the tag's bit is among these
 abbrev pub IsSet : List ℕ → Tag → Type 0
-IsSet bits t = bit_of_words bits (place_of t) ≡ 1
+IsSet bits t = bit_of_words bits (bit_of_tag t) ≡ 1
 
 -- ---- a bit is set
 -- the word of the bit
@@ -58,14 +58,14 @@ set_own b p below = ap (λ w. bit_at w (p % 64)) (word_put b p (p / 64) below re
 set_still : (b : List ℕ) (ts : List Tag) (k : ℕ) → length b ≡ 8 → bit_of_words b k ≡ 1 → bit_of_words (fold with_tag b ts) k ≡ 1
 set_still b [] k eight e = e
 set_still b (t ∷ ts) k eight e =
-    let p = place_of t in
+    let p = bit_of_tag t in
     let below = below_eight b p eight (omega arith) in
     set_still (with_tag b t) ts k (as_many b p eight) (set_more b p k below e)
 
 each_set : (b : List ℕ) (ts : List Tag) → length b ≡ 8 → AllByRecursion (IsSet (fold with_tag b ts)) ts
 each_set b [] eight = tt
 each_set b (t ∷ ts) eight =
-    let p = place_of t in
+    let p = bit_of_tag t in
     let below = below_eight b p eight (omega arith) in
     let next = as_many b p eight in
     (set_still (with_tag b t) ts p next (set_own b p below), each_set (with_tag b t) ts next)

@@ -1,4 +1,4 @@
-//! Traces by the spots of their spans in a journal, without copies: a query copies only what its answer needs.
+//! Traces by the spots of their spans in a journal. No span is copied: a query shares the entries that its answer needs.
 //! Traces that a query needs after the store is left are collected into the types of `collected_traces`.
 //!
 //! * `store_view`: what queries read of a store.

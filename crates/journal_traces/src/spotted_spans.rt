@@ -30,7 +30,7 @@ pub(crate) fn batch_at(journal: &Journal, place: u64) -> Option<&Batch>
 
 /// Returns the span at a spot. In a store each spot is of a span. No clause says so: the definitions pass over a spot
 /// of none, and so does the code that is called with one.
-#[tactic(auto, using(collected_traces::proofs::EntriesAtPlaces::span_there, collected_traces::proofs::EntriesAtPlaces::no_span_there))]
+#[tactic(auto, using(crate::proofs::SpansAtSpots::span_there, crate::proofs::SpansAtSpots::no_span_there))]
 pub(crate) fn seen_at(journal: &Journal, spot: Spot) -> Option<Seen<'_>>
     ensures { option_map placed_by_its_entry result ≡ span_at journal.now.held.entries spot }
 {

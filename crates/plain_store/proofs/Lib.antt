@@ -1,3 +1,4 @@
 pub mod RootPaths
 pub mod FoundAnswers
 pub mod Events
+pub mod HintNames

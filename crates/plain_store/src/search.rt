@@ -47,7 +47,7 @@ fn is_logged(alloc: Global, logs: &[Log], asked: &(Text, Text)) -> Result<bool, 
 }
 
 /// Returns whether a tag of the span, of its process or of one of its logs has the requested key and text.
-#[tactic(auto, using(trace_model::proofs::HintNames::any_append))]
+#[tactic(auto, using(crate::proofs::HintNames::any_append))]
 fn has_tag(alloc: Global, placed: &Placed, asked: &(Text, Text)) -> Result<bool, AllocError>
     ensures { IfOk result (λ b. b ≡ has_tag placed.now asked.now) }
 {

@@ -10,8 +10,9 @@ use trace_model::{Query, Refusal};
 
 /// A pass that stays inside the list that it entered.
 ///
-/// As long as it is kept, the publish after the next one has to wait; a value that is forgotten is kept forever.
-/// After it is left or dropped, the pass knows that list and is outside.
+/// As long as it is kept, the publish after the next one has to wait. After it is left or dropped, the pass knows that
+/// list and is outside. If the value is forgotten, the pass stays inside until it learns, reads, settles or holds
+/// again, or is dropped.
 pub struct Held<'a, N: StoreName> {
     pass: &'a mut Pass<N>,
 }

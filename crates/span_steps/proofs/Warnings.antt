@@ -9,10 +9,10 @@ use Rattle.trace_model.specs.Adjusting.{unadjusted, warned, past_limit, past_tim
 use Rattle.trace_model.specs.declared.answer.Shown.{Shown}
 use Rattle.span_steps.specs.declared.warning.Warning.{Warning}
 use Rattle.span_steps.specs.declared.warning.Warning.TheVariants.{Adjusted, PastLimit, PastTimes}
-use Rattle.span_steps.specs.Warnings.{warning_of, warning_text, shown_by}
+use Rattle.span_steps.specs.Warnings.{warning_of, warning_text, shown_with_warning}
 
 by_tests : (m : ℕ) (d : ℤ) (p : Placed) (none within fit : Bool)
-    → shown_by (if none then None else if not within then Some (PastLimit d m) else if not fit then Some (PastTimes d) else Some (Adjusted d)) p
+    → shown_with_warning (if none then None else if not within then Some (PastLimit d m) else if not fit then Some (PastTimes d) else Some (Adjusted d)) p
     ≡ (if none then unadjusted p else if not within then warned p (past_limit d m) else if not fit then warned p (past_times d) else warned (moved_placed d p)
     (adjusted_by d))
 by_tests m d p true within fit = refl
@@ -20,20 +20,20 @@ by_tests m d p false false fit = refl
 by_tests m d p false true false = refl
 by_tests m d p false true true = refl
 
-pub shown_is : (m : ℕ) (d : ℤ) (p : Placed) → shown_by (warning_of m d p.span) p ≡ shifted m d p
+pub shown_is : (m : ℕ) (d : ℤ) (p : Placed) → shown_with_warning (warning_of m d p.span) p ≡ shifted m d p
 shown_is m d p = by_tests m d p (int_eq d (pos 0)) (nat_le (nat_abs d) m) (all_fit d p.span)
 
 -- a span whose clock's delta is 0 has no warning
 pub nothing_said : (m : ℕ) (d : ℤ) (s : Shown) (o : Option Warning) → o ≡ warning_of m d s.placed.span → o ≡ None → s ≡ said_after s (shifted m d s.placed)
 nothing_said m d s o e none =
     (λ i. record { placed = s.placed; warnings = sym (append-nil s.warnings) i })
-    ∙ ap (said_after s) (ap (λ r. shown_by r s.placed) (sym none ∙ e) ∙ shown_is m d s.placed)
+    ∙ ap (said_after s) (ap (λ r. shown_with_warning r s.placed) (sym none ∙ e) ∙ shown_is m d s.placed)
 
 said : (m : ℕ) (d : ℤ) (s : Shown) (w : Warning) → Some w ≡ warning_of m d s.placed.span
-    → said_after s (shown_by (Some w) s.placed) ≡ said_after s (shifted m d s.placed)
-said m d s w e = ap (said_after s) (ap (λ r. shown_by r s.placed) e ∙ shown_is m d s.placed)
+    → said_after s (shown_with_warning (Some w) s.placed) ≡ said_after s (shifted m d s.placed)
+said m d s w e = ap (said_after s) (ap (λ r. shown_with_warning r s.placed) e ∙ shown_is m d s.placed)
 
-unmoved : (w : Warning) (p : Placed) → ((d : ℤ) → w ≡ Adjusted d → ⊥) → shown_by (Some w) p ≡ warned p (warning_text w)
+unmoved : (w : Warning) (p : Placed) → ((d : ℤ) → w ≡ Adjusted d → ⊥) → shown_with_warning (Some w) p ≡ warned p (warning_text w)
 unmoved (Adjusted d) p other = absurd (other d refl)
 unmoved (PastLimit d m) p other = refl
 unmoved (PastTimes d) p other = refl
@@ -50,4 +50,4 @@ pub moved_said : (m : ℕ) (d by : ℤ) (s : Shown) (w : Warning) (span : Span) 
     → record { placed = record { process = s.placed.process; span = span }; warnings = warnings } ≡ said_after s (shifted m d s.placed)
 moved_said m d by s w span warnings e is here put =
     (λ i. record { placed = record { process = s.placed.process; span = here i }; warnings = (put ∙ ap (λ v. s.warnings ++ warning_text v ∷ []) is) i })
-    ∙ ap (λ v. said_after s (shown_by (Some v) s.placed)) (sym is) ∙ said m d s w e
+    ∙ ap (λ v. said_after s (shown_with_warning (Some v) s.placed)) (sym is) ∙ said m d s w e

@@ -26,11 +26,11 @@ warning_texts None = []
 warning_texts (Some w) = warning_text w ∷ []
 
 -- the span as it is shown, with its warning
-abbrev pub shown_by : Option Warning → Placed → Shown
-shown_by None p = unadjusted p
-shown_by (Some (Adjusted d)) p = warned (moved_placed d p) (adjusted_by d)
-shown_by (Some (PastLimit d max_skew)) p = warned p (past_limit d max_skew)
-shown_by (Some (PastTimes d)) p = warned p (past_times d)
+abbrev pub shown_with_warning : Option Warning → Placed → Shown
+shown_with_warning None p = unadjusted p
+shown_with_warning (Some (Adjusted d)) p = warned (moved_placed d p) (adjusted_by d)
+shown_with_warning (Some (PastLimit d max_skew)) p = warned p (past_limit d max_skew)
+shown_with_warning (Some (PastTimes d)) p = warned p (past_times d)
 
 -- a span that is moved has no time that leaves the range of times
 abbrev pub CanMove : Option Warning → Span → Type 0

@@ -42,7 +42,8 @@ pub fn duration_bound(duration: i64) -> Option<i64>
     if duration == 0 { None } else { Some(duration) }
 }
 
-/// Returns whether service and operation are those of the search; an empty operation matches every one.
+/// Returns whether service and operation are those of the search; an empty operation matches every one. Only the plain
+/// store calls it.
 pub fn has_service_and_operation(at: Seen, query: &Find) -> bool
     ensures { result ≡ has_service_and_operation query.now (seen at.entry) }
 {
@@ -72,7 +73,7 @@ pub fn is_timed(at: Seen, query: &Find) -> bool
 }
 
 /// Returns whether the span meets the conditions of the search that need neither its process nor its tags: operation,
-/// duration and start. An empty operation matches every one.
+/// duration and start. An empty operation matches every one. Only the store with indexes calls it.
 pub fn meets_span_conditions(at: Seen, query: &Find) -> bool
     ensures { result ≡ meets_span_conditions query.now (seen at.entry) }
 {

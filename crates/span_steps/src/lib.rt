@@ -1,4 +1,4 @@
-//! Steps over one span that the plain store and the store with indexes share.
+//! Steps over one span, for the plain store and the store with indexes. They share most of them.
 //!
 //! * `references`: which reference of a span names its parent, and moving it to the front.
 //! * `window`: whether a span starts in a window of time.

@@ -50,7 +50,7 @@ pub fn is_in_window(start: i64, end_ms: i64, lookback_ms: i64) -> bool
 
 /// Returns whether some start from `least` to `greatest`, both in microseconds, may be strictly between `end_ms -
 /// lookback_ms` and `end_ms`, both in milliseconds. If none may be, spans whose starts have these bounds can be
-/// skipped.
+/// skipped. Only the store with indexes calls it.
 pub fn may_be_in_window(least: i64, greatest: i64, end_ms: i64, lookback_ms: i64) -> bool
     ensures { result ≡ (int_lt (pos 1000 *ℤ (end_ms -ℤ lookback_ms)) greatest
         && int_lt least (pos 1000 *ℤ end_ms)) }

@@ -17,18 +17,18 @@ use Rattle.trace_model.specs.declared.answer.Shown.{Shown}
 use Rattle.trace_model.specs.Adjusting.{spans_of}
 use Rattle.trace_model.proofs.Lists.{found_at}
 use Rattle.trace_model.proofs.Tables.{entered, kept, entry_map}
-use Rattle.trace_adjust.specs.KnownClocks.{place_of, first_at, place_in, parent_at}
+use Rattle.trace_adjust.specs.KnownClocks.{first_place, first_at, place_in, parent_at}
 use Rattle.trace_model.proofs.ParentChains.{parent_there, parent_within, is_some-map}
 
 -- in a list with one item more
 pub place_push : {X : Type 0} (test : X → Bool) (xs : List X) (x : X)
-    → place_of test (xs ++ x ∷ []) ≡ option_or (place_of test xs) (cond (test x) (Some (length xs)) None)
+    → first_place test (xs ++ x ∷ []) ≡ option_or (first_place test xs) (cond (test x) (Some (length xs)) None)
 place_push test [] x = refl
 place_push test (y ∷ xs) x =
-    elim (test y) as (λ b. cond b (Some 0) (option_map suc (place_of test (xs ++ x ∷ [])))
-    ≡ option_or (cond b (Some 0) (option_map suc (place_of test xs))) (cond (test x) (Some (suc (length xs))) None)) [
+    elim (test y) as (λ b. cond b (Some 0) (option_map suc (first_place test (xs ++ x ∷ [])))
+    ≡ option_or (cond b (Some 0) (option_map suc (first_place test xs))) (cond (test x) (Some (suc (length xs))) None)) [
       | true ↦ refl
-      | false ↦ ap (option_map suc) (place_push test xs x) ∙ entry_map suc (place_of test xs) (test x) (length xs)
+      | false ↦ ap (option_map suc) (place_push test xs x) ∙ entry_map suc (first_place test xs) (test x) (length xs)
     ]
 
 first_more : (id : ℕ) (xs : List Placed) (i : ℕ) (x : Placed) (before : Option ℕ) → i < length xs → x ≡ get_or xs i x → before ≡ first_at id (take i xs)
@@ -51,10 +51,10 @@ pub place_kept : (q : ℕ) (g : ℕ → Option ℕ) (xs : List Placed) (i : ℕ)
 place_kept q g xs i x l e inv some = let id = x.span.id.0 in kept g id q i (id == q) (eqb-true id q) some ∙ first_more q xs i x (g q) l e (inv q)
 
 -- ---- the item at a first place
-place_is : {X : Type 0} (test : X → Bool) (xs : List X) → place_of test xs ≡ position test xs
+place_is : {X : Type 0} (test : X → Bool) (xs : List X) → first_place test xs ≡ position test xs
 place_is test [] = refl
 place_is test (x ∷ xs) =
-    elim (test x) as (λ b. cond b (Some 0) (option_map suc (place_of test xs))
+    elim (test x) as (λ b. cond b (Some 0) (option_map suc (first_place test xs))
     ≡ cond (nat_lt (cond (not b) (1 + position_or_len test xs) 0) (suc (length xs))) (Some (cond (not b) (1 + position_or_len test xs) 0)) None) [
       | true ↦ grind (arith, nat_tests)
       | false ↦ ap (option_map suc) (place_is test xs) ∙ one_later (position_or_len test xs) (length xs)
@@ -63,7 +63,7 @@ place_is test (x ∷ xs) =
     one_later : (n m : ℕ) → option_map suc (cond (nat_lt n m) (Some n) None) ≡ cond (nat_lt (1 + n) (suc m)) (Some (1 + n)) None
     one_later n m = grind (arith, nat_tests)
 
-pub place_found : {X : Type 0} (test : X → Bool) (xs : List X) (d : X) → option_map (λ j. get_or xs j d) (place_of test xs) ≡ find test xs
+pub place_found : {X : Type 0} (test : X → Bool) (xs : List X) (d : X) → option_map (λ j. get_or xs j d) (first_place test xs) ≡ find test xs
 place_found test xs d = ap (option_map (λ j. get_or xs j d)) (place_is test xs) ∙ found_at test xs d
 
 same_place : (trace : List Placed) (p : Placed) → place_in trace p ≡ place_of_parent trace p
@@ -79,12 +79,12 @@ pub same_parent : (trace : List Placed) (g : ℕ → Option ℕ) → ((id : ℕ)
 same_parent trace g h p = ap (λ o. if (parent p.span).0 == 0 then None else o) (h (parent p.span).0)
 
 -- ---- ids that are repeated
-any_place : {X : Type 0} (test : X → Bool) (xs : List X) → is_some (place_of test xs) ≡ list_any test xs
+any_place : {X : Type 0} (test : X → Bool) (xs : List X) → is_some (first_place test xs) ≡ list_any test xs
 any_place test [] = refl
 any_place test (x ∷ xs) =
-    elim (test x) as (λ b. is_some (cond b (Some 0) (option_map suc (place_of test xs))) ≡ (b || list_any test xs)) [
+    elim (test x) as (λ b. is_some (cond b (Some 0) (option_map suc (first_place test xs))) ≡ (b || list_any test xs)) [
       | true ↦ refl
-      | false ↦ is_some-map suc (place_of test xs) ∙ any_place test xs
+      | false ↦ is_some-map suc (first_place test xs) ∙ any_place test xs
     ]
 
 pub has_place : (id : SpanId) (ps : List Placed) → is_some (first_at id.0 ps) ≡ list_any (has_id id) ps

@@ -6,7 +6,7 @@ use Rattle.jaeger_model.specs.Texts.{same_text}
 use Rattle.trace_model.specs.Adjusting.{host_of, delta_between}
 use Rattle.trace_adjust.specs.declared.clock.HostedSpan.{HostedSpan}
 use Rattle.trace_adjust.specs.declared.known_deltas.KnownDelta.{KnownDelta}
-use Rattle.trace_adjust.specs.KnownClocks.{place_of, start_with}
+use Rattle.trace_adjust.specs.KnownClocks.{first_place, start_with}
 
 -- the hosts of the spans, after the empty one
 abbrev pub hosts_of : List Placed → List (List ℕ)
@@ -14,7 +14,7 @@ hosts_of trace = [] ∷ map host_of trace
 
 -- the number of a host: its first place
 abbrev pub number_in : List (List ℕ) → List ℕ → Option ℕ
-number_in hosts host = place_of (same_text host) hosts
+number_in hosts host = first_place (same_text host) hosts
 
 -- each span has the number of its host
 abbrev pub AreHostNumbers : List (List ℕ) → List Placed → List ℕ → Type 0

@@ -10,13 +10,13 @@ use Rattle.trace_model.specs.Adjusting.{host_of, clock_at, clock_below, clock_of
 use Rattle.trace_adjust.specs.declared.known_deltas.KnownDelta.{KnownDelta}
 
 -- the place of the first item that passes
-abbrev pub place_of : {X : Type 0} → (X → Bool) → List X → Option ℕ
-place_of test [] = None
-place_of test (x ∷ xs) = cond (test x) (Some 0) (option_map suc (place_of test xs))
+abbrev pub first_place : {X : Type 0} → (X → Bool) → List X → Option ℕ
+first_place test [] = None
+first_place test (x ∷ xs) = cond (test x) (Some 0) (option_map suc (first_place test xs))
 
 -- the place of the first span with the id
 abbrev pub first_at : ℕ → List Placed → Option ℕ
-first_at id ps = place_of (λ (p : Placed). p.span.id.0 == id) ps
+first_at id ps = first_place (λ (p : Placed). p.span.id.0 == id) ps
 
 -- the place of the parent
 abbrev pub place_in : List Placed → Placed → Option ℕ

@@ -21,11 +21,11 @@ pub struct LentSpan<'a> {
 
 impl<'a> Model for LentSpan<'a> {
     ghost use Rattle.trace_model.specs.declared.answer.Shown.{Shown};
-    ghost use Rattle.span_steps.specs.Warnings.{shown_by, CanMove};
+    ghost use Rattle.span_steps.specs.Warnings.{shown_with_warning, CanMove};
 
     ghost Value = { Shown };
 
-    ghost view = { λ l. shown_by l.warning l.placed };
+    ghost view = { λ l. shown_with_warning l.warning l.placed };
 
     ghost invariant = { λ l. CanMove l.warning l.placed.span };
 }

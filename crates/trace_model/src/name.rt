@@ -45,7 +45,7 @@ impl Model for Name {
 }
 
 impl Name {
-    /// Makes a name of a text of its own.
+    /// Makes a name of a text of its own. Only the plain store calls it.
     ///
     /// # Errors
     ///

@@ -22,7 +22,7 @@ impl Model for TraceLimit {
 }
 
 impl TraceLimit {
-    /// The greatest limit.
+    /// The greatest limit. Clauses write it out on purpose: if it changes by itself, they are refused.
     pub const MAX: u32 = 1_000_000;
 
     /// Returns this limit, or `None` if it is out of range.

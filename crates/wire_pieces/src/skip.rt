@@ -16,7 +16,8 @@ use arrayvec::ArrayVec;
 use thrift_binary::types::{self, is_container, width};
 use thrift_binary::{Cursor, WireError};
 
-/// The greatest number of frames: those of 64 levels of containers, and that of the value itself.
+/// The greatest number of frames: those of 64 levels of containers, and that of the value itself. Clauses write it out
+/// on purpose.
 const MAX_FRAMES: usize = thrift_binary::MAX_LEVELS as usize + 1;
 
 /// The values that are left of a container after its head.

@@ -76,10 +76,15 @@ impl ArrivalNames {
 
     /// Adds the last entry of the list, which is one entry longer. `span_kinds` has the kinds of its first
     /// spans. Allocates nothing.
-    pub fn add(&mut self, entries: &[Arc<Entry>], reported: &ServicePlaces, span_kinds: &SpanKinds)
+    pub fn add(
+        &mut self,
+        entries: &[Arc<Entry>],
+        by_service: &ServicePlaces,
+        span_kinds: &SpanKinds,
+    )
         requires some { 0 < length entries.now }
         requires kept { AreNamesKept (before_last (map arc_value entries.now)) self.old }
-        requires placed { ArePlacesKept (map arc_value entries.now) reported.now }
+        requires placed { ArePlacesKept (map arc_value entries.now) by_service.now }
         requires batches { length entries.now ≤ self.old.numbers.batches }
         requires numbers { length (arrivals (map arc_value entries.now)) ≤ self.old.numbers.spans }
         requires index { length (arrivals (map arc_value entries.now)) ≤ self.old.index.room }
@@ -94,7 +99,7 @@ impl ArrivalNames {
     {
         let begin = self.index.used();
         self.numbers.add(entries, span_kinds);
-        let arrivals = self.numbers.arrivals(entries, reported);
+        let arrivals = self.numbers.arrivals(entries, by_service);
         add_arrivals(
             &mut self.index,
             &mut self.operation_rows,
@@ -123,16 +128,16 @@ impl ArrivalNames {
     pub fn rows_of_operation(
         &self,
         entries: &[Arc<Entry>],
-        reported: &ServicePlaces,
+        by_service: &ServicePlaces,
         service: &str,
         operation: &str,
     ) -> OperationRows
         requires kept { AreNamesKept (map arc_value entries.now) self.now }
-        requires placed { ArePlacesKept (map arc_value entries.now) reported.now }
+        requires placed { ArePlacesKept (map arc_value entries.now) by_service.now }
         ensures { TellOperation (map arc_value entries.now) self.now.operation_rows
             service.now operation.now (rows_in result) }
     {
-        let arrivals = self.numbers.arrivals(entries, reported);
+        let arrivals = self.numbers.arrivals(entries, by_service);
         // If no arrival is of the service, any rows will do: the clause speaks of arrivals of the service.
         let service_number = arrivals.service_number_of(service).unwrap_or(0);
         self.index
@@ -148,14 +153,14 @@ impl ArrivalNames {
         &self,
         alloc: Global,
         entries: &[Arc<Entry>],
-        reported: &ServicePlaces,
+        by_service: &ServicePlaces,
     ) -> Result<Vec<Name>, AllocError>
         requires kept { AreNamesKept (map arc_value entries.now) self.now }
-        requires placed { ArePlacesKept (map arc_value entries.now) reported.now }
+        requires placed { ArePlacesKept (map arc_value entries.now) by_service.now }
         ensures { IfOk result (λ v. sorted_set text_cmp v.items ≡
             services (arrivals (map arc_value entries.now))) }
     {
-        let arrivals = self.numbers.arrivals(entries, reported);
+        let arrivals = self.numbers.arrivals(entries, by_service);
         services_of(alloc, &arrivals, self.index.one_arrival_of_each_service())
     }
 
@@ -169,15 +174,15 @@ impl ArrivalNames {
         &self,
         alloc: Global,
         entries: &[Arc<Entry>],
-        reported: &ServicePlaces,
+        by_service: &ServicePlaces,
         service: &Text,
     ) -> Result<Vec<Operation>, AllocError>
         requires kept { AreNamesKept (map arc_value entries.now) self.now }
-        requires placed { ArePlacesKept (map arc_value entries.now) reported.now }
+        requires placed { ArePlacesKept (map arc_value entries.now) by_service.now }
         ensures { IfOk result (λ v. AreOperations service.now
             (arrivals (map arc_value entries.now)) v.items) }
     {
-        let arrivals = self.numbers.arrivals(entries, reported);
+        let arrivals = self.numbers.arrivals(entries, by_service);
         let numbers = self
             .index
             .one_arrival_of_each_operation(&arrivals, service.as_str())?;
@@ -188,31 +193,31 @@ impl ArrivalNames {
     pub fn knows_service(
         &self,
         entries: &[Arc<Entry>],
-        reported: &ServicePlaces,
+        by_service: &ServicePlaces,
         service: &str,
     ) -> bool
         requires kept { AreNamesKept (map arc_value entries.now) self.now }
-        requires placed { ArePlacesKept (map arc_value entries.now) reported.now }
+        requires placed { ArePlacesKept (map arc_value entries.now) by_service.now }
         ensures { result ≡ reports_service service.now (arrivals (map arc_value entries.now)) }
     {
         self.index
-            .knows_service(&self.numbers.arrivals(entries, reported), service)
+            .knows_service(&self.numbers.arrivals(entries, by_service), service)
     }
 
     /// Returns whether an arrival is of the service and of this operation, of any kind.
     pub fn knows_operation(
         &self,
         entries: &[Arc<Entry>],
-        reported: &ServicePlaces,
+        by_service: &ServicePlaces,
         service: &str,
         operation: &str,
     ) -> bool
         requires kept { AreNamesKept (map arc_value entries.now) self.now }
-        requires placed { ArePlacesKept (map arc_value entries.now) reported.now }
+        requires placed { ArePlacesKept (map arc_value entries.now) by_service.now }
         ensures { result ≡ reports_operation service.now operation.now
             (arrivals (map arc_value entries.now)) }
     {
-        let arrivals = self.numbers.arrivals(entries, reported);
+        let arrivals = self.numbers.arrivals(entries, by_service);
         let Some(service_number) = arrivals.service_number_of(service) else {
             return false;
         };

@@ -50,7 +50,7 @@ impl Model for ArrivalNumbers {
 #[derive(Drop)]
 pub struct Arrivals<'a> {
     entries: &'a [Arc<Entry>],
-    reported: &'a ServicePlaces,
+    by_service: &'a ServicePlaces,
     entry_of: &'a [u32],
     firsts: &'a [u32],
     kinds: &'a [Kind],
@@ -70,7 +70,7 @@ impl<'a> Model for Arrivals<'a> {
 
     ghost invariant = { λ a. AreOf (map arc_value a.entries.now) a.entry_of.now a.firsts.now
         × AreKinds (map arc_value a.entries.now) a.kinds.now
-        × ArePlacesKept (map arc_value a.entries.now) a.reported.now };
+        × ArePlacesKept (map arc_value a.entries.now) a.by_service.now };
 }
 
 impl<'a> Texts for Arrivals<'a> {
@@ -88,11 +88,11 @@ impl<'a> Texts for Arrivals<'a> {
     }
 
     fn service_number_at(&self, n: u32) -> u32 {
-        self.reported.service_number_at(self.entry_of[n as usize])
+        self.by_service.service_number_at(self.entry_of[n as usize])
     }
 
     fn service_number_of(&self, service: &str) -> Option<u32> {
-        self.reported.service_number_of(self.entries, service)
+        self.by_service.service_number_of(self.entries, service)
     }
 
     ghost services_numbered = { names_numbered };
@@ -201,16 +201,16 @@ impl ArrivalNumbers {
     pub fn arrivals<'a>(
         &'a self,
         entries: &'a [Arc<Entry>],
-        reported: &'a ServicePlaces,
+        by_service: &'a ServicePlaces,
     ) -> Arrivals<'a>
         requires numbers { AreOf (map arc_value entries.now) self.now.entry_of self.now.firsts }
         requires kinds { AreKinds (map arc_value entries.now) self.now.kinds }
-        requires placed { ArePlacesKept (map arc_value entries.now) reported.now }
+        requires placed { ArePlacesKept (map arc_value entries.now) by_service.now }
         ensures { result ≡ map arc_value entries.now }
     {
         Arrivals {
             entries,
-            reported,
+            by_service,
             entry_of: &self.entry_of,
             firsts: &self.firsts,
             kinds: &self.kinds,

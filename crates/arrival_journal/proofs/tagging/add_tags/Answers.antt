@@ -7,7 +7,7 @@ use Rattle.arrival_journal.proofs.tagging.add_tags.Goals as goal
 
 pub loop-tag-preserved : goal.loop-tag-preserved
 loop-tag-preserved c =
-    c.set_bit.ensures ∙ (λ i. with_bit (c.loop-tag.invariant i) (c.place_of.ensures.exact i))
+    c.set_bit.ensures ∙ (λ i. with_bit (c.loop-tag.invariant i) (c.bit_of_tag.ensures.exact i))
     ∙ tag_more c.args.bits.now c.args.tags.now c.loop-tag.tag-index c.tag-item.result c.loop-tag-test.true c.tag-item.is
 
 pub returns : goal.returns

@@ -21,7 +21,7 @@ fn add_parts(text: &mut Vec<u8>, parts: &mut AnswerParts) -> Result<(), AllocErr
     Ok(())
 }
 
-/// Returns the JSON of an answer: two stores with the same entries show the same.
+/// Returns the JSON of an answer: two stores with the same entries show the same. `store_tests` has a copy of it.
 pub fn shown(alloc: Global, answer: Answer) -> Result<Vec<u8>, AllocError> {
     let mut parts = AnswerParts::new(alloc, answer)?;
     let mut text = Vec::new(alloc);
