@@ -55,9 +55,9 @@ TESTS = [
     ("session_tests", "tests::answers::memory_for_a_response", None),
     ("session_tests", "tests::answers::memory_for_parts", "tests::answers::parts_are_made"),
     ("session_tests", "tests::pipes::memory_for_a_session", None),
-    ("thread_tests", "tests::reading::rows::admit_all_or_nothing", None),
-    ("thread_tests", "tests::reading::sent_again::the_one_batch_sent_again", None),
-    ("thread_tests", "tests::submitting::rows::closed_before_no_memory", None),
+    ("read_side_tests", "tests::rows::admit_all_or_nothing", None),
+    ("read_side_tests", "tests::sent_again::the_one_batch_sent_again", None),
+    ("intake_tests", "tests::rows::closed_before_no_memory", None),
 ]
 
 # What a test prints that could not go on itself since an allocation was refused: the error that its call gave, by `Debug`.

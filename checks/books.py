@@ -1,11 +1,11 @@
 #!/usr/bin/env python3
 """The books of a desk with each allocation refused in turn.
 
-Runs one test of `thread_tests`, `waiting_jobs_handed_back`, in which a clerk leaves while jobs wait and every seat is taken in, once for
+Runs one test of `intake_tests`, `waiting_jobs_handed_back`, in which a clerk leaves while jobs wait and every seat is taken in, once for
 each allocation that it makes, with that one refused. A run passes if the test passes (memory was short after the opening, and
 nothing was lost), or ends with an error before the books (a store or a desk could not be opened).
 
-    (cd crates/thread_tests && rt test)
+    (cd crates/intake_tests && rt test)
     checks/books.py [--bin PATH]
 
 It needs Python 3.10 and a C compiler. The last line is `N passed, M failed`.
@@ -17,11 +17,11 @@ import tempfile
 from allocations import Program, test_ends
 from crates import asked_of
 
-TEST = "tests::submitting::ending::waiting_jobs_handed_back"
+TEST = "tests::ending::waiting_jobs_handed_back"
 
 
 def main():
-    asked = asked_of(__doc__, "crates/thread_tests/out/thread_tests_tests")
+    asked = asked_of(__doc__, "crates/intake_tests/out/intake_tests_tests")
     options = asked.parse_args()
     with tempfile.TemporaryDirectory() as folder:
         tests = Program(options.bin, folder)

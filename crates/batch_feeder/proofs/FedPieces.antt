@@ -5,7 +5,7 @@ use Rattle.std.proofs.Math.ListN.{drop_of_length-le}
 use Rattle.jaeger_model.specs.declared.batch.Batch.{Batch}
 use Rattle.batch_codec.specs.declared.fault.DecodeError.{DecodeError}
 use Rattle.batch_codec.specs.Decoding.{Fails, Gives}
-use Rattle.batch_feeder.specs.ContinuedCalls.{Faults}
+use Rattle.value_pieces.specs.ContinuedCalls.{Faults}
 use Rattle.batch_feeder.specs.FeederResults.{HasNoFault, HasRefused, Taken, Refuses}
 use Rattle.batch_feeder.proofs.FeederSteps.{none-failed, fails-unless, gives-same}
 

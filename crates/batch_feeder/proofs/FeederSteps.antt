@@ -13,15 +13,15 @@ use Rattle.batch_codec.specs.declared.fault.DecodeError.TheVariants.{Wire, Missi
 use Rattle.batch_codec.specs.Decoding.{Reading, Fails, Gives}
 use Rattle.batch_codec.specs.EmptySlots.{no_batch}
 use Rattle.batch_codec.specs.BatchReading.{take_batch, batch_from, batch_at, at_end, decoded}
-use Rattle.batch_feeder.specs.declared.fields.Step.{Step}
-use Rattle.batch_feeder.specs.declared.batch.PartialBatchField.{PartialBatchField}
+use Rattle.struct_pieces.specs.declared.fields.Step.{Step}
+use Rattle.struct_pieces.specs.declared.batch.PartialBatchField.{PartialBatchField}
 use Rattle.batch_feeder.specs.declared.feeder.State.{State}
 use Rattle.batch_feeder.specs.declared.feeder.State.TheVariants as state
-use Rattle.batch_feeder.specs.ContinuedCalls.{Faults}
-use Rattle.batch_feeder.specs.Fields.{struct_at, struct_from}
-use Rattle.batch_feeder.specs.Batches.{batch_struct}
+use Rattle.value_pieces.specs.ContinuedCalls.{Faults}
+use Rattle.struct_pieces.specs.Fields.{struct_at, struct_from}
+use Rattle.struct_pieces.specs.Batches.{batch_struct}
 use Rattle.batch_feeder.specs.FeederResults.{answers_of, is_truncated, is_short, settled, IsSettled, HasNoFault, HasRefused, Repeats, Taken, Ends, Advances}
-use Rattle.batch_feeder.proofs.CallSteps.{faults-inside}
+use Rattle.value_pieces.proofs.CallSteps.{faults-inside}
 use Rattle.thrift_binary.proofs.ReadBytesSpell.{err_is}
 
 -- a state of a struct as a reading

@@ -1,9 +1,3 @@
-pub mod CallSteps
-pub mod StructSteps
-pub mod ItemSteps
-pub mod NewLists
-pub mod ReceivedTexts
 pub mod FeederSteps
 pub mod FedPieces
 pub mod WaitingBytes
-pub mod ReadingInPlace

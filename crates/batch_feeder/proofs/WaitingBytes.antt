@@ -10,13 +10,13 @@ use Rattle.jaeger_model.specs.declared.batch.Batch.{Batch}
 use Rattle.batch_codec.specs.declared.fault.DecodeError.{DecodeError}
 use Rattle.batch_codec.specs.declared.fault.DecodeError.TheVariants.{Wire, Memory}
 use Rattle.batch_codec.specs.declared.batch.BatchSlots.{BatchSlots}
-use Rattle.batch_feeder.specs.declared.batch.PartialBatchField.{PartialBatchField}
-use Rattle.batch_feeder.specs.declared.fields.Step.{Step}
-use Rattle.batch_feeder.specs.Fields.{struct_from}
-use Rattle.batch_feeder.specs.Batches.{batch_struct}
+use Rattle.struct_pieces.specs.declared.batch.PartialBatchField.{PartialBatchField}
+use Rattle.struct_pieces.specs.declared.fields.Step.{Step}
+use Rattle.struct_pieces.specs.Fields.{struct_from}
+use Rattle.struct_pieces.specs.Batches.{batch_struct}
 use Rattle.batch_feeder.specs.declared.feeder.State.{State}
 use Rattle.batch_feeder.specs.declared.feeder.State.TheVariants as state
-use Rattle.batch_feeder.specs.LeastBytes.{least, least_bytes, behind_head, IsPart, AreQuiet}
+use Rattle.value_pieces.specs.LeastBytes.{least, least_bytes, behind_head, IsPart, AreQuiet}
 use Rattle.batch_feeder.specs.FeederResults.{answers_of, HasNoFault, IsBetweenFields, Holds, Taken, Refuses, Feeds}
 use Rattle.batch_feeder.proofs.FeederSteps.{short-sound, none-repeats}
 

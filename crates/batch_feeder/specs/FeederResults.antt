@@ -8,10 +8,10 @@ use Rattle.batch_codec.specs.declared.fault.DecodeError.TheVariants.{Wire, Missi
 use Rattle.batch_codec.specs.BatchReading.{at_end}
 use Rattle.batch_feeder.specs.declared.feeder.State.{State}
 use Rattle.batch_feeder.specs.declared.feeder.State.TheVariants as state
-use Rattle.batch_feeder.specs.ContinuedCalls.{Faults}
-use Rattle.batch_feeder.specs.Fields.{struct_from}
-use Rattle.batch_feeder.specs.LeastBytes.{IsPart, AreQuiet}
-use Rattle.batch_feeder.specs.Batches.{batch_struct}
+use Rattle.value_pieces.specs.ContinuedCalls.{Faults}
+use Rattle.struct_pieces.specs.Fields.{struct_from}
+use Rattle.value_pieces.specs.LeastBytes.{IsPart, AreQuiet}
+use Rattle.struct_pieces.specs.Batches.{batch_struct}
 
 -- what it returns if exactly these bytes are still to come
 unfoldable pub answers_of : State → List ℕ → Result Batch DecodeError

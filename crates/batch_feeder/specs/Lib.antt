@@ -1,17 +1,2 @@
-pub mod ContinuedCalls
-pub mod Values
-pub mod Fields
-pub mod NewLists
-pub mod LeastBytes
-pub mod Lists
-pub mod ShortValueLaws
-pub mod ShortFieldLaws
-pub mod FieldLaws
-pub mod Tags
-pub mod Logs
-pub mod References
-pub mod Processes
-pub mod Spans
-pub mod Batches
 pub mod FeederResults
 pub mod FeederAnswers

@@ -4,16 +4,16 @@ ghost use Rattle.batch_codec.specs.declared.fault.DecodeError.TheVariants.{Wire}
 ghost use Rattle.batch_codec.specs.BatchReading.{decoded};
 ghost use Rattle.batch_codec.specs.Decoding.{Gives};
 ghost use Rattle.batch_feeder.specs.declared.feeder.State.TheVariants.{Whole, Failed};
-ghost use Rattle.batch_feeder.specs.LeastBytes.{AreQuiet, least};
+ghost use Rattle.value_pieces.specs.LeastBytes.{AreQuiet, least};
 ghost use Rattle.batch_feeder.specs.FeederResults.{IsSettled, IsBetweenFields, Holds, Ends, Advances, Feeds, Keeps, answers_of};
 
-use crate::partial::{Arrival, Item};
-use crate::structs::Struct;
 use batch_codec::{BatchSlots, DecodeError, Decoded};
 use jaeger_model::Batch;
 use std::alloc::Global;
+use struct_pieces::Struct;
 use thrift_binary::types::{LIST, MAP, SET, STOP, STRING, STRUCT, width};
 use thrift_binary::{Cursor, WireError};
+use value_pieces::{Arrival, Item};
 use wire_pieces::size_of;
 
 /// A piece of at most this number of bytes is taken byte by byte.

@@ -4,29 +4,10 @@
 //! however they are cut: [`Feeder::feed`] reports a fault with the piece that has its last byte, and the cut doesn't
 //! change the fault; [`Feeder::finish`] returns the batch. Its memory grows only with bytes that have arrived, never by
 //! a size that they claim. Bytes of short pieces wait until their field is complete or may have a fault, and are then
-//! read together; longer pieces are read without copying. [`decode_pieces`] makes all these calls.
-//!
-//! - `partial`: partially received values, as readings of the bytes still to come (`specs/ContinuedCalls.antt`).
-//! - `values`, `texts`, `enums`, `skipped`: single values.
-//! - `fields`, `structs`, `items`: a struct's fields up to its stop byte, a struct, a list of structs.
-//! - `tag`, `log`, `reference`, `process`, `span`, `batch`: one struct of `jaeger.thrift` each.
-//! - `feeder`: the feeder itself.
+//! read together; longer pieces are read without copying. [`decode_pieces`] makes all these calls. What has arrived of
+//! a batch is in `struct_pieces`.
 #![tactic(auto)]
 
-mod batch;
-mod enums;
 mod feeder;
-mod fields;
-mod items;
-mod log;
-mod partial;
-mod process;
-mod reference;
-mod skipped;
-mod span;
-mod structs;
-mod tag;
-mod texts;
-mod values;
 
 pub use feeder::{Feeder, decode_pieces};

@@ -5,7 +5,7 @@ use Rattle.batch_codec.specs.BatchReading.{decoded}
 use Rattle.batch_codec.specs.declared.fault.DecodeError.{DecodeError}
 use Rattle.batch_codec.specs.declared.fault.DecodeError.TheVariants.{Memory, Wire, Missing, BadEnum, Trailing}
 use Rattle.batch_feeder.specs.FeederResults.{HasRefused, Feeds}
-use Rattle.batch_feeder.specs.ContinuedCalls.{Faults}
+use Rattle.value_pieces.specs.ContinuedCalls.{Faults}
 use Rattle.http_session.specs.Verdicts.{JudgesBatch}
 use Rattle.http_session.specs.Questions.{JudgesRead}
 use Rattle.http_session.specs.BodySinks.{Follows}

@@ -1,11 +1,11 @@
 //! The connections that a worker accepts.
 
 use crate::call_observer::CallObserver;
-use crate::connection_quota::ConnectionQuota;
 use crate::worker::{ServerContext, WorkerOutcome};
 use libc::net::listen;
 use libc::{EMFILE, ENOMEM, EPERM};
 use read_side::StoreName;
+use server_connections::ConnectionQuota;
 use server_notices::print_accepts_no_more;
 use std::io;
 use std::io::ErrorKind;

@@ -8,9 +8,6 @@ ghost use Rattle.trace_server.specs.WorkerConnections.{AllUnderway};
 
 use crate::acceptor::Acceptor;
 use crate::call_observer::CallObserver;
-use crate::connection::{idle_limit, prepare};
-use crate::lingering::{Awaits, Lingering};
-use crate::patient_clock::PatientClock;
 use crate::source::Source;
 use crate::worker::ServerContext;
 use crate::worker_store::WorkerStore;
@@ -19,6 +16,7 @@ use open_connections::{
     OpenProgress, Readiness, Socket, TurnTime, WaitingBytes,
 };
 use read_side::StoreName;
+use server_connections::{Awaits, Lingering, PatientClock, idle_limit, prepare};
 use std::alloc::Global;
 use std::collections::VecDeque;
 use std::io;

@@ -10,10 +10,7 @@
 //! * `call_observer`: an observer of the calls to the store. `worker_store`: a worker's store.
 //! * `worker`: a worker. `threads`: work in threads.
 //! * `event_loop`: the loop that waits for a worker's connections and serves them. `source`: what it waits for, by tokens.
-//!   `patient_clock`: its clock.
-//! * `acceptor`: accepts connections. `loads`: the number of open connections, of each worker and in all.
-//!   `connection_quota`: how many may still be accepted, of those that the server is asked to serve.
-//! * `connection`: sockets before and after their sessions. `lingering`: connections after their last response.
+//! * `acceptor`: accepts connections.
 //! * `shared`: a store with its desk and its clerk, which all workers share.
 //! * `ending`: takes in every seat at the end. `output_lines`: the lines of the output.
 //! * `serving`: [`serve_with`].
@@ -23,15 +20,10 @@
 mod acceptor;
 mod call_observer;
 mod config;
-mod connection;
-mod connection_quota;
 mod ending;
 mod event_loop;
 pub mod laws;
-mod lingering;
-mod loads;
 mod output_lines;
-mod patient_clock;
 mod serving;
 mod shared;
 mod source;

@@ -12,15 +12,14 @@ ghost use Rattle.trace_server.specs.WorkerSeats.{AreNew, HasJudged};
 use crate::acceptor::lengthen_queue;
 use crate::call_observer::CallObserver;
 use crate::config::ServerConfig;
-use crate::connection_quota::ConnectionQuota;
 use crate::ending::close_books;
-use crate::loads::Loads;
 use crate::output_lines::{end_unclosed, end_with_totals, total_outcome, write_listening};
 use crate::shared::SharedStore;
 use crate::threads::{OwnWork, beside, run_each};
 use crate::worker::{EndedWorker, ServerContext, WorkerStart};
 use intake::{Books, Clerk, DeskHandle};
 use read_side::{EmptyHistory, Keeper, StoreName};
+use server_connections::{ConnectionQuota, Loads};
 use server_notices::{
     Notices, PeriodicCounts, end_unwritten, end_with, print_few_files, print_limits,
     print_reachable,

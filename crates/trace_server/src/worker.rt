@@ -4,13 +4,12 @@ ghost use Rattle.intake.specs.LiveStores.{SeatGoesOn};
 
 use crate::acceptor::Acceptor;
 use crate::call_observer::CallObserver;
-use crate::connection_quota::ConnectionQuota;
 use crate::event_loop::EventLoop;
-use crate::loads::Loads;
 use crate::threads::Task;
 use crate::worker_store::WorkerStore;
 use intake::{DeskHandle, Live};
 use read_side::StoreName;
+use server_connections::{ConnectionQuota, Loads};
 use server_notices::{Notices, PeriodicCounts, print_accepts_no_more};
 use std::alloc::Global;
 use std::net::{Net, TcpListener, TcpStream};

@@ -21,7 +21,7 @@ fn add_parts(text: &mut Vec<u8>, parts: &mut AnswerParts) -> Result<(), AllocErr
     Ok(())
 }
 
-/// Returns the JSON of an answer, as clients of the server read it. `thread_tests` has a copy of it.
+/// Returns the JSON of an answer, as clients of the server read it. `read_side_tests` has a copy of it.
 pub(crate) fn shown(alloc: Global, answer: Answer) -> Result<Vec<u8>, AllocError> {
     let mut parts = AnswerParts::new(alloc, answer)?;
     let mut text = Vec::new(alloc);

@@ -1,6 +1,6 @@
 use Rattle.std.proofs.Common.{sym, ◌∙◌}
 use Rattle.std.proofs.lemmas.Result.{err_from_is_err_and}
-use Rattle.batch_feeder.proofs.CallSteps.{arrived-faults, arrived-whole}
+use Rattle.value_pieces.proofs.CallSteps.{arrived-faults, arrived-whole}
 use Rattle.batch_feeder.proofs.FeederSteps.{reading-faults, reading-waits, reading-whole, whole-comes, ends, failed-faults}
 use Rattle.batch_feeder.proofs.feeder.advance.Goals as goal
 

@@ -1,7 +1,0 @@
-use Rattle.batch_feeder.proofs.StructSteps.{struct-fresh}
-use Rattle.batch_feeder.proofs.structs.Struct.new.Goals as goal
-
-pub returns : goal.returns
-returns g c =
-    λ w. struct-fresh g.S.PieceSlots.takes g.S.PieceSlots.resumes g.S.PieceSlots.makes g.met.S.PieceSlots.safe _ _ c.new.result w c.start.ensures
-    c.new.ensures.fresh

@@ -1,8 +1,0 @@
-use Rattle.std.proofs.Common.{ap}
-use Rattle.thrift_binary.specs.Reading.{lift}
-use Rattle.batch_codec.specs.Decoding.{binary_at, wire}
-use Rattle.batch_feeder.proofs.texts.PartialBinary.new.Goals as goal
-
-pub returns : goal.returns
-unfolding binary_at
-returns c = record { fresh = λ w. ap (λ r. lift wire r) (c.new.ensures.fresh w) }

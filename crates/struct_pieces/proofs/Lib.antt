@@ -1,0 +1,4 @@
+pub mod StructSteps
+pub mod ItemSteps
+pub mod NewLists
+pub mod ReadingInPlace

@@ -1,0 +1,12 @@
+pub mod TriedFields
+pub mod Fields
+pub mod NewLists
+pub mod Lists
+pub mod ShortFieldLaws
+pub mod FieldLaws
+pub mod Tags
+pub mod Logs
+pub mod References
+pub mod Processes
+pub mod Spans
+pub mod Batches

@@ -1,4 +1,0 @@
-//! The tests, by their subject.
-
-mod reading;
-mod submitting;

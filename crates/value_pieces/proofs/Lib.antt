@@ -1,0 +1,2 @@
+pub mod CallSteps
+pub mod ReceivedTexts

@@ -1,0 +1,4 @@
+pub mod ContinuedCalls
+pub mod Values
+pub mod LeastBytes
+pub mod ShortValueLaws
