@@ -1,4 +1,5 @@
--- The commands of the program's arguments.
+-- The commands of the program's arguments. Ranges and defaults are written out on purpose: a number of the code that
+-- changes by itself is refused.
 use Rattle.std.specs.Prelude.{◌≡◌, ℕ, pos, Bool, List, [], ◌∷◌, Option, Some, None, Result, IfOk, true, false, codes, ◌⊎◌}
 use Rattle.std.specs.Str.Parse.{IsNumeral, digits_value, without_leading_plus}
 use Rattle.clap.specs.Words.{App, Row, Rule, Text, app_of, is_simple, new_app, new_rule, with_rule, matches_of, one_of, first_of, takes}

@@ -369,7 +369,8 @@ fn answer<W: Output>(alloc: Global, output: &mut W, text: &[u8], status: ExitSta
 {
     match status {
         ExitStatus::Usage => {}
-        // The arguments were judged over memory, where a write fails only if memory runs out.
+        // Impossible: `Success`, `NotFound` and `FaultyLine`, which `judge_arguments` never returns. No clause says so.
+        // `DeviceFailed` is a lack of memory too: the arguments were judged over memory, where no other write fails.
         ExitStatus::Success
         | ExitStatus::NotFound
         | ExitStatus::FaultyLine

@@ -19,7 +19,8 @@ pub fn idle_limit(idle: u32) -> Option<Duration> {
     }
 }
 
-/// Makes a socket send each response at once, and never block.
+/// Makes a socket send each response at once and not block, and limits the one read that may block: that of a
+/// connection which was reported readable, and isn't (`open_connections::Socket`).
 pub fn prepare(stream: &TcpStream) -> io::Result<()> {
     stream.set_nodelay(true)?;
     stream.set_read_timeout(Some(Duration::from_secs(MAX_STALL_SECONDS)))?;

@@ -1,5 +1,6 @@
 //! What a server does with its connections beside their sessions: how many may be open and accepted, and what is left of
-//! one after its session. It has no contracts: what it does is tested over real sockets (`checks/sockets.py`).
+//! one after its session. It has no contracts. `checks/sockets.py` tests most of it over real sockets; docs/tested.md
+//! says what nothing shows.
 //!
 //! * `loads`: the number of open connections, of each worker and in all.
 //! * `connection_quota`: how many may still be accepted, of those that the server is asked to serve.

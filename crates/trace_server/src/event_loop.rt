@@ -231,7 +231,8 @@ impl EventLoop {
     {
         match end {
             ConnectionEnd::ClosedByResponse => self.linger(buffered),
-            // No response waits: a session goes on only once the last one was sent.
+            // No response waits that could still be written: the connection has failed, or its session went on after
+            // the last one was sent.
             ConnectionEnd::ClosedByClient | ConnectionEnd::Failed | ConnectionEnd::Undelivered =>
                 drop(buffered),
         }
@@ -273,7 +274,8 @@ impl EventLoop {
         match self.connections.take_turn(rt, alloc, key, self.at, store) {
             ConnectionTurn::Open(progress) => self.keep(key, progress, peer_closed),
             ConnectionTurn::Removed(end, buffered) => self.close_connection(end, buffered),
-            // Of a key in `holding` that was removed since. An event is never of such a key: a closed socket has none.
+            // Impossible: an event is of an open socket, and `serve_first_again` looks its key up first. No clause
+            // says so.
             ConnectionTurn::Absent => {}
         }
     }

@@ -334,9 +334,9 @@ fn serve_named<
 /// unanswered. A worker serves many connections, one request of each in turn. An error of a connection ends only that
 /// connection. Every call to the store is between two calls of the observer. The listener is non-blocking from then on.
 ///
-/// Standard error gets lines for the operator: that other machines can reach the host, the limits of the store, how
-/// full it is, that requests were answered 500, why no connection is accepted, and why the server fails.
-/// None of these are in the output.
+/// Standard error gets lines for the operator: that other machines can reach the host, the limits of the store, that
+/// the process may open few files, how full the store is, that requests were answered 500, why no connection is
+/// accepted or one was given up, and why the server fails. None of these are in the output.
 pub fn serve_with<
     G: CallObserver + Sync,
     W: Output,

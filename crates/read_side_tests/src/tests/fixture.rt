@@ -71,7 +71,7 @@ impl Row {
 
 /// The result of a row.
 #[derive(Clone, Copy)]
-pub struct Outcome {
+pub struct RowResult {
     /// Whether all was as wanted.
     pub as_wanted: bool,
     /// Why a pass that is left is refused after the store is closed.
@@ -94,7 +94,7 @@ fn played<N: StoreName + Send + Sync, R: Threads + Wait + RandomSource + Sync>(
     limits: Limits,
     readers: usize,
     row: Row,
-) -> Result<Outcome, Fail>
+) -> Result<RowResult, Fail>
     requires store { (name.log.book ≡ N.book) × (limits ≡ N.limits) }
     requires readers { (1 ≤ readers) × (readers ≤ 64) }
 {
@@ -111,7 +111,7 @@ fn played<N: StoreName + Send + Sync, R: Threads + Wait + RandomSource + Sync>(
     let gone = refused(&mut passes);
     drop(passes);
     let as_wanted = as_wanted?;
-    Ok(Outcome { as_wanted, gone })
+    Ok(RowResult { as_wanted, gone })
 }
 
 /// Plays the row with a store for this number of batches and of readers. Clock skews of up to 500 microseconds are
@@ -122,7 +122,7 @@ pub fn plays<R: Threads + Wait + RandomSource + Sync>(
     batches: u32,
     readers: usize,
     row: Row,
-) -> Result<Outcome, Fail>
+) -> Result<RowResult, Fail>
     requires { (1 ≤ readers) × (readers ≤ 64) }
 {
     let limits = Limits::new(batches, 1000, 0, 500).ok_or("limits")?;

@@ -3,7 +3,7 @@
 
 use crate::tests::refusals::NO_MEMORY;
 use crate::tests::sessions::{
-    AMPLE, Devices, Seen, closed_by_client, is_played, joined, played, unread, unwritten,
+    AMPLE, Devices, Observed, closed_by_client, is_played, joined, played, unread, unwritten,
 };
 use http_session::SessionErrorKind;
 use session_devices::Output;
@@ -181,7 +181,7 @@ fn a_writer_that_fails_after_each_byte(rt: HostRuntime) -> Result<(), Fail> {
 
 /// Returns how many responses a session wrote completely, and how many bytes of the next one, if it ended as one may in
 /// which memory ran out once.
-fn written_in(seen: &Seen) -> Option<(u64, u64)> {
+fn written_in(seen: &Observed) -> Option<(u64, u64)> {
     let cause = if seen.output.failed() {
         SessionErrorKind::Writing
     } else {
@@ -203,7 +203,7 @@ fn is_between(bytes: &[u8], whole: &[u8], next: &[u8], written: u64) -> bool {
 
 /// Returns whether a session in which memory ran out once may have ended so with these responses: all three, or the
 /// first ones, complete unless the output itself ran out of memory.
-fn may_write(alloc: Global, row: [&[u8]; 3], seen: &Seen) -> Result<bool, Fail> {
+fn may_write(alloc: Global, row: [&[u8]; 3], seen: &Observed) -> Result<bool, Fail> {
     let Some((answered, written)) = written_in(seen) else {
         return Ok(false);
     };
@@ -216,7 +216,7 @@ fn may_write(alloc: Global, row: [&[u8]; 3], seen: &Seen) -> Result<bool, Fail> 
 }
 
 /// Returns whether the session may have ended so with one of the rows.
-fn may_write_any(alloc: Global, seen: &Seen) -> Result<bool, Fail> {
+fn may_write_any(alloc: Global, seen: &Observed) -> Result<bool, Fail> {
     for row in ROWS_SHORT_OF_MEMORY {
         if may_write(alloc, row, seen)? {
             return Ok(true);

@@ -121,7 +121,7 @@ pub(crate) fn empty_store(alloc: Global, keys: RandomState) -> Result<Direct, Fa
 
 /// What a session over an empty store did.
 #[derive(Drop)]
-pub(crate) struct Seen {
+pub(crate) struct Observed {
     /// How it ended.
     pub(crate) ended: End,
     /// What it wrote.
@@ -136,12 +136,12 @@ pub(crate) fn played(
     keys: RandomState,
     bytes: &[u8],
     devices: Devices,
-) -> Result<Seen, Fail> {
+) -> Result<Observed, Fail> {
     let mut store = empty_store(alloc, keys)?;
     let (ended, output) = played_over(alloc, &mut store, bytes, devices);
     let (_, trace) = played_over(alloc, &mut store, TRACE, AMPLE);
     drop(store);
-    Ok(Seen {
+    Ok(Observed {
         ended,
         output,
         trace,
