@@ -1,4 +1,4 @@
--- A batch, read from left to right.
+-- A batch, read from left to right. Type codes and field ids are written out on purpose: they say those of the code a second time.
 use Rattle.std.specs.Prelude.{ℕ, pos, List, length, Some, Result, Ok, Err, ◌&&◌, ◌==◌, if◌then◌else◌}
 use Rattle.std.specs.Ordering.{int_eq}
 use Rattle.thrift_binary.specs.Reading.{◌>>=◌}

@@ -1,4 +1,4 @@
--- A log of a span, read from left to right.
+-- A log of a span, read from left to right. Type codes and field ids are written out on purpose: they say those of the code a second time.
 use Rattle.std.specs.Prelude.{pos, Some, Result, Ok, ◌&&◌, ◌==◌, if◌then◌else◌}
 use Rattle.std.specs.Ordering.{int_eq}
 use Rattle.thrift_binary.specs.Reading.{◌>>=◌}

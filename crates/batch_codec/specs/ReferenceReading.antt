@@ -1,4 +1,4 @@
--- A reference to a span, read from left to right.
+-- A reference to a span, read from left to right. Type codes and field ids are written out on purpose: they say those of the code a second time.
 use Rattle.std.specs.Prelude.{ℤ, pos, Some, Result, Ok, Err, ◌&&◌, ◌==◌, if◌then◌else◌}
 use Rattle.std.specs.Ordering.{int_eq}
 use Rattle.thrift_binary.specs.Reading.{◌>>=◌}

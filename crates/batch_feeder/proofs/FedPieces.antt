@@ -6,7 +6,7 @@ use Rattle.jaeger_model.specs.declared.batch.Batch.{Batch}
 use Rattle.batch_codec.specs.declared.fault.DecodeError.{DecodeError}
 use Rattle.batch_codec.specs.Decoding.{Fails, Gives}
 use Rattle.value_pieces.specs.ContinuedCalls.{Faults}
-use Rattle.batch_feeder.specs.FeederResults.{HasNoFault, HasRefused, Taken, Refuses}
+use Rattle.batch_feeder.specs.FeederResults.{HasNoFault, HasRefused, FeederTakes, FeederFails}
 use Rattle.batch_feeder.proofs.FeederSteps.{none-failed, fails-unless, gives-same}
 
 module _ {V : Type 0} (f : V → List ℕ) (a d : List ℕ → Result Batch DecodeError) where
@@ -32,7 +32,7 @@ some-bytes (b ∷ p) h = omega arith
 
 module _ (old now : List ℕ → Result Batch DecodeError) (p : List ℕ) (i : ℕ) (same : (w : List ℕ) → old (p ++ w) ≡ now (drop i p ++ w)) where
   pub bytes-fail : (next : List ℕ → Result Batch DecodeError) (d : ℕ) (e : DecodeError) → i < length p
-      → ((before : DecodeError) → HasRefused old before → HasRefused now before) → Refuses now next (get_or p i d ∷ []) e → Refuses old next p e
+      → ((before : DecodeError) → HasRefused old before → HasRefused now before) → FeederFails now next (get_or p i d ∷ []) e → FeederFails old next p e
   bytes-fail next d e lt still g =
       let split : drop i p ≡ get_or p i d ∷ drop (suc i) p = drop-cons p i d lt in
       record {
@@ -43,7 +43,7 @@ module _ (old now : List ℕ → Result Batch DecodeError) (p : List ℕ) (i : �
 
   pub bytes-more : (next : List ℕ → Result Batch DecodeError) (j d : ℕ) → i < length p → j ≡ suc i
       → ((before : DecodeError) → HasRefused old before → HasRefused now before)
-      → Taken now next (get_or p i d ∷ []) → ((w : List ℕ) → old (p ++ w) ≡ next (drop j p ++ w)) × (0 < j → HasNoFault (next []))
+      → FeederTakes now next (get_or p i d ∷ []) → ((w : List ℕ) → old (p ++ w) ≡ next (drop j p ++ w)) × (0 < j → HasNoFault (next []))
       × ((before : DecodeError) → HasRefused old before → HasRefused next before)
   bytes-more next j d lt is still g =
       let split : drop i p ≡ get_or p i d ∷ drop (suc i) p = drop-cons p i d lt in
@@ -53,7 +53,7 @@ module _ (old now : List ℕ → Result Batch DecodeError) (p : List ℕ) (i : �
         λ before failed. absurd (none-failed now (get_or p i d ∷ []) g.sound before (still before failed)),
       )
 
-  pub bytes-end : length p ≤ i → HasNoFault (now []) → Taken old now p
+  pub bytes-end : length p ≤ i → HasNoFault (now []) → FeederTakes old now p
   bytes-end le sound =
       let none : drop i p ≡ [] = drop_of_length-le p le in
       let here : old p ≡ now [] = (let h = rw none at (same []) in rw append-nil at h) in

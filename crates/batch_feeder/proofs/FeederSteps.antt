@@ -20,7 +20,8 @@ use Rattle.batch_feeder.specs.declared.feeder.State.TheVariants as state
 use Rattle.value_pieces.specs.ContinuedCalls.{Faults}
 use Rattle.struct_pieces.specs.Fields.{struct_at, struct_from}
 use Rattle.struct_pieces.specs.Batches.{batch_struct}
-use Rattle.batch_feeder.specs.FeederResults.{answers_of, is_truncated, is_short, settled, IsSettled, HasNoFault, HasRefused, Repeats, Taken, Ends, Advances}
+use Rattle.batch_feeder.specs.FeederResults.{answers_of, is_truncated, is_short, settled, IsSettled, HasNoFault, HasRefused, Repeats, FeederTakes}
+use Rattle.batch_feeder.specs.FeederResults.{Ends, Advances}
 use Rattle.value_pieces.proofs.CallSteps.{faults-inside}
 use Rattle.thrift_binary.proofs.ReadBytesSpell.{err_is}
 
@@ -100,7 +101,7 @@ module _ (now : State) (s : BatchSlots) (step : Step PartialBatchField) (is : no
 
   pub reading-waits : (t : BatchSlots) (next : Step PartialBatchField) (p v : List ℕ)
       → NeedsMore (Wire Truncated) (moment (reads s step) p) (moment (reads t next) v)
-      → Taken (answers_of now) (answers_of (state.Reading (record { slots = t; step = next }))) p
+      → FeederTakes (answers_of now) (answers_of (state.Reading (record { slots = t; step = next }))) p
       × IsSettled (state.Reading (record { slots = t; step = next }))
   unfolding answers_of settled
   reading-waits t next p v g =

@@ -16,8 +16,8 @@ use Rattle.struct_pieces.specs.Fields.{struct_from}
 use Rattle.struct_pieces.specs.Batches.{batch_struct}
 use Rattle.batch_feeder.specs.declared.feeder.State.{State}
 use Rattle.batch_feeder.specs.declared.feeder.State.TheVariants as state
-use Rattle.value_pieces.specs.LeastBytes.{least, least_bytes, behind_head, IsPart, AreQuiet}
-use Rattle.batch_feeder.specs.FeederResults.{answers_of, HasNoFault, IsBetweenFields, Holds, Taken, Refuses, Feeds}
+use Rattle.value_pieces.specs.LeastBytes.{least, least_bytes, part_after_head, IsTooShort, AreQuiet}
+use Rattle.batch_feeder.specs.FeederResults.{answers_of, HasNoFault, IsBetweenFields, Holds, FeederTakes, FeederFails, Feeds}
 use Rattle.batch_feeder.proofs.FeederSteps.{short-sound, none-repeats}
 
 abbrev Answer : Type 0
@@ -25,7 +25,7 @@ Answer = List ℕ → Result Batch DecodeError
 
 -- ---- the waiting bytes
 
-pub nothing-is-part : IsPart []
+pub nothing-is-part : IsTooShort []
 unfolding field_at
 nothing-is-part = refl
 
@@ -43,17 +43,17 @@ holds-none s n rest le = record { none = λ z. refl; is_between_fields = rest; q
 
 module _ (s : State) (w : List ℕ) (n : ℕ) (h : Holds s w n) where
   -- the result of the waiting bytes
-  pub byte-taken : (b : ℕ) (next : List ℕ) → 0 < n → IsBetweenFields s → IsPart next → next ≡ w ++ b ∷ []
-      → Taken (λ v. answers_of s (w ++ v)) (λ v. answers_of s (next ++ v)) (b ∷ [])
+  pub byte-taken : (b : ℕ) (next : List ℕ) → 0 < n → IsBetweenFields s → IsTooShort next → next ≡ w ++ b ∷ []
+      → FeederTakes (λ v. answers_of s (w ++ v)) (λ v. answers_of s (next ++ v)) (b ∷ [])
   byte-taken b next some rest part is = record {
     same = λ v. rw is (ap (answers_of s) (sym (append_assoc w (b ∷ []) v)));
     sound = short-sound _ (rw is at (rest next part));
   }
 
   pub byte-begun : (b m : ℕ) (next seen : List ℕ) → 0 < n → 0 < m → seen ≡ next → AreQuiet seen m → next ≡ w ++ b ∷ []
-      → Taken (λ v. answers_of s (w ++ v)) (λ v. answers_of s (next ++ v)) (b ∷ [])
+      → FeederTakes (λ v. answers_of s (w ++ v)) (λ v. answers_of s (next ++ v)) (b ∷ [])
   byte-begun b m next seen some more same quiet is =
-      let part : IsPart seen = rw append-nil at (quiet [] more) in
+      let part : IsTooShort seen = rw append-nil at (quiet [] more) in
       byte-taken b next some (h.is_between_fields some) (rw same at part) is
 
   pub ends-short : 0 < n → answers_of s (w ++ []) ≡ Err (Wire Truncated)
@@ -136,7 +136,7 @@ few-bytes c w few = at (eqb c 11) refl
     at false isnt = let l : ltb (length w) (least c) ≡ true = lt-ltb _ _ few in rw l refl
 
 behind-id : (c : ℕ) (z : ℤ) (v : List ℕ) → (b : Bool) → is_code c ≡ b → length v < 2 + least c → (length v < 2 → ⊥)
-    → ◌≡◌ {A = Read (Unit {0})} (cond {A = Read (Option (ℕ × ℤ))} b (Ok (Some (c, z), drop 2 v)) (Err BadType) >>= λ h. behind_head h.0 h.1) (Err Truncated)
+    → ◌≡◌ {A = Read (Unit {0})} (cond {A = Read (Option (ℕ × ℤ))} b (Ok (Some (c, z), drop 2 v)) (Err BadType) >>= λ h. part_after_head h.0 h.1) (Err Truncated)
 behind-id c z v true is few some = few-bytes c (drop 2 v) (omega (arith, length-drop 2 v))
 behind-id c z v false isnt few some = absurd (some (omega (arith, no_type c isnt)))
 
@@ -145,7 +145,7 @@ unfolding field_at
 quiet-type c some v few = let isnt : eqb c 0 ≡ false = ne_eqb c 0 some in rw isnt (at _ (ltb (length v) 2) refl)
   where
     at : (z : ℤ) (b : Bool) → ltb (length v) 2 ≡ b
-        → ◌≡◌ {A = Read (Unit {0})} ((cond {A = Read ℤ} b (Err Truncated) (Ok (z, drop 2 v)) >>= typed c) >>= λ h. behind_head h.0 h.1) (Err Truncated)
+        → ◌≡◌ {A = Read (Unit {0})} ((cond {A = Read ℤ} b (Err Truncated) (Ok (z, drop 2 v)) >>= typed c) >>= λ h. part_after_head h.0 h.1) (Err Truncated)
     at z true is = refl
     at z false isnt = behind-id c z v (is_code c) refl few (λ lt. absurd (let k : false ≡ true = sym isnt ∙ lt-ltb _ _ lt in cc))
 
@@ -168,7 +168,7 @@ whole-holds s w n b h is here = rw (whole-waits-not s w n h b is) here
 -- ---- one byte
 
 -- memory ran out, and there was no error before
-pub gave-up : (old new : Answer) (p : List ℕ) → HasNoFault (old []) → ((w : List ℕ) → new w ≡ Err Memory) → Refuses old new p Memory
+pub gave-up : (old new : Answer) (p : List ℕ) → HasNoFault (old []) → ((w : List ℕ) → new w ≡ Err Memory) → FeederFails old new p Memory
 gave-up old new p sound stays = record {
   faults = λ n. absurd (n refl);
   repeats = none-repeats old [] Memory sound;

@@ -10,7 +10,7 @@ use Rattle.batch_feeder.specs.declared.feeder.State.{State}
 use Rattle.batch_feeder.specs.declared.feeder.State.TheVariants as state
 use Rattle.value_pieces.specs.ContinuedCalls.{Faults}
 use Rattle.struct_pieces.specs.Fields.{struct_from}
-use Rattle.value_pieces.specs.LeastBytes.{IsPart, AreQuiet}
+use Rattle.value_pieces.specs.LeastBytes.{IsTooShort, AreQuiet}
 use Rattle.struct_pieces.specs.Batches.{batch_struct}
 
 -- what it returns if exactly these bytes are still to come
@@ -47,7 +47,7 @@ IsSettled s = settled s ≡ true
 
 -- it is between two fields, and a part of a field is too few bytes
 abbrev pub IsBetweenFields : State → Type 0
-IsBetweenFields s = (w : List ℕ) → IsPart w → answers_of s w ≡ Err (Wire Truncated)
+IsBetweenFields s = (w : List ℕ) → IsTooShort w → answers_of s w ≡ Err (Wire Truncated)
 
 -- Bytes that a state has still to read, and how many more are wanted before they can show a fault: none where they
 -- are read as they come.
@@ -63,7 +63,7 @@ HasNoFault (Err e) = e ≡ Wire Truncated
 
 -- It took the piece: whatever follows is answered as it was before, and the bytes so far have no fault but that
 -- they may be too few.
-pub record Taken (old new : List ℕ → Result Batch DecodeError) (piece : List ℕ) : Type 0 where
+pub record FeederTakes (old new : List ℕ → Result Batch DecodeError) (piece : List ℕ) : Type 0 where
   pub same : (rest : List ℕ) → old (piece ++ rest) ≡ new rest
   pub sound : HasNoFault (old piece)
 
@@ -78,19 +78,19 @@ Repeats old e = (before : DecodeError) → HasRefused old before → before ≡ 
 
 -- There is this fault, whatever follows, which isn't too few bytes; for running out of memory this says that nothing
 -- had failed before. From now on it is the result.
-pub record Refuses (old new : List ℕ → Result Batch DecodeError) (piece : List ℕ) (e : DecodeError) : Type 0 where
+pub record FeederFails (old new : List ℕ → Result Batch DecodeError) (piece : List ℕ) (e : DecodeError) : Type 0 where
   pub faults : Faults old piece e
   pub repeats : Repeats old e
   pub stays : HasRefused new e
 
 abbrev pub Feeds : (List ℕ → Result Batch DecodeError) → (List ℕ → Result Batch DecodeError) → List ℕ → Result (Unit {0}) DecodeError → Type 0
-Feeds old new piece (Ok x) = Taken old new piece
-Feeds old new piece (Err e) = Refuses old new piece e
+Feeds old new piece (Ok x) = FeederTakes old new piece
+Feeds old new piece (Err e) = FeederFails old new piece e
 
 -- like `Feeds`, for a call that reads bytes that were taken before
 abbrev pub Keeps : (List ℕ → Result Batch DecodeError) → (List ℕ → Result Batch DecodeError) → Result (Unit {0}) DecodeError → Type 0
 Keeps old new (Ok x) = (rest : List ℕ) → old rest ≡ new rest
-Keeps old new (Err e) = Refuses old new [] e
+Keeps old new (Err e) = FeederFails old new [] e
 
 -- nothing follows the batch
 abbrev pub Ends : List ℕ → Result (Unit {0}) DecodeError → Type 0
@@ -99,5 +99,5 @@ Ends w (Err e) = (e ≡ Trailing) × (w ≡ [] → ⊥)
 
 -- like `Feeds`, for the state before an error is stored
 abbrev pub Advances : State → State → List ℕ → Result (Unit {0}) DecodeError → Type 0
-Advances old new piece (Ok x) = Taken (answers_of old) (answers_of new) piece × IsSettled new
+Advances old new piece (Ok x) = FeederTakes (answers_of old) (answers_of new) piece × IsSettled new
 Advances old new piece (Err e) = Faults (answers_of old) piece e × (e ≢ Wire Truncated) × Repeats (answers_of old) e

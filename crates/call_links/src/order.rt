@@ -76,7 +76,7 @@ fn ranks(alloc: Global, numbers: &[u32]) -> Result<BTreeMap<u32, usize>, AllocEr
 {
     let mut ranks = BTreeMap::new(alloc);
     for (rank, number) in numbers.iter().enumerate() {
-        // True of each: no number is twice in the list. The contract doesn't ask for that.
+        // Impossible: a number that is there already, since none is twice in the list. The contract doesn't ask for that.
         if !ranks.contains_key(number) {
             ranks.insert(*number, rank)?;
         }

@@ -171,7 +171,7 @@ fn mark_entry(
         return;
     }
     if let Some(batch) = batch_at(journal, place) {
-        // True of each place of the requested service. No clause says so.
+        // Impossible: `false`, since the place is one of the requested service. No clause says so.
         if conditions.is_requested(place) {
             let process = batch.process.get();
             let spans = batch.spans.as_slice();

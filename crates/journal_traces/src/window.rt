@@ -1,28 +1,11 @@
 //! Windows of time in microseconds.
 
-ghost use Rattle.std.specs.Prelude.{◌≡◌, Some, pos, ◌+ℤ◌, ◌-ℤ◌, ◌*ℤ◌, ◌≤ℤ◌, ◌<ℤ◌, ◌^◌, option_map};
+ghost use Rattle.std.specs.Prelude.{◌≡◌, Some, pos, ◌+ℤ◌, ◌-ℤ◌, ◌*ℤ◌, option_map};
 ghost use Rattle.journal_traces.specs.TraceRanges.{search_window};
 
+use span_steps::{micros, wide};
 use trace_model::Find;
 use trace_ring::Window;
-
-/// Converts milliseconds to microseconds.
-fn micros(ms: i128) -> i128
-    requires low { (pos 0 -ℤ pos (2 ^ 64)) ≤ℤ ms }
-    requires high { ms ≤ℤ pos (2 ^ 64) }
-    ensures { result ≡ pos 1000 *ℤ ms }
-{
-    1000 * ms
-}
-
-/// Widens the number.
-fn wide(n: i64) -> i128
-    ensures same { result ≡ n }
-    ensures low { (pos 0 -ℤ pos (2 ^ 63)) ≤ℤ result }
-    ensures high { result <ℤ pos (2 ^ 63) }
-{
-    n as i128
-}
 
 /// Returns the window strictly between `end_ms - lookback_ms` and `end_ms`, both in milliseconds. No bound
 /// overflows.

@@ -8,7 +8,7 @@ use Rattle.std.specs.List.{AllByRecursion}
 use Rattle.std.proofs.lemmas.Option.{none-some}
 use Rattle.matchit.specs.Rows.{RowsOf}
 use Rattle.matchit.specs.Seek.{seek, or_else, step, param_step, has_slash, segment, cuts}
-use Rattle.query_http.specs.Paths.{IsPart}
+use Rattle.query_http.specs.Paths.{IsSegment}
 use Rattle.query_http.proofs.RouteWalks.{seek_none, seek_skips, found_end, found_behind, seek_behind, AreLiteral, behind}
 
 pub record NoSlash (t : List ℕ) : Type 0 where
@@ -67,7 +67,7 @@ after_part rows b path = seek ((param_step rows (b ∷ path)).0 - 1) (param_step
 
 module _ {K : Type 0} (k : K) (tail : List ℕ) (b : ℕ) (path : List ℕ) where
   -- what the route of a part matches follows the marker as a byte, or follows a part
-  found_by : {P : Type 0} (found : K) → (IsPart (b ∷ []) → seek 0 ((tail, k) ∷ []) path ≡ Some found → P)
+  found_by : {P : Type 0} (found : K) → (IsSegment (b ∷ []) → seek 0 ((tail, k) ∷ []) path ≡ Some found → P)
       → (after_part ((tail, k) ∷ []) b path ≡ Some found → P)
       → seek 0 ((256 ∷ tail, k) ∷ []) (b ∷ path) ≡ Some found → P
   unfolding seek
@@ -92,13 +92,13 @@ module _ {K : Type 0} (k : K) where
   unfolding param_step
   taken_last-is t = refl
 
-  last_one : (b : ℕ) (path : List ℕ) (found : K) → after_part (([], k) ∷ []) b path ≡ Some found → IsPart (b ∷ path) × (found ≡ k)
+  last_one : (b : ℕ) (path : List ℕ) (found : K) → after_part (([], k) ∷ []) b path ≡ Some found → IsSegment (b ∷ path) × (found ≡ k)
   last_one b path found e = by (slash_cut (b ∷ path))
     where
       goes : (v : Bool) → has_slash (b ∷ path) ≡ v → param_step (([], k) ∷ []) (b ∷ path) ≡ cond v (0, []) (length (b ∷ path), ([], k) ∷ [])
       goes v h = taken_last-is (b ∷ path) ∙ ap (λ (u : Bool). cond {A = ℕ × RowsOf K} u (0, []) (length (b ∷ path), ([], k) ∷ [])) h
 
-      by : NoSlash (b ∷ path) ⊎ AtSlash (b ∷ path) → IsPart (b ∷ path) × (found ≡ k)
+      by : NoSlash (b ∷ path) ⊎ AtSlash (b ∷ path) → IsSegment (b ∷ path) × (found ≡ k)
       by (inl h) =
           let e' : seek (length (b ∷ path) - 1) (([], k) ∷ []) path ≡ Some found =
           subst (λ (s : ℕ × RowsOf K). seek (s.0 - 1) s.1 path ≡ Some found) (goes false h.none) e in
@@ -109,16 +109,16 @@ module _ {K : Type 0} (k : K) where
           absurd (none-some found (sym (seek_none (0 - 1) path) ∙ e'))
 
   -- what a part at the end matches is one part
-  pub found_last : (path : List ℕ) (found : K) → seek 0 ((256 ∷ [], k) ∷ []) path ≡ Some found → IsPart path × (found ≡ k)
+  pub found_last : (path : List ℕ) (found : K) → seek 0 ((256 ∷ [], k) ∷ []) path ≡ Some found → IsSegment path × (found ≡ k)
   unfolding seek
   found_last [] found e = absurd (none-some found e)
   found_last (b ∷ path) found e =
       found_by k [] b path found
-      (λ is h. (let f = found_end k path found h in (subst (λ (p : List ℕ). IsPart (b ∷ p)) (sym f.0) is, f.1)))
+      (λ is h. (let f = found_end k path found h in (subst (λ (p : List ℕ). IsSegment (b ∷ p)) (sym f.0) is, f.1)))
       (last_one b path found) e
 
   -- and it matches one part at the end
-  pub part_last : (part : List ℕ) → IsPart part → seek 0 ((256 ∷ [], k) ∷ []) part ≡ None → ⊥
+  pub part_last : (part : List ℕ) → IsSegment part → seek 0 ((256 ∷ [], k) ∷ []) part ≡ None → ⊥
   unfolding seek
   part_last [] p e = absurd (omega (arith, p.some))
   part_last (b ∷ path) p e = by (slash_cut (b ∷ path))
@@ -161,7 +161,7 @@ module _ {K : Type 0} (k : K) (w : List ℕ) (l : AreLiteral (47 ∷ w)) (long :
   -- the bytes after the part
   pub record Between (path : List ℕ) (found : K) : Type 0 where
     pub part : List ℕ
-    pub is_part : IsPart part
+    pub is_part : IsSegment part
     pub path_is : path ≡ part ++ (47 ∷ w)
     pub found_is : found ≡ k
 
@@ -294,6 +294,6 @@ module _ {K : Type 0} (k : K) (w : List ℕ) (l : AreLiteral (47 ∷ w)) (long :
       two_less : length ((c ∷ part) ++ (47 ∷ [])) - 1 - 1 ≡ length part
       two_less = omega (arith, length-append (c ∷ part) (47 ∷ []))
 
-  pub part_between : (part : List ℕ) → IsPart part → seek 0 ((256 ∷ (47 ∷ w), k) ∷ []) (part ++ (47 ∷ w)) ≡ None → ⊥
+  pub part_between : (part : List ℕ) → IsSegment part → seek 0 ((256 ∷ (47 ∷ w), k) ∷ []) (part ++ (47 ∷ w)) ≡ None → ⊥
   part_between [] p e = absurd (omega (arith, p.some))
   part_between (c ∷ part) p e = none-some k (sym (none_after k (47 ∷ w) c (part ++ (47 ∷ w)) e) ∙ between_found c part p.plain)

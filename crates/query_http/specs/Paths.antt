@@ -7,16 +7,16 @@ use Rattle.query_http.specs.declared.paths.Endpoint.TheVariants.{Traces, Trace, 
 use Rattle.std.specs.List.{AllByRecursion}
 
 -- one part of a path: it isn't empty, and no slash is in it
-pub record IsPart (part : List ℕ) : Type 0 where
+pub record IsSegment (part : List ℕ) : Type 0 where
   pub some : 0 < length part
   pub plain : AllByRecursion (λ b. b ≢ 47) part
 
 -- the path of an endpoint, with this part if it has one
 abbrev pub IsPath : Endpoint → List ℕ → List ℕ → Type 0
 IsPath Traces part path = (part ≡ []) × (path ≡ codes "/api/traces")
-IsPath Trace part path = IsPart part × (path ≡ codes "/api/traces/" ++ part)
+IsPath Trace part path = IsSegment part × (path ≡ codes "/api/traces/" ++ part)
 IsPath Services part path = (part ≡ []) × (path ≡ codes "/api/services")
-IsPath OperationNames part path = IsPart part × (path ≡ codes "/api/services/" ++ (part ++ codes "/operations"))
+IsPath OperationNames part path = IsSegment part × (path ≡ codes "/api/services/" ++ (part ++ codes "/operations"))
 IsPath Operations part path = (part ≡ []) × (path ≡ codes "/api/operations")
 IsPath Dependencies part path = (part ≡ []) × (path ≡ codes "/api/dependencies")
 

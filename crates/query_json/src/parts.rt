@@ -48,7 +48,7 @@ fn total(part_len: usize, rest_len: u64) -> Result<usize, AllocError>
 
 impl AnswerParts {
     /// Walks the answer once, and allocates all that sending it needs. A text of at most about 256 KB is one part. The
-    /// first part of a larger one has about 256 KB, a later one about 16 KB, and at most one item more; an item here is a
+    /// first part of a larger one has about 256 KB, a later one about 16 KB, and at most one piece more; a piece is a
     /// name, an operation, an id, a link, or a span or a process of a trace.
     ///
     /// # Errors

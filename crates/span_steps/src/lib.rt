@@ -21,6 +21,6 @@ pub use conditions::{
     meets_span_conditions,
 };
 pub use references::{parent_first, parent_place, with_parent_first};
-pub use skew::{delta_between, moved_by};
+pub use skew::{delta_between, moved_by, wide};
 pub use warning::Warning;
-pub use window::{is_in_window, may_be_in_window};
+pub use window::{is_in_window, may_be_in_window, micros};

@@ -6,7 +6,7 @@ ghost use Rattle.trace_model.specs.ServiceLinks.{is_between};
 use crate::skew::{difference, wide};
 
 /// Converts milliseconds to microseconds.
-fn micros(ms: i128) -> i128
+pub fn micros(ms: i128) -> i128
     requires low { (pos 0 -ℤ pos (2 ^ 64)) ≤ℤ ms }
     requires high { ms ≤ℤ pos (2 ^ 64) }
     ensures { result ≡ pos 1000 *ℤ ms }

@@ -13,7 +13,7 @@ use Rattle.query_http.specs.declared.fault.Parameter.{Parameter}
 use Rattle.query_http.specs.declared.paths.Endpoint.{Endpoint}
 use Rattle.query_http.specs.declared.paths.Endpoint.TheVariants.{Traces, Trace, Services, OperationNames, Operations, Dependencies}
 use Rattle.query_http.specs.ReadResults.{AsksEndpoint}
-use Rattle.query_http.specs.Paths.{IsPart, IsPath, IsNoPath}
+use Rattle.query_http.specs.Paths.{IsSegment, IsPath, IsNoPath}
 use Rattle.query_http.specs.Queries.{path_of}
 use Rattle.query_http.proofs.PathLaws.{one_endpoint}
 use Rattle.step_lines.specs.declared.fault.StepFault.TheVariants.{NoSuchPath}
@@ -38,15 +38,15 @@ plain_found (b ∷ part) h = by (b == 47) refl (plain_found part h.1)
     by true e ih = absurd (h.0 (grind (arith, nat_tests)))
     by false e ih = ih
 
-is_part-from : (part : List ℕ) → IsPart part → is_part part ≡ true
+is_part-from : (part : List ℕ) → IsSegment part → is_part part ≡ true
 is_part-from part h =
     let some : nat_lt 0 (length part) ≡ true = lt-ltb _ _ h.some in
     rw (some, plain_found part h.plain) refl
 
-IsPart-from : (part : List ℕ) → is_part part ≡ true → IsPart part
-IsPart-from part h = by (nat_lt 0 (length part)) refl h
+IsSegment-from : (part : List ℕ) → is_part part ≡ true → IsSegment part
+IsSegment-from part h = by (nat_lt 0 (length part)) refl h
   where
-    by : (v : Bool) → nat_lt 0 (length part) ≡ v → (v && list_all (λ b. not (b == 47)) part) ≡ true → IsPart part
+    by : (v : Bool) → nat_lt 0 (length part) ≡ v → (v && list_all (λ b. not (b == 47)) part) ≡ true → IsSegment part
     by true e h = record { some = grind (arith, nat_tests); plain = plain_is part h }
     by false e h = absurd cc
 
@@ -62,14 +62,14 @@ whole_is text path part h = by (same_text path text) refl h
 whole_found : (text path part : List ℕ) → (part ≡ []) × (path ≡ text) → whole text path ≡ Some part
 whole_found text path part h = rw ((bytes_eq-Decides path text).1 h.1, h.0) refl
 
-part_if_is : (front end path p part : List ℕ) → part_if front end path p ≡ Some part → IsPart part × (path ≡ front ++ (part ++ end))
+part_if_is : (front end path p part : List ℕ) → part_if front end path p ≡ Some part → IsSegment part × (path ≡ front ++ (part ++ end))
 part_if_is front end path p part h = by (is_part p) (same_text path (front ++ (p ++ end))) refl refl h
   where
-    by : (v w : Bool) → is_part p ≡ v → same_text path (front ++ (p ++ end)) ≡ w → (if v && w then Some p else None) ≡ Some part → IsPart part
+    by : (v w : Bool) → is_part p ≡ v → same_text path (front ++ (p ++ end)) ≡ w → (if v && w then Some p else None) ≡ Some part → IsSegment part
         × (path ≡ front ++ (part ++ end))
     by true true i s h =
         let same : p ≡ part = cc in
-        (subst IsPart same (IsPart-from p i), (bytes_eq-Decides path (front ++ (p ++ end))).0 s ∙ ap (λ (x : List ℕ). front ++ (x ++ end)) same)
+        (subst IsSegment same (IsSegment-from p i), (bytes_eq-Decides path (front ++ (p ++ end))).0 s ∙ ap (λ (x : List ℕ). front ++ (x ++ end)) same)
     by true false i s h = absurd cc
     by false w i s h = absurd cc
 
@@ -78,7 +78,7 @@ inner_part_is front part end =
     rw (drop_at front (part ++ end) (length front) refl)
     (take_at part end _ (omega (arith, length-append front (part ++ end), length-append part end)))
 
-between_found : (front end path part : List ℕ) → IsPart part → path ≡ front ++ (part ++ end) → between front end path ≡ Some part
+between_found : (front end path part : List ℕ) → IsSegment part → path ≡ front ++ (part ++ end) → between front end path ≡ Some part
 between_found front end path part is e =
     let found : inner_part (length front) (length end) path ≡ part = ap (inner_part (length front) (length end)) e ∙ inner_part_is front part end in
     ap (part_if front end path) found ∙ rw (is_part-from part is, (bytes_eq-Decides path (front ++ (part ++ end))).1 e) refl

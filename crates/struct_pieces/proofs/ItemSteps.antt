@@ -7,14 +7,14 @@ use Rattle.wire_pieces.specs.declared.fault.PieceError.{PieceError}
 use Rattle.wire_pieces.specs.declared.heads.ListHead.{ListHead}
 use Rattle.wire_pieces.specs.Pieces.{Comes, NeedsMore, Refused, moment}
 use Rattle.wire_pieces.specs.Heads.{list_head}
-use Rattle.wire_pieces.specs.Lists.{items_from, with_beginning, behind_head}
+use Rattle.wire_pieces.specs.Lists.{items_from, with_beginning, items_after_head}
 use Rattle.wire_pieces.proofs.Steps.{comes-trans, comes-is, comes-inside}
 use Rattle.wire_pieces.proofs.ListSteps.{items-refuses, list-waits}
 use Rattle.batch_codec.specs.declared.fault.DecodeError.{DecodeError}
 use Rattle.batch_codec.specs.declared.fault.DecodeError.TheVariants.{Wire}
 use Rattle.batch_codec.specs.Decoding.{Reading, wire}
 use Rattle.value_pieces.specs.ContinuedCalls.{fault_of, ended, Faults}
-use Rattle.struct_pieces.specs.Lists.{items_behind, items_ended, list_from, list_state}
+use Rattle.struct_pieces.specs.Lists.{items_after, items_ended, list_from, list_state}
 use Rattle.value_pieces.proofs.CallSteps.{faults-lift, faults-inside}
 
 module _ {A : Type 0} (one : Reading A) where
@@ -38,27 +38,27 @@ module _ {A : Type 0} (one : Reading A) where
   behind-next items m (Err e) = refl
   behind-next items m (Ok y) = behind-of items y.0 (items_at one m y.1)
 
-  behind-is : (items : List A) (n m : ℕ) (w : List ℕ) → n ≡ suc m → items_behind one items n w ≡ items_from one items m one w
+  behind-is : (items : List A) (n m : ℕ) (w : List ℕ) → n ≡ suc m → items_after one items n w ≡ items_from one items m one w
   unfolding items_from items_at
   behind-is items n m w is = rw is (behind-next items m (one w))
 
   -- the first of n items
   pub behind-opens : (a : Reading (List A)) (items : List A) (n m : ℕ) (p w : List ℕ) → 0 < n → m ≡ n - 1
-      → Comes (moment a p) (moment (items_behind one items n) w)
+      → Comes (moment a p) (moment (items_after one items n) w)
       → Comes (moment a p) (moment (items_from one items m one) w)
   behind-opens a items n m p w lt is inv =
       let k : n ≡ suc m = omega (arith, is) in
-      comes-trans inv (comes-is (items_behind one items n) (items_from one items m one) w (λ u. behind-is items n m u k))
+      comes-trans inv (comes-is (items_after one items n) (items_from one items m one) w (λ u. behind-is items n m u k))
 
   -- a complete item
   pub item-done : (now : Reading A) (items next : List A) (m : ℕ) (x : A) (w v : List ℕ) → next ≡ items ++ x ∷ []
       → Comes (moment now w) (moment (λ u. Ok (x, u)) v)
-      → Comes (moment (items_from one items m now) w) (moment (items_behind one next m) v)
+      → Comes (moment (items_from one items m now) w) (moment (items_after one next m) v)
   unfolding items_from
   item-done now items next m x w v is g = rw is (comes-inside (λ y. with_beginning (items ++ y.0 ∷ []) (items_at one m y.1)) g)
 
   -- no more items
-  pub behind-none : (a : Reading (List A)) (items : List A) (n : ℕ) (p w : List ℕ) → n ≡ 0 → Comes (moment a p) (moment (items_behind one items n) w)
+  pub behind-none : (a : Reading (List A)) (items : List A) (n : ℕ) (p w : List ℕ) → n ≡ 0 → Comes (moment a p) (moment (items_after one items n) w)
       → Comes (moment a p) (moment (λ u. Ok (items, u)) w)
   unfolding items_at
   behind-none a items n p w is inv = comes-trans inv (record { same = λ rest. rw (is, append-nil items) refl })
@@ -82,12 +82,12 @@ module _ {A : Type 0} (one : Reading A) where
 
   -- the value that it makes
   pub ended-behind : (a : Reading (List A)) (items next : List A) (n : ℕ) (end : Result A DecodeError) (x : A) (p w : List ℕ) → end ≡ Ok x
-      → next ≡ items ++ x ∷ [] → Comes (moment a p) (moment (items_ended one items n end) w) → Comes (moment a p) (moment (items_behind one next n) w)
+      → next ≡ items ++ x ∷ [] → Comes (moment a p) (moment (items_ended one items n end) w) → Comes (moment a p) (moment (items_after one next n) w)
   ended-behind a items next n end x p w is push inv = comes-trans inv (record { same = λ rest. rw (is, push) refl })
 
   -- the first of n items, in place of the one before
   pub item-next : (a : Reading (List A)) (items : List A) (n m : ℕ) (now : Reading A) (p w : List ℕ) → 0 < n → m ≡ n - 1 → ((u : List ℕ) → now u ≡ one u)
-      → Comes (moment a p) (moment (items_behind one items n) w) → Comes (moment a p) (moment (items_from one items m now) w)
+      → Comes (moment a p) (moment (items_after one items n) w) → Comes (moment a p) (moment (items_from one items m now) w)
   unfolding items_from
   item-next a items n m now p w lt is same inv =
       comes-trans (behind-opens a items n m p w lt is inv)
@@ -95,14 +95,14 @@ module _ {A : Type 0} (one : Reading A) where
       (λ u. ap (λ r. r >>= λ y. with_beginning (items ++ y.0 ∷ []) (items_at one m y.1)) (sym (same u))))
 
   -- after the head of a list
-  pub head-none : (c n : ℕ) (w : List ℕ) → n ≡ 0 → Comes (moment (behind_head wire 12 one (c, n)) w) (moment (λ u. Ok ([], u)) w)
+  pub head-none : (c n : ℕ) (w : List ℕ) → n ≡ 0 → Comes (moment (items_after_head wire 12 one (c, n)) w) (moment (λ u. Ok ([], u)) w)
   unfolding items_at
   head-none c n w is = record { same = λ rest. rw is refl }
 
 module _ {A P : Type 0} (one : Reading A) (res : P → Reading A) (items : List A) (left : ℕ) (p : ListHead) where
   pub head-faults : (w : List ℕ) (e : PieceError) → Refused (moment (list_head p) w) e
       → Faults (list_from one res (list_state items left p None)) w (fault_of e)
-  head-faults w e g = faults-inside (λ h. behind_head wire 12 one h.0 h.1) _ w (fault_of e) (faults-lift (list_head p) w e g)
+  head-faults w e g = faults-inside (λ h. items_after_head wire 12 one h.0 h.1) _ w (fault_of e) (faults-lift (list_head p) w e g)
 
   pub head-waits : (q : ListHead) (w v : List ℕ) → NeedsMore Truncated (moment (list_head p) w) (moment (list_head q) v)
       → NeedsMore (Wire Truncated) (moment (list_from one res (list_state items left p None)) w) (moment (list_from one res (list_state items left q None)) v)

@@ -1,4 +1,4 @@
--- A partially received list of structs.
+-- A partially received list of structs. The type code of a struct, 12, is written out on purpose.
 use Rattle.std.specs.Prelude.{ℕ, List, [], ◌∷◌, ◌++◌, Option, Some, None, Result}
 use Rattle.thrift_binary.specs.Reading.{◌>>=◌}
 use Rattle.thrift_binary.specs.Lists.{items_at}
@@ -28,8 +28,8 @@ list_from one resumes list w =
     list_part (list_head_from wire 12 one list.head) (λ p. items_from one list.items list.left (resumes p)) list.one w
 
 -- n items after those that have arrived
-abbrev pub items_behind : {A : Type 0} → Reading A → List A → ℕ → Reading (List A)
-items_behind one items n w = with_beginning items (items_at one n w)
+abbrev pub items_after : {A : Type 0} → Reading A → List A → ℕ → Reading (List A)
+items_after one items n w = with_beginning items (items_at one n w)
 
 -- after the items that have arrived, one whose bytes have arrived, which may be a fault, and n others
 abbrev pub items_ended : {A : Type 0} → Reading A → List A → ℕ → Result A DecodeError → Reading (List A)

@@ -12,7 +12,7 @@ ghost use Rattle.batch_codec.specs.Decoding.{wire};
 ghost use Rattle.value_pieces.specs.ContinuedCalls.{Attempts, Enters, ContinuesTo, IsTruncated};
 ghost use Rattle.struct_pieces.specs.TriedFields.{Tries};
 ghost use Rattle.struct_pieces.specs.Fields.{IsFresh, Opens, ReadsFields, fields_from, struct_at};
-ghost use Rattle.value_pieces.specs.LeastBytes.{IsPart, least_bytes};
+ghost use Rattle.value_pieces.specs.LeastBytes.{IsTooShort, least_bytes};
 
 use batch_codec::{DecodeError, Decoded};
 use std::alloc::Global;
@@ -81,7 +81,7 @@ pub trait PieceSlots: Drop + Sized {
 
     /// Returns whether the value is between two fields of the innermost struct that has begun in it.
     fn is_between_fields(held: &Self::PartialField) -> bool
-        ensures wants { result ≡ true → (s : Self) (w : List ℕ) → IsPart w →
+        ensures wants { result ≡ true → (s : Self) (w : List ℕ) → IsTooShort w →
             resumes s held.now w ≡ Err (Wire Truncated) };
 
     fn whole(self) -> Decoded<Self::Output>

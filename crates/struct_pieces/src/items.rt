@@ -1,14 +1,14 @@
 ghost use Rattle.std.specs.Prelude.{◌≡◌, ◌≤◌, ℕ, List, Err, true, length, OnOk};
 ghost use Rattle.thrift_binary.specs.declared.fault.WireError.TheVariants.{Truncated};
 ghost use Rattle.thrift_binary.specs.Lists.{list_of};
-ghost use Rattle.wire_pieces.specs.Lists.{behind_head, items_from};
+ghost use Rattle.wire_pieces.specs.Lists.{items_after_head, items_from};
 ghost use Rattle.wire_pieces.specs.Pieces.{moment};
 ghost use Rattle.batch_codec.specs.declared.fault.DecodeError.TheVariants.{Wire};
 ghost use Rattle.batch_codec.specs.Decoding.{wire};
 ghost use Rattle.value_pieces.specs.ContinuedCalls.{Enters, ContinuesTo, Lays, Places, slot_moment};
 ghost use Rattle.struct_pieces.specs.NewLists.{Enlists};
-ghost use Rattle.struct_pieces.specs.Lists.{items_behind, items_ended, list_from, list_state};
-ghost use Rattle.value_pieces.specs.LeastBytes.{IsPart};
+ghost use Rattle.struct_pieces.specs.Lists.{items_after, items_ended, list_from, list_state};
+ghost use Rattle.value_pieces.specs.LeastBytes.{IsTooShort};
 
 use crate::fields::{Step, hold_next};
 use batch_codec::{DecodeError, Decoded, room};
@@ -29,7 +29,7 @@ fn begin_items<P: Item>(
     piece: &mut Cursor<'_>,
 ) -> Decoded<Arrival>
     ensures continues { Enters items.new.items
-        (moment (items_behind P.reads items.old.items left.old) piece.old)
+        (moment (items_after P.reads items.old.items left.old) piece.old)
         (record {
           resumes = λ p. items_from P.reads items.new.items left.new (P.Partial.resumes p);
           part = one.new;
@@ -110,7 +110,7 @@ impl<P: Item> PartialList<P> {
 
     /// Returns whether it is between two fields of the innermost struct that has begun in it.
     pub fn is_between_fields(&self) -> bool
-        ensures wants { result ≡ true → (w : List ℕ) → IsPart w →
+        ensures wants { result ≡ true → (w : List ℕ) → IsTooShort w →
             list_from P.reads P.Partial.resumes
             (list_state self.now.items.items self.now.left self.now.head self.now.one)
             w ≡ Err (Wire Truncated) }
@@ -131,7 +131,7 @@ impl<P: Item> PartialList<P> {
         piece: &mut Cursor<'_>,
     ) -> Decoded<Arrival>
         ensures continues { ContinuesTo self.new.items.items
-            (moment (behind_head wire STRUCT P.reads (code, size)) piece.old)
+            (moment (items_after_head wire STRUCT P.reads (code, size)) piece.old)
             (moment (list_from P.reads P.Partial.resumes
             (list_state self.new.items.items self.new.left self.new.head self.new.one))
             piece.new) result }

@@ -5,7 +5,7 @@ ghost use Rattle.batch_codec.specs.declared.fault.DecodeError.TheVariants.{Wire}
 ghost use Rattle.struct_pieces.specs.declared.fields.Step.{Step};
 ghost use Rattle.value_pieces.specs.ContinuedCalls.{BeginsValue};
 ghost use Rattle.struct_pieces.specs.Fields.{made_of, struct_at, struct_from, struct_reading};
-ghost use Rattle.value_pieces.specs.LeastBytes.{IsPart};
+ghost use Rattle.value_pieces.specs.LeastBytes.{IsTooShort};
 
 use crate::fields::{Fields, PieceSlots, Step, enter_fields, is_truncated, more_fields};
 use batch_codec::Decoded;
@@ -131,7 +131,7 @@ fn made<S: PieceSlots>(slots: S) -> Decoded<Option<S::Output>>
 impl<S: PieceSlots> Struct<S> {
     /// Returns whether it is between two fields of the innermost struct that has begun.
     pub fn is_between(&self) -> bool
-        ensures wants { result ≡ true → (w : List ℕ) → IsPart w →
+        ensures wants { result ≡ true → (w : List ℕ) → IsTooShort w →
             struct_from (struct_reading S.takes S.resumes S.makes) self.now.slots self.now.step w ≡
             Err (Wire Truncated) }
     {

@@ -167,7 +167,7 @@ impl<'t, 's> ClockedTrace<'t, 's> {
         let order = downward_order(alloc, self.parents)?;
         let mut deltas = KnownDeltas::none(alloc, self.spans.len())?;
         for place in order {
-            // True of each place of the order. No clause says so.
+            // Impossible: a place past the spans, since the order is of their places. No clause says so.
             if place < self.spans.len() {
                 self.set_delta(&mut deltas, place);
             }

@@ -3,7 +3,7 @@ ghost use Rattle.thrift_binary.specs.declared.fault.WireError.TheVariants.{Trunc
 ghost use Rattle.wire_pieces.specs.Pieces.{moment};
 ghost use Rattle.batch_codec.specs.declared.fault.DecodeError.{DecodeError};
 ghost use Rattle.batch_codec.specs.declared.fault.DecodeError.TheVariants.{Wire};
-ghost use Rattle.value_pieces.specs.LeastBytes.{IsPart};
+ghost use Rattle.value_pieces.specs.LeastBytes.{IsTooShort};
 ghost use Rattle.value_pieces.specs.ContinuedCalls.{Arrives, BeginsValue, Continues, Places, fault_of, slot_moment};
 
 use batch_codec::{DecodeError, Decoded};
@@ -46,7 +46,7 @@ pub trait Item: Partial {
 
     /// Returns whether the value is between two fields of the innermost struct that has begun in it.
     fn is_between_fields(&self) -> bool
-        ensures wants { result ≡ true → (w : List ℕ) → IsPart w →
+        ensures wants { result ≡ true → (w : List ℕ) → IsTooShort w →
             Self.resumes self.now w ≡ Err (Wire Truncated) };
 
     /// Begins a value in a piece. Returns the value if it is complete, and else what has arrived of it.

@@ -7,7 +7,7 @@ use Rattle.thrift_binary.specs.Lists.{items_at, list_of}
 use Rattle.wire_pieces.specs.Pieces.{NeedsMore, Refuses, Reader, moment}
 use Rattle.wire_pieces.specs.declared.heads.ListHead.{ListHead}
 use Rattle.wire_pieces.specs.Heads.{list_head}
-use Rattle.wire_pieces.specs.Lists.{items_from, with_beginning, behind_head, list_head_from}
+use Rattle.wire_pieces.specs.Lists.{items_from, with_beginning, items_after_head, list_head_from}
 use Rattle.wire_pieces.proofs.Steps.{waits-inside, refuses-inside, waits-lift}
 
 module _ {A E : Type 0} (one : Reader A E) where
@@ -27,8 +27,8 @@ module _ {A E : Type 0} (one : Reader A E) where
   module _ (wire : WireError → E) (c : ℕ) where
     pub list-fresh : (got : ListHead) → ((w : List ℕ) → list_head got w ≡ list_at w) → (w : List ℕ) → list_head_from wire c one got w ≡ list_of wire c one w
     unfolding list_of
-    list-fresh got fresh w = ap (λ r. lift wire r >>= λ h. behind_head wire c one h.0 h.1) (fresh w)
+    list-fresh got fresh w = ap (λ r. lift wire r >>= λ h. items_after_head wire c one h.0 h.1) (fresh w)
 
     pub list-waits : (got next : ListHead) (w v : List ℕ) → NeedsMore Truncated (moment (list_head got) w) (moment (list_head next) v)
         → NeedsMore (wire Truncated) (moment (list_head_from wire c one got) w) (moment (list_head_from wire c one next) v)
-    list-waits got next w v g = waits-inside (λ h. behind_head wire c one h.0 h.1) (waits-lift wire g)
+    list-waits got next w v g = waits-inside (λ h. items_after_head wire c one h.0 h.1) (waits-lift wire g)

@@ -17,9 +17,9 @@ unfoldable pub items_from : {A E : Type 0} → Reader A E → List A → ℕ →
 items_from one items n now w = now w >>= λ x. with_beginning (items ++ x.0 ∷ []) (items_at one n x.1)
 
 -- what follows the head of a list of values of the type c
-abbrev pub behind_head : {A E : Type 0} → (WireError → E) → ℕ → Reader A E → ℕ × ℕ → Reader (List A) E
-behind_head wire c one h w = if (h.1 == 0) || (h.0 == c) then items_at one h.1 w else Err (wire BadType)
+abbrev pub items_after_head : {A E : Type 0} → (WireError → E) → ℕ → Reader A E → ℕ × ℕ → Reader (List A) E
+items_after_head wire c one h w = if (h.1 == 0) || (h.0 == c) then items_at one h.1 w else Err (wire BadType)
 
 -- a list with a partially received head
 abbrev pub list_head_from : {A E : Type 0} → (WireError → E) → ℕ → Reader A E → ListHead → Reader (List A) E
-list_head_from wire c one p w = lift wire (list_head p w) >>= λ h. behind_head wire c one h.0 h.1
+list_head_from wire c one p w = lift wire (list_head p w) >>= λ h. items_after_head wire c one h.0 h.1

@@ -1,6 +1,6 @@
 use Rattle.std.proofs.Common.{◌≡◌, ◌++◌, List, ℕ, drop, sym, ap, ◌∙◌, subst}
 use Rattle.std.specs.Prelude.{codes}
-use Rattle.query_http.specs.Paths.{IsPart}
+use Rattle.query_http.specs.Paths.{IsSegment}
 use Rattle.std.proofs.lemmas.List.{append_cancel_right}
 use Rattle.query_http.proofs.paths.part_of.Goals as goal
 
@@ -16,4 +16,4 @@ returns-in-OperationNames c =
     c.strip_prefix-in-OperationNames.ensures ∙ ap (λ (x : List ℕ). codes "/api/services/" ++ x) c.strip_suffix.ensures in
     let rest : p.0 ++ codes "/operations" ≡ c.strip_suffix.result.now ++ codes "/operations" = ap (λ (x : List ℕ). drop 14 x) (sym p.1.1 ∙ whole) in
     let same : p.0 ≡ c.strip_suffix.result.now = append_cancel_right p.0 c.strip_suffix.result.now (codes "/operations") rest in
-    rw c.in-OperationNames.is (subst (λ (x : List ℕ). IsPart x) same p.1.0, whole)
+    rw c.in-OperationNames.is (subst (λ (x : List ℕ). IsSegment x) same p.1.0, whole)

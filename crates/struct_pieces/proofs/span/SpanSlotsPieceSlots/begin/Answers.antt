@@ -7,7 +7,8 @@ use Rattle.batch_codec.specs.LogReading.{log_at}
 use Rattle.batch_codec.specs.ReferenceReading.{reference_at}
 use Rattle.struct_pieces.proofs.span.SpanSlotsPieceSlots.begin.Goals as goal
 use Rattle.struct_pieces.proofs.span.SpanSlotsPieceSlots.begin.Goals.{in_default-via-in-10+in_default, in_default-via-in-11+in_default}
-use Rattle.struct_pieces.proofs.span.SpanSlotsPieceSlots.begin.Goals.{in_default-via-in-15+in_default, in_default-via-in-8+in_default, in_default-via-in_default}
+use Rattle.struct_pieces.proofs.span.SpanSlotsPieceSlots.begin.Goals.{in_default-via-in-15+in_default, in_default-via-in-8+in_default}
+use Rattle.struct_pieces.proofs.span.SpanSlotsPieceSlots.begin.Goals.{in_default-via-in_default}
 
 pub returns-in-15-eq6 : goal.returns-in-15-eq6
 unfolding take_span tag_at log_at reference_at
