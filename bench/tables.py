@@ -171,7 +171,7 @@ class Results:
             versions = "" if re.search(r"\d\.\d", it["peers"]) else ", version not written down"
             parts.append(f"the others by {it['peers']}{versions}")
         if it.get("load"):
-            parts.append("nothing else ran" if it["load"] == "none" else f"load {it['load']}")
+            parts.append("nothing else ran" if it["load"] == "none" else it["load"] if it["load"].startswith("beside") else f"load {it['load']}")
         return note(parts)
 
 
@@ -759,7 +759,7 @@ def gate_quotes(found):
     yield "docs/MAINTAINING.md", f"`rt try` took {built} CPU minutes and {waited} of wall-clock time, beside three other jobs"
     yield "README.md", f"compiles the program unproved and runs it, which took {waited} minutes beside other jobs"
     yield "README.md", f"tries {len(glob.glob('crates/*/must-fail/*.edit', root_dir=results.ROOT))} wrong bodies"
-    yield "README.md", f"`rt ci` took {clock} minutes, of commit {commit}, alone on four cores of 2.5 GHz"
+    yield "README.md", f"`rt ci` took {clock} minutes, of commit {commit}, on four cores of 2.5 GHz"
     least, most = found.of("proofs", "a test crate before its first test")
     once, often = found.of("proofs", "a public function whose contract names much, once a crate")
     yield "docs/MAINTAINING.md", f"{least} to {most} seconds of a processor to read what it stands on, and {once} to {often} once for each public function"
