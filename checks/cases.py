@@ -20,6 +20,11 @@ from crates import asked_of
 TOP = Path(__file__).resolve().parent.parent
 CASES = TOP / "cases"
 ENDINGS = ("", ".args", ".stdout")
+TRANSCRIPT = ".transcript"
+PROMPT = "$ jaeger_one"
+# `rt try` calls the program `program`, and these texts name it as it was called.
+CALLED = {"Usage: jaeger_one <COMMAND>": "Usage: program <COMMAND>",
+          "'jaeger_one' requires a subcommand": "'program' requires a subcommand"}
 LINE = re.compile(r"case=(\S+) run=(\S+) (?:status=(\d+) )?.*?(?:output=(\S+) )?proved=no")
 
 
@@ -33,8 +38,33 @@ def statuses():
 
 
 def inputs(subject):
-    """The names of a subject's cases: each has three files there, or some are missing."""
-    return sorted({it.name.split(".")[0] for it in (CASES / subject).iterdir()})
+    """The names of a subject's cases that have three files: each is there, or some are missing."""
+    files = [it for it in (CASES / subject).iterdir() if it.suffix != TRANSCRIPT]
+    return sorted({it.name.split(".")[0] for it in files})
+
+
+def runs(transcript):
+    """The runs of a transcript, each the arguments and the output. A line with the prompt begins one."""
+    lines = transcript.read_text().splitlines(keepends=True)
+    starts = [at for at, line in enumerate(lines) if line.startswith(PROMPT)]
+    for start, end in zip(starts, [*starts[1:], len(lines)]):
+        output = "".join(lines[start + 1:end])
+        for text, called in CALLED.items():
+            output = output.replace(text, called)
+        yield lines[start].removeprefix(PROMPT).split(), output
+
+
+def gather_runs(subject, room):
+    """Copies the runs of a subject's transcripts as cases without input. Gives each one's name by its file's."""
+    names = {}
+    for transcript in sorted((CASES / subject).glob(f"*{TRANSCRIPT}")):
+        for number, (arguments, output) in enumerate(runs(transcript), 1):
+            flat = f"{subject}-{transcript.stem}-{number}"
+            names[flat] = f"{subject}/{transcript.stem} {number}"
+            contents = ("", "".join(f"{it}\n" for it in arguments), output)
+            for ending, content in zip(ENDINGS, contents):
+                Path(f"{room}/{flat}{ending}").write_text(content)
+    return names
 
 
 def gather(subjects, room):
@@ -47,6 +77,7 @@ def gather(subjects, room):
             if all(it.exists() for it in files.values()):
                 for ending, file in files.items():
                     shutil.copyfile(file, f"{room}/{subject}-{name}{ending}")
+        names.update(gather_runs(subject, room))
     return names
 
 
@@ -87,9 +118,12 @@ def main():
     wrong = {}
     for flat, name in names.items():
         case = found.get(flat)
-        wrong[name] = fault(case, wanted.get(name, 0)) if case else "it wasn't run, or lacks a file"
+        # (a run of a transcript has its number behind the name)
+        status = wanted.get(name.split()[0], 0)
+        wrong[name] = fault(case, status) if case else "it wasn't run, or lacks a file"
+    known = {name.split()[0] for name in wrong}
     for name in wanted:
-        if name.split("/")[0] in subjects and name not in wrong:
+        if name.split("/")[0] in subjects and name not in known:
             wrong[name] = "statuses.txt names it, but there is no such case"
     failed = {name: why for name, why in wrong.items() if why}
     for name, why in failed.items():

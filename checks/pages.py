@@ -98,7 +98,7 @@ class Names:
         """Takes in the names of definitions, of what scripts and samples call something, and the options."""
         self.options = set()
         for file in self.files:
-            if file.endswith((".antt", ".py", ".rs", ".thrift", ".c", ".cpp")) and "/proofs/" not in file:
+            if file.endswith((".antt", ".py", ".rs", ".thrift", ".c", ".cpp", ".transcript")) and "/proofs/" not in file:
                 self.plain.update(re.findall(r"\w+", (TOP / file).read_text(encoding="utf-8")))
             if file.endswith(".py"):
                 self.options.update(re.findall(r'"(--[a-z-]+)"', (TOP / file).read_text(encoding="utf-8")))

@@ -21,7 +21,7 @@ use std::io::Write;
 use text_lines::ExitStatus;
 
 /// The upper ends of the options' ranges, as clap takes them. The help texts repeat them as digits: a text made of a
-/// constant would need memory. `program_tests` compares the texts.
+/// constant would need memory. `cases/arguments` compares the texts.
 const WORKERS_END: i64 = MAX_WORKERS as i64;
 
 const QUEUE_END: i64 = MAX_QUEUE as i64;

@@ -5,8 +5,7 @@
 //! * `sessions`: a session over a store, which the others run with devices of their own.
 //! * `pipes`: complete sessions, also with devices that fail at each call, and one in which memory runs out.
 //! * `reads`: a request, or why it is malformed, without an unnecessary read; a body that is put as it comes.
-//! * `chunked`: chunked bodies, also the largest one, and the same responses as to a body with a Content-Length.
-//! * `large`: answers that are sent in several parts, and an output that fails inside one.
+//! * `large`: answers that are sent in several parts.
 //! * `turns`: no read before the responses to the requests read are written.
 //! * `slow_readers`: clients that take a few bytes of a response at a time.
 //! * `refusals`: each refusal of a store as a response.

@@ -1,7 +1,6 @@
 //! The tests, by their subject, and what they share.
 
 mod answers;
-mod chunked;
 mod large;
 mod pipes;
 mod reads;

@@ -3,7 +3,6 @@
 //!
 //! * `limits`: the text of a refusal.
 //! * `stores`: `span_store`, queried as the plain store of its entries, and the memory for it.
-//! * `collisions`: ids and names that a key doesn't spread.
 //! * `large`: a store of many entries.
 //! * `adjusters`: `trace_adjust`, with a long chain.
 //! * `entries`, `queries`, `replays`, `shown`: entries and queries for these, the answers of stores, and what an answer

@@ -1,7 +1,6 @@
 //! The tests, by their subject, and what they share.
 
 mod adjusters;
-mod collisions;
 mod entries;
 mod large;
 mod limits;

@@ -1,9 +1,6 @@
 //! Answers that are sent in several parts.
 
-use crate::tests::sessions::{
-    AMPLE, Devices, End, closed_by_client, is_played, joined, played_over, run, store_for,
-    unwritten,
-};
+use crate::tests::sessions::{AMPLE, closed_by_client, joined, played_over, run, store_for};
 use crate::tests::turns::Counter;
 use pipe_session::Direct;
 use session_devices::MemoryInput;
@@ -39,37 +36,6 @@ pub(crate) fn two_requests(alloc: Global) -> Result<(Vec<u8>, Vec<u8>), Fail> {
     let bytes = round_letters(alloc, &[POST_LETTERS], &[&BATCH[11..], SERVICES])?;
     let wanted = round_letters(alloc, &[ACCEPTED, HEAD], &[TAIL])?;
     Ok((bytes, wanted))
-}
-
-/// Returns how a session ends whose output has room for `room` of the `all` bytes of two responses.
-fn ended_at(room: usize, all: usize) -> End {
-    if room >= all {
-        closed_by_client(2)
-    } else {
-        unwritten(1, room.saturating_sub(ACCEPTED.len()) as u64)
-    }
-}
-
-/// Returns whether a session with both requests writes the two responses as far as there is room.
-fn is_written_up_to(alloc: Global, keys: RandomState, room: usize) -> Result<bool, Fail> {
-    let (bytes, wanted) = two_requests(alloc)?;
-    let written = wanted.len().min(room);
-    let ended = ended_at(room, wanted.len());
-    let devices = Devices { room, ..AMPLE };
-    is_played(alloc, keys, &bytes, devices, (ended, &wanted[..written]))
-}
-
-/// The output fails before the head, inside it and after it, at the end of a part of 16,384 bytes and inside others,
-/// and before the last byte. With room for all, everything is written.
-#[test]
-fn a_writer_that_fails_inside_a_large_answer(rt: HostRuntime) -> Result<(), Fail> {
-    let keys = RandomState::new(&rt)?;
-    for room in [
-        44, 45, 74, 118, 119, 10_118, 16_502, 16_503, 30_000, 40_175, 40_176, 50_000,
-    ] {
-        assert!(rt; is_written_up_to(rt.alloc(), keys, room)?);
-    }
-    Ok(())
 }
 
 /// The number of services and of operations that have long names, each of which ends in three digits.

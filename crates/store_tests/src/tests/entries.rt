@@ -3,7 +3,7 @@
 use jaeger_model::{Span, TraceId};
 use std::alloc::{AllocError, Global};
 use std::sync::Arc;
-use trace_model::{Entry, TraceLimit, Work};
+use trace_model::{Entry, Work};
 use trace_samples::{batch, submitted};
 
 /// The trace with this low half of an id, and 0 above it.
@@ -33,13 +33,4 @@ pub(crate) fn entry(
     spans: Vec<Span>,
 ) -> Result<Arc<Entry>, AllocError> {
     sent_entry(alloc, (seat, number), None, service, spans)
-}
-
-/// Makes the entry of a trace limit that seat 0 submitted with the number.
-pub(crate) fn limit(
-    alloc: Global,
-    number: u64,
-    traces: TraceLimit,
-) -> Result<Arc<Entry>, AllocError> {
-    submitted(alloc, 0, number, Work::TraceLimit(traces))
 }

@@ -1,4 +1,4 @@
-use crate::tests::entries::{entry, id, limit};
+use crate::tests::entries::{entry, id};
 use crate::tests::queries::{operation_names, operations};
 use crate::tests::sameness::same_answer;
 use jaeger_model::{Seq, Span, SpanId, Tag, Text};
@@ -8,7 +8,7 @@ use std::hash::RandomState;
 use std::mem::drop;
 use std::sync::Arc;
 use std::test::*;
-use trace_model::{Entry, Find, Limits, Query, Refusal, TraceLimit};
+use trace_model::{Entry, Find, Limits, Query, Refusal};
 use trace_samples::{beside, kept, list_of, span, text_tag};
 
 /// A number that looks random and is the same in every run.
@@ -163,146 +163,6 @@ fn same_answers(alloc: Global, store: &SpanStore, seed: u64) -> Result<bool, All
             && same_searches(alloc, store, seed)?
             && same_searches(alloc, store, after(after(seed)))?,
     )
-}
-
-/// Three traces, and the next seed.
-fn three_traces(seed: u64) -> ([u64; 3], u64) {
-    let first = after(seed);
-    let second = after(first);
-    let third = after(second);
-    (
-        [(first >> 60) % 4, (second >> 60) % 4, (third >> 60) % 4],
-        third,
-    )
-}
-
-/// Applies an entry, which has to be accepted, and queries the store for everything.
-fn grow(
-    alloc: Global,
-    store: &mut SpanStore,
-    entry: Arc<Entry>,
-    seed: u64,
-) -> Result<bool, AllocError> {
-    let place = store.apply(entry);
-    Ok(place == Ok(store.len()) && same_answers(alloc, store, seed)?)
-}
-
-/// An entry by the seed, and the next seed.
-type Next = Result<(Arc<Entry>, u64), AllocError>;
-
-/// An entry with spans of three traces.
-fn next_batch(alloc: Global, number: u64, seed: u64) -> Next {
-    let (traces, seed) = three_traces(seed);
-    Ok((entry_of(alloc, number, &traces)?, seed))
-}
-
-/// For one seed in three a limit of at most three traces.
-fn any_limit(seed: u64) -> Option<TraceLimit> {
-    if (seed >> 32) % 3 == 0 {
-        TraceLimit::new(((seed >> 40) % 4) as u32)
-    } else {
-        None
-    }
-}
-
-/// One in three is a limit of at most three traces, the others hold spans of three.
-fn any_entry(alloc: Global, number: u64, seed: u64) -> Next {
-    let seed = after(seed);
-    match any_limit(seed) {
-        Some(traces) => Ok((limit(alloc, number, traces)?, seed)),
-        None => next_batch(alloc, number, seed),
-    }
-}
-
-/// What a history is made of.
-#[derive(Clone, Copy)]
-enum History {
-    /// Eight batches.
-    Batches,
-    /// Twelve entries, limits among them.
-    Limits,
-}
-
-impl History {
-    fn len(self) -> u64 {
-        match self {
-            History::Batches => 8,
-            History::Limits => 12,
-        }
-    }
-
-    fn next(self, alloc: Global, number: u64, seed: u64) -> Next {
-        match self {
-            History::Batches => next_batch(alloc, number, seed),
-            History::Limits => any_entry(alloc, number, seed),
-        }
-    }
-}
-
-/// Applies the history. Returns whether the store answered as the plain one after each entry, and the next seed.
-fn grown(
-    alloc: Global,
-    store: &mut SpanStore,
-    history: History,
-    mut seed: u64,
-) -> Result<(bool, u64), AllocError> {
-    let mut same = true;
-    for before in 0..history.len() {
-        let (entry, next) = history.next(alloc, before.saturating_add(1), seed)?;
-        seed = next;
-        same = same && grow(alloc, store, entry, seed)?;
-    }
-    Ok((same, seed))
-}
-
-/// Opens a store with this limit of traces, applies the history, and compares it with the plain store, also before.
-fn same_history(
-    alloc: Global,
-    keys: RandomState,
-    traces: u32,
-    history: History,
-    seed: u64,
-) -> Result<(bool, u64), Fail> {
-    let limits = Limits::new(20, 40, traces, 300).ok_or("limits")?;
-    let mut store = SpanStore::open(alloc, keys, limits)?;
-    let is_empty = store.is_empty();
-    let before = same_answers(alloc, &store, seed);
-    let said = grown(alloc, &mut store, history, seed);
-    drop(store);
-    let (same, seed) = said?;
-    Ok((is_empty && before? && same, seed))
-}
-
-/// Compares the history in stores with these limits of traces, one after the other.
-fn same_histories(
-    alloc: Global,
-    keys: RandomState,
-    limits: [u32; 4],
-    history: History,
-    mut seed: u64,
-) -> Result<bool, Fail> {
-    let mut all = true;
-    for traces in limits {
-        let (same, next) = same_history(alloc, keys, traces, history, seed)?;
-        seed = next;
-        all = all && same;
-    }
-    Ok(all)
-}
-
-#[test]
-fn as_the_plain_store(rt: HostRuntime) -> Result<(), Fail> {
-    let keys = RandomState::new(&rt)?;
-    assert!(rt; same_histories(rt.alloc(), keys, [0, 1, 2, 3], History::Batches, 1)?);
-    Ok(())
-}
-
-/// Limits among the batches, in stores that open with a limit and without one.
-#[test]
-fn limits_as_the_plain_store(rt: HostRuntime) -> Result<(), Fail> {
-    let keys = RandomState::new(&rt)?;
-    assert!(rt; same_histories(rt.alloc(), keys, [0, 2, 0, 3], History::Limits, 2)?);
-    Ok(())
 }
 
 /// Adds 51 entries, each with spans of four traces.

@@ -1,7 +1,6 @@
 //! However the bytes of a batch are cut, the result of a piece depends on the bytes so far, and that of the end on all.
 
 use crate::tests::large::many_spans;
-use crate::tests::piece_faults::nested;
 use crate::tests::piece_samples::CASES;
 use batch_codec::{DecodeError, decode};
 use batch_feeder::{Feeder, decode_pieces};
@@ -152,24 +151,6 @@ fn are_same_bytes(alloc: Global, bytes: &[u8]) -> Result<bool, AllocError> {
 #[test]
 fn any_cut(rt: HostRuntime) -> Result<(), Fail> {
     assert!(rt; same_lines(rt.alloc(), CASES)? == 28);
-    Ok(())
-}
-
-/// Returns whether a skipped value with this number of levels below one of this type has the same result in pieces as
-/// in one.
-fn is_same_nested(alloc: Global, first: usize, below: usize) -> Result<bool, AllocError> {
-    let bytes = nested(alloc, first, below)?;
-    are_same_bytes(alloc, &bytes)
-}
-
-/// Skipped values of 64 levels of containers, and of 65, from each type of container on.
-#[test]
-fn any_cut_of_each_level(rt: HostRuntime) -> Result<(), Fail> {
-    let alloc = rt.alloc();
-    for first in 0..4 {
-        assert!(rt; is_same_nested(alloc, first, 63)?);
-        assert!(rt; is_same_nested(alloc, first, 64)?);
-    }
     Ok(())
 }
 

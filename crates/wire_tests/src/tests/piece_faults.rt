@@ -121,13 +121,6 @@ fn before_the_size(bytes: &[u8]) -> &[u8] {
     }
 }
 
-#[test]
-fn bytes_before_a_size(rt: HostRuntime) {
-    for bytes in CLAIMS {
-        assert!(rt; is_short(rt.alloc(), before_the_size(bytes)));
-    }
-}
-
 /// Returns whether the bytes with a size below 0 in place of theirs are too few before its last byte, and refused with
 /// it.
 fn is_refused_below_0(alloc: Global, claim: &[u8]) -> Result<bool, AllocError> {
@@ -179,7 +172,7 @@ fn hold_none(bytes: &mut Vec<u8>, code: u8) -> Result<(), AllocError> {
 }
 
 /// Returns a batch after an unknown field: nested containers from the one of this level on, one more than this number.
-pub(crate) fn nested(alloc: Global, first: usize, below: usize) -> Result<Vec<u8>, AllocError> {
+fn nested(alloc: Global, first: usize, below: usize) -> Result<Vec<u8>, AllocError> {
     let mut bytes = Vec::new(alloc);
     bytes.extend_from_slice(&[code_at(first), 0, 9])?;
     let last = first.saturating_add(below);

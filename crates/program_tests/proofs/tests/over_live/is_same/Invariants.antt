@@ -1,4 +1,4 @@
-use Rattle.serve_tests.proofs.tests.over_live.is_same.Given as goal
+use Rattle.program_tests.proofs.tests.over_live.is_same.Given as goal
 
 -- the store that is opened here
 abbrev pub ghosts-live_bytes : goal.ghosts-live_bytes
