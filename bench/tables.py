@@ -755,11 +755,11 @@ def gate_quotes(found):
     yield "docs/MAINTAINING.md", f"{sum(it[2] or 0 for it in parts):.0f} of the CPU minutes went into the {tried} wrong bodies"
     yield "docs/MAINTAINING.md", f"which see {sum(it[1] for it in parts):.0f} of the {processor} minutes"
     yield "docs/MAINTAINING.md", f"`rt ci` [{clock} minutes](#what-it-costs)"
-    _, built, _, waited = found.of("gate", "rt try of the program in a fresh clone, beside three other jobs")
-    yield "docs/MAINTAINING.md", f"`rt try` took {built} CPU minutes and {waited} of wall-clock time, beside three other jobs"
+    _, built, _, waited = found.of("gate", "rt try of the program in a fresh clone, beside other jobs")
+    yield "docs/MAINTAINING.md", f"`rt try` took {built} CPU minutes and {waited} of wall-clock time, beside other jobs"
     yield "README.md", f"compiles the program unproved and runs it, which took {waited} minutes beside other jobs"
     yield "README.md", f"tries {len(glob.glob('crates/*/must-fail/*.edit', root_dir=results.ROOT))} wrong bodies"
-    yield "README.md", f"`rt ci` took {clock} minutes, of commit {commit}, on four cores of 2.5 GHz"
+    yield "README.md", f"`rt ci` took {clock} minutes, of commit {commit}, on four cores"
     least, most = found.of("proofs", "a test crate before its first test")
     once, often = found.of("proofs", "a public function whose contract names much, once a crate")
     yield "docs/MAINTAINING.md", f"{least} to {most} seconds of a processor to read what it stands on, and {once} to {often} once for each public function"

@@ -46,9 +46,18 @@ impl Model for Journal {
 
     ghost view = { λ j. record { held = record { limits = j.limits; entries = map arc_value j.entries.items } } };
 
-    ghost invariant = { λ j. IsJournalKept j.limits (map arc_value j.entries.items)
-        (vec_capacity j.entries) j.keeps_outlines j.outlines.items (vec_capacity j.outlines) j.spans
-        j.last_numbers.items (vec_capacity j.last_numbers) j.sent };
+    ghost invariant = { λ j. IsJournalKept record {
+      limits = j.limits;
+      entries = map arc_value j.entries.items;
+      entry_capacity = vec_capacity j.entries;
+      keeps_outlines = j.keeps_outlines;
+      outlines = j.outlines.items;
+      outline_capacity = vec_capacity j.outlines;
+      spans = j.spans;
+      last_numbers = j.last_numbers.items;
+      seat_capacity = vec_capacity j.last_numbers;
+      sent = j.sent;
+    } };
 }
 
 /// Appends an outline, if outlines are kept.
@@ -140,7 +149,7 @@ impl Journal {
         self.entries.is_empty()
     }
 
-    /// Returns the number of spans of all entries. No crate calls it: it is part of the interface that was specified.
+    /// Returns the number of spans of all entries. No crate here calls it: it is for users of a journal without a store.
     pub fn span_count(&self) -> u64
         ensures { result ≡ span_count self.now.held.entries }
     {
@@ -262,8 +271,8 @@ impl Journal {
     }
 
     /// Adds an entry at the end and returns its place; the first one is 1. If its batch was sent before with the
-    /// same spans, nothing is added, and the place is that of the entry that has it. No crate calls it, since a store
-    /// calls [`judge`](Self::judge) and [`append`](Self::append): it is part of the interface that was specified.
+    /// same spans, nothing is added, and the place is that of the entry that has it. No crate here calls it, since a
+    /// store calls [`judge`](Self::judge) and [`append`](Self::append): it is for users of a journal without a store.
     ///
     /// # Errors
     ///

@@ -107,8 +107,7 @@ fn report_option<'a>(alloc: Global) -> Arg<'a>
     ensures own { result.global ≡ false }
 {
     let report = value_parser!(u32).range(0..=SECONDS_END);
-    let help =
-        "Every how many seconds to say on standard error what was counted, up to 86400; 0 for never";
+    let help = "How often to print counts to standard error, in seconds, up to 86400; 0 for never";
     number(alloc, "report", report, "0", help).value_name("SECONDS")
 }
 

@@ -10,14 +10,23 @@ use Rattle.trace_model.specs.ServiceLinks.{call_cmp as pair_cmp}
 use Rattle.find_traces.specs.RequestedPairs.{Judgement, requests_key, key_bits, requests_length, requests_number, requests_pair, requested_count, has_pair}
 use Rattle.find_traces.specs.RequestedPairs.{is_in}
 
--- the keys, the bits for their lengths, the lengths of the texts, whether one of them may be that of a number, and the
--- pairs of a search
-pub record IsPrepared (q : Find) (keys : List (List ℕ)) (bits : ℕ) (lengths : List ℕ) (number : Bool) (pairs : List (List ℕ × List ℕ)) : Type 0 where
-  pub keys_requested : (k : List ℕ) → list_any (eq_by_cmp text_cmp k) keys ≡ requests_key q k
-  pub bits_set : bits ≡ key_bits q.tags
-  pub lengths_requested : (n : ℕ) → list_any (eq_by_cmp nat_cmp n) lengths ≡ requests_length q n
-  pub number_requested : number ≡ requests_number q
-  pub pairs_requested : (a : List ℕ × List ℕ) → is_in pairs a ≡ requests_pair q a
+-- a search, with the keys that it requests, the bits for their lengths, the lengths of the requested texts, whether one
+-- of them may be that of a number, and the requested pairs
+pub record Preparation : Type 0 where
+  pub query : Find
+  pub keys : List (List ℕ)
+  pub key_bits : ℕ
+  pub lengths : List ℕ
+  pub requests_number : Bool
+  pub pairs : List (List ℕ × List ℕ)
+
+-- all this is that of the search
+pub record IsPrepared (p : Preparation) : Type 0 where
+  pub keys_requested : (k : List ℕ) → list_any (eq_by_cmp text_cmp k) p.keys ≡ requests_key p.query k
+  pub bits_set : p.key_bits ≡ key_bits p.query.tags
+  pub lengths_requested : (n : ℕ) → list_any (eq_by_cmp nat_cmp n) p.lengths ≡ requests_length p.query n
+  pub number_requested : p.requests_number ≡ requests_number p.query
+  pub pairs_requested : (a : List ℕ × List ℕ) → is_in p.pairs a ≡ requests_pair p.query a
 
 -- the requested pairs that the tags of a process have, and the number of the others
 pub record IsJudged (q : Find) (o : Process) (met : List (List ℕ × List ℕ)) (missing : ℕ) : Type 0 where

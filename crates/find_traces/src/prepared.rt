@@ -38,8 +38,14 @@ impl<'q> Model for PreparedSearch<'q> {
 
     ghost view = { λ w. w.query.now };
 
-    ghost invariant = { λ w.
-        IsPrepared w.query.now w.keys.keys w.key_bits w.lengths.keys w.requests_number w.pairs.keys };
+    ghost invariant = { λ w. IsPrepared record {
+      query = w.query.now;
+      keys = w.keys.keys;
+      key_bits = w.key_bits;
+      lengths = w.lengths.keys;
+      requests_number = w.requests_number;
+      pairs = w.pairs.keys;
+    } };
 }
 
 /// Returns the keys of the pairs.

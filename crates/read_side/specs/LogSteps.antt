@@ -50,13 +50,24 @@ key_in (key ∷ rest) = key
 abbrev pub book_at : Book → List ℕ → LogBook
 book_at b keys = record { book = b; first = key_in keys }
 
+-- what the owner of a list has: its first word, what was seen of it and of its first link's key, the pen, and the
+-- number of its items
+pub record OwnedLog (A : Type 0) : Type 0 where
+  pub head : Named
+  pub book : Book
+  pub log : List (Link A)
+  pub first_key : ℕ
+  pub pen_book : Book
+  pub pen : Nib
+  pub len : ℕ
+
 -- the owner steps through the first word, and has the pen for the word of the list's next link
-pub record IsOwned {A : Type 0} (head : Named) (b : Book) (log : List (Link A)) (first : ℕ) (pen_book : Book) (pen : Nib) (len : ℕ) : Type 0 where
-  pub head_is : head ≡ first_word b
-  pub pen_book_is : pen_book ≡ b
-  pub right_is : pen.right ≡ may_write
-  pub key_is : pen.key ≡ next_key first log
-  pub len_is : len ≡ length (items_from first log)
+pub record IsOwned {A : Type 0} (l : OwnedLog A) : Type 0 where
+  pub head_is : l.head ≡ first_word l.book
+  pub pen_book_is : l.pen_book ≡ l.book
+  pub right_is : l.pen.right ≡ may_write
+  pub key_is : l.pen.key ≡ next_key l.first_key l.log
+  pub len_is : l.len ≡ length (items_from l.first_key l.log)
 
 -- the right to make a word was got; no link has its key
 abbrev pub MakesWord : {A : Type 0} → Step (Link A) → View (Link A) ℕ → ℕ → View (Link A) ℕ → Type 0

@@ -72,7 +72,15 @@ impl<T> Model for CountedLog<T> {
 
     ghost view = { λ l. record { book = book_at l.seen.book l.first.log; items = items_from (key_in l.first.log) l.seen.log } };
 
-    ghost invariant = { λ l. IsOwned l.head l.seen.book l.seen.log (key_in l.first.log) l.pen.book l.pen.nib l.len };
+    ghost invariant = { λ l. IsOwned record {
+      head = l.head;
+      book = l.seen.book;
+      log = l.seen.log;
+      first_key = key_in l.first.log;
+      pen_book = l.pen.book;
+      pen = l.pen.nib;
+      len = l.len;
+    } };
 }
 
 /// An empty list.

@@ -74,10 +74,12 @@ impl Lingering {
         }
     }
 
+    /// Returns whether no connection is left.
     pub fn is_empty(&self) -> bool {
         self.connections.is_empty()
     }
 
+    /// Returns the number of connections.
     pub fn len(&self) -> usize {
         self.connections.len()
     }

@@ -83,15 +83,15 @@ pub record IsLinked (rows services : List (List ℕ)) (newest earlier : List ℕ
 
 -- ---- the index
 -- the number of each of its parts, whatever the names
-pub record IsSized (used room : ℕ) (operations services : Table) (newest earlier : List ℕ) : Type 0 where
-  pub fits : room < 2 ^ 32
-  pub within : used ≤ room
-  pub few : length operations.numbers ≤ used
-  pub fewer : length services.numbers ≤ length operations.numbers
-  pub operations_room : operations.room ≡ room
-  pub services_room : services.room ≡ room
-  pub newest_links : length newest ≡ length services.numbers
-  pub earlier_links : length earlier ≡ length operations.numbers
+pub record IsSized (index : Index) : Type 0 where
+  pub fits : index.room < 2 ^ 32
+  pub within : index.used ≤ index.room
+  pub few : length index.operations.numbers ≤ index.used
+  pub fewer : length index.services.numbers ≤ length index.operations.numbers
+  pub operations_room : index.operations.room ≡ index.room
+  pub services_room : index.services.room ≡ index.room
+  pub newest_links : length index.newest ≡ length index.services.numbers
+  pub earlier_links : length index.earlier ≡ length index.operations.numbers
 
 -- the index leads to its numbers by these names
 pub record IsIndexed (names : Names) (index : Index) : Type 0 where

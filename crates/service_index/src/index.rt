@@ -54,8 +54,14 @@ impl Model for ServiceIndex {
       room = i.room;
     } };
 
-    ghost invariant = { λ i. (i.links.room ≡ i.room)
-        × IsSized i.used i.room i.operations i.services i.links.newest i.links.earlier };
+    ghost invariant = { λ i. (i.links.room ≡ i.room) × IsSized record {
+      operations = i.operations;
+      services = i.services;
+      newest = i.links.newest;
+      earlier = i.links.earlier;
+      used = i.used;
+      room = i.room;
+    } };
 }
 
 impl ServiceIndex {

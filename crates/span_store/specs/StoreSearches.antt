@@ -22,10 +22,22 @@ pub record StoreSearchValue : Type 0 where
 abbrev pub IsKnown : LimitedHistory → Find → Bool → Type 0
 IsKnown held q may_find = OnFalse may_find (found_in q (traces held.limits.traces (events held.entries)) ≡ [])
 
+-- a search, the parts of the store that it reads, and what it looked up there: the number of its service, the rows
+-- of its operation, and whether it may find anything
+pub record Lookup : Type 0 where
+  pub held : LimitedHistory
+  pub shown : Assembled
+  pub starts : Starts
+  pub names : KeptNames
+  pub by_service : ServicePlacesValue
+  pub query : Find
+  pub service : Option ℕ
+  pub rows : Option OperationRows
+  pub may_find : Bool
+
 -- the store's parts are those of its entries, and the numbers are those of the requested names
-pub record IsLookedUp (held : LimitedHistory) (shown : Assembled) (starts : Starts) (names : KeptNames) (by_service : ServicePlacesValue)
-    (q : Find) (service : Option ℕ) (rows : Option OperationRows) (may_find : Bool) : Type 0 where
-  pub kept : IsStoreKept held shown starts names by_service
-  pub told : AreTold q held.entries by_service.service_numbers service
-  pub operations : AreOperationsTold q held.entries names.numbers.firsts names.operation_rows rows
-  pub known : IsKnown held q may_find
+pub record IsLookedUp (l : Lookup) : Type 0 where
+  pub kept : IsStoreKept l.held l.shown l.starts l.names l.by_service
+  pub told : AreTold l.query l.held.entries l.by_service.service_numbers l.service
+  pub operations : AreOperationsTold l.query l.held.entries l.names.numbers.firsts l.names.operation_rows l.rows
+  pub known : IsKnown l.held l.query l.may_find

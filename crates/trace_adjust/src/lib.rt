@@ -39,5 +39,5 @@ pub use lent_span::LentSpan;
 pub use lent_spans::LentSpans;
 pub use showing::{show, show_answered, show_lone};
 pub use skew::{adjust_skew, adjusted};
-// No crate uses it from here: it is part of the interface that was specified.
+// No crate here takes it from this one: it is for users who adjust traces without `span_steps`.
 pub use span_steps::parent_first;

@@ -98,7 +98,7 @@ fn copies_of(alloc: Global, trace: &[Shown]) -> Result<Vec<Shown>, AllocError>
 /// `process_keys` has a key for each of the first spans: the process of spans that have one key is read once.
 /// `max_skew` is the largest difference of clocks, in microseconds, that is adjusted.
 ///
-/// No crate calls it, since [`adjusted`] makes what is shown: it is part of the interface that was specified.
+/// No crate here calls it, since [`adjusted`] makes what is shown: it is for users who have the spans in a list.
 ///
 /// # Errors
 ///

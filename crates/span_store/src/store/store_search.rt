@@ -45,9 +45,17 @@ impl<'s, 'q> Model for StoreSearch<'s, 'q> {
 
     ghost view = { λ s. record { held = s.store.journal.now.held; query = s.query.now } };
 
-    ghost invariant = { λ s. IsLookedUp s.store.journal.now.held s.store.assembly.now
-        s.store.starts.now s.store.names.now s.store.by_service.now
-        s.query.now s.requested.service s.requested.operation s.may_find };
+    ghost invariant = { λ s. IsLookedUp record {
+      held = s.store.journal.now.held;
+      shown = s.store.assembly.now;
+      starts = s.store.starts.now;
+      names = s.store.names.now;
+      by_service = s.store.by_service.now;
+      query = s.query.now;
+      service = s.requested.service;
+      rows = s.requested.operation;
+      may_find = s.may_find;
+    } };
 }
 
 /// Returns whether an arrival is of the search's service, and of its operation if it has one. If none is, the search

@@ -1,11 +1,11 @@
-use Rattle.std.proofs.Common.{◌≡◌, ℕ, true, get_or, [], ◌∷◌, ◌++◌, length, length-append, map, List, Ok, ap, ◌∙◌, subst, sym, arith, rules}
+use Rattle.std.proofs.Common.{◌≡◌, ℕ, ◌+◌, refl, true, get_or, [], ◌∷◌, ◌++◌, length, length-append, map, List, Ok, ap, ◌∙◌, subst, sym, arith, rules}
 use Rattle.std.proofs.lemmas.List.{map_push, length-map, append_cancel_left}
 use Rattle.trace_model.specs.Histories.{before_last}
 use Rattle.sent_batches.specs.SentIndex.{has_seq_no, work_hash}
 use Rattle.trace_model.proofs.LastEntries.{before_last-push}
 use Rattle.std.specs.Global.{Global}
 use Rattle.trace_model.proofs.Admissions.{MayFollow, IsSaid, admission_says}
-use Rattle.std.specs.Prelude.{vec_capacity, ◌==◌, if◌then◌else◌}
+use Rattle.std.specs.Prelude.{◌==◌, if◌then◌else◌}
 use Rattle.std.specs.Arc.{arc_value}
 use Rattle.trace_model.specs.declared.entry.Entry.{Entry}
 use Rattle.trace_model.specs.declared.admission.Admission.TheVariants.{Added}
@@ -36,13 +36,19 @@ invariant_of-self c =
     let sent : IsSentKept (h ++ arc_value c.into_entry-entry.result ∷ []) c.add.new.self =
     subst (λ (l : List Entry). IsSentKept l c.add.new.self) (ap (map (arc_value {X = Entry} {Z = Global})) c.deref-4.ensures.value ∙ pushed)
     c.add.ensures.kept in
-    rw (pushed, count)
-    (kept_push was.limits h (vec_capacity was.entries) (vec_capacity c.push_reserved.new.self)
-    was.keeps_outlines was.outlines.items c.push_outline.new.outlines.items (vec_capacity was.outlines) (vec_capacity c.push_outline.new.outlines)
-    was.spans (arc_value c.into_entry-entry.result) was.last_numbers.items c.set_last_number.new.numbers.items (vec_capacity was.last_numbers)
-    (vec_capacity c.set_last_number.new.numbers) was.sent c.add.new.self
-    c.self.invariant may outlined noted c.push_reserved.ensures.capacity c.push_outline.ensures.capacity c.set_last_number.ensures.capacity sent
-    c.add.ensures.room)
+    kept_push _ _ (arc_value c.into_entry-entry.result) c.self.invariant may (record {
+      limits = refl;
+      entries = pushed;
+      keeps = refl;
+      outlined = outlined;
+      counted = ap (λ n. was.spans + n) count;
+      noted = noted;
+      room = c.push_reserved.ensures.capacity;
+      room_for_outlines = c.push_outline.ensures.capacity;
+      seats = c.set_last_number.ensures.capacity;
+      sent = sent;
+      room_for_sent = c.add.ensures.room;
+    })
 
 pub returns-clause-legal : goal.returns-clause-legal
 returns-clause-legal c = (invariant_of-self c).legal
