@@ -20,8 +20,13 @@ fn latest_keys<T: Searched>(alloc: Global, traces: &T, limit: usize) -> Result<B
     ensures limit { IfOk result (λ latest. latest.limit ≡ limit) }
 {
     let mut latest = BestKeys::new(alloc, limit);
+    let mut worst = None;
     for index in (0..traces.count()).rev() {
-        latest.offer(key_at(traces, index))?;
+        let key = key_at(traces, index);
+        if latest.would_keep_after(worst, key) {
+            latest.offer(key)?;
+            worst = latest.worst_if_full();
+        }
     }
     Ok(latest)
 }

@@ -4,7 +4,7 @@ ghost use Rattle.std.specs.Prelude.{◌≡◌, ◌<◌, ◌≤◌, [], ◌∷◌
 ghost use Rattle.std.specs.Bool.{OnFalse};
 ghost use Rattle.std.specs.BTreeSet.{insert_key};
 ghost use Rattle.find_traces.specs.Keys.{reversed, reverse_key_cmp};
-ghost use Rattle.find_traces.specs.BestKeys.{IsLast};
+ghost use Rattle.find_traces.specs.BestKeys.{IsLast, IsWorst};
 
 use crate::key::Key;
 use std::alloc::{AllocError, Global};
@@ -48,6 +48,34 @@ impl BestKeys {
         match self.keys.last() {
             Some(worst) => worst.0 < key,
             None => false,
+        }
+    }
+
+    /// Returns the worst key that is kept, if as many are kept as the limit.
+    pub(crate) fn worst_if_full(&self) -> Option<Key>
+        ensures { IfSome result (IsWorst self.now.keys.keys self.now.limit) }
+    {
+        if self.keys.len() < self.limit {
+            return None;
+        }
+        match self.keys.last() {
+            Some(worst) => Some(worst.0),
+            None => None,
+        }
+    }
+
+    /// Returns whether a key would be kept if it were offered, by what [`worst_if_full`](Self::worst_if_full) returned since
+    /// the last one that was kept. Reads none that is kept, so that many keys are passed over quickly.
+    #[inline]
+    pub(crate) fn would_keep_after(&self, worst: Option<Key>, key: Key) -> bool
+        requires within { length self.now.keys.keys ≤ self.now.limit }
+        requires worst { IfSome worst (IsWorst self.now.keys.keys self.now.limit) }
+        ensures { OnFalse result (take self.now.limit
+            (insert_key reverse_key_cmp self.now.keys.keys (reversed key)) ≡ self.now.keys.keys) }
+    {
+        match worst {
+            Some(worst) => worst < key,
+            None => true,
         }
     }
 

@@ -11,7 +11,6 @@ use arrival_journal::Journal;
 use service_index::ServicePlaces;
 use std::alloc::{AllocError, Global};
 use trace_assembly::{Assembly, Spot, Spots};
-use trace_model::push_tightly;
 
 /// Returns whether there is an entry at a spot's place, and its service has this number.
 fn is_reported(
@@ -51,7 +50,7 @@ fn are_reported(
 
 /// Returns the spots of each trace of the ring of which an entry of the service with this number brought a span,
 /// those of the one opened first at the front. For each trace of the ring, reads its spots up to the first that the
-/// service brought, and no span.
+/// service brought, and no span. The list has room for all traces of the ring: it is for services that most of them have.
 ///
 /// # Errors
 ///
@@ -69,11 +68,12 @@ pub fn spots_reported<'a>(
         (filter (λ t. are_reported journal.now.held.entries by_service.now.service_numbers
         service_number (spots_of assembly.now t)) assembly.now.newest.ids)) }
 {
-    let mut found = Vec::new(alloc);
-    for index in 0..assembly.ring().len() {
+    let traces = assembly.ring().len();
+    let mut found = Vec::with_capacity(alloc, traces)?;
+    for index in 0..traces {
         let spots = assembly.spots_at(index);
         if are_reported(journal, by_service, service_number, spots.duplicate()) {
-            push_tightly(&mut found, spots)?;
+            found.push(spots)?;
         }
     }
     Ok(found)

@@ -7,7 +7,7 @@ use Rattle.journal_traces.specs.ReportedSpots.{are_reported}
 use Rattle.journal_traces.proofs.TraceMarks.{picked, passed}
 use Rattle.journal_traces.proofs.SpansAtSpots.{no_id}
 use Rattle.journal_traces.proofs.service_candidates.spots_reported.Goals as goal
-use Rattle.journal_traces.proofs.service_candidates.spots_reported.Goals.{then-are_reported+in_ok-push_tightly, else-are_reported}
+use Rattle.journal_traces.proofs.service_candidates.spots_reported.Goals.{then-are_reported+in_ok-push, else-are_reported}
 
 pub loop-index-preserved : goal.loop-index-preserved
 loop-index-preserved c =
@@ -16,12 +16,12 @@ loop-index-preserved c =
     let p : TraceId → Bool = λ t. own (f t) in
     let ids = c.args.assembly.now.newest.ids in
     let i = c.loop-index.index in
-    let le : i < length ids = omega (arith, c.loop-index-test.true, c.len-index-end.ensures.length ∙ ap (λ (w : RingValue). length w.ids) c.ring.ensures) in
+    let le : i < length ids = omega (arith, c.loop-index-test.true, c.len-traces.ensures.length ∙ ap (λ (w : RingValue). length w.ids) c.ring.ensures) in
     let at : c.spots_at-spots.result ≡ f (get_or ids i no_id) = c.spots_at-spots.ensures in
     let read = c.are_reported.ensures ∙ ap own (c.duplicate.ensures ∙ at) in
     elim c.if-are_reported.branch [
-      | then-are_reported+in_ok-push_tightly w ↦
-          ap (λ v. v.items) w.found-is ∙ w.in_ok-push_tightly.ensures.items
+      | then-are_reported+in_ok-push w ↦
+          ap (λ v. v.items) w.found-is ∙ w.in_ok-push.ensures.items
           ∙ (λ j. c.loop-index.invariant j ++ at j ∷ []) ∙ sym (picked f p ids i no_id le (sym read ∙ w.if-are_reported.true))
       | else-are_reported w ↦ ap (λ v. v.items) w.found-is ∙ c.loop-index.invariant ∙ sym (passed f p ids i no_id le (sym read ∙ w.if-are_reported.false))
     ]
