@@ -113,13 +113,13 @@ def spread_traces(n, service="a", start=1_600_000_000_000_000, first=1):
     return [wire.batch(service, [wire.span(k, 1, start=start + k) for k in numbers[at:at + 10]]) for at in range(0, len(numbers), 10)]
 
 
-def behind_a_wrong_clock(n):
+def older_than_a_wrong_clock(n):
     """Traces of a service that all start before some thousands of another service."""
     late = [wire.batch("z", [wire.span(k, 1, start=1 << 59) for k in range(10_000_000, 10_000_000 + 6 * n)])]
     return [], spread_traces(n) + late, search("&limit=20")
 
 
-def behind_a_large_trace(n):
+def older_than_a_large_trace(n):
     """Traces of a service that all start before one trace of another service, which has three in four of the spans."""
     late = [wire.batch("z", [wire.span(10_000_000, at + k, start=1 << 59) for k in range(1, 6 * n + 1)]) for at in range(0, 120 * n, 6 * n)]
     return [], spread_traces(n) + late, search("&limit=20")
@@ -158,8 +158,8 @@ SHAPES = {
     "matches that have left the ring": hidden_matches,
     "equal processes x traces": equal_processes,
     "pairs of long services, dependencies": pairs_of_services,
-    "the 20 latest of a service, behind traces of a wrong clock": behind_a_wrong_clock,
-    "the 20 latest of a service, behind one trace of most spans": behind_a_large_trace,
+    "the 20 latest of a service, older than traces of a wrong clock": older_than_a_wrong_clock,
+    "the 20 latest of a service, older than one trace of most spans": older_than_a_large_trace,
     "the 20 latest of traces of one start": of_one_start,
     "the 20 latest of a service that came in ten batches": in_few_batches,
     "nearly a sixteenth of the traces, by their duration": lambda n: by_duration(n, 16),
